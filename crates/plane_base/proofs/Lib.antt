@@ -1,0 +1,10 @@
+pub mod Points
+pub mod Turns
+pub mod InTriangle
+pub mod Sizes
+pub mod Along
+pub mod Image
+pub mod Parts
+pub mod Slices
+pub mod Exit
+pub mod Meeting

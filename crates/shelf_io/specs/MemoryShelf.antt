@@ -1,0 +1,37 @@
+-- A shelf in memory, as contracts see it.
+use Rattle.std.specs.Prelude.{◌≡◌, ℕ, List, [], drop, Option, None, slice_get, option_map, option_and_then, Result, is_err, if◌then◌else◌}
+use Rattle.shelf_io.specs.Files.{Files}
+use Rattle.shelf_io.specs.Count.{counted}
+
+pub record MemoryShelf : Type 0 where
+  -- each file's name and bytes
+  pub files : Files
+  -- how many bytes a read gives at most
+  pub most : ℕ
+  -- the numbers of the calls that fail
+  pub fail : List ℕ
+  -- the number of the file at hand, and the place in it
+  pub at_hand : Option ℕ
+  pub place : ℕ
+  pub calls : ℕ
+  pub faults : ℕ
+  pub given : ℕ
+
+abbrev pub empty_shelf : ℕ → MemoryShelf
+empty_shelf most = record { files = []; most = most; fail = []; at_hand = None; place = 0; calls = 0; faults = 0; given = 0 }
+
+-- what is left of a file from a place on, by the file's number
+abbrev pub rest_from : Files → Option ℕ → ℕ → Option (List ℕ)
+rest_from files at_hand place =
+    option_and_then (λ number. option_map (λ file. drop place file.1) (slice_get files number)) at_hand
+
+-- what is left of the file at hand
+abbrev pub rest_at_hand : MemoryShelf → Option (List ℕ)
+rest_at_hand s = rest_from s.files s.at_hand s.place
+
+-- one more call, one more fault where it failed, and what was set up stays
+pub record CountsCall {T E : Type 0} (old new : MemoryShelf) (result : Result T E) : Type 0 where
+  pub most : new.most ≡ old.most
+  pub fail : new.fail ≡ old.fail
+  pub calls : new.calls ≡ counted old.calls 1
+  pub faults : new.faults ≡ (if is_err result then counted old.faults 1 else old.faults)

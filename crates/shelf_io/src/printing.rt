@@ -1,0 +1,20 @@
+ghost use Rattle.std.specs.Prelude.{◌≡◌, false, OnOk, OnErr};
+ghost use Rattle.shelf_io.specs.Count.{HasCause};
+ghost use Rattle.shelf_io.specs.Made.{Becomes, Lacks, PrintsFront, with_whole};
+
+use crate::{Failed, Press, put};
+
+/// Makes a whole file of this name and these bytes.
+pub fn print<P: Press>(press: &mut P, name: &str, bytes: &[u8]) -> Result<(), Failed>
+    requires free { P.at_hand press.old ≡ false }
+    requires new { Lacks (P.made press.old) name.now }
+    ensures ok { OnOk result (Becomes (with_whole name.now bytes.now) (P.made press.old) (P.made press.new)) }
+    ensures ok_at_hand { OnOk result (P.at_hand press.new ≡ false) }
+    ensures err { OnErr result (PrintsFront (P.made press.old) (P.made press.new) name.now bytes.now) }
+    ensures cause { HasCause (P.faults press.old) (P.faults press.new) result }
+{
+    press.begin(name)?;
+    put(press, bytes)?;
+    press.end()?;
+    Ok(())
+}

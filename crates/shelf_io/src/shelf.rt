@@ -1,0 +1,48 @@
+ghost use Rattle.std.specs.Prelude.{◌≡◌, ◌≤◌, ◌<◌, ◌+◌, ◌-◌, ◌^◌, ◌↔◌, ℕ, Bool, true, false, List, Option, length, min, string_bytes, IsTrue, OnOk, OnErr, IfOk, IfSome, slice_index};
+ghost use Rattle.shelf_io.specs.Files.{Files};
+ghost use Rattle.shelf_io.specs.Count.{HasCause, counted};
+ghost use Rattle.shelf_io.specs.Shelf.{Begins, TakesFront};
+
+/// A call of the outside that did not succeed.
+#[derive(Clone, Copy, Debug, PartialEq, Eq)]
+pub struct Failed;
+
+/// Files by name, read one at a time.
+pub trait Shelf {
+    /// The files, each a name and its bytes, where the shelf tells them.
+    ghost files: { Self → Option Files };
+
+    /// Whether a file is at hand.
+    ghost at_hand: { Self → Bool };
+
+    /// The rest of the file at hand, where the shelf tells it.
+    ghost left: { Self → Option (List ℕ) };
+
+    /// How many bytes were handed out.
+    ghost given: { Self → ℕ };
+
+    /// How often a call has failed.
+    ghost faults: { Self → ℕ };
+
+    /// Puts the named file at hand. `Ok(false)`: there is no such file.
+    fn begin(&mut self, name: &str) -> Result<bool, Failed>
+        ensures files { files self.new ≡ files self.old }
+        ensures begins { Begins (files self.old) name.now (left self.new) result }
+        ensures at_hand { IfOk result (λ found. at_hand self.new ≡ found) }
+        ensures err { OnErr result (at_hand self.new ≡ false) }
+        ensures given { given self.new ≡ given self.old }
+        ensures cause { HasCause (faults self.old) (faults self.new) result };
+
+    /// Takes some next bytes of the file at hand into the front of `buf`.
+    fn read(&mut self, buf: &mut [u8]) -> Result<usize, Failed>
+        requires room { 0 < length buf.old }
+        requires at_hand { IsTrue (at_hand self.old) }
+        ensures files { files self.new ≡ files self.old }
+        ensures within { IfOk result (λ count. count ≤ length buf.new) }
+        ensures bytes { IfOk result (λ count. TakesFront (left self.old) (left self.new) count buf.new) }
+        ensures given { IfOk result (λ count. given self.new ≡ counted (given self.old) count) }
+        ensures given_err { OnErr result (given self.new ≡ given self.old) }
+        ensures ok { OnOk result (at_hand self.new ≡ true) }
+        ensures err { OnErr result (at_hand self.new ≡ false) }
+        ensures cause { HasCause (faults self.old) (faults self.new) result };
+}

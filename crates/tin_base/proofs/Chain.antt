@@ -1,0 +1,304 @@
+-- The pieces of a segment that is inside follow each other without a gap.
+use Rattle.std.proofs.Common.{◌≡◌, ◌≢◌, ◌⊎◌, inl, inr, ℕ, zero, suc, ◌+◌, ◌*◌, ◌<◌, ◌≤◌, ℤ, pos, ◌+ℤ◌, ◌*ℤ◌, ◌<ℤ◌, List, [], ◌∷◌, length, sym, subst, arith}
+use Rattle.integer_ring.proofs.Ring.{num, ◌⊕◌, ◌⊗◌}
+use Rattle.integer_ring.proofs.Claims.{◌≐◌, solve}
+use lib.Signed.{lt_z_yes}
+use Rattle.plane_base.specs.Plane.{Point, Same, IsMix, whole}
+use Rattle.plane_base.specs.declared.Pt.{Pt}
+use Rattle.tin_base.specs.declared.frames.Frame.TheVariants.{Source}
+use Rattle.tin_base.specs.Triangulation.{Triangulation, numbers_of, places}
+use Rattle.tin_base.specs.Soundness.{turn_of_three, IsSound}
+use Rattle.tin_base.specs.Relations.{IsBetween}
+use Rattle.tin_base.specs.Segments.{Spot, spot_at, at_a, at_b, IsBefore, IsNotAfter, IsSameSpot, IsInside, IsShared, IsPart, Part, part_at, ArePieces, AreChain, DoCover}
+use Rattle.tin_base.proofs.Alike.{same_refl, same_sym, same_trans, same_moved}
+use Rattle.tin_base.proofs.Mixing.{mixed, between_weights, weights_between, between-w}
+use Rattle.tin_base.proofs.Stepping.{StepsOn, steps_on}
+use Rattle.tin_base.proofs.Ends.{IsSpot, before_or, not_both, no_later, no_later_trans, before_trans_left, before_trans_right}
+use Rattle.tin_base.proofs.Parts.{part_of, between_in}
+use Rattle.tin_base.proofs.Overlap.{same_spots}
+
+-- ---- spots on the way from a spot to b
+one : pos 0 <ℤ pos 1
+one = lt_z_yes tt
+
+spot-w : (a b : Pt) (s : Spot) → IsSpot s → pos 0 <ℤ (spot_at a b s).w
+spot-w a b s some = between-w (whole a) (whole b) (spot_at a b s) (record { k = s.of_a; l = s.of_b; some = some; same = same_refl (spot_at a b s) }) one one
+
+-- k times the spot x and l times b
+abbrev further : Spot → ℕ → ℕ → Spot
+further x k l = record { of_a = k * x.of_a; of_b = k * x.of_b + l }
+
+further_is : (k l r q a b : ℤ) → k *ℤ (r *ℤ a +ℤ (q *ℤ b +ℤ pos 0)) +ℤ (l *ℤ b +ℤ pos 0) ≡ k *ℤ r *ℤ a +ℤ ((k *ℤ q +ℤ l) *ℤ b +ℤ pos 0)
+further_is = solve 6 (λ k l r q a b. k ⊗ (r ⊗ a ⊕ (q ⊗ b ⊕ num (pos 0))) ⊕ (l ⊗ b ⊕ num (pos 0)) ≐ k ⊗ r ⊗ a ⊕ ((k ⊗ q ⊕ l) ⊗ b ⊕ num (pos 0))) tt
+
+further_same : (a b : Pt) (x : Spot) (k l : ℕ) (p : Point) → Same p (mixed k l (spot_at a b x) (whole b)) → Same p (spot_at a b (further x k l))
+further_same a b x k l p s =
+    same_moved p (mixed k l (spot_at a b x) (whole b)) (spot_at a b (further x k l))
+    (further_is (pos k) (pos l) (pos x.of_a) (pos x.of_b) a.x b.x) (further_is (pos k) (pos l) (pos x.of_a) (pos x.of_b) a.y b.y) (further_is (pos k) (pos l) (pos x.of_a) (pos x.of_b) (pos 1) (pos 1)) s
+
+further_some : (r q k l : ℕ) → 0 < r + q → 0 < k + l → 0 < k * r + (k * q + l)
+further_some r q k l h i = grind arith
+
+some_further : (x : Spot) (k l : ℕ) → IsSpot x → 0 < k + l → IsSpot (further x k l)
+some_further x k l h i = further_some x.of_a x.of_b k l h i
+
+beyond : (r q n : ℕ) → 0 < r → q * ((n + 1) * r) < ((n + 1) * q + 1) * r
+beyond r q n h = omega arith
+
+further_beyond : (x : Spot) (n : ℕ) → 0 < x.of_a → IsBefore x (further x (n + 1) 1)
+further_beyond x n h = beyond x.of_a x.of_b n h
+
+mix_moved : (p q : Point) (ps : List Point) → pos 0 <ℤ p.w → Same q p → IsMix p ps → IsMix q ps
+mix_moved p q ps h s m = (m.0, m.1, m.2, same_trans q p _ h s m.3)
+
+-- a point between a spot and b is a point of the segment
+on_segment : (a b : Pt) (x : Spot) (p : Point) → IsSpot x → IsBetween (spot_at a b x) (whole b) p → IsMix p (whole a ∷ whole b ∷ [])
+on_segment a b x p some m =
+    let i = between_weights (spot_at a b x) (whole b) p m in
+    let y = further x i.k i.l in
+    weights_between (whole a) (whole b) p (record { k = y.of_a; l = y.of_b; some = some_further x i.k i.l some i.some; same = further_same a b x i.k i.l p i.same })
+
+itself_is : (a b : ℤ) → pos 1 *ℤ a +ℤ (pos 0 *ℤ b +ℤ pos 0) ≡ a
+itself_is = solve 2 (λ a b. num (pos 1) ⊗ a ⊕ (num (pos 0) ⊗ b ⊕ num (pos 0)) ≐ a) tt
+
+-- ---- a piece that begins no later than x and ends behind it
+record Next (parts : List Part) (x : Spot) : Type 0 where
+  index : ℕ
+  in_range : index < length parts
+  from : IsNotAfter (part_at parts index).first x
+  behind : IsBefore x (part_at parts index).last
+
+le_of_same : (m n : ℕ) → m ≡ n → m ≤ n
+le_of_same m n e = omega arith
+
+no_later_same : (s t : Spot) → IsSameSpot s t → IsNotAfter s t
+no_later_same s t e = le_of_same (s.of_b * t.of_a) (t.of_b * s.of_a) e
+
+no_later_back : (s t : Spot) → IsSameSpot s t → IsNotAfter t s
+no_later_back s t e = le_of_same (t.of_b * s.of_a) (s.of_b * t.of_a) (sym e)
+
+next : (tin : Triangulation) (a b : Pt) (parts : List Part) (x : Spot) → IsSound tin → IsInside tin a b → ArePieces tin a b parts → IsSpot x → 0 < x.of_a → Next parts x
+next tin a b parts x sound inside pieces some more =
+    go (steps_on tin Source (spot_at a b x) (whole b) (sound.positive Source) (spot-w a b x some) one (λ p hp m. inside p hp (on_segment a b x p some m)))
+  where
+    go : StepsOn tin Source (spot_at a b x) (whole b) → Next parts x
+    go step =
+        let p = spot_at a b x in
+        let y = further x (step.n + 1) 1 in
+        let some_y = some_further x (step.n + 1) 1 some (omega arith) in
+        let first = mixed 1 0 p (whole b) in
+        let second = mixed (step.n + 1) 1 p (whole b) in
+        let in_first : Same p first = same_moved p p first (sym (itself_is p.x b.x)) (sym (itself_is p.y b.y)) (sym (itself_is p.w (pos 1))) (same_refl p) in
+        let first_w = between-w p (whole b) first (record { k = 1; l = 0; some = omega arith; same = same_refl first }) (spot-w a b x some) one in
+        let second_w = between-w p (whole b) second (record { k = step.n + 1; l = 1; some = omega arith; same = same_refl second }) (spot-w a b x some) one in
+        let has_x : IsShared tin a b step.triangle x = record { some = some; inside = mix_moved first p (places tin Source (numbers_of tin step.triangle)) first_w in_first step.has_first } in
+        let has_y : IsShared tin a b step.triangle y = record { some = some_y; inside = mix_moved second (spot_at a b y) (places tin Source (numbers_of tin step.triangle)) second_w (same_sym second (spot_at a b y) (further_same a b x (step.n + 1) 1 second (same_refl second))) step.has_next } in
+        let before : IsBefore x y = further_beyond x step.n more in
+        let reach = part_of tin a b step.triangle x y step.in_range (sound.positive Source step.triangle step.in_range) has_x has_y before in
+        let part = reach.part in
+        let has_first = part.has_first in
+        let has_last = part.has_last in
+        let e = pieces.every step.triangle reach.first reach.last part in
+        let piece = pieces.part e.0 e.1 in
+        let piece_last = piece.has_last in
+        record {
+          index = e.0;
+          in_range = e.1;
+          from = no_later_trans (part_at parts e.0).first reach.first x has_first.some (no_later_same (part_at parts e.0).first reach.first e.2) reach.from;
+          behind =
+              before_trans_right x y (part_at parts e.0).last piece_last.some before
+              (no_later_trans y reach.last (part_at parts e.0).last has_last.some reach.upto (no_later_back (part_at parts e.0).last reach.last e.3));
+        }
+
+-- ---- no part begins before one that begins earlier has ended
+parts_apart : (tin : Triangulation) (a b : Pt) (t u : ℕ) (f l f' l' : Spot) → IsSound tin → a ≢ b → IsPart tin a b t f l → IsPart tin a b u f' l' → IsBefore f f' → IsNotAfter l f'
+parts_apart tin a b t u f l f' l' sound differ p q before = go (before_or f' l)
+  where
+    steady_t : IsPart tin a b t f l → pos 0 <ℤ turn_of_three (places tin Source (numbers_of tin t))
+    steady_t p = sound.positive Source t p.in_range
+
+    steady_u : IsPart tin a b u f' l' → pos 0 <ℤ turn_of_three (places tin Source (numbers_of tin u))
+    steady_u q = sound.positive Source u q.in_range
+
+    -- two common spots, r before s: then the first spot of the one part is in the other triangle
+    clash : (r s : Spot) → IsShared tin a b t r → IsShared tin a b t s → IsShared tin a b u r → IsShared tin a b u s → IsBefore r s → ⊥
+    clash r s tr ts ur us order =
+        not_both f f' before (q.none_before f (same_spots tin a b t u r s f sound differ p.in_range q.in_range tr ts ur us order p.has_first))
+
+    overlapping : IsBefore f' l → IsBefore l l' ⊎ IsNotAfter l' l → ⊥
+    overlapping h which =
+        let first = q.has_first in let last = p.has_last in let last' = q.has_last in
+        let in_t : IsShared tin a b t f' = between_in tin a b t f l f' (steady_t p) p.has_first p.has_last first.some (no_later f f' before) (no_later f' l h) in
+        ends in_t which
+      where
+        ends : IsShared tin a b t f' → IsBefore l l' ⊎ IsNotAfter l' l → ⊥
+        ends in_t (inl i) =
+            let last = p.has_last in
+            clash f' l in_t p.has_last q.has_first (between_in tin a b u f' l' l (steady_u q) q.has_first q.has_last last.some (no_later f' l h) (no_later l l' i)) h
+        ends in_t (inr i) =
+            let last' = q.has_last in let first' = q.has_first in
+            clash f' l' in_t (between_in tin a b t f l l' (steady_t p) p.has_first p.has_last last'.some (no_later_trans f f' l' first'.some (no_later f f' before) (no_later f' l' q.differ)) i) q.has_first q.has_last q.differ
+
+    go : IsBefore f' l ⊎ IsNotAfter l f' → IsNotAfter l f'
+    go (inr h) = h
+    go (inl h) = absurd (overlapping h (before_or l l'))
+
+below_all : (i j n : ℕ) → i < j → j < n → i < n
+below_all i j n h k = omega arith
+
+no_overlap : (tin : Triangulation) (a b : Pt) (parts : List Part) (i j : ℕ) → IsSound tin → a ≢ b → ArePieces tin a b parts → i < j → j < length parts → IsNotAfter (part_at parts i).last (part_at parts j).first
+no_overlap tin a b parts i j sound differ pieces below hj =
+    parts_apart tin a b (part_at parts i).triangle (part_at parts j).triangle (part_at parts i).first (part_at parts i).last (part_at parts j).first (part_at parts j).last sound differ
+    (pieces.part i (below_all i j (length parts) below hj)) (pieces.part j hj) (pieces.in_order i j below hj)
+
+-- ---- a piece that ends behind the end of piece i comes later
+not_itself : (s : Spot) → IsBefore s s → ⊥
+not_itself s h = no (s.of_b * s.of_a) h
+  where
+    no : (n : ℕ) → n < n → ⊥
+    no n h = absurd (omega arith)
+
+not_sooner : (tin : Triangulation) (a b : Pt) (parts : List Part) (i j : ℕ) → IsSound tin → a ≢ b → ArePieces tin a b parts → i < length parts → IsBefore (part_at parts i).last (part_at parts j).last → j < i → ⊥
+not_sooner tin a b parts i j sound differ pieces hi behind sooner =
+    let p = pieces.part i hi in
+    let first = p.has_first in
+    not_both (part_at parts i).last (part_at parts j).last behind
+    (no_later_trans (part_at parts j).last (part_at parts i).first (part_at parts i).last first.some (no_overlap tin a b parts j i sound differ pieces sooner hi) (no_later (part_at parts i).first (part_at parts i).last p.differ))
+
+three_ways : (i j : ℕ) → (i ≡ j) ⊎ ((j < i) ⊎ (i < j))
+three_ways i j = grind arith
+
+later : (tin : Triangulation) (a b : Pt) (parts : List Part) (i j : ℕ) → IsSound tin → a ≢ b → ArePieces tin a b parts → i < length parts → IsBefore (part_at parts i).last (part_at parts j).last → i < j
+later tin a b parts i j sound differ pieces hi behind = go (three_ways i j)
+  where
+    go : (i ≡ j) ⊎ ((j < i) ⊎ (i < j)) → i < j
+    go (inl e) = absurd (not_itself (part_at parts i).last (subst (λ (n : ℕ). IsBefore (part_at parts i).last (part_at parts n).last) (sym e) behind))
+    go (inr (inl h)) = absurd (not_sooner tin a b parts i j sound differ pieces hi behind h)
+    go (inr (inr h)) = h
+
+-- ---- the chain
+antisymm : (m n : ℕ) → m ≤ n → n ≤ m → m ≡ n
+antisymm m n h k = omega arith
+
+same_of : (s t : Spot) → IsNotAfter s t → IsNotAfter t s → IsSameSpot s t
+same_of s t h k = antisymm (s.of_b * t.of_a) (t.of_b * s.of_a) h k
+
+from_a : (s : Spot) → IsNotAfter at_a s
+from_a s = omega arith
+
+nothing_before_a : (s : Spot) → IsBefore s at_a → ⊥
+nothing_before_a s h = absurd (omega arith)
+
+more_of_a : (s t : Spot) → IsBefore s t → 0 < s.of_a
+more_of_a s t h = positive (s.of_b * t.of_a) t.of_b s.of_a h
+  where
+    positive : (m n k : ℕ) → m < n * k → 0 < k
+    positive m n k h = grind arith
+
+begins_at_a : (tin : Triangulation) (a b : Pt) (parts : List Part) → IsSound tin → IsInside tin a b → ArePieces tin a b parts → (0 < length parts) × IsSameSpot (part_at parts 0).first at_a
+begins_at_a tin a b parts sound inside pieces = go (next tin a b parts at_a sound inside pieces (omega arith) (omega arith))
+  where
+    zero_or_more : (j : ℕ) → (j ≡ 0) ⊎ (0 < j)
+    zero_or_more j = grind arith
+
+    some : (j n : ℕ) → j < n → 0 < n
+    some j n h = omega arith
+
+    first : (j : ℕ) → j < length parts → IsNotAfter (part_at parts j).first at_a → (j ≡ 0) ⊎ (0 < j) → IsSameSpot (part_at parts 0).first at_a
+    first j hj h (inl e) = same_of (part_at parts 0).first at_a (subst (λ (n : ℕ). IsNotAfter (part_at parts n).first at_a) e h) (from_a (part_at parts 0).first)
+    first j hj h (inr more) = absurd (nothing_before_a (part_at parts 0).first (before_trans_right (part_at parts 0).first (part_at parts j).first at_a (omega arith) (pieces.in_order 0 j more hj) h))
+
+    go : Next parts at_a → (0 < length parts) × IsSameSpot (part_at parts 0).first at_a
+    go n = (some n.index (length parts) n.in_range, first n.index n.in_range n.from (zero_or_more n.index))
+
+joined_at : (tin : Triangulation) (a b : Pt) (parts : List Part) (i : ℕ) → IsSound tin → a ≢ b → IsInside tin a b → ArePieces tin a b parts → i + 1 < length parts → IsSameSpot (part_at parts i).last (part_at parts (i + 1)).first
+joined_at tin a b parts i sound differ inside pieces h = go (pieces.part i (here i (length parts) h)) (pieces.part (i + 1) h)
+  where
+    here : (i n : ℕ) → i + 1 < n → i < n
+    here i n h = omega arith
+
+    up : (i : ℕ) → i < i + 1
+    up i = omega arith
+
+    apart : IsNotAfter (part_at parts i).last (part_at parts (i + 1)).first
+    apart = no_overlap tin a b parts i (i + 1) sound differ pieces (up i) h
+
+    one_or_more : (i j : ℕ) → i < j → (j ≡ i + 1) ⊎ (i + 1 < j)
+    one_or_more i j h = grind arith
+
+    meet : (j : ℕ) → j < length parts → IsNotAfter (part_at parts j).first (part_at parts i).last → IsSpot (part_at parts i).last → (j ≡ i + 1) ⊎ (i + 1 < j) → IsSameSpot (part_at parts i).last (part_at parts (i + 1)).first
+    meet j hj from some (inl e) = same_of (part_at parts i).last (part_at parts (i + 1)).first apart (subst (λ (n : ℕ). IsNotAfter (part_at parts n).first (part_at parts i).last) e from)
+    meet j hj from some (inr more) =
+        absurd (not_both (part_at parts (i + 1)).first (part_at parts j).first (pieces.in_order (i + 1) j more hj)
+        (no_later_trans (part_at parts j).first (part_at parts i).last (part_at parts (i + 1)).first some from apart))
+
+    go : IsPart tin a b (part_at parts i).triangle (part_at parts i).first (part_at parts i).last → IsPart tin a b (part_at parts (i + 1)).triangle (part_at parts (i + 1)).first (part_at parts (i + 1)).last → IsSameSpot (part_at parts i).last (part_at parts (i + 1)).first
+    go p q =
+        let last = p.has_last in let first' = q.has_first in let last' = q.has_last in
+        let more = more_of_a (part_at parts i).last (part_at parts (i + 1)).last (before_trans_left (part_at parts i).last (part_at parts (i + 1)).first (part_at parts (i + 1)).last last.some apart q.differ) in
+        let n = next tin a b parts (part_at parts i).last sound inside pieces last.some more in
+        meet n.index n.in_range n.from last.some (one_or_more i n.index (later tin a b parts i n.index sound differ pieces (here i (length parts) h) n.behind))
+
+ends_at_b : (tin : Triangulation) (a b : Pt) (parts : List Part) (i : ℕ) → IsSound tin → a ≢ b → IsInside tin a b → ArePieces tin a b parts → i + 1 ≡ length parts → IsSameSpot (part_at parts i).last at_b
+ends_at_b tin a b parts i sound differ inside pieces e = go (pieces.part i (last_in i (length parts) e)) (none_or_some (part_at parts i).last.of_a)
+  where
+    last_in : (i n : ℕ) → i + 1 ≡ n → i < n
+    last_in i n e = omega arith
+
+    none_or_some : (n : ℕ) → (n ≡ 0) ⊎ (0 < n)
+    none_or_some n = grind arith
+
+    at_end : (q r : ℕ) → r ≡ 0 → q * 0 ≡ 1 * r
+    at_end q r e = omega arith
+
+    no_more : (i j n : ℕ) → i + 1 ≡ n → i < j → j < n → ⊥
+    no_more i j n e h k = absurd (omega arith)
+
+    go : IsPart tin a b (part_at parts i).triangle (part_at parts i).first (part_at parts i).last → ((part_at parts i).last.of_a ≡ 0) ⊎ (0 < (part_at parts i).last.of_a) → IsSameSpot (part_at parts i).last at_b
+    go p (inl z) = at_end (part_at parts i).last.of_b (part_at parts i).last.of_a z
+    go p (inr more) =
+        let last = p.has_last in
+        let n = next tin a b parts (part_at parts i).last sound inside pieces last.some more in
+        absurd (no_more i n.index (length parts) e (later tin a b parts i n.index sound differ pieces (last_in i (length parts) e) n.behind) n.in_range)
+
+pub chain : (tin : Triangulation) (a b : Pt) (parts : List Part) → IsSound tin → a ≢ b → IsInside tin a b → ArePieces tin a b parts → AreChain parts
+chain tin a b parts sound differ inside pieces =
+    let first = begins_at_a tin a b parts sound inside pieces in
+    record {
+      some = first.0;
+      begins = first.1;
+      joined = λ i h. joined_at tin a b parts i sound differ inside pieces h;
+      ends = λ i e. ends_at_b tin a b parts i sound differ inside pieces e;
+    }
+
+-- ---- each spot is in a piece
+pub covered : (tin : Triangulation) (a b : Pt) (parts : List Part) → IsSound tin → a ≢ b → IsInside tin a b → ArePieces tin a b parts → DoCover parts
+covered tin a b parts sound differ inside pieces s some = go (none_or_some s.of_a)
+  where
+    none_or_some : (n : ℕ) → (n ≡ 0) ⊎ (0 < n)
+    none_or_some n = grind arith
+
+    pred : (n : ℕ) → 0 < n → (i : ℕ) × (i + 1 ≡ n)
+    pred zero h = absurd (omega arith)
+    pred (suc n) h = (n, omega arith)
+
+    last_in : (i n : ℕ) → i + 1 ≡ n → i < n
+    last_in i n e = omega arith
+
+    le_b : (m n k : ℕ) → k ≡ 0 → m * k ≤ n
+    le_b m n k e = grind arith
+
+    zero_of : (q r : ℕ) → q * 0 ≡ 1 * r → r ≡ 0
+    zero_of q r e = omega arith
+
+    last : AreChain parts → s.of_a ≡ 0 → (i : ℕ) × (i + 1 ≡ length parts) → (i : ℕ) × (i < length parts) × IsNotAfter (part_at parts i).first s × IsNotAfter s (part_at parts i).last
+    last c z i = (
+      i.0,
+      last_in i.0 (length parts) i.1,
+      le_b (part_at parts i.0).first.of_b (s.of_b * (part_at parts i.0).first.of_a) s.of_a z,
+      le_b s.of_b ((part_at parts i.0).last.of_b * s.of_a) (part_at parts i.0).last.of_a (zero_of (part_at parts i.0).last.of_b (part_at parts i.0).last.of_a (c.ends i.0 i.1)),
+    )
+
+    go : (s.of_a ≡ 0) ⊎ (0 < s.of_a) → (i : ℕ) × (i < length parts) × IsNotAfter (part_at parts i).first s × IsNotAfter s (part_at parts i).last
+    go (inl z) = let c = chain tin a b parts sound differ inside pieces in last c z (pred (length parts) c.some)
+    go (inr more) = let n = next tin a b parts s sound inside pieces some more in (n.index, n.in_range, n.from, no_later s (part_at parts n.index).last n.behind)

@@ -1,0 +1,5 @@
+use Rattle.tin_base.proofs.Agreement.{images_differ}
+use Rattle.tin_base.proofs.laws.different_points_have_different_images.Goals as goal
+
+pub returns : goal.returns
+returns c = images_differ

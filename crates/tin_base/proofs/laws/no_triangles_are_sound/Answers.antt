@@ -1,0 +1,5 @@
+use Rattle.tin_base.proofs.Empty.{empty_sound}
+use Rattle.tin_base.proofs.laws.no_triangles_are_sound.Goals as goal
+
+pub returns : goal.returns
+returns c = empty_sound

@@ -1,0 +1,15 @@
+use Rattle.std.proofs.Common.{rules, lit<}
+use Rattle.tin_base.specs.Kept.{seen}
+use Rattle.tin_base.proofs.Standing.{near_reads}
+use Rattle.tin_base.proofs.tins.Tin.tri.Goals as goal
+
+pub returns-clause-near : goal.returns-clause-near
+returns-clause-near c =
+    let tin = seen c.self.inside in
+    let numbers = c.index-numbers.result.now in
+    let within = c.index-numbers.ensures in
+    let near = near_reads tin c.args.frame c.args.triangle in (
+      near 0 1 numbers c.index.result.now c.index-2.result.now c.at.result c.at-2.result c.self.invariant (search rules) (lit< tt) (lit< tt) within c.index.ensures c.index-2.ensures c.at.ensures c.at-2.ensures,
+      near 0 2 numbers c.index.result.now c.index-3.result.now c.at.result c.at-3.result c.self.invariant (search rules) (lit< tt) (lit< tt) within c.index.ensures c.index-3.ensures c.at.ensures c.at-3.ensures,
+      near 1 2 numbers c.index-2.result.now c.index-3.result.now c.at-2.result c.at-3.result c.self.invariant (search rules) (lit< tt) (lit< tt) within c.index-2.ensures c.index-3.ensures c.at-2.ensures c.at-3.ensures,
+    )

@@ -1,0 +1,10 @@
+-- What contracts see of the types that keep a triangulation, and what these keep.
+use Rattle.tin_base.specs.declared.tins.Tin.TheInside.{Inside}
+use Rattle.tin_base.specs.Triangulation.{Triangulation, triangulation}
+use Rattle.tin_base.specs.Limits.{IsWithinLimits}
+
+abbrev pub seen : Inside → Triangulation
+seen tin = triangulation tin.corners.items tin.triangles.items tin.inexact
+
+abbrev pub IsKept : Inside → Type 0
+IsKept tin = IsWithinLimits (seen tin)

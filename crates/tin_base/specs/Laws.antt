@@ -1,0 +1,48 @@
+-- What holds of the images of each sound triangulation.
+use Rattle.std.specs.Prelude.{◌≡◌, [], pos, ◌<ℤ◌, ◌↔◌}
+use Rattle.plane_base.specs.Plane.{Point, Same}
+use Rattle.tin_base.specs.declared.frames.Frame.TheVariants.{Source, Target}
+use Rattle.tin_base.specs.Triangulation.{Triangulation}
+use Rattle.tin_base.specs.Soundness.{IsSound}
+use Rattle.tin_base.specs.Images.{IsImage, IsInSome}
+use Rattle.tin_base.specs.Turned.{turned_of}
+
+-- each point in some source triangle has an image
+abbrev pub EachHasImage : Triangulation → Type 0
+EachHasImage tin = (p : Point) → pos 0 <ℤ p.w → IsInSome tin Source p → (r : Point) × (pos 0 <ℤ r.w) × IsImage tin p r
+
+-- any two images of a point are the same
+abbrev pub ImagesAgree : Triangulation → Type 0
+ImagesAgree tin = (p r s : Point) → pos 0 <ℤ p.w → pos 0 <ℤ r.w → pos 0 <ℤ s.w → IsImage tin p r → IsImage tin p s → Same r s
+
+-- points that have the same image are the same
+abbrev pub ImagesDiffer : Triangulation → Type 0
+ImagesDiffer tin = (p q r s : Point) → pos 0 <ℤ p.w → pos 0 <ℤ q.w → pos 0 <ℤ r.w → pos 0 <ℤ s.w → IsImage tin p r → IsImage tin q s → Same r s → Same p q
+
+-- each point in some target triangle is the image of a point in a source triangle
+abbrev pub EachIsImage : Triangulation → Type 0
+EachIsImage tin = (r : Point) → pos 0 <ℤ r.w → IsInSome tin Target r → (p : Point) × (pos 0 <ℤ p.w) × IsInSome tin Source p × IsImage tin p r
+
+-- the images of the turned triangulation are the converse
+abbrev pub TurnedIsConverse : Triangulation → Type 0
+TurnedIsConverse tin = (p r : Point) → IsImage (turned_of tin) r p ↔ IsImage tin p r
+
+-- Of each sound triangulation: a point in some source triangle has an image, and any two images of it are the same
+abbrev pub PointsHaveOneImage : Type 0
+PointsHaveOneImage = (tin : Triangulation) → IsSound tin → EachHasImage tin × ImagesAgree tin
+
+-- Of each sound triangulation: different points have different images
+abbrev pub DifferentPointsDiffer : Type 0
+DifferentPointsDiffer = (tin : Triangulation) → IsSound tin → ImagesDiffer tin
+
+-- Of each sound triangulation: a point in some target triangle is an image of a point in a source triangle
+abbrev pub TargetPointsAreImages : Type 0
+TargetPointsAreImages = (tin : Triangulation) → IsSound tin → EachIsImage tin
+
+-- With the frames exchanged, each sound triangulation is sound, and its images are the converse
+abbrev pub ConverseIsSound : Type 0
+ConverseIsSound = (tin : Triangulation) → IsSound tin → IsSound (turned_of tin) × TurnedIsConverse tin
+
+-- a triangulation without triangles is sound
+abbrev pub NoTrianglesAreSound : Type 0
+NoTrianglesAreSound = (tin : Triangulation) → tin.triangles ≡ [] → IsSound tin

@@ -1,0 +1,34 @@
+-- What makes a triangulation sound: in both frames no triangle is flat or turned over, and two of them meet in their common corners and in what those span.
+use Rattle.std.specs.Prelude.{ℕ, ◌<◌, ◌≤◌, ℤ, pos, ◌<ℤ◌, Bool, false, ◌||◌, eqb, cond, List, [], ◌∷◌, length}
+use Rattle.plane_base.specs.Plane.{Point, turn_of, IsMix}
+use Rattle.tin_base.specs.declared.frames.Frame.{Frame}
+use Rattle.tin_base.specs.Triangulation.{Triangulation, numbers_of, places, IsInTriangle}
+
+-- the turn of three points; of more or fewer it is 0
+abbrev pub turn_of_three : List Point → ℤ
+turn_of_three (a ∷ b ∷ c ∷ []) = turn_of a b c
+turn_of_three points = pos 0
+
+abbrev pub has : List ℕ → ℕ → Bool
+has [] k = false
+has (n ∷ ns) k = eqb n k || has ns k
+
+-- the numbers of the first list that the second has too
+abbrev pub common : List ℕ → List ℕ → List ℕ
+common [] ns = []
+common (k ∷ ks) ns = cond (has ns k) (k ∷ common ks ns) (common ks ns)
+
+-- the numbers of the corners that triangles t and u have in common
+abbrev pub common_of : Triangulation → ℕ → ℕ → List ℕ
+common_of tin t u = common (numbers_of tin t) (numbers_of tin u)
+
+-- each point in both triangles is a mix of their common corners; where they have none, no point is in both
+abbrev pub MeetInCommon : Triangulation → Frame → ℕ → ℕ → Type 0
+MeetInCommon tin frame t u =
+    (p : Point) → pos 0 <ℤ p.w → IsInTriangle tin frame t p → IsInTriangle tin frame u p → IsMix p (places tin frame (common_of tin t u))
+
+pub record IsSound (tin : Triangulation) : Type 0 where
+  pub positive : (frame : Frame) (t : ℕ) → t < length tin.triangles → pos 0 <ℤ turn_of_three (places tin frame (numbers_of tin t))
+  -- of each two triangles
+  pub two_common : (t u : ℕ) → t < u → u < length tin.triangles → length (common_of tin t u) ≤ 2
+  pub meet : (frame : Frame) (t u : ℕ) → t < u → u < length tin.triangles → MeetInCommon tin frame t u

@@ -1,0 +1,10 @@
+-- A triangulation with its frames exchanged.
+use Rattle.std.specs.Prelude.{map}
+use Rattle.tin_base.specs.declared.corners.Corner.{Corner}
+use Rattle.tin_base.specs.Triangulation.{Triangulation}
+
+abbrev pub exchanged : Corner → Corner
+exchanged corner = record { sx = corner.tx; sy = corner.ty; tx = corner.sx; ty = corner.sy }
+
+abbrev pub turned_of : Triangulation → Triangulation
+turned_of tin = record tin { corners = map exchanged tin.corners }

@@ -1,0 +1,42 @@
+ghost use Rattle.tin_base.specs.Laws.{NoTrianglesAreSound, PointsHaveOneImage, DifferentPointsDiffer, TargetPointsAreImages, ConverseIsSound};
+ghost use Rattle.tin_base.specs.Carried.{SegmentsGoToSegments, RelationsAreKept, PiecesFollow};
+
+/// A law: each point in some source triangle of a sound triangulation has an image, and any two images of it are the same.
+pub fn points_have_one_image()
+    ensures { PointsHaveOneImage }
+{}
+
+/// A law: different points have different images, where the triangulation is sound.
+pub fn different_points_have_different_images()
+    ensures { DifferentPointsDiffer }
+{}
+
+/// A law: each point in some target triangle of a sound triangulation is the image of a point in a source triangle.
+pub fn target_points_are_images()
+    ensures { TargetPointsAreImages }
+{}
+
+/// A law: with its frames exchanged a sound triangulation is sound, and its images are the converse.
+pub fn exchanged_frames_give_the_converse()
+    ensures { ConverseIsSound }
+{}
+
+/// A law: the images of the points of a segment in one triangle of a sound triangulation are exactly the points between the images of its ends.
+pub fn segments_go_to_segments()
+    ensures { SegmentsGoToSegments }
+{}
+
+/// A law: two such segments, in one triangle or in two, have the relation that their images have.
+pub fn relations_are_kept()
+    ensures { RelationsAreKept }
+{}
+
+/// A law: the pieces of a segment that is inside a sound triangulation follow each other from its one end to the other, and have all its points.
+pub fn pieces_follow()
+    ensures { PiecesFollow }
+{}
+
+/// A law: a triangulation without triangles is sound.
+pub fn no_triangles_are_sound()
+    ensures { NoTrianglesAreSound }
+{}

@@ -1,0 +1,81 @@
+ghost use Rattle.std.specs.Prelude.{◌≡◌, ◌<◌, pos, ◌<ℤ◌, length};
+ghost use Rattle.plane_base.specs.Plane.{whole, turn_of, corners as corners_of, IsNearAll};
+ghost use Rattle.tin_base.specs.Triangulation.{places, numbers_of};
+ghost use Rattle.tin_base.specs.Soundness.{IsSound};
+ghost use Rattle.tin_base.specs.Limits.{IsWithinLimits};
+ghost use Rattle.tin_base.specs.Turned.{turned_of};
+
+use crate::{Corner, Frame, Tin};
+use plane_base::Tri;
+use std::marker::Model;
+
+/// A sound triangulation.
+#[derive(Debug, Drop)]
+pub struct SoundTin {
+    tin: Tin,
+}
+
+impl Model for SoundTin {
+    ghost use Rattle.tin_base.specs.Triangulation.{Triangulation};
+
+    ghost Value = { Triangulation };
+
+    ghost use Rattle.tin_base.specs.Soundness.{IsSound};
+
+    ghost view = { λ sound. sound.tin };
+
+    ghost invariant = { λ sound. IsSound sound.tin };
+}
+
+impl SoundTin {
+    /// A triangulation that is known to be sound.
+    pub fn of(tin: Tin) -> Self
+        requires { IsSound tin }
+        ensures { result ≡ tin }
+    {
+        SoundTin { tin }
+    }
+
+    /// The corners, in order of their numbers.
+    pub fn corners(&self) -> &[Corner]
+        ensures corners { result.now ≡ self.now.corners }
+        ensures limits { IsWithinLimits self.now }
+        ensures sound { IsSound self.now }
+    {
+        self.tin.corners()
+    }
+
+    /// The numbers of each triangle's corners, in order of the triangles' numbers.
+    pub fn triangles(&self) -> &[[u32; 3]]
+        ensures triangles { result.now ≡ self.now.triangles }
+        ensures limits { IsWithinLimits self.now }
+        ensures sound { IsSound self.now }
+    {
+        self.tin.triangles()
+    }
+
+    /// How many of the numbers that it was read from lost digits.
+    pub fn inexact(&self) -> u64
+        ensures { result ≡ self.now.inexact }
+    {
+        self.tin.inexact()
+    }
+
+    /// Where a triangle stands in a frame.
+    pub fn tri(&self, triangle: u32, frame: Frame) -> Tri
+        requires { triangle < length self.now.triangles }
+        ensures corners { corners_of result ≡ places self.now frame (numbers_of self.now triangle) }
+        ensures near { IsNearAll result.a result.b result.c }
+        ensures positive { pos 0 <ℤ turn_of (whole result.a) (whole result.b) (whole result.c) }
+    {
+        self.tin.tri(triangle, frame)
+    }
+}
+
+/// The triangulation with its frames exchanged: what was the target is then the source.
+pub fn turned(tin: SoundTin) -> SoundTin
+    ensures { result ≡ turned_of tin }
+{
+    let SoundTin { tin } = tin;
+    SoundTin { tin: tin.turned() }
+}
