@@ -1,25 +1,22 @@
 -- Fractions by cross multiplication.
-use Rattle.std.proofs.Common.{◌↔◌, ◌^◌, ◌<◌, ℤ, pos, ◌*ℤ◌, ◌≤ℤ◌, ◌<ℤ◌, unsigned_abs, IsTrue, false, SFits, arith, le_of_lt}
+use Rattle.std.proofs.Common.{◌↔◌, ℤ, pos, ◌*ℤ◌, ◌<ℤ◌, unsigned_abs, SFits, arith}
 use Rattle.std.proofs.lemmas.Int.{ints, fits_signed_mul}
 use mir.Syntax.{w128}
-use lib.Signed.{lt_z}
-use Rattle.integer_ring.proofs.Order.{not-<-to-≤}
+use Rattle.integer_ring.proofs.Order.{not-<-to-≤, ≤_of_<}
 use Rattle.integer_ring.proofs.Signs.{frac-≤_trans}
-use Rattle.frac128.specs.Fractions.{IsFrom, IsUpTo}
+use Rattle.frac128.specs.Sizes.{IsSmall}
+use Rattle.frac128.specs.Fractions.{IsAtMost, IsBelow, IsFrom, IsUpTo}
+use Rattle.frac128.specs.declared.frac.TheConstants.{TURN}
 use Rattle.frac128.specs.declared.frac.Frac.{Frac}
 
-pub product_fits : (a b : ℤ) → unsigned_abs a < 2 ^ 61 → unsigned_abs b < 2 ^ 61 → SFits w128 (a *ℤ b)
-product_fits a b h k = fits_signed_mul w128 a b (2 ^ 61) (2 ^ 61) (le_of_lt h) (le_of_lt k) (omega arith)
+pub product_fits : (a b : ℤ) → IsSmall a → IsSmall b → SFits w128 (a *ℤ b)
+product_fits a b h k = fits_signed_mul w128 a b (unsigned_abs TURN) (unsigned_abs TURN) (omega (arith, ints)) (omega (arith, ints)) (omega arith)
 
-pub tests_below : (x y : ℤ) → IsTrue (lt_z x y) ↔ (x <ℤ y)
-tests_below x y = (λ e. grind (arith, ints), λ h. grind (arith, ints))
+pub at_most_of_below : (a b : Frac) → IsBelow a b → IsAtMost a b
+at_most_of_below a b h = ≤_of_< (a.num *ℤ b.den) (b.num *ℤ a.den) h
 
-pub not_below : (x y : ℤ) → (x <ℤ y → IsTrue false) → y ≤ℤ x
-not_below x y h = not-<-to-≤ y x (λ k. let e = h k in cc)
-
--- a ≤ b
-abbrev pub IsAtMost : Frac → Frac → Type 0
-IsAtMost a b = (a.num *ℤ b.den) ≤ℤ (b.num *ℤ a.den)
+pub at_most_of_not_below : (a b : Frac) → ¬ IsBelow a b → IsAtMost b a
+at_most_of_not_below a b n = not-<-to-≤ (b.num *ℤ a.den) (a.num *ℤ b.den) n
 
 pub from_less : (a b : Frac) → IsAtMost a b → (n d : ℤ) → pos 0 <ℤ d → IsFrom b n d ↔ (IsFrom a n d × IsFrom b n d)
 from_less a b h n d p = (λ k. (frac-≤_trans a.num a.den b.num b.den n d a.positive b.positive p h k, k), λ k. k.1)

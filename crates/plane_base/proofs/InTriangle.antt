@@ -5,8 +5,8 @@ use Rattle.integer_ring.proofs.Ring.{Expr, num, ◌⊕◌, ◌⊖◌, ◌⊗◌}
 use Rattle.integer_ring.proofs.Order.{nonneg_pos, to_nat}
 use Rattle.integer_ring.proofs.Claims.{◌≐◌, ◌≼◌, ◌≺◌, gap, over, eqn, ◌⊞◌, ◌⊠◌, ◌because◌, ◌otherwise◌, ◌⇒◌, follows}
 use Rattle.plane_base.specs.Plane.{Point, Same, turn_of, weighed, IsMix, whole, holds_of}
-use Rattle.plane_base.specs.declared.Pt.{Pt}
-use Rattle.plane_base.specs.declared.Tri.{Tri}
+use Rattle.plane_base.specs.declared.shapes.Pt.{Pt}
+use Rattle.plane_base.specs.declared.shapes.Tri.{Tri}
 use lib.Signed.{lt_z_yes}
 use Rattle.plane_base.proofs.Points.{PointE, turn, plus, nothing, follows_at}
 use Rattle.plane_base.proofs.Turns.{turn_same, turn_mix, turn_cycle}

@@ -1,26 +1,36 @@
 -- How large the numbers of a turn are, and the turn by differences of coordinates.
-use Rattle.std.proofs.Common.{◌≡◌, ◌^◌, ◌<◌, ◌≤◌, ℤ, pos, ◌-ℤ◌, ◌*ℤ◌, unsigned_abs, SFits, arith, mul-le-mul}
-use Rattle.std.proofs.lemmas.Int.{ints, unsigned_abs-mul, fits_signed_from_abs}
-use mir.Syntax.{w128}
+use Rattle.std.proofs.Common.{◌≡◌, ◌≤◌, ◌-◌, ◌<ℤ◌, ℤ, pos, ◌-ℤ◌, ◌*ℤ◌, unsigned_abs, SFits, arith, mul-le-mul}
+use Rattle.std.proofs.lemmas.Int.{ints, unsigned_abs-mul}
+use mir.Syntax.{w64}
 use Rattle.integer_ring.proofs.Ring.{num, neg, ◌⊖◌, ◌⊗◌}
 use Rattle.integer_ring.proofs.Claims.{◌≐◌, ◌⇒◌, ◌because◌, ◌⊞◌, eqn, follows}
-use Rattle.plane_base.specs.Plane.{turn_of}
+use Rattle.frac128.specs.Sizes.{IsSmall}
+use Rattle.frac128.specs.declared.frac.TheConstants.{TURN}
+use Rattle.plane_base.specs.Plane.{turn_of, IsShort}
+use Rattle.plane_base.specs.declared.shapes.TheConstants.{SPAN}
 use Rattle.plane_base.proofs.Points.{turn}
 
-pub product_size : (a b : ℤ) → unsigned_abs a < 2 ^ 30 → unsigned_abs b < 2 ^ 30 → unsigned_abs (a *ℤ b) < 2 ^ 60
+-- two such numbers make a small one
+abbrev pub IsHalfSmall : ℤ → Type 0
+IsHalfSmall z = (pos 2 *ℤ pos (unsigned_abs z)) <ℤ TURN
+
+pub product_size : (a b : ℤ) → IsShort a → IsShort b → IsHalfSmall (a *ℤ b)
 product_size a b h k =
-    let m : unsigned_abs a ≤ 1073741823 = omega arith in
-    let n : unsigned_abs b ≤ 1073741823 = omega arith in
-    omega (arith, unsigned_abs-mul a b, mul-le-mul m n)
+    let m : unsigned_abs a ≤ unsigned_abs SPAN - 1 = omega (arith, ints) in
+    let n : unsigned_abs b ≤ unsigned_abs SPAN - 1 = omega (arith, ints) in
+    omega (arith, ints, unsigned_abs-mul a b, mul-le-mul m n)
 
-sub_size : (p q : ℤ) → unsigned_abs p < 2 ^ 60 → unsigned_abs q < 2 ^ 60 → unsigned_abs (p -ℤ q) < 2 ^ 61
-sub_size p q h k = omega (arith, ints)
+pub difference_size : (p q : ℤ) → IsHalfSmall p → IsHalfSmall q → IsSmall (p -ℤ q)
+difference_size p q h k = omega (arith, ints)
 
-pub cross_size : (a b c d : ℤ) → unsigned_abs a < 2 ^ 30 → unsigned_abs b < 2 ^ 30 → unsigned_abs c < 2 ^ 30 → unsigned_abs d < 2 ^ 30 → unsigned_abs (a *ℤ b -ℤ c *ℤ d) < 2 ^ 61
-cross_size a b c d h k l m = sub_size (a *ℤ b) (c *ℤ d) (product_size a b h k) (product_size c d l m)
+pub cross_size : (a b c d : ℤ) → IsShort a → IsShort b → IsShort c → IsShort d → IsSmall (a *ℤ b -ℤ c *ℤ d)
+cross_size a b c d h k l m = difference_size (a *ℤ b) (c *ℤ d) (product_size a b h k) (product_size c d l m)
 
-pub small_fits : (z : ℤ) → unsigned_abs z < 2 ^ 61 → SFits w128 z
-small_fits z h = fits_signed_from_abs w128 z (omega arith)
+pub product_fits : (z : ℤ) → IsHalfSmall z → SFits w64 z
+product_fits z h = omega (arith, ints)
+
+pub cross_fits : (z : ℤ) → IsSmall z → SFits w64 z
+cross_fits z h = omega (arith, ints)
 
 -- the turn of whole points, as the cross product of two differences
 pub turn_whole : (ax ay bx by cx cy u v s t z : ℤ) → u ≡ bx -ℤ ax → v ≡ by -ℤ ay → s ≡ cx -ℤ ax → t ≡ cy -ℤ ay → z ≡ u *ℤ t -ℤ v *ℤ s → z ≡ turn_of (record { x = ax; y = ay; w = pos 1 }) (record { x = bx; y = by; w = pos 1 }) (record { x = cx; y = cy; w = pos 1 })

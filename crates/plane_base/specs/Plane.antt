@@ -1,8 +1,8 @@
 -- Points of the plane in whole numbers, turns and mixes.
-use Rattle.std.specs.Prelude.{◌≡◌, ℕ, ◌<◌, ℤ, pos, ◌+ℤ◌, ◌-ℤ◌, ◌*ℤ◌, ◌<ℤ◌, List, [], ◌∷◌, length, sum}
-use Rattle.plane_base.specs.declared.Pt.{Pt}
-use Rattle.plane_base.specs.declared.Tri.{Tri}
-use Rattle.plane_base.specs.declared.TheConstants.{SPAN}
+use Rattle.std.specs.Prelude.{◌≡◌, ℕ, ◌<◌, ℤ, pos, ◌+ℤ◌, ◌-ℤ◌, ◌*ℤ◌, ◌<ℤ◌, unsigned_abs, List, [], ◌∷◌, length, sum}
+use Rattle.plane_base.specs.declared.shapes.Pt.{Pt}
+use Rattle.plane_base.specs.declared.shapes.Tri.{Tri}
+use Rattle.plane_base.specs.declared.shapes.TheConstants.{SPAN}
 
 -- with w above 0: the place (x/w, y/w)
 pub record Point : Type 0 where
@@ -40,7 +40,11 @@ corners t = whole t.a ∷ whole t.b ∷ whole t.c ∷ []
 abbrev pub along : Point → Point → ℤ → ℤ → Point
 along a b n d = record { x = (d -ℤ n) *ℤ a.x +ℤ n *ℤ b.x; y = (d -ℤ n) *ℤ a.y +ℤ n *ℤ b.y; w = (d -ℤ n) *ℤ a.w +ℤ n *ℤ b.w }
 
--- less than 2^30 apart on each axis
+-- below `SPAN` in magnitude
+abbrev pub IsShort : ℤ → Type 0
+IsShort z = pos (unsigned_abs z) <ℤ SPAN
+
+-- less than `SPAN` apart on each axis
 abbrev pub IsNear : Pt → Pt → Type 0
 IsNear p q = ((p.x -ℤ q.x) <ℤ SPAN) × ((q.x -ℤ p.x) <ℤ SPAN) × ((p.y -ℤ q.y) <ℤ SPAN) × ((q.y -ℤ p.y) <ℤ SPAN)
 

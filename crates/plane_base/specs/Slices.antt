@@ -1,14 +1,19 @@
 -- The parameters of the points that a segment and a triangle have in common.
-use Rattle.std.specs.Prelude.{ℤ, pos, ◌*ℤ◌, ◌≤ℤ◌, ◌<ℤ◌, Option, MatchOption}
+use Rattle.std.specs.Prelude.{ℤ, pos, ◌≤ℤ◌, ◌<ℤ◌, Option, MatchOption}
 use Rattle.frac128.specs.Fractions.{IsFrom, IsUpTo}
+use Rattle.frac128.specs.declared.frac.Frac.{Frac}
 use Rattle.plane_base.specs.Plane.{whole, corners, along, IsMix}
-use Rattle.plane_base.specs.declared.Pt.{Pt}
-use Rattle.plane_base.specs.declared.Tri.{Tri}
+use Rattle.plane_base.specs.declared.shapes.Pt.{Pt}
+use Rattle.plane_base.specs.declared.shapes.Tri.{Tri}
 use Rattle.plane_base.specs.declared.slicing.Stretch.{Stretch}
+
+-- n/d is from lo to hi
+abbrev pub IsWithin : Frac → Frac → ℤ → ℤ → Type 0
+IsWithin lo hi n d = IsFrom lo n d × IsUpTo hi n d
 
 -- n/d is in the stretch
 abbrev pub IsBetween : Stretch → ℤ → ℤ → Type 0
-IsBetween s n d = IsFrom s.lo n d × IsUpTo s.hi n d
+IsBetween s n d = IsWithin s.lo s.hi n d
 
 -- n/d is between 0 and 1
 abbrev pub IsParam : ℤ → ℤ → Type 0

@@ -4,7 +4,7 @@ use Rattle.integer_ring.proofs.Ring.{num, ◌⊕◌, ◌⊗◌}
 use Rattle.integer_ring.proofs.Claims.{◌≐◌, solve}
 use lib.Signed.{lt_z_yes}
 use Rattle.plane_base.specs.Plane.{Point, Same, IsMix, whole}
-use Rattle.plane_base.specs.declared.Pt.{Pt}
+use Rattle.plane_base.specs.declared.shapes.Pt.{Pt}
 use Rattle.tin_base.specs.declared.frames.Frame.TheVariants.{Source}
 use Rattle.tin_base.specs.Triangulation.{Triangulation, numbers_of, places}
 use Rattle.tin_base.specs.Soundness.{turn_of_three, IsSound}

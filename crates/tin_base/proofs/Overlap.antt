@@ -7,7 +7,7 @@ use Rattle.integer_ring.proofs.Signs.{≡_of_mul}
 use Rattle.integer_ring.proofs.Claims.{◌≐◌, ◌≺◌, gap, over, eqn, ◌⊞◌, ◌⊠◌, ◌because◌, ◌⇒◌, follows, solve}
 use lib.Signed.{lt_z_yes}
 use Rattle.plane_base.specs.Plane.{Point, Same, turn_of, weighed, IsMix, whole}
-use Rattle.plane_base.specs.declared.Pt.{Pt}
+use Rattle.plane_base.specs.declared.shapes.Pt.{Pt}
 use Rattle.plane_base.proofs.Points.{turn, plus, nothing, solve_at}
 use Rattle.plane_base.proofs.Turns.{turn_cycle, turn_swap, turn_same}
 use Rattle.plane_base.proofs.InTriangle.{turns_of_mix}

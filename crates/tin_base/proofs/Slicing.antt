@@ -6,8 +6,8 @@ use Rattle.integer_ring.proofs.Order.{to_nat, ≤-to-nonneg}
 use Rattle.integer_ring.proofs.Claims.{◌≐◌, ◌≼◌, ◌≺◌, gap, over, eqn, ◌⊞◌, ◌because◌, ◌⇒◌, follows}
 use lib.Signed.{lt_z_yes}
 use Rattle.plane_base.specs.Plane.{Point, IsMix, whole, corners, along}
-use Rattle.plane_base.specs.declared.Pt.{Pt}
-use Rattle.plane_base.specs.declared.Tri.{Tri}
+use Rattle.plane_base.specs.declared.shapes.Pt.{Pt}
+use Rattle.plane_base.specs.declared.shapes.Tri.{Tri}
 use Rattle.plane_base.specs.Slices.{IsParam, IsIn, IsCommon}
 use Rattle.plane_base.specs.declared.slicing.Stretch.{Stretch}
 use Rattle.tin_base.specs.declared.frames.Frame.TheVariants.{Source}

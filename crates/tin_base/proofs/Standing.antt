@@ -2,8 +2,8 @@
 use Rattle.std.proofs.Common.{◌≡◌, ℕ, ◌<◌, ℤ, ◌-ℤ◌, ◌<ℤ◌, List, [], length, get_or, ap, sym, ◌∙◌, subst, arith}
 use Rattle.std.proofs.lemmas.List.{get_or_default}
 use Rattle.plane_base.specs.Plane.{Point, whole, IsNear}
-use Rattle.plane_base.specs.declared.Pt.{Pt}
-use Rattle.plane_base.specs.declared.TheConstants.{SPAN}
+use Rattle.plane_base.specs.declared.shapes.Pt.{Pt}
+use Rattle.plane_base.specs.declared.shapes.TheConstants.{SPAN}
 use Rattle.tin_base.specs.declared.corners.Corner.{Corner}
 use Rattle.tin_base.specs.declared.frames.Frame.{Frame}
 use Rattle.tin_base.specs.Triangulation.{Triangulation, x_in, y_in, place, no_corner, corner_at, numbers_of}

@@ -8,7 +8,7 @@ use Rattle.tin_base.specs.Soundness.{IsSound}
 use Rattle.tin_base.specs.Images.{IsImage}
 use Rattle.tin_base.specs.Relations.{IsBetween, HaveRelation}
 use Rattle.tin_base.specs.Segments.{IsInside, Part, ArePieces, AreChain, DoCover}
-use Rattle.plane_base.specs.declared.Pt.{Pt}
+use Rattle.plane_base.specs.declared.shapes.Pt.{Pt}
 
 -- the segment from p to q is in one source triangle, and p' and q' are the images of its ends
 pub record IsCarried (tin : Triangulation) (p q p' q' : Point) : Type 0 where

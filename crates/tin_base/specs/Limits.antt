@@ -1,6 +1,6 @@
 -- What each triangulation keeps, sound or not: its numbers are those of corners, and its corners are few, different and near each other.
 use Rattle.std.specs.Prelude.{◌≡◌, ℕ, ◌<◌, ◌≤◌, ℤ, neg_ℤ, ◌-ℤ◌, ◌≤ℤ◌, ◌<ℤ◌, length, All}
-use Rattle.plane_base.specs.declared.TheConstants.{SPAN}
+use Rattle.plane_base.specs.declared.shapes.TheConstants.{SPAN}
 use Rattle.tin_base.specs.declared.corners.Corner.{Corner}
 use Rattle.tin_base.specs.declared.frames.Frame.{Frame}
 use Rattle.tin_base.specs.declared.limits.TheConstants.{REACH, MOST_CORNERS, MOST_TRIANGLES}

@@ -1,7 +1,7 @@
 -- Segments in the source frame: their points, and the pieces into which the triangles cut them.
 use Rattle.std.specs.Prelude.{◌≡◌, ◌≢◌, ℕ, ◌+◌, ◌*◌, ◌<◌, ◌≤◌, pos, ◌<ℤ◌, List, [], ◌∷◌, length, slice_index_or}
 use Rattle.plane_base.specs.Plane.{Point, IsMix, whole, weighed}
-use Rattle.plane_base.specs.declared.Pt.{Pt}
+use Rattle.plane_base.specs.declared.shapes.Pt.{Pt}
 use Rattle.tin_base.specs.declared.frames.Frame.TheVariants.{Source}
 use Rattle.tin_base.specs.Triangulation.{Triangulation, IsInTriangle}
 use Rattle.tin_base.specs.Images.{IsInSome}

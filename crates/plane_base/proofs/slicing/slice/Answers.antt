@@ -1,20 +1,24 @@
-use Rattle.std.proofs.Common.{refl, ◌*ℤ◌}
-use Rattle.frac128.proofs.Fracs.{not_below}
-use Rattle.plane_base.proofs.Slices.{all_of, in_iff, none_common, some_common}
+use Rattle.std.proofs.Common.{refl}
+use Rattle.frac128.proofs.Fracs.{at_most_of_not_below}
+use Rattle.plane_base.proofs.Slices.{in_iff, both_ways, none_common, some_common}
 use Rattle.plane_base.proofs.slicing.slice.Goals as goal
 
 pub returns-then-is_below : goal.returns-then-is_below
 returns-then-is_below c =
-    let s = c.both-common.result in
-    let i = in_iff c.args.a c.args.b c.args.t.now c.all.result c.side-ab.result c.side-bc.result c.side-ca.result s c.requires.positive
-    c.all.ensures c.side-ab.ensures c.side-bc.ensures c.side-ca.ensures
-    (all_of c.all.result c.side-ab.result c.side-bc.result c.side-ca.result c.both.result c.both-2.result s c.both.ensures c.both-2.ensures c.both-common.ensures) in
-    none_common c.args.a c.args.b c.args.t.now s i (c.if-is_below.ensures.0 refl)
+    let a = c.args.a in let b = c.args.b in let t = c.args.t.now in
+    let s = c.courses_of-courses.result in let r = c.common_of-common.result in
+    record {
+      common = none_common a b t r.lo r.hi
+          (λ n d k. both_ways (in_iff a b t s.ab.start s.ab.end s.bc.start s.bc.end s.ca.start s.ca.end n d c.requires.positive c.courses_of-courses.ensures) (c.common_of-common.ensures n d k))
+          (c.if-is_below.ensures.0 refl);
+    }
 
-pub returns-else-is_below : goal.returns-else-is_below
-returns-else-is_below c =
-    let s = c.both-common.result in
-    let i = in_iff c.args.a c.args.b c.args.t.now c.all.result c.side-ab.result c.side-bc.result c.side-ca.result s c.requires.positive
-    c.all.ensures c.side-ab.ensures c.side-bc.ensures c.side-ca.ensures
-    (all_of c.all.result c.side-ab.result c.side-bc.result c.side-ca.result c.both.result c.both-2.result s c.both.ensures c.both-2.ensures c.both-common.ensures) in
-    some_common c.args.a c.args.b c.args.t.now s i (not_below (s.hi.num *ℤ s.lo.den) (s.lo.num *ℤ s.hi.den) c.if-is_below.ensures.1)
+pub returns : goal.returns
+returns c =
+    let a = c.args.a in let b = c.args.b in let t = c.args.t.now in
+    let s = c.courses_of-courses.result in let r = c.common_of-common.result in
+    record {
+      common = some_common a b t r.lo r.hi
+          (λ n d k. both_ways (in_iff a b t s.ab.start s.ab.end s.bc.start s.bc.end s.ca.start s.ca.end n d c.requires.positive c.courses_of-courses.ensures) (c.common_of-common.ensures n d k))
+          (at_most_of_not_below r.hi r.lo (λ k. let e = c.if-is_below.ensures.1 k in cc));
+    }

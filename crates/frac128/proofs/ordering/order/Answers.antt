@@ -1,0 +1,20 @@
+use Rattle.std.proofs.Common.{rules, SFits, ◌*ℤ◌}
+use Rattle.std.proofs.lemmas.Int.{to_z-of_z}
+use Rattle.std.proofs.lemmas.Cmp.{int_ranked}
+use mir.Syntax.{w128}
+use Rattle.frac128.proofs.Fracs.{product_fits}
+use Rattle.frac128.proofs.ordering.order.Goals as goal
+
+pub returns-clause-value : goal.returns-clause-value
+returns-clause-value c =
+    let a = c.args.a in let b = c.args.b in
+    let an : SFits w128 a.num = search rules in let ad : SFits w128 a.den = search rules in
+    let bn : SFits w128 b.num = search rules in let bd : SFits w128 b.den = search rules in
+    let left : SFits w128 (a.num *ℤ b.den) = product_fits a.num b.den a.num_small b.den_small in
+    let right : SFits w128 (b.num *ℤ a.den) = product_fits b.num a.den b.num_small a.den_small in
+    simp to_z-of_z at c.cmp.ensures
+
+pub returns-clause-cases : goal.returns-clause-cases
+returns-clause-cases c =
+    let a = c.args.a in let b = c.args.b in
+    int_ranked (a.num *ℤ b.den) (b.num *ℤ a.den) c.cmp.result (returns-clause-value c)
