@@ -1,5 +1,8 @@
 pub mod Points
 pub mod Turns
+pub mod Mixes
+pub mod Proportions
+pub mod Intervals
 pub mod InTriangle
 pub mod Sizes
 pub mod Along
@@ -8,3 +11,4 @@ pub mod Parts
 pub mod Slices
 pub mod Exit
 pub mod Meeting
+pub mod Naming

@@ -14,13 +14,13 @@ value_at u v n d = (d -ℤ n) *ℤ u +ℤ n *ℤ v
 abbrev pub IsZeroAt : ℤ → ℤ → Frac → Type 0
 IsZeroAt u v f = (u ≢ v) × (value_at u v f.num f.den ≡ pos 0)
 
--- f is 0, or the number is 0 there, or it is below 0 all the way
-abbrev pub StartsAt : ℤ → ℤ → Frac → Type 0
-StartsAt u v f = (f.num ≡ pos 0) ⊎ (IsZeroAt u v f ⊎ ((u ≡ v) × (u <ℤ pos 0)))
+-- f is an end of the way, or the number is 0 there, or it is below 0 all the way
+abbrev pub IsBound : Type 0 → ℤ → ℤ → Frac → Type 0
+IsBound end u v f = end ⊎ (IsZeroAt u v f ⊎ ((u ≡ v) × (u <ℤ pos 0)))
 
--- f is 1, or the number is 0 there, or it is below 0 all the way
-abbrev pub EndsAt : ℤ → ℤ → Frac → Type 0
-EndsAt u v f = (f.num ≡ f.den) ⊎ (IsZeroAt u v f ⊎ ((u ≡ v) × (u <ℤ pos 0)))
+-- f is an end of the way, or one of three numbers is 0 there
+abbrev pub IsOnWay : Type 0 → Type 0 → Type 0 → Type 0 → Type 0
+IsOnWay V A B C = V ⊎ (A ⊎ (B ⊎ C))
 
 -- the turns of the three sides of a triangle, at both ends of a segment
 pub record AreTurns (a b : Pt) (t : Tri) (u0 v0 u1 v1 u2 v2 : ℤ) : Type 0 where

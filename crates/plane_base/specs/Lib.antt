@@ -1,3 +1,4 @@
 pub mod Plane
 pub mod Slices
 pub mod Courses
+pub mod Laws

@@ -1,10 +1,12 @@
 -- The parameters of the points that a segment and a triangle have in common.
-use Rattle.std.specs.Prelude.{ℤ, pos, ◌≤ℤ◌, ◌<ℤ◌, Option, MatchOption}
+use Rattle.std.specs.Prelude.{◌≡◌, ℕ, zero, suc, ℤ, pos, ◌-ℤ◌, ◌*ℤ◌, ◌≤ℤ◌, ◌<ℤ◌, [], ◌∷◌, Option, MatchOption}
 use Rattle.frac128.specs.Fractions.{IsFrom, IsUpTo}
 use Rattle.frac128.specs.declared.frac.Frac.{Frac}
 use Rattle.plane_base.specs.Plane.{whole, corners, along, IsMix}
 use Rattle.plane_base.specs.declared.shapes.Pt.{Pt}
 use Rattle.plane_base.specs.declared.shapes.Tri.{Tri}
+use Rattle.plane_base.specs.declared.slicing.End.{End}
+use Rattle.plane_base.specs.declared.slicing.End.TheVariants.{Vertex, Side}
 use Rattle.plane_base.specs.declared.slicing.Stretch.{Stretch}
 
 -- n/d is from lo to hi
@@ -29,3 +31,34 @@ IsCommon a b t s = IsIn a b t s.lo.num s.lo.den × IsIn a b t s.hi.num s.hi.den 
 
 abbrev pub slice_of : Pt → Pt → Tri → Option Stretch → Type 0
 slice_of a b t r = MatchOption r ((n d : ℤ) → IsIn a b t n d → ⊥) (λ s. IsCommon a b t s)
+
+-- ---- where the two ends lie
+-- the segment from a to b has the direction of the side from p to q, or the opposite one
+abbrev pub IsParallel : Pt → Pt → Pt → Pt → Type 0
+IsParallel a b p q = (b.x -ℤ a.x) *ℤ (q.y -ℤ p.y) ≡ (b.y -ℤ a.y) *ℤ (q.x -ℤ p.x)
+
+-- the side from p to q holds the point at f, and is not parallel to the segment
+pub record IsCrossed (a b p q : Pt) (f : Frac) : Type 0 where
+  pub holds : IsMix (along (whole a) (whole b) f.num f.den) (whole p ∷ whole q ∷ [])
+  pub across : ¬ IsParallel a b p q
+
+-- k, counted from 0, is the least of three facts that hold
+abbrev pub IsLeast : Type 0 → Type 0 → Type 0 → ℕ → Type 0
+IsLeast A B C zero = A
+IsLeast A B C (suc zero) = (¬ A) × B
+IsLeast A B C (suc (suc zero)) = (¬ A) × (¬ B) × C
+IsLeast A B C (suc (suc (suc k))) = ⊥
+
+-- a vertex exactly where that is a fact, else the least of three sides
+abbrev pub IsEnd : Type 0 → Type 0 → Type 0 → Type 0 → End → Type 0
+IsEnd V A B C Vertex = V
+IsEnd V A B C (Side k) = (¬ V) × IsLeast A B C k
+
+-- where the point at f lies, in a triangle
+abbrev pub LiesAt : Pt → Pt → Tri → Frac → Type 0 → End → Type 0
+LiesAt a b t f vertex end = IsEnd vertex (IsCrossed a b t.a t.b f) (IsCrossed a b t.b t.c f) (IsCrossed a b t.c t.a f) end
+
+-- `enter` tells where `lo` lies, `leave` where `hi` lies
+pub record AreEnds (a b : Pt) (t : Tri) (s : Stretch) : Type 0 where
+  pub enter : LiesAt a b t s.lo (s.lo.num ≡ pos 0) s.enter
+  pub leave : LiesAt a b t s.hi (s.hi.num ≡ s.hi.den) s.leave

@@ -1,7 +1,7 @@
 ghost use Rattle.std.specs.Prelude.{◌≡◌, ◌≢◌, ◌↔◌, ℤ, pos, ◌≤ℤ◌, ◌-ℤ◌, ◌*ℤ◌, IsTrue};
 ghost use Rattle.frac128.specs.Sizes.{IsSmall};
 ghost use Rattle.plane_base.specs.Plane.{whole, turn_of, IsNear, IsNearAll};
-ghost use Rattle.plane_base.specs.Courses.{value_at, IsZeroAt, StartsAt, EndsAt};
+ghost use Rattle.plane_base.specs.Courses.{value_at, IsZeroAt, IsBound};
 ghost use Rattle.plane_base.specs.Slices.{IsParam, IsWithin};
 
 use crate::ranges::{Range, at_end, at_start};
@@ -53,8 +53,8 @@ pub(crate) fn zero_of(course: Course) -> Frac
 // The parameters at which a number is not negative.
 pub(crate) fn where_left(course: Course) -> Range
     ensures within { (n d : ℤ) → IsParam n d → ((pos 0 ≤ℤ value_at course.start course.end n d) ↔ IsWithin result.lo result.hi n d) }
-    ensures lo { StartsAt course.start course.end result.lo }
-    ensures hi { EndsAt course.start course.end result.hi }
+    ensures lo { IsBound (result.lo.num ≡ pos 0) course.start course.end result.lo }
+    ensures hi { IsBound (result.hi.num ≡ result.hi.den) course.start course.end result.hi }
 {
     if course.start < course.end {
         Range {

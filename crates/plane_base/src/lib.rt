@@ -4,12 +4,17 @@
 
 mod courses;
 mod edges;
+mod laws;
 mod ranges;
 mod shapes;
 mod slicing;
 mod turning;
 
 pub use edges::edge_param;
+pub use laws::{
+    mixes_of_mixes_are_mixes, segments_meet_in_intervals, triangles_are_convex,
+    triangles_are_left_of_sides, weights_are_turns, weights_are_unique,
+};
 pub use shapes::{Pt, Rect, SPAN, Tri};
 pub use slicing::{End, Stretch, slice};
 pub use turning::{holds, turn};

@@ -1,7 +1,7 @@
-ghost use Rattle.std.specs.Prelude.{◌↔◌, ℤ, pos, ◌<ℤ◌};
+ghost use Rattle.std.specs.Prelude.{◌≡◌, ◌↔◌, ℤ, pos, ◌<ℤ◌, IsTrue, IfSome};
 ghost use Rattle.plane_base.specs.Plane.{whole, turn_of, IsNear, IsNearAll, IsNearTri};
-ghost use Rattle.plane_base.specs.Slices.{IsWithin, slice_of};
-ghost use Rattle.plane_base.specs.Courses.{AreTurns, AreAllLeft};
+ghost use Rattle.plane_base.specs.Slices.{IsWithin, IsEnd, AreEnds, slice_of};
+ghost use Rattle.plane_base.specs.Courses.{AreTurns, AreAllLeft, IsBound, IsOnWay, IsZeroAt};
 
 use crate::courses::{Course, course_of, is_zero_at, where_left};
 use crate::ranges::{Range, both, is_below, whole_way};
@@ -53,7 +53,15 @@ fn courses_of(a: Pt, b: Pt, t: &Tri) -> Courses
 
 // The parameters at which none of the three is negative.
 fn common_of(courses: Courses) -> Range
-    ensures { (n d : ℤ) → pos 0 <ℤ d → (IsWithin result.lo result.hi n d ↔ AreAllLeft courses.ab.start courses.ab.end courses.bc.start courses.bc.end courses.ca.start courses.ca.end n d) }
+    ensures within { (n d : ℤ) → pos 0 <ℤ d → (IsWithin result.lo result.hi n d ↔ AreAllLeft courses.ab.start courses.ab.end courses.bc.start courses.bc.end courses.ca.start courses.ca.end n d) }
+    ensures lo { IsOnWay (result.lo.num ≡ pos 0)
+        (IsBound (result.lo.num ≡ pos 0) courses.ab.start courses.ab.end result.lo)
+        (IsBound (result.lo.num ≡ pos 0) courses.bc.start courses.bc.end result.lo)
+        (IsBound (result.lo.num ≡ pos 0) courses.ca.start courses.ca.end result.lo) }
+    ensures hi { IsOnWay (result.hi.num ≡ result.hi.den)
+        (IsBound (result.hi.num ≡ result.hi.den) courses.ab.start courses.ab.end result.hi)
+        (IsBound (result.hi.num ≡ result.hi.den) courses.bc.start courses.bc.end result.hi)
+        (IsBound (result.hi.num ≡ result.hi.den) courses.ca.start courses.ca.end result.hi) }
 {
     let left_of_all = both(
         where_left(courses.ab),
@@ -62,8 +70,29 @@ fn common_of(courses: Courses) -> Range
     both(whole_way(), left_of_all)
 }
 
+fn is_first(at: Frac) -> bool
+    ensures { IsTrue result ↔ (at.num ≡ pos 0) }
+{
+    at.num == 0
+}
+
+fn is_last(at: Frac) -> bool
+    ensures { IsTrue result ↔ (at.num ≡ at.den) }
+{
+    at.num == at.den
+}
+
 // Where the parameter lies: at a vertex, or else on the first side that changes and is 0 there.
-fn end_at(courses: Courses, at: Frac, is_vertex: bool) -> End {
+fn end_at(courses: Courses, at: Frac, is_vertex: bool) -> End
+    requires { IsOnWay (IsTrue is_vertex)
+        (IsZeroAt courses.ab.start courses.ab.end at)
+        (IsZeroAt courses.bc.start courses.bc.end at)
+        (IsZeroAt courses.ca.start courses.ca.end at) }
+    ensures { IsEnd (IsTrue is_vertex)
+        (IsZeroAt courses.ab.start courses.ab.end at)
+        (IsZeroAt courses.bc.start courses.bc.end at)
+        (IsZeroAt courses.ca.start courses.ca.end at) result }
+{
     if is_vertex {
         return End::Vertex;
     }
@@ -87,18 +116,17 @@ pub fn slice(a: Pt, b: Pt, t: &Tri) -> Option<Stretch>
     requires near_ab { IsNear a b }
     requires positive { pos 0 <ℤ turn_of (whole t.now.a) (whole t.now.b) (whole t.now.c) }
     ensures common { slice_of a b t.now result }
+    ensures ends { IfSome result (λ s. AreEnds a b t.now s) }
 {
     let courses = courses_of(a, b, t);
     let common = common_of(courses);
     if is_below(common.hi, common.lo) {
         return None;
     }
-    let from_start = common.lo.num == 0;
-    let to_end = common.hi.num == common.hi.den;
     Some(Stretch {
         lo: common.lo,
         hi: common.hi,
-        enter: end_at(courses, common.lo, from_start),
-        leave: end_at(courses, common.hi, to_end),
+        enter: end_at(courses, common.lo, is_first(common.lo)),
+        leave: end_at(courses, common.hi, is_last(common.hi)),
     })
 }

@@ -1,8 +1,8 @@
 use Rattle.plane_base.proofs.Slices.{all_of}
 use Rattle.plane_base.proofs.slicing.common_of.Goals as goal
 
-pub returns : goal.returns
-returns c =
+pub returns-clause-within : goal.returns-clause-within
+returns-clause-within c =
     let s = c.args.courses in
     all_of s.ab.start s.ab.end s.bc.start s.bc.end s.ca.start s.ca.end
     c.whole_way.result c.where_left.result c.where_left-2.result c.where_left-3.result c.both.result c.both-left_of_all.result c.both-2.result

@@ -1,0 +1,5 @@
+use Rattle.plane_base.proofs.Mixes.{mixes_mix}
+use Rattle.plane_base.proofs.laws.mixes_of_mixes_are_mixes.Goals as goal
+
+pub returns : goal.returns
+returns c = mixes_mix

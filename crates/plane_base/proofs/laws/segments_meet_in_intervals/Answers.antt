@@ -1,0 +1,5 @@
+use Rattle.plane_base.proofs.Intervals.{segments_meet_in_intervals}
+use Rattle.plane_base.proofs.laws.segments_meet_in_intervals.Goals as goal
+
+pub returns : goal.returns
+returns c = segments_meet_in_intervals

@@ -1,0 +1,5 @@
+use Rattle.plane_base.proofs.Mixes.{triangles_are_convex}
+use Rattle.plane_base.proofs.laws.triangles_are_convex.Goals as goal
+
+pub returns : goal.returns
+returns c = triangles_are_convex

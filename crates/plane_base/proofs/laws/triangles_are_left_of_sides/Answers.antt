@@ -1,0 +1,5 @@
+use Rattle.plane_base.proofs.Proportions.{triangles_are_left_of_sides}
+use Rattle.plane_base.proofs.laws.triangles_are_left_of_sides.Goals as goal
+
+pub returns : goal.returns
+returns c = triangles_are_left_of_sides

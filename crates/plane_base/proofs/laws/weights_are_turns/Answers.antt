@@ -1,0 +1,5 @@
+use Rattle.plane_base.proofs.Proportions.{weights_are_turns}
+use Rattle.plane_base.proofs.laws.weights_are_turns.Goals as goal
+
+pub returns : goal.returns
+returns c = weights_are_turns

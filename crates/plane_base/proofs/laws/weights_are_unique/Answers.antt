@@ -1,0 +1,5 @@
+use Rattle.plane_base.proofs.Proportions.{weights_are_unique}
+use Rattle.plane_base.proofs.laws.weights_are_unique.Goals as goal
+
+pub returns : goal.returns
+returns c = weights_are_unique

@@ -1,0 +1,38 @@
+ghost use Rattle.plane_base.specs.Laws.{
+  MixesMix,
+  TrianglesAreConvex,
+  TrianglesAreLeftOfSides,
+  WeightsAreTurns,
+  WeightsAreUnique,
+  SegmentsMeetInIntervals,
+};
+
+/// A mix of mixes of some points is a mix of these points, however many there are.
+pub fn mixes_of_mixes_are_mixes()
+    ensures { MixesMix }
+{}
+
+/// A triangle has, with two points, each point between them.
+pub fn triangles_are_convex()
+    ensures { TrianglesAreConvex }
+{}
+
+/// A point is in a triangle of positive turn exactly where it is to the right of none of the three sides.
+pub fn triangles_are_left_of_sides()
+    ensures { TrianglesAreLeftOfSides }
+{}
+
+/// The turn of a side with a mix of the corners is the weight of the corner opposite times the turn of the triangle.
+pub fn weights_are_turns()
+    ensures { WeightsAreTurns }
+{}
+
+/// In a triangle of positive turn the weights of a point are unique up to a factor.
+pub fn weights_are_unique()
+    ensures { WeightsAreUnique }
+{}
+
+/// A closed segment and a triangle of positive turn have no common point, or those of a closed interval of parameters.
+pub fn segments_meet_in_intervals()
+    ensures { SegmentsMeetInIntervals }
+{}
