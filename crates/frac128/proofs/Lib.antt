@@ -1,1 +1,3 @@
 pub mod Fracs
+pub mod Nearest
+pub mod Values

@@ -3,9 +3,11 @@
 #![tactic(auto)]
 
 mod frac;
+mod laws;
 mod ordering;
 mod rounding;
 
 pub use frac::{Frac, TURN};
+pub use laws::{half_up_is_nearest, half_up_is_within_half, values_are_in_total_order};
 pub use ordering::order;
 pub use rounding::half_up;

@@ -1,0 +1,5 @@
+use Rattle.frac128.proofs.Nearest.{half_up_is_within_half}
+use Rattle.frac128.proofs.laws.half_up_is_within_half.Goals as goal
+
+pub returns : goal.returns
+returns c = half_up_is_within_half

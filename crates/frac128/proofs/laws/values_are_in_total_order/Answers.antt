@@ -1,0 +1,5 @@
+use Rattle.frac128.proofs.Values.{values_are_in_total_order}
+use Rattle.frac128.proofs.laws.values_are_in_total_order.Goals as goal
+
+pub returns : goal.returns
+returns c = values_are_in_total_order
