@@ -1,6 +1,7 @@
 pub mod Points
 pub mod Turns
 pub mod Mixes
+pub mod Parameters
 pub mod Proportions
 pub mod Intervals
 pub mod InTriangle

@@ -6,7 +6,9 @@ use Rattle.integer_ring.proofs.Claims.{◌≐◌, ◌≼◌, ◌≺◌, never, g
 use Rattle.frac128.specs.declared.frac.Frac.{Frac}
 use Rattle.plane_base.specs.Plane.{turn_of, whole, along}
 use Rattle.plane_base.specs.Slices.{IsCrossed, IsEnd, LiesAt}
-use Rattle.plane_base.specs.Courses.{value_at, IsZeroAt, IsBound, IsOnWay, AreTurns, AreAllLeft}
+use Rattle.plane_base.specs.Courses.{value_at, IsZeroAt, IsBound}
+use Rattle.plane_base.specs.Sides.{AreOfSides, IsLeftOfAll, IsBoundOfOne, IsZeroOfOne, IsEndBy}
+use Rattle.plane_base.specs.declared.slicing.Courses.{Courses}
 use Rattle.plane_base.specs.declared.shapes.Pt.{Pt}
 use Rattle.plane_base.specs.declared.shapes.Tri.{Tri}
 use Rattle.plane_base.specs.declared.slicing.End.{End}
@@ -26,26 +28,26 @@ zero_or_end V u v f left (inl end) = inl end
 zero_or_end V u v f left (inr (inl z)) = inr z
 zero_or_end V u v f left (inr (inr below)) = absurd (not_below u v f.num f.den f.positive left below.0 below.1)
 
-pub on_way : (V W : Type 0) (u0 v0 u1 v1 u2 v2 : ℤ) (f : Frac) → (V → W) → AreAllLeft u0 v0 u1 v1 u2 v2 f.num f.den → IsOnWay V (IsBound V u0 v0 f) (IsBound V u1 v1 f) (IsBound V u2 v2 f) → IsOnWay W (IsZeroAt u0 v0 f) (IsZeroAt u1 v1 f) (IsZeroAt u2 v2 f)
-on_way V W u0 v0 u1 v1 u2 v2 f to_w left bound = go bound
+pub zero_of_one : (V W : Type 0) (c : Courses) (f : Frac) → (V → W) → IsLeftOfAll c f.num f.den → IsBoundOfOne V c f → IsZeroOfOne W c f
+zero_of_one V W c f to_w left bound = go bound
   where
-    first : V ⊎ IsZeroAt u0 v0 f → IsOnWay W (IsZeroAt u0 v0 f) (IsZeroAt u1 v1 f) (IsZeroAt u2 v2 f)
+    first : V ⊎ IsZeroAt c.ab.start c.ab.end f → IsZeroOfOne W c f
     first (inl end) = inl (to_w end)
     first (inr z) = inr (inl z)
 
-    second : V ⊎ IsZeroAt u1 v1 f → IsOnWay W (IsZeroAt u0 v0 f) (IsZeroAt u1 v1 f) (IsZeroAt u2 v2 f)
+    second : V ⊎ IsZeroAt c.bc.start c.bc.end f → IsZeroOfOne W c f
     second (inl end) = inl (to_w end)
     second (inr z) = inr (inr (inl z))
 
-    third : V ⊎ IsZeroAt u2 v2 f → IsOnWay W (IsZeroAt u0 v0 f) (IsZeroAt u1 v1 f) (IsZeroAt u2 v2 f)
+    third : V ⊎ IsZeroAt c.ca.start c.ca.end f → IsZeroOfOne W c f
     third (inl end) = inl (to_w end)
     third (inr z) = inr (inr (inr z))
 
-    go : IsOnWay V (IsBound V u0 v0 f) (IsBound V u1 v1 f) (IsBound V u2 v2 f) → IsOnWay W (IsZeroAt u0 v0 f) (IsZeroAt u1 v1 f) (IsZeroAt u2 v2 f)
+    go : IsBoundOfOne V c f → IsZeroOfOne W c f
     go (inl end) = inl (to_w end)
-    go (inr (inl b)) = first (zero_or_end V u0 v0 f left.1 b)
-    go (inr (inr (inl b))) = second (zero_or_end V u1 v1 f left.2 b)
-    go (inr (inr (inr b))) = third (zero_or_end V u2 v2 f left.3 b)
+    go (inr (inl b)) = first (zero_or_end V c.ab.start c.ab.end f left.1 b)
+    go (inr (inr (inl b))) = second (zero_or_end V c.bc.start c.bc.end f left.2 b)
+    go (inr (inr (inr b))) = third (zero_or_end V c.ca.start c.ca.end f left.3 b)
 
 -- ---- the number of a side is 0 there, and changes, exactly where the side holds the point and is not parallel
 one : pos 0 <ℤ pos 1
@@ -102,13 +104,13 @@ same_end v a b c (Side (suc (suc (suc k)))) h = absurd h.1
 abbrev Positive : ℤ → Type 0
 Positive z = pos 0 <ℤ z
 
-pub lies_at : (a b : Pt) (tri : Tri) (u0 v0 u1 v1 u2 v2 : ℤ) (V W : Type 0) (f : Frac) (e : End) → pos 0 <ℤ turn_of (whole tri.a) (whole tri.b) (whole tri.c) → AreTurns a b tri u0 v0 u1 v1 u2 v2 → AreAllLeft u0 v0 u1 v1 u2 v2 f.num f.den → V ↔ W
-    → IsEnd V (IsZeroAt u0 v0 f) (IsZeroAt u1 v1 f) (IsZeroAt u2 v2 f) e → LiesAt a b tri f W e
-lies_at a b tri u0 v0 u1 v1 u2 v2 V W f e positive t left vw h =
-    let d1 = subst Positive (turn_cycle (whole tri.a) (whole tri.b) (whole tri.c)) positive in
-    let d2 = subst Positive (turn_cycle (whole tri.b) (whole tri.c) (whole tri.a)) d1 in
+pub lies_at : (a b : Pt) (t : Tri) (c : Courses) (V W : Type 0) (f : Frac) (e : End) → pos 0 <ℤ turn_of (whole t.a) (whole t.b) (whole t.c) → AreOfSides a b t c → IsLeftOfAll c f.num f.den → V ↔ W → IsEndBy V c f e → LiesAt a b t f W e
+lies_at a b t c V W f e positive of left vw h =
+    let d1 = subst Positive (turn_cycle (whole t.a) (whole t.b) (whole t.c)) positive in
+    let d2 = subst Positive (turn_cycle (whole t.b) (whole t.c) (whole t.a)) d1 in
+    let ab = c.ab in let bc = c.bc in let ca = c.ca in
     same_end vw
-    (crossed_iff a b tri.a tri.b tri.c u0 v0 u1 v1 u2 v2 f positive t.start0 t.end0 t.start1 t.end1 t.start2 t.end2 left.2 left.3)
-    (crossed_iff a b tri.b tri.c tri.a u1 v1 u2 v2 u0 v0 f d1 t.start1 t.end1 t.start2 t.end2 t.start0 t.end0 left.3 left.1)
-    (crossed_iff a b tri.c tri.a tri.b u2 v2 u0 v0 u1 v1 f d2 t.start2 t.end2 t.start0 t.end0 t.start1 t.end1 left.1 left.2)
+    (crossed_iff a b t.a t.b t.c ab.start ab.end bc.start bc.end ca.start ca.end f positive of.ab_start of.ab_end of.bc_start of.bc_end of.ca_start of.ca_end left.2 left.3)
+    (crossed_iff a b t.b t.c t.a bc.start bc.end ca.start ca.end ab.start ab.end f d1 of.bc_start of.bc_end of.ca_start of.ca_end of.ab_start of.ab_end left.3 left.1)
+    (crossed_iff a b t.c t.a t.b ca.start ca.end ab.start ab.end bc.start bc.end f d2 of.ca_start of.ca_end of.ab_start of.ab_end of.bc_start of.bc_end left.1 left.2)
     e h

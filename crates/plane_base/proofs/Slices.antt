@@ -18,7 +18,9 @@ use Rattle.plane_base.proofs.Along.{turn_along}
 use Rattle.plane_base.proofs.InTriangle.{turns_of_mix, mix_of_turns}
 use Rattle.plane_base.proofs.Sizes.{cross_size}
 use Rattle.plane_base.specs.Slices.{IsParam, IsWithin, IsIn}
-use Rattle.plane_base.specs.Courses.{value_at, AreTurns, AreAllLeft}
+use Rattle.plane_base.specs.Courses.{value_at}
+use Rattle.plane_base.specs.Sides.{AreOfSides, IsLeftOfAll}
+use Rattle.plane_base.specs.declared.slicing.Courses.{Courses}
 use Rattle.plane_base.specs.declared.ranges.Range.{Range}
 
 -- ---- sizes
@@ -51,41 +53,41 @@ along_positive : (n d : ℤ) → pos 0 <ℤ d → pos 0 <ℤ ((d -ℤ n) *ℤ po
 along_positive = follows 2 (λ n d. num (pos 0) ≺ d ⇒ num (pos 0) ≺ (d ⊖ n) ⊗ num (pos 1) ⊕ n ⊗ num (pos 1) because over 0) tt
 
 -- a point of the segment is in the triangle exactly where no side has it on its right
-pub in_iff : (a b : Pt) (t : Tri) (u0 v0 u1 v1 u2 v2 n d : ℤ) → pos 0 <ℤ turn_of (whole t.a) (whole t.b) (whole t.c) → AreTurns a b t u0 v0 u1 v1 u2 v2 → IsIn a b t n d ↔ AreAllLeft u0 v0 u1 v1 u2 v2 n d
-in_iff a b t u0 v0 u1 v1 u2 v2 n d positive e = (there, back)
+pub in_iff : (a b : Pt) (t : Tri) (c : Courses) (n d : ℤ) → pos 0 <ℤ turn_of (whole t.a) (whole t.b) (whole t.c) → AreOfSides a b t c → IsIn a b t n d ↔ IsLeftOfAll c n d
+in_iff a b t c n d positive e = (there, back)
   where
     one : pos 0 <ℤ pos 1
     one = lt_z_yes tt
 
-    e0 : turn_of (whole t.a) (whole t.b) (along (whole a) (whole b) n d) ≡ value_at u0 v0 n d
-    e0 = along_is t.a t.b a b u0 v0 n d e.start0 e.end0
+    e0 : turn_of (whole t.a) (whole t.b) (along (whole a) (whole b) n d) ≡ value_at c.ab.start c.ab.end n d
+    e0 = along_is t.a t.b a b c.ab.start c.ab.end n d e.ab_start e.ab_end
 
-    e1 : turn_of (whole t.b) (whole t.c) (along (whole a) (whole b) n d) ≡ value_at u1 v1 n d
-    e1 = along_is t.b t.c a b u1 v1 n d e.start1 e.end1
+    e1 : turn_of (whole t.b) (whole t.c) (along (whole a) (whole b) n d) ≡ value_at c.bc.start c.bc.end n d
+    e1 = along_is t.b t.c a b c.bc.start c.bc.end n d e.bc_start e.bc_end
 
-    e2 : turn_of (whole t.c) (whole t.a) (along (whole a) (whole b) n d) ≡ value_at u2 v2 n d
-    e2 = along_is t.c t.a a b u2 v2 n d e.start2 e.end2
+    e2 : turn_of (whole t.c) (whole t.a) (along (whole a) (whole b) n d) ≡ value_at c.ca.start c.ca.end n d
+    e2 = along_is t.c t.a a b c.ca.start c.ca.end n d e.ca_start e.ca_end
 
-    there : IsIn a b t n d → AreAllLeft u0 v0 u1 v1 u2 v2 n d
+    there : IsIn a b t n d → IsLeftOfAll c n d
     there i =
         let r = turns_of_mix (whole t.a) (whole t.b) (whole t.c) (along (whole a) (whole b) n d) one one one (along_positive n d i.0.0) positive i.1 in
         (i.0, subst NonNeg e0 r.0, subst NonNeg e1 r.1, subst NonNeg e2 r.2)
 
-    back : AreAllLeft u0 v0 u1 v1 u2 v2 n d → IsIn a b t n d
+    back : IsLeftOfAll c n d → IsIn a b t n d
     back l =
         (l.0, mix_of_turns (whole t.a) (whole t.b) (whole t.c) (along (whole a) (whole b) n d) one one one (along_positive n d l.0.0) positive (subst NonNeg (sym e0) l.1) (subst NonNeg (sym e1) l.2) (subst NonNeg (sym e2) l.3))
 
 -- the range of each side, and three uses of `both`
-pub all_of : (u0 v0 u1 v1 u2 v2 : ℤ) (w x y z yz xyz s : Range)
+pub all_of : (c : Courses) (w x y z yz xyz s : Range)
     → ((n d : ℤ) → pos 0 <ℤ d → (IsWithin w.lo w.hi n d ↔ ((pos 0 ≤ℤ n) × (n ≤ℤ d))))
-    → ((n d : ℤ) → IsParam n d → (pos 0 ≤ℤ value_at u0 v0 n d) ↔ IsWithin x.lo x.hi n d)
-    → ((n d : ℤ) → IsParam n d → (pos 0 ≤ℤ value_at u1 v1 n d) ↔ IsWithin y.lo y.hi n d)
-    → ((n d : ℤ) → IsParam n d → (pos 0 ≤ℤ value_at u2 v2 n d) ↔ IsWithin z.lo z.hi n d)
+    → ((n d : ℤ) → IsParam n d → (pos 0 ≤ℤ value_at c.ab.start c.ab.end n d) ↔ IsWithin x.lo x.hi n d)
+    → ((n d : ℤ) → IsParam n d → (pos 0 ≤ℤ value_at c.bc.start c.bc.end n d) ↔ IsWithin y.lo y.hi n d)
+    → ((n d : ℤ) → IsParam n d → (pos 0 ≤ℤ value_at c.ca.start c.ca.end n d) ↔ IsWithin z.lo z.hi n d)
     → ((n d : ℤ) → pos 0 <ℤ d → (IsWithin yz.lo yz.hi n d ↔ (IsWithin y.lo y.hi n d × IsWithin z.lo z.hi n d)))
     → ((n d : ℤ) → pos 0 <ℤ d → (IsWithin xyz.lo xyz.hi n d ↔ (IsWithin x.lo x.hi n d × IsWithin yz.lo yz.hi n d)))
     → ((n d : ℤ) → pos 0 <ℤ d → (IsWithin s.lo s.hi n d ↔ (IsWithin w.lo w.hi n d × IsWithin xyz.lo xyz.hi n d)))
-    → (n d : ℤ) → pos 0 <ℤ d → IsWithin s.lo s.hi n d ↔ AreAllLeft u0 v0 u1 v1 u2 v2 n d
-all_of u0 v0 u1 v1 u2 v2 w x y z yz xyz s hw hx hy hz f g h n d k = (
+    → (n d : ℤ) → pos 0 <ℤ d → IsWithin s.lo s.hi n d ↔ IsLeftOfAll c n d
+all_of c w x y z yz xyz s hw hx hy hz f g h n d k = (
   λ i.
       let p = (h n d k).0 i in let q = (g n d k).0 p.1 in let r = (f n d k).0 q.1 in
       let m = (hw n d k).0 p.0 in let l : IsParam n d = (k, m.0, m.1) in

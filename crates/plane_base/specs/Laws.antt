@@ -56,6 +56,18 @@ WeightsAreUnique =
     (a b c p : Point) (k l m r s t : ℕ) → ArePlaces (a ∷ b ∷ c ∷ p ∷ []) → pos 0 <ℤ turn_of a b c
     → Same p (mix_of k l m a b c) → Same p (mix_of r s t a b c) → AreInProportion a b c k l m r s t
 
+-- ---- a segment by its parameters
+-- r is the point at n/d on the way from p to q
+pub record HasParameter (p q r : Point) : Type 0 where
+  pub n : ℤ
+  pub d : ℤ
+  pub param : IsParam n d
+  pub same : Same r (along p q n d)
+
+-- the points between two are those at the parameters from 0 to 1
+abbrev pub SegmentsHaveParameters : Type 0
+SegmentsHaveParameters = (p q r : Point) → IsMix r (p ∷ q ∷ []) ↔ HasParameter p q r
+
 -- ---- a segment and a triangle
 -- the parameters n/d of the segment from p to q that give a point of the triangle are those from least to greatest
 pub record AreFromTo (a b c p q : Point) : Type 0 where

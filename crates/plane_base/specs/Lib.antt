@@ -1,4 +1,5 @@
 pub mod Plane
 pub mod Slices
 pub mod Courses
+pub mod Sides
 pub mod Laws

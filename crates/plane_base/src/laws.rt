@@ -4,6 +4,7 @@ ghost use Rattle.plane_base.specs.Laws.{
   TrianglesAreLeftOfSides,
   WeightsAreTurns,
   WeightsAreUnique,
+  SegmentsHaveParameters,
   SegmentsMeetInIntervals,
 };
 
@@ -30,6 +31,11 @@ pub fn weights_are_turns()
 /// In a triangle of positive turn the weights of a point are unique up to a factor.
 pub fn weights_are_unique()
     ensures { WeightsAreUnique }
+{}
+
+/// The points between two points are those at the parameters from 0 to 1 on the way from the one to the other.
+pub fn segments_have_parameters()
+    ensures { SegmentsHaveParameters }
 {}
 
 /// A closed segment and a triangle of positive turn have no common point, or those of a closed interval of parameters.

@@ -14,8 +14,8 @@ mod turning;
 
 pub use edges::edge_param;
 pub use laws::{
-    mixes_of_mixes_are_mixes, segments_meet_in_intervals, triangles_are_convex,
-    triangles_are_left_of_sides, weights_are_turns, weights_are_unique,
+    mixes_of_mixes_are_mixes, segments_have_parameters, segments_meet_in_intervals,
+    triangles_are_convex, triangles_are_left_of_sides, weights_are_turns, weights_are_unique,
 };
 pub use shapes::{Pt, Rect, SPAN, Tri};
 pub use slicing::{End, Stretch, slice};

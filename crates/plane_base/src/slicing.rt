@@ -1,7 +1,7 @@
 ghost use Rattle.std.specs.Prelude.{◌≡◌, ◌↔◌, ℤ, pos, ◌<ℤ◌, IsTrue, IfSome};
 ghost use Rattle.plane_base.specs.Plane.{whole, turn_of, IsNear, IsNearAll, IsNearTri};
-ghost use Rattle.plane_base.specs.Slices.{IsWithin, IsEnd, AreEnds, slice_of};
-ghost use Rattle.plane_base.specs.Courses.{AreTurns, AreAllLeft, IsBound, IsOnWay, IsZeroAt};
+ghost use Rattle.plane_base.specs.Slices.{IsWithin, AreEnds, slice_of};
+ghost use Rattle.plane_base.specs.Sides.{AreOfSides, IsLeftOfAll, IsBoundOfOne, IsZeroOfOne, IsEndBy};
 
 use crate::courses::{Course, course_of, is_zero_at, where_left};
 use crate::ranges::{Range, both, is_below, whole_way};
@@ -42,7 +42,7 @@ fn courses_of(a: Pt, b: Pt, t: &Tri) -> Courses
     requires near_a { IsNearTri t.now a }
     requires near_b { IsNearTri t.now b }
     requires near_ab { IsNear a b }
-    ensures { AreTurns a b t.now result.ab.start result.ab.end result.bc.start result.bc.end result.ca.start result.ca.end }
+    ensures { AreOfSides a b t.now result }
 {
     Courses {
         ab: course_of(t.a, t.b, a, b),
@@ -53,15 +53,9 @@ fn courses_of(a: Pt, b: Pt, t: &Tri) -> Courses
 
 // The parameters at which none of the three is negative.
 fn common_of(courses: Courses) -> Range
-    ensures within { (n d : ℤ) → pos 0 <ℤ d → (IsWithin result.lo result.hi n d ↔ AreAllLeft courses.ab.start courses.ab.end courses.bc.start courses.bc.end courses.ca.start courses.ca.end n d) }
-    ensures lo { IsOnWay (result.lo.num ≡ pos 0)
-        (IsBound (result.lo.num ≡ pos 0) courses.ab.start courses.ab.end result.lo)
-        (IsBound (result.lo.num ≡ pos 0) courses.bc.start courses.bc.end result.lo)
-        (IsBound (result.lo.num ≡ pos 0) courses.ca.start courses.ca.end result.lo) }
-    ensures hi { IsOnWay (result.hi.num ≡ result.hi.den)
-        (IsBound (result.hi.num ≡ result.hi.den) courses.ab.start courses.ab.end result.hi)
-        (IsBound (result.hi.num ≡ result.hi.den) courses.bc.start courses.bc.end result.hi)
-        (IsBound (result.hi.num ≡ result.hi.den) courses.ca.start courses.ca.end result.hi) }
+    ensures within { (n d : ℤ) → pos 0 <ℤ d → (IsWithin result.lo result.hi n d ↔ IsLeftOfAll courses n d) }
+    ensures lo { IsBoundOfOne (result.lo.num ≡ pos 0) courses result.lo }
+    ensures hi { IsBoundOfOne (result.hi.num ≡ result.hi.den) courses result.hi }
 {
     let left_of_all = both(
         where_left(courses.ab),
@@ -84,14 +78,8 @@ fn is_last(at: Frac) -> bool
 
 // Where the parameter lies: at a vertex, or else on the first side that changes and is 0 there.
 fn end_at(courses: Courses, at: Frac, is_vertex: bool) -> End
-    requires { IsOnWay (IsTrue is_vertex)
-        (IsZeroAt courses.ab.start courses.ab.end at)
-        (IsZeroAt courses.bc.start courses.bc.end at)
-        (IsZeroAt courses.ca.start courses.ca.end at) }
-    ensures { IsEnd (IsTrue is_vertex)
-        (IsZeroAt courses.ab.start courses.ab.end at)
-        (IsZeroAt courses.bc.start courses.bc.end at)
-        (IsZeroAt courses.ca.start courses.ca.end at) result }
+    requires { IsZeroOfOne (IsTrue is_vertex) courses at }
+    ensures { IsEndBy (IsTrue is_vertex) courses at result }
 {
     if is_vertex {
         return End::Vertex;

@@ -1,0 +1,5 @@
+use Rattle.plane_base.proofs.Parameters.{segments_have_parameters}
+use Rattle.plane_base.proofs.laws.segments_have_parameters.Goals as goal
+
+pub returns : goal.returns
+returns c = segments_have_parameters
