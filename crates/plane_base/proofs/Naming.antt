@@ -1,11 +1,13 @@
 -- Where the ends of a common part lie.
-use Rattle.std.proofs.Common.{◌≡◌, ◌↔◌, ◌⊎◌, inl, inr, ℤ, pos, ◌+ℤ◌, ◌-ℤ◌, ◌*ℤ◌, ◌≤ℤ◌, ◌<ℤ◌, zero, suc, sym, ◌∙◌, subst}
-use lib.Signed.{lt_z_yes}
+use Rattle.std.proofs.Common.{◌≡◌, ◌↔◌, ◌⊎◌, inl, inr, ℤ, pos, ◌+ℤ◌, ◌-ℤ◌, ◌*ℤ◌, ◌≤ℤ◌, ◌<ℤ◌, zero, suc, sym, ◌∙◌, subst, refl}
+use lib.Signed.{lt_z_yes, le_z_yes}
 use Rattle.integer_ring.proofs.Ring.{num, neg, ◌⊕◌, ◌⊖◌, ◌⊗◌}
-use Rattle.integer_ring.proofs.Claims.{◌≐◌, ◌≼◌, ◌≺◌, never, gap, over, eqn, ◌⊞◌, ◌⊠◌, ◌because◌, ◌⇒◌, follows}
+use Rattle.integer_ring.proofs.Order.{≤_antisymm}
+use Rattle.integer_ring.proofs.Claims.{◌≐◌, ◌≼◌, ◌≺◌, never, gap, over, eqn, ◌⊞◌, ◌⊠◌, ◌because◌, ◌⇒◌, follows, solve}
 use Rattle.frac128.specs.declared.frac.Frac.{Frac}
-use Rattle.plane_base.specs.Plane.{turn_of, whole, along}
-use Rattle.plane_base.specs.Slices.{IsCrossed, IsEnd, LiesAt}
+use Rattle.plane_base.specs.Plane.{turn_of, whole, corners, along}
+use Rattle.plane_base.specs.Slices.{IsParam, IsIn, IsCommon, IsCrossed, IsEnd, LiesAt, AreEnds, IsWholeWay}
+use Rattle.plane_base.specs.declared.slicing.Stretch.{Stretch}
 use Rattle.plane_base.specs.Courses.{value_at, IsZeroAt, IsBound}
 use Rattle.plane_base.specs.Sides.{AreOfSides, IsLeftOfAll, IsBoundOfOne, IsZeroOfOne, IsEndBy}
 use Rattle.plane_base.specs.declared.slicing.Courses.{Courses}
@@ -15,7 +17,7 @@ use Rattle.plane_base.specs.declared.slicing.End.{End}
 use Rattle.plane_base.specs.declared.slicing.End.TheVariants.{Vertex, Side}
 use Rattle.plane_base.proofs.Points.{turn}
 use Rattle.plane_base.proofs.Turns.{turn_cycle}
-use Rattle.plane_base.proofs.Mixes.{turn_on_side}
+use Rattle.plane_base.proofs.Mixes.{turn_on_side, mix_moved}
 use Rattle.plane_base.proofs.Meeting.{mix_of_side}
 use Rattle.plane_base.proofs.Slices.{along_is}
 
@@ -114,3 +116,33 @@ lies_at a b t c V W f e positive of left vw h =
     (crossed_iff a b t.b t.c t.a bc.start bc.end ca.start ca.end ab.start ab.end f d1 of.bc_start of.bc_end of.ca_start of.ca_end of.ab_start of.ab_end left.3 left.1)
     (crossed_iff a b t.c t.a t.b ca.start ca.end ab.start ab.end bc.start bc.end f d2 of.ca_start of.ca_end of.ab_start of.ab_end of.bc_start of.bc_end left.1 left.2)
     e h
+
+-- ---- a segment of one point
+one_place : (x n d m k : ℤ) → ((k -ℤ m) *ℤ x +ℤ m *ℤ x) *ℤ ((d -ℤ n) *ℤ pos 1 +ℤ n *ℤ pos 1) ≡ ((d -ℤ n) *ℤ x +ℤ n *ℤ x) *ℤ ((k -ℤ m) *ℤ pos 1 +ℤ m *ℤ pos 1)
+one_place =
+    solve 5 (λ x n d m k. ((k ⊖ m) ⊗ x ⊕ m ⊗ x) ⊗ ((d ⊖ n) ⊗ num (pos 1) ⊕ n ⊗ num (pos 1)) ≐ ((d ⊖ n) ⊗ x ⊕ n ⊗ x) ⊗ ((k ⊖ m) ⊗ num (pos 1) ⊕ m ⊗ num (pos 1))) tt
+
+in_at_each : (a : Pt) (t : Tri) (n d m k : ℤ) → IsIn a a t n d → IsParam m k → IsIn a a t m k
+in_at_each a t n d m k i p =
+    (p, mix_moved (along (whole a) (whole a) n d) (along (whole a) (whole a) m k) (corners t) (along_positive n d i.0.0) (one_place a.x n d m k, one_place a.y n d m k) i.1)
+
+is_vertex : (a b : Pt) (t : Tri) (f : Frac) (V : Type 0) (e : End) → V → LiesAt a b t f V e → e ≡ Vertex
+is_vertex a b t f V Vertex v h = refl
+is_vertex a b t f V (Side k) v h = absurd (h.0 v)
+
+none_before : (f : Frac) → pos 0 ≤ℤ f.num → (f.num *ℤ pos 1) ≤ℤ (pos 0 *ℤ f.den) → f.num ≡ pos 0
+none_before f h k = ≤_antisymm f.num (pos 0) (follows 2 (λ x y. x ⊗ num (pos 1) ≼ num (pos 0) ⊗ y ⇒ x ≼ num (pos 0) because gap 0) tt f.num f.den k) h
+
+none_behind : (f : Frac) → f.num ≤ℤ f.den → (pos 1 *ℤ f.den) ≤ℤ (f.num *ℤ pos 1) → f.num ≡ f.den
+none_behind f h k = ≤_antisymm f.num f.den h (follows 2 (λ x y. num (pos 1) ⊗ y ≼ x ⊗ num (pos 1) ⇒ y ≼ x because gap 0) tt f.num f.den k)
+
+pub whole_way : (a b : Pt) (t : Tri) (s : Stretch) → a ≡ b → IsCommon a b t s → AreEnds a b t s → IsWholeWay s
+whole_way a b t s e common ends =
+    let zero_to_one : IsParam (pos 0) (pos 1) = (one, le_z_yes tt, le_z_yes tt) in
+    let one_to_one : IsParam (pos 1) (pos 1) = (one, le_z_yes tt, le_z_yes tt) in
+    let here : IsIn a a t s.lo.num s.lo.den = subst (λ (z : Pt). IsIn a z t s.lo.num s.lo.den) (sym e) common.0 in
+    let at_zero : IsIn a b t (pos 0) (pos 1) = subst (λ (z : Pt). IsIn a z t (pos 0) (pos 1)) e (in_at_each a t s.lo.num s.lo.den (pos 0) (pos 1) here zero_to_one) in
+    let at_one : IsIn a b t (pos 1) (pos 1) = subst (λ (z : Pt). IsIn a z t (pos 1) (pos 1)) e (in_at_each a t s.lo.num s.lo.den (pos 1) (pos 1) here one_to_one) in
+    let first : s.lo.num ≡ pos 0 = none_before s.lo common.0.0.1 (common.2 (pos 0) (pos 1) at_zero).0 in
+    let last : s.hi.num ≡ s.hi.den = none_behind s.hi common.1.0.2 (common.2 (pos 1) (pos 1) at_one).1 in
+    record { first = first; last = last; enter = is_vertex a b t s.lo (s.lo.num ≡ pos 0) s.enter first ends.enter; leave = is_vertex a b t s.hi (s.hi.num ≡ s.hi.den) s.leave last ends.leave }

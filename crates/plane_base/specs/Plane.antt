@@ -30,13 +30,15 @@ weighed (k ∷ ks) (p ∷ ps) =
 abbrev pub IsMix : Point → List Point → Type 0
 IsMix p ps = (ks : List ℕ) × (length ks ≡ length ps) × (0 < sum ks) × Same p (weighed ks ps)
 
+-- a whole point
 abbrev pub whole : Pt → Point
 whole p = record { x = p.x; y = p.y; w = pos 1 }
 
+-- the three points of a triangle
 abbrev pub corners : Tri → List Point
 corners t = whole t.a ∷ whole t.b ∷ whole t.c ∷ []
 
--- the point at n/d on the way from a to b, for points of one w
+-- the point at n/d on the way from a to b
 abbrev pub along : Point → Point → ℤ → ℤ → Point
 along a b n d = record { x = (d -ℤ n) *ℤ a.x +ℤ n *ℤ b.x; y = (d -ℤ n) *ℤ a.y +ℤ n *ℤ b.y; w = (d -ℤ n) *ℤ a.w +ℤ n *ℤ b.w }
 
@@ -48,6 +50,7 @@ IsShort z = pos (unsigned_abs z) <ℤ SPAN
 abbrev pub IsNear : Pt → Pt → Type 0
 IsNear p q = ((p.x -ℤ q.x) <ℤ SPAN) × ((q.x -ℤ p.x) <ℤ SPAN) × ((p.y -ℤ q.y) <ℤ SPAN) × ((q.y -ℤ p.y) <ℤ SPAN)
 
+-- three points, near to each other
 abbrev pub IsNearAll : Pt → Pt → Pt → Type 0
 IsNearAll a b c = IsNear a b × IsNear a c × IsNear b c
 
@@ -55,5 +58,6 @@ IsNearAll a b c = IsNear a b × IsNear a c × IsNear b c
 abbrev pub IsNearTri : Tri → Pt → Type 0
 IsNearTri t p = IsNear t.a p × IsNear t.b p × IsNear t.c p
 
+-- a whole point in the triangle: a mix of its corners
 abbrev pub holds_of : Tri → Pt → Type 0
 holds_of t p = IsMix (whole p) (corners t)

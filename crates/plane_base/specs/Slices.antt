@@ -62,3 +62,10 @@ LiesAt a b t f vertex end = IsEnd vertex (IsCrossed a b t.a t.b f) (IsCrossed a 
 pub record AreEnds (a b : Pt) (t : Tri) (s : Stretch) : Type 0 where
   pub enter : LiesAt a b t s.lo (s.lo.num ≡ pos 0) s.enter
   pub leave : LiesAt a b t s.hi (s.hi.num ≡ s.hi.den) s.leave
+
+-- the whole way, from a vertex to a vertex
+pub record IsWholeWay (s : Stretch) : Type 0 where
+  pub first : s.lo.num ≡ pos 0
+  pub last : s.hi.num ≡ s.hi.den
+  pub enter : s.enter ≡ Vertex
+  pub leave : s.leave ≡ Vertex

@@ -9,7 +9,7 @@ use crate::{Pt, turn};
 use frac128::{Frac, order};
 use std::cmp::Ordering;
 
-// A number that changes evenly from one end of a segment to the other: the turn of a line with a point of the segment.
+/// A number that changes evenly from one end of a segment to the other: the turn of a line with a point of the segment.
 #[derive(Clone, Copy)]
 pub(crate) struct Course {
     pub(crate) start: i128,
@@ -18,7 +18,7 @@ pub(crate) struct Course {
     ghost fall_small: { IsSmall (start -ℤ end) },
 }
 
-// The turns of the line from `p` to `q`, along the segment from `a` to `b`.
+/// The turns of the line from `p` to `q`, along the segment from `a` to `b`.
 pub(crate) fn course_of(p: Pt, q: Pt, a: Pt, b: Pt) -> Course
     requires near_a { IsNearAll p q a }
     requires near_b { IsNearAll p q b }
@@ -32,7 +32,7 @@ pub(crate) fn course_of(p: Pt, q: Pt, a: Pt, b: Pt) -> Course
     }
 }
 
-// The parameter at which a changing number is 0, on the segment or before or behind it.
+/// The parameter at which a changing number is 0, on the segment or before or behind it.
 pub(crate) fn zero_of(course: Course) -> Frac
     requires changes { course.start ≢ course.end }
     ensures zero { value_at course.start course.end result.num result.den ≡ pos 0 }
@@ -50,7 +50,7 @@ pub(crate) fn zero_of(course: Course) -> Frac
     }
 }
 
-// The parameters at which a number is not negative.
+/// The parameters at which a number is not negative.
 pub(crate) fn where_left(course: Course) -> Range
     ensures within { (n d : ℤ) → IsParam n d → ((pos 0 ≤ℤ value_at course.start course.end n d) ↔ IsWithin result.lo result.hi n d) }
     ensures lo { IsBound (result.lo.num ≡ pos 0) course.start course.end result.lo }
@@ -79,7 +79,7 @@ pub(crate) fn where_left(course: Course) -> Range
     }
 }
 
-// Does a number change, and is it 0 at this parameter?
+/// Does a number change, and is it 0 at this parameter?
 pub(crate) fn is_zero_at(course: Course, at: Frac) -> bool
     ensures { IsTrue result ↔ IsZeroAt course.start course.end at }
 {

@@ -5,28 +5,28 @@ ghost use Rattle.plane_base.specs.Slices.{IsWithin};
 use frac128::{Frac, order};
 use std::cmp::Ordering;
 
-// The values from `lo` to `hi`. There is none where `hi` is below `lo`.
+/// The values from `lo` to `hi`. There is none where `hi` is below `lo`.
 #[derive(Clone, Copy)]
 pub(crate) struct Range {
     pub(crate) lo: Frac,
     pub(crate) hi: Frac,
 }
 
-// The parameter of a segment's first point.
+/// The parameter of a segment's first point.
 pub(crate) fn at_start() -> Frac
     ensures { result.num ≡ pos 0 }
 {
     Frac { num: 0, den: 1 }
 }
 
-// The parameter of a segment's last point.
+/// The parameter of a segment's last point.
 pub(crate) fn at_end() -> Frac
     ensures { result.num ≡ result.den }
 {
     Frac { num: 1, den: 1 }
 }
 
-// All parameters, from 0 to 1.
+/// All parameters, from 0 to 1.
 pub(crate) fn whole_way() -> Range
     ensures start { result.lo.num ≡ pos 0 }
     ensures end { result.hi.num ≡ result.hi.den }
@@ -38,6 +38,7 @@ pub(crate) fn whole_way() -> Range
     }
 }
 
+/// Is `a` below `b`?
 pub(crate) fn is_below(a: Frac, b: Frac) -> bool
     ensures { IsTrue result ↔ IsBelow a b }
 {
@@ -60,7 +61,7 @@ fn earlier(a: Frac, b: Frac) -> Frac
     if is_below(a, b) { a } else { b }
 }
 
-// What two ranges have in common.
+/// What two ranges have in common.
 pub(crate) fn both(s: Range, t: Range) -> Range
     ensures lo { (result.lo ≡ s.lo) ⊎ (result.lo ≡ t.lo) }
     ensures hi { (result.hi ≡ s.hi) ⊎ (result.hi ≡ t.hi) }

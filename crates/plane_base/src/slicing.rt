@@ -1,6 +1,6 @@
 ghost use Rattle.std.specs.Prelude.{◌≡◌, ◌↔◌, ℤ, pos, ◌<ℤ◌, IsTrue, IfSome};
 ghost use Rattle.plane_base.specs.Plane.{whole, turn_of, IsNear, IsNearAll, IsNearTri};
-ghost use Rattle.plane_base.specs.Slices.{IsWithin, AreEnds, slice_of};
+ghost use Rattle.plane_base.specs.Slices.{IsWithin, AreEnds, IsWholeWay, slice_of};
 ghost use Rattle.plane_base.specs.Sides.{AreOfSides, IsLeftOfAll, IsBoundOfOne, IsZeroOfOne, IsEndBy};
 
 use crate::courses::{Course, course_of, is_zero_at, where_left};
@@ -105,6 +105,7 @@ pub fn slice(a: Pt, b: Pt, t: &Tri) -> Option<Stretch>
     requires positive { pos 0 <ℤ turn_of (whole t.now.a) (whole t.now.b) (whole t.now.c) }
     ensures common { slice_of a b t.now result }
     ensures ends { IfSome result (λ s. AreEnds a b t.now s) }
+    ensures point { a ≡ b → IfSome result (λ s. IsWholeWay s) }
 {
     let courses = courses_of(a, b, t);
     let common = common_of(courses);

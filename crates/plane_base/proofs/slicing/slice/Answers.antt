@@ -2,7 +2,7 @@ use Rattle.std.proofs.Common.{◌≡◌, pos, IsTrue, refl}
 use Rattle.frac128.specs.Fractions.{IsAtMost}
 use Rattle.frac128.proofs.Fracs.{at_most_of_not_below}
 use Rattle.plane_base.proofs.Slices.{in_iff, both_ways, none_common, some_common, at_lo, at_hi}
-use Rattle.plane_base.proofs.Naming.{zero_of_one, lies_at}
+use Rattle.plane_base.proofs.Naming.{zero_of_one, lies_at, whole_way}
 use Rattle.plane_base.proofs.slicing.slice.Goals as goal
 
 pub returns-then-is_below : goal.returns-then-is_below
@@ -14,6 +14,7 @@ returns-then-is_below c =
           (λ n d k. both_ways (in_iff a b t s n d c.requires.positive c.courses_of-courses.ensures) (c.common_of-common.ensures.within n d k))
           (c.if-is_below.ensures.0 refl);
       ends = tt;
+      point = λ _. tt;
     }
 
 pub end_at-requires : goal.end_at-requires
@@ -49,3 +50,8 @@ returns-clause-ends c =
       leave = lies_at a b t s (IsTrue c.is_last.result) (r.hi.num ≡ r.hi.den) r.hi c.end_at-2.result c.requires.positive c.courses_of-courses.ensures
           ((c.common_of-common.ensures.within r.hi.num r.hi.den r.hi.positive).0 (at_hi r.lo r.hi le)) c.is_last.ensures c.end_at-2.ensures;
     }
+
+pub returns-clause-point : goal.returns-clause-point
+returns-clause-point c = λ e.
+    let r = c.common_of-common.result in
+    whole_way c.args.a c.args.b c.args.t.now (record { lo = r.lo; hi = r.hi; enter = c.end_at.result; leave = c.end_at-2.result }) e (returns-clause-common c) (returns-clause-ends c)
