@@ -29,6 +29,7 @@ IsIn a b t n d = IsParam n d × IsMix (along (whole a) (whole b) n d) (corners t
 abbrev pub IsCommon : Pt → Pt → Tri → Stretch → Type 0
 IsCommon a b t s = IsIn a b t s.lo.num s.lo.den × IsIn a b t s.hi.num s.hi.den × ((n d : ℤ) → IsIn a b t n d → IsBetween s n d)
 
+-- none where no parameter gives a point of the triangle, else those two
 abbrev pub slice_of : Pt → Pt → Tri → Option Stretch → Type 0
 slice_of a b t r = MatchOption r ((n d : ℤ) → IsIn a b t n d → ⊥) (λ s. IsCommon a b t s)
 
@@ -42,14 +43,14 @@ pub record IsCrossed (a b p q : Pt) (f : Frac) : Type 0 where
   pub holds : IsMix (along (whole a) (whole b) f.num f.den) (whole p ∷ whole q ∷ [])
   pub across : ¬ IsParallel a b p q
 
--- k, counted from 0, is the least of three facts that hold
+-- k is the number, from 0, of the first of three facts that holds
 abbrev pub IsLeast : Type 0 → Type 0 → Type 0 → ℕ → Type 0
 IsLeast A B C zero = A
 IsLeast A B C (suc zero) = (¬ A) × B
 IsLeast A B C (suc (suc zero)) = (¬ A) × (¬ B) × C
 IsLeast A B C (suc (suc (suc k))) = ⊥
 
--- a vertex exactly where that is a fact, else the least of three sides
+-- `Vertex` exactly where V holds, else `Side` with the number of the first of A, B and C that holds
 abbrev pub IsEnd : Type 0 → Type 0 → Type 0 → Type 0 → End → Type 0
 IsEnd V A B C Vertex = V
 IsEnd V A B C (Side k) = (¬ V) × IsLeast A B C k
@@ -63,7 +64,7 @@ pub record AreEnds (a b : Pt) (t : Tri) (s : Stretch) : Type 0 where
   pub enter : LiesAt a b t s.lo (s.lo.num ≡ pos 0) s.enter
   pub leave : LiesAt a b t s.hi (s.hi.num ≡ s.hi.den) s.leave
 
--- the whole way, from a vertex to a vertex
+-- from 0 to 1, and both ends are vertices
 pub record IsWholeWay (s : Stretch) : Type 0 where
   pub first : s.lo.num ≡ pos 0
   pub last : s.hi.num ≡ s.hi.den
