@@ -6,7 +6,7 @@ use Rattle.tin_base.specs.declared.corners.Corner.{Corner}
 use Rattle.tin_base.specs.declared.frames.Frame.{Frame}
 use Rattle.tin_base.specs.declared.frames.Frame.TheVariants.{Source, Target}
 use Rattle.tin_base.specs.Triangulation.{Triangulation, other, place, no_corner, corner_at, numbers_of, places}
-use Rattle.tin_base.specs.Soundness.{turn_of_three, IsSound, common_of}
+use Rattle.tin_base.specs.Soundness.{turn_of_three, IsSound, DoFit, common_of}
 use Rattle.tin_base.specs.Images.{AreLikeMixes, IsImage}
 use Rattle.tin_base.specs.Turned.{exchanged, turned_of}
 
@@ -28,16 +28,22 @@ turned_has P tin frame ns h = subst P (sym (places-turned tin frame ns)) h
 turned_had : (P : List Point → Type 0) (tin : Triangulation) (frame : Frame) (ns : List ℕ) → P (places (turned_of tin) frame ns) → P (places tin (other frame) ns)
 turned_had P tin frame ns h = subst P (places-turned tin frame ns) h
 
+turned_fits : (tin : Triangulation) (frame : Frame) (t u : ℕ) → DoFit tin (other frame) t u → DoFit (turned_of tin) frame t u
+turned_fits tin frame t u fit =
+    record {
+      two_common = fit.two_common;
+      meet = λ p hp in_t in_u.
+          turned_has (λ (ps : List Point). IsMix p ps) tin frame (common_of tin t u)
+          (fit.meet p hp
+          (turned_had (λ (ps : List Point). IsMix p ps) tin frame (numbers_of tin t) in_t)
+          (turned_had (λ (ps : List Point). IsMix p ps) tin frame (numbers_of tin u) in_u));
+    }
+
 pub turned_sound : (tin : Triangulation) → IsSound tin → IsSound (turned_of tin)
 turned_sound tin sound =
     record {
       positive = λ frame t h. turned_has (λ (ps : List Point). pos 0 <ℤ turn_of_three ps) tin frame (numbers_of tin t) (sound.positive (other frame) t h);
-      two_common = sound.two_common;
-      meet = λ frame t u below hu p hp in_t in_u.
-          turned_has (λ (ps : List Point). IsMix p ps) tin frame (common_of tin t u)
-          (sound.meet (other frame) t u below hu p hp
-          (turned_had (λ (ps : List Point). IsMix p ps) tin frame (numbers_of tin t) in_t)
-          (turned_had (λ (ps : List Point). IsMix p ps) tin frame (numbers_of tin u) in_u));
+      fit = λ frame t u differ ht hu. turned_fits tin frame t u (sound.fit (other frame) t u differ ht hu);
     }
 
 -- like mixes of the turned triangulation are those in the other direction

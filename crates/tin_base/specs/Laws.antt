@@ -1,9 +1,9 @@
 -- What holds of the images of each sound triangulation.
-use Rattle.std.specs.Prelude.{◌≡◌, [], pos, ◌<ℤ◌, ◌↔◌}
+use Rattle.std.specs.Prelude.{◌≡◌, [], pos, ◌<ℤ◌, ◌↔◌, length}
 use Rattle.plane_base.specs.Plane.{Point, Same}
 use Rattle.tin_base.specs.declared.frames.Frame.TheVariants.{Source, Target}
 use Rattle.tin_base.specs.Triangulation.{Triangulation}
-use Rattle.tin_base.specs.Soundness.{IsSound}
+use Rattle.tin_base.specs.Soundness.{turn_in, IsSound}
 use Rattle.tin_base.specs.Images.{IsImage, IsInSome}
 use Rattle.tin_base.specs.Turned.{turned_of}
 
@@ -46,3 +46,7 @@ ConverseIsSound = (tin : Triangulation) → IsSound tin → IsSound (turned_of t
 -- a triangulation without triangles is sound
 abbrev pub NoTrianglesAreSound : Type 0
 NoTrianglesAreSound = (tin : Triangulation) → tin.triangles ≡ [] → IsSound tin
+
+-- a triangulation of one triangle that is neither flat nor turned over is sound
+abbrev pub OneTriangleIsSound : Type 0
+OneTriangleIsSound = (tin : Triangulation) → length tin.triangles ≡ 1 → pos 0 <ℤ turn_in tin Source 0 → pos 0 <ℤ turn_in tin Target 0 → IsSound tin

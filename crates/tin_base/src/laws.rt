@@ -1,4 +1,4 @@
-ghost use Rattle.tin_base.specs.Laws.{NoTrianglesAreSound, PointsHaveOneImage, DifferentPointsDiffer, TargetPointsAreImages, ConverseIsSound};
+ghost use Rattle.tin_base.specs.Laws.{NoTrianglesAreSound, OneTriangleIsSound, PointsHaveOneImage, DifferentPointsDiffer, TargetPointsAreImages, ConverseIsSound};
 ghost use Rattle.tin_base.specs.Carried.{SegmentsGoToSegments, RelationsAreKept, PiecesFollow};
 
 /// A law: each point in some source triangle of a sound triangulation has an image, and any two images of it are the same.
@@ -39,4 +39,9 @@ pub fn pieces_follow()
 /// A law: a triangulation without triangles is sound.
 pub fn no_triangles_are_sound()
     ensures { NoTrianglesAreSound }
+{}
+
+/// A law: a triangulation of one triangle whose turn is positive in both frames is sound.
+pub fn one_triangle_is_sound()
+    ensures { OneTriangleIsSound }
 {}
