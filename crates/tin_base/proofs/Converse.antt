@@ -9,6 +9,8 @@ use Rattle.tin_base.specs.Triangulation.{Triangulation, other, place, no_corner,
 use Rattle.tin_base.specs.Soundness.{turn_of_three, IsSound, DoFit, common_of}
 use Rattle.tin_base.specs.Images.{AreLikeMixes, IsImage}
 use Rattle.tin_base.specs.Turned.{exchanged, turned_of}
+use Rattle.tin_base.specs.Laws.{IsOneToOne}
+use Rattle.tin_base.proofs.Agreement.{each_has_image, all_images_agree, images_differ, each_is_image}
 
 place-exchanged : (frame : Frame) (corner : Corner) → place frame (exchanged corner) ≡ place (other frame) corner
 place-exchanged Source corner = refl
@@ -67,3 +69,14 @@ alike_unturned tin ns p r m = (
 
 pub converse : (tin : Triangulation) (p r : Point) → IsImage (turned_of tin) r p ↔ IsImage tin p r
 converse tin p r = (λ i. (i.0, i.1, alike_unturned tin (numbers_of tin i.0) p r i.2), λ i. (i.0, i.1, alike_turned tin (numbers_of tin i.0) p r i.2))
+
+pub one_to_one : (tin : Triangulation) → IsSound tin → IsOneToOne tin
+one_to_one tin sound =
+    record {
+      has_image = each_has_image tin;
+      one_image = all_images_agree tin sound;
+      differ = images_differ tin sound;
+      onto = each_is_image tin;
+      turned_sound = turned_sound tin sound;
+      converse = converse tin;
+    }

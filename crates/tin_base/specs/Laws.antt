@@ -27,6 +27,15 @@ EachIsImage tin = (r : Point) → pos 0 <ℤ r.w → IsInSome tin Target r → (
 abbrev pub TurnedIsConverse : Triangulation → Type 0
 TurnedIsConverse tin = (p r : Point) → IsImage (turned_of tin) r p ↔ IsImage tin p r
 
+-- from the points of the source triangles to the points of the target triangles, images are a map, one to one and onto, and turned it goes back
+pub record IsOneToOne (tin : Triangulation) : Type 0 where
+  pub has_image : EachHasImage tin
+  pub one_image : ImagesAgree tin
+  pub differ : ImagesDiffer tin
+  pub onto : EachIsImage tin
+  pub turned_sound : IsSound (turned_of tin)
+  pub converse : TurnedIsConverse tin
+
 -- Of each sound triangulation: a point in some source triangle has an image, and any two images of it are the same
 abbrev pub PointsHaveOneImage : Type 0
 PointsHaveOneImage = (tin : Triangulation) → IsSound tin → EachHasImage tin × ImagesAgree tin
@@ -50,3 +59,7 @@ NoTrianglesAreSound = (tin : Triangulation) → tin.triangles ≡ [] → IsSound
 -- a triangulation of one triangle that is neither flat nor turned over is sound
 abbrev pub OneTriangleIsSound : Type 0
 OneTriangleIsSound = (tin : Triangulation) → length tin.triangles ≡ 1 → pos 0 <ℤ turn_in tin Source 0 → pos 0 <ℤ turn_in tin Target 0 → IsSound tin
+
+-- all of these laws in one, for a call that answers a sound triangulation
+abbrev pub SoundIsOneToOne : Type 0
+SoundIsOneToOne = (tin : Triangulation) → IsSound tin → IsOneToOne tin

@@ -1,4 +1,4 @@
-ghost use Rattle.tin_base.specs.Laws.{NoTrianglesAreSound, OneTriangleIsSound, PointsHaveOneImage, DifferentPointsDiffer, TargetPointsAreImages, ConverseIsSound};
+ghost use Rattle.tin_base.specs.Laws.{NoTrianglesAreSound, OneTriangleIsSound, PointsHaveOneImage, DifferentPointsDiffer, TargetPointsAreImages, ConverseIsSound, SoundIsOneToOne};
 ghost use Rattle.tin_base.specs.Carried.{SegmentsGoToSegments, RelationsAreKept, PiecesFollow};
 
 /// A law: each point in some source triangle of a sound triangulation has an image, and any two images of it are the same.
@@ -19,6 +19,11 @@ pub fn target_points_are_images()
 /// A law: with its frames exchanged a sound triangulation is sound, and its images are the converse.
 pub fn exchanged_frames_give_the_converse()
     ensures { ConverseIsSound }
+{}
+
+/// A law: the four laws above, in one word for the contracts of calls that answer a sound triangulation.
+pub fn sound_is_one_to_one()
+    ensures { SoundIsOneToOne }
 {}
 
 /// A law: the images of the points of a segment in one triangle of a sound triangulation are exactly the points between the images of its ends.
