@@ -1,9 +1,10 @@
 -- What holds of the images of each sound triangulation.
-use Rattle.std.specs.Prelude.{◌≡◌, [], pos, ◌<ℤ◌, ◌↔◌, length}
+use Rattle.std.specs.Prelude.{◌≡◌, ℕ, ◌<◌, [], pos, ◌<ℤ◌, ◌↔◌, length}
 use Rattle.plane_base.specs.Plane.{Point, Same}
+use Rattle.tin_base.specs.declared.frames.Frame.{Frame}
 use Rattle.tin_base.specs.declared.frames.Frame.TheVariants.{Source, Target}
 use Rattle.tin_base.specs.Triangulation.{Triangulation}
-use Rattle.tin_base.specs.Soundness.{turn_in, IsSound}
+use Rattle.tin_base.specs.Soundness.{turn_in, DoFit, IsSound}
 use Rattle.tin_base.specs.Images.{IsImage, IsInSome}
 use Rattle.tin_base.specs.Turned.{turned_of}
 
@@ -55,6 +56,12 @@ ConverseIsSound = (tin : Triangulation) → IsSound tin → IsSound (turned_of t
 -- a triangulation without triangles is sound
 abbrev pub NoTrianglesAreSound : Type 0
 NoTrianglesAreSound = (tin : Triangulation) → tin.triangles ≡ [] → IsSound tin
+
+-- where the turns are positive it is enough to look at each two triangles in one order
+abbrev pub EachPairOnceIsEnough : Type 0
+EachPairOnceIsEnough =
+    (tin : Triangulation) → ((frame : Frame) (t : ℕ) → t < length tin.triangles → pos 0 <ℤ turn_in tin frame t)
+    → ((frame : Frame) (t u : ℕ) → t < u → u < length tin.triangles → DoFit tin frame t u) → IsSound tin
 
 -- a triangulation of one triangle that is neither flat nor turned over is sound
 abbrev pub OneTriangleIsSound : Type 0

@@ -1,5 +1,6 @@
 -- What makes a triangulation sound: in both frames no triangle is flat or turned over, and any two of them meet in their common corners and in what those span.
-use Rattle.std.specs.Prelude.{◌≢◌, ℕ, ◌<◌, ◌≤◌, ℤ, pos, ◌<ℤ◌, Bool, false, ◌||◌, eqb, cond, List, [], ◌∷◌, length}
+use Rattle.std.specs.Prelude.{◌≢◌, ℕ, ◌<◌, ◌≤◌, ℤ, pos, ◌<ℤ◌, Bool, ◌==◌, List, [], ◌∷◌, length, filter}
+use Rattle.std.specs.List.{list_any}
 use Rattle.plane_base.specs.Plane.{Point, turn_of, IsMix}
 use Rattle.tin_base.specs.declared.frames.Frame.{Frame}
 use Rattle.tin_base.specs.Triangulation.{Triangulation, numbers_of, places, IsInTriangle}
@@ -15,13 +16,11 @@ turn_in tin frame t = turn_of_three (places tin frame (numbers_of tin t))
 
 -- the number is one of the list
 abbrev pub has : List ℕ → ℕ → Bool
-has [] k = false
-has (n ∷ ns) k = eqb n k || has ns k
+has ns k = list_any (λ n. n == k) ns
 
 -- the numbers of the first list that the second has too
 abbrev pub common : List ℕ → List ℕ → List ℕ
-common [] ns = []
-common (k ∷ ks) ns = cond (has ns k) (k ∷ common ks ns) (common ks ns)
+common ks ns = filter (has ns) ks
 
 -- the numbers of the corners that triangles t and u have in common
 abbrev pub common_of : Triangulation → ℕ → ℕ → List ℕ

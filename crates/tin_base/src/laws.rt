@@ -1,4 +1,4 @@
-ghost use Rattle.tin_base.specs.Laws.{NoTrianglesAreSound, OneTriangleIsSound, PointsHaveOneImage, DifferentPointsDiffer, TargetPointsAreImages, ConverseIsSound, SoundIsOneToOne};
+ghost use Rattle.tin_base.specs.Laws.{EachPairOnceIsEnough, NoTrianglesAreSound, OneTriangleIsSound, PointsHaveOneImage, DifferentPointsDiffer, TargetPointsAreImages, ConverseIsSound, SoundIsOneToOne};
 ghost use Rattle.tin_base.specs.Carried.{SegmentsGoToSegments, RelationsAreKept, PiecesFollow};
 
 /// A law: each point in some source triangle of a sound triangulation has an image, and any two images of it are the same.
@@ -49,4 +49,9 @@ pub fn no_triangles_are_sound()
 /// A law: a triangulation of one triangle whose turn is positive in both frames is sound.
 pub fn one_triangle_is_sound()
     ensures { OneTriangleIsSound }
+{}
+
+/// A law: a triangulation whose turns are positive is sound where each two triangles fit together in one order, the lower number first.
+pub fn each_pair_once_is_enough()
+    ensures { EachPairOnceIsEnough }
 {}
