@@ -6,3 +6,5 @@ pub mod BySlice
 pub mod Tests
 pub mod Counting
 pub mod Marking
+pub mod FirstFault
+pub mod Progress

@@ -1,5 +1,5 @@
 -- How far a check has come: what it has found of the triangles and of the pairs so far.
-use Rattle.std.specs.Prelude.{ℕ, ◌<◌, pos, ◌<ℤ◌, Bool, false, ◌≡◌, List, length}
+use Rattle.std.specs.Prelude.{ℕ, ◌<◌, pos, ◌<ℤ◌, false, ◌≡◌, List, length, slice_get, Some}
 use Rattle.tin_base.specs.declared.frames.Frame.{Frame}
 use Rattle.tin_base.specs.Triangulation.{Triangulation}
 use Rattle.tin_base.specs.Soundness.{turn_in, has, DoFit}
@@ -19,3 +19,7 @@ DoSecondsFit tin first n = (frame : Frame) (u : ℕ) → first < u → u < n →
 -- and those of one first triangle with the later ones that a list leaves out
 abbrev pub DoOthersFit : Triangulation → ℕ → List ℕ → Type 0
 DoOthersFit tin first seconds = (frame : Frame) (u : ℕ) → first < u → u < length tin.triangles → has seconds u ≡ false → DoFit tin frame first u
+
+-- the numbers 0, 1, 2 and so on
+abbrev pub IsCounting : List ℕ → Type 0
+IsCounting numbers = (k : ℕ) → k < length numbers → slice_get numbers k ≡ Some k

@@ -1,3 +1,7 @@
+ghost use Rattle.std.specs.Prelude.{◌≡◌};
+ghost use Rattle.tin_check.specs.declared.faults.CheckFault.TheVariants.{NoMemory};
+
+use std::alloc::AllocError;
 use thiserror::Error;
 use tin_base::Frame;
 
@@ -25,4 +29,12 @@ pub enum CheckFault {
     /// There was not enough memory. It says nothing of the triangulation.
     #[error("out of memory")]
     NoMemory,
+}
+
+impl From<AllocError> for CheckFault {
+    ghost from_gives = { λ _ e. e ≡ NoMemory };
+
+    fn from(_: AllocError) -> Self {
+        CheckFault::NoMemory
+    }
 }
