@@ -92,17 +92,16 @@ earlier_of tin a b k (Meets t u frame) positive firsts seconds (inr (e, inr (f, 
     (frame, λ fit. fault.2 (subst (λ (n : ℕ). DoFit tin frame n u) (sym f) (subst (λ (n : ℕ). DoFit tin frame a n) (sym g) fit)), below (frame_rank frame) k k h)
 earlier_of tin a b k NoMemory positive firsts seconds before fault = absurd fault
 
-pub meets_source : (tin : Triangulation) (a b : ℕ) → a < b → b < length tin.triangles → ArePositive tin (length tin.triangles) → DoFirstsFit tin a → DoSecondsFit tin a b → (DoFit tin Source a b → ⊥) → IsFirstFault tin (Meets a b Source)
-meets_source tin a b order within positive firsts seconds not = record { is_one = (order, within, not); none_before = λ other before fault. go (earlier_of tin a b 0 other positive firsts seconds before fault) }
+pub meets : (tin : Triangulation) (a b : ℕ) (frame : Frame) → a < b → b < length tin.triangles → ArePositive tin (length tin.triangles) → DoFirstsFit tin a → DoSecondsFit tin a b → (frame ≡ Target → DoFit tin Source a b) → (DoFit tin frame a b → ⊥)
+    → IsFirstFault tin (Meets a b frame)
+meets tin a b Source order within positive firsts seconds source not = record { is_one = (order, within, not); none_before = λ other before fault. go (earlier_of tin a b 0 other positive firsts seconds before fault) }
   where
     go : HasEarlierOf tin a b 0 → ⊥
     go h = absurd (omega (arith, h.2))
-
-pub meets_target : (tin : Triangulation) (a b : ℕ) → a < b → b < length tin.triangles → ArePositive tin (length tin.triangles) → DoFirstsFit tin a → DoSecondsFit tin a b → DoFit tin Source a b → (DoFit tin Target a b → ⊥) → IsFirstFault tin (Meets a b Target)
-meets_target tin a b order within positive firsts seconds source not = record { is_one = (order, within, not); none_before = λ other before fault. go (earlier_of tin a b 1 other positive firsts seconds before fault) }
+meets tin a b Target order within positive firsts seconds source not = record { is_one = (order, within, not); none_before = λ other before fault. go (earlier_of tin a b 1 other positive firsts seconds before fault) }
   where
     go : HasEarlierOf tin a b 1 → ⊥
-    go (Source, h, k) = h source
+    go (Source, h, k) = h (source refl)
     go (Target, h, k) = absurd (omega arith)
 
 -- ---- a fault is one, and says that the triangulation is not sound

@@ -122,21 +122,31 @@ fn check_pair(tin: &Tin, first: u32, second: u32) -> Result<(), CheckFault>
     ensures target { OnOk result (DoFit tin.now Target first second) }
     ensures first { IfErr result (λ fault. IsFirstFault tin.now fault) }
 {
-    if !pair_fits(tin, first, second, Frame::Source) {
-        return Err(CheckFault::Meets {
-            first,
-            second,
-            frame: Frame::Source,
-        });
-    }
-    if !pair_fits(tin, first, second, Frame::Target) {
-        return Err(CheckFault::Meets {
-            first,
-            second,
-            frame: Frame::Target,
-        });
-    }
+    check_pair_in(tin, first, second, Frame::Source)?;
+    check_pair_in(tin, first, second, Frame::Target)?;
     Ok(())
+}
+
+/// Looks at one pair in a frame, after those before it; in the target after the source.
+fn check_pair_in(tin: &Tin, first: u32, second: u32, frame: Frame) -> Result<(), CheckFault>
+    requires in_order { first < second }
+    requires in_range { second < length tin.now.triangles }
+    requires positive { ArePositive tin.now (length tin.now.triangles) }
+    requires firsts { DoFirstsFit tin.now first }
+    requires seconds { DoSecondsFit tin.now first second }
+    requires source { frame ≡ Target → DoFit tin.now Source first second }
+    ensures on { OnOk result (DoFit tin.now frame first second) }
+    ensures first { IfErr result (λ fault. IsFirstFault tin.now fault) }
+{
+    if pair_fits(tin, first, second, frame) {
+        Ok(())
+    } else {
+        Err(CheckFault::Meets {
+            first,
+            second,
+            frame,
+        })
+    }
 }
 
 /// Twice the signed area of a triangle in a frame.
