@@ -8,23 +8,11 @@ use Rattle.plane_base.specs.declared.Tri.{Tri}
 use Rattle.plane_base.proofs.Turns.{turn_cycle, turn_twice}
 use Rattle.tin_check.specs.Meeting.{HaveCommonPoint, MeetOnlyIn}
 use Rattle.tin_check.specs.Marks.{points_of, IsAmong}
+use Rattle.tin_base.proofs.Telling.{yes, no, denied}
 use Rattle.tin_check.proofs.Places.{side_bc_in, mix_next}
 use Rattle.tin_check.proofs.Sides.{IsSeenToMeet, meet_of_seen, seen_of_meet}
 use Rattle.tin_check.proofs.AtCorner.{meet_at_corner, not_only_at_corner, not_corner}
 use Rattle.tin_check.proofs.AtSide.{meet_at_side, overlap_at_side}
-
--- ---- tests
-pub no_false : IsTrue false → ⊥
-no_false e = cc
-
-pub yes : {P : Type 0} → P → IsTrue true ↔ P
-yes p = (λ _. p, λ _. refl)
-
-pub no : {P : Type 0} → (P → ⊥) → IsTrue false ↔ P
-no n = (λ e. absurd (no_false e), λ p. absurd (n p))
-
-pub denied : {P : Type 0} → IsTrue false ↔ P → P → ⊥
-denied i p = no_false (i.1 p)
 
 abbrev pub IsPositive : Tri → Type 0
 IsPositive t = pos 0 <ℤ turn_of (whole t.a) (whole t.b) (whole t.c)

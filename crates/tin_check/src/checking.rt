@@ -157,3 +157,140 @@ fn turn_of(tin: &Tin, triangle: u32, frame: Frame) -> i128
     let corners = tin.tri(triangle, frame);
     turn(corners.a, corners.b, corners.c)
 }
+
+#[cfg(test)]
+mod tests {
+    use super::*;
+    use std::test::Fail;
+    use tin_base::{Corner, are_within_limits};
+
+    fn corner(source: (i32, i32), target: (i32, i32)) -> Corner {
+        Corner {
+            sx: i64::from(source.0),
+            sy: i64::from(source.1),
+            tx: i64::from(target.0),
+            ty: i64::from(target.1),
+        }
+    }
+
+    fn same(x: i32, y: i32) -> Corner {
+        corner((x, y), (x, y))
+    }
+
+    /// What is found of corners and triangles within the limits. Of others it says that memory is short, which no test wants.
+    fn found(
+        alloc: Global,
+        corners: &[Corner],
+        triangles: &[[u32; 3]],
+    ) -> Result<SoundTin, CheckFault> {
+        if !are_within_limits(corners, triangles) {
+            return Err(CheckFault::NoMemory);
+        }
+        let corners = Vec::from_slice(alloc, corners)?;
+        let triangles = Vec::from_slice(alloc, triangles)?;
+        check_tin(alloc, Tin::of(corners, triangles, 2))
+    }
+
+    fn meets(first: u32, second: u32, frame: Frame) -> Option<CheckFault> {
+        Some(CheckFault::Meets {
+            first,
+            second,
+            frame,
+        })
+    }
+
+    fn flat(triangle: u32, frame: Frame) -> Option<CheckFault> {
+        Some(CheckFault::Flat { triangle, frame })
+    }
+
+    fn square() -> [Corner; 4] {
+        [
+            corner((0, 0), (100_000, 100_000)),
+            corner((10_000, 0), (110_000, 100_000)),
+            corner((10_000, 10_000), (110_003, 110_003)),
+            corner((0, 10_000), (100_000, 110_000)),
+        ]
+    }
+
+    #[test]
+    fn gives_back_what_is_sound(rt: HostRuntime) -> Result<(), Fail> {
+        let triangles = [[0, 1, 2], [0, 2, 3]];
+        let sound = found(rt.alloc(), &square(), &triangles)?;
+        assert_eq!(rt; sound.corners(), square().as_slice());
+        assert_eq!(rt; sound.triangles(), triangles.as_slice());
+        assert_eq!(rt; sound.inexact(), 2);
+        assert!(rt; found(rt.alloc(), &square(), &[]).is_ok());
+        assert!(rt; found(rt.alloc(), &[], &[]).is_ok());
+        Ok(())
+    }
+
+    #[test]
+    fn names_a_triangle(rt: HostRuntime) {
+        for (b, c, want) in [
+            ((10_000, 0), (20_000, 0), flat(0, Frame::Target)),
+            (
+                (0, 10_000),
+                (10_000, 0),
+                Some(CheckFault::TurnsOver { triangle: 0 }),
+            ),
+        ] {
+            let corners = [same(0, 0), corner((10_000, 0), b), corner((0, 10_000), c)];
+            let got = found(rt.alloc(), &corners, &[[0, 1, 2]]);
+            assert_eq!(rt; got.err(), want, "at {b:?}");
+        }
+        let clockwise = found(rt.alloc(), &square(), &[[0, 1, 2], [0, 3, 2]]);
+        assert_eq!(rt;
+            clockwise.err(),
+            Some(CheckFault::TurnsOver { triangle: 1 })
+        );
+        let line = [same(0, 0), same(1, 1), same(2, 2)];
+        let flat_in_both = found(rt.alloc(), &line, &[[0, 1, 2]]);
+        assert_eq!(rt; flat_in_both.err(), flat(0, Frame::Source));
+    }
+
+    #[test]
+    fn names_a_pair(rt: HostRuntime) {
+        let thrice = found(rt.alloc(), &square(), &[[0, 1, 2], [0, 2, 3], [2, 0, 1]]);
+        assert_eq!(rt; thrice.err(), meets(0, 2, Frame::Source));
+
+        let apart_in_source = [
+            same(0, 0),
+            same(10_000, 0),
+            same(0, 10_000),
+            corner((20_000, 0), (10_000, 0)),
+            corner((30_000, 0), (20_000, 0)),
+            corner((20_000, 10_000), (10_000, 10_000)),
+        ];
+        let got = found(rt.alloc(), &apart_in_source, &[[0, 1, 2], [3, 4, 5]]);
+        assert_eq!(rt; got.err(), meets(0, 1, Frame::Target));
+
+        for (name, t, u) in [
+            (
+                "a corner on a side",
+                [(0, 0), (10_000, 0), (5_000, 8_000)],
+                [(5_000, 0), (2_000, -8_000), (8_000, -8_000)],
+            ),
+            (
+                "one in the other",
+                [(0, 0), (90, 0), (0, 90)],
+                [(20, 20), (40, 20), (20, 40)],
+            ),
+            (
+                "sides cross and no corner is inside",
+                [(0, 0), (60, 0), (30, 60)],
+                [(30, -20), (60, 40), (0, 40)],
+            ),
+        ] {
+            let corners = [
+                same(t[0].0, t[0].1),
+                same(t[1].0, t[1].1),
+                same(t[2].0, t[2].1),
+                same(u[0].0, u[0].1),
+                same(u[1].0, u[1].1),
+                same(u[2].0, u[2].1),
+            ];
+            let got = found(rt.alloc(), &corners, &[[0, 1, 2], [3, 4, 5]]);
+            assert_eq!(rt; got.err(), meets(0, 1, Frame::Source), "{name}");
+        }
+    }
+}

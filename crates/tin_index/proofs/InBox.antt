@@ -1,5 +1,5 @@
 -- A point of a triangle is in its box, and a point in the box is near the corners.
-use Rattle.std.proofs.Common.{◌≡◌, ◌↔◌, false, IsTrue, ℕ, ◌<◌, ℤ, pos, ◌+ℤ◌, ◌-ℤ◌, ◌*ℤ◌, ◌≤ℤ◌, ◌<ℤ◌, negsuc, List, [], ◌∷◌, length, sum, sym, subst, arith}
+use Rattle.std.proofs.Common.{◌≡◌, ℕ, ◌<◌, ℤ, pos, ◌+ℤ◌, ◌-ℤ◌, ◌*ℤ◌, ◌≤ℤ◌, ◌<ℤ◌, negsuc, List, [], ◌∷◌, length, sum, sym, subst, arith}
 use Rattle.std.proofs.lemmas.Int.{ints, int_min_is, int_max_is}
 use Rattle.std.specs.Int.{int_min, int_max}
 use Rattle.integer_ring.proofs.Ring.{num, ◌⊕◌, ◌⊗◌}
@@ -101,13 +101,3 @@ near_corners t p (ab, ac, bc) above below =
 
 pub near_box : (t : Tri) (p low high : Pt) → low ≡ low_of t → high ≡ high_of t → IsNearAll t.a t.b t.c → IsUpTo low p → IsUpTo p high → IsNearTri t p
 near_box t p low high e f near above below = near_corners t p near (subst (λ (q : Pt). IsUpTo q p) e above) (subst (λ (q : Pt). IsUpTo p q) f below)
-
--- ---- tests
-no_false : IsTrue false → ⊥
-no_false e = cc
-
-pub no : {P : Type 0} → (P → ⊥) → IsTrue false ↔ P
-no n = (λ e. absurd (no_false e), λ p. absurd (n p))
-
-pub denied : {P : Type 0} → IsTrue false ↔ P → P → ⊥
-denied i p = no_false (i.1 p)

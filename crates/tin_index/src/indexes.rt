@@ -67,3 +67,56 @@ impl TinIndex {
         has_point(&self.tin.tri(triangle, Frame::Source), p)
     }
 }
+
+#[cfg(test)]
+mod tests {
+    ghost use Rattle.std.specs.Prelude.{◌<◌, pos, ◌<ℤ◌, length, IsTrue};
+    ghost use Rattle.tin_base.specs.Soundness.{turn_in};
+
+    use super::*;
+    use plane_base::turn;
+    use std::test::Fail;
+    use tin_base::{Corner, Tin, are_within_limits, one_triangle_is_sound};
+
+    fn corner(x: i32, y: i32) -> Corner {
+        Corner {
+            sx: i64::from(x),
+            sy: i64::from(y),
+            tx: i64::from(x),
+            ty: i64::from(y),
+        }
+    }
+
+    fn is_positive(tin: &Tin, frame: Frame) -> bool
+        requires { 0 < length tin.now.triangles }
+        ensures { IsTrue result → pos 0 <ℤ turn_in tin.now frame 0 }
+    {
+        let corners = tin.tri(0, frame);
+        turn(corners.a, corners.b, corners.c) > 0
+    }
+
+    #[test]
+    fn locates_points(rt: HostRuntime) -> Result<(), Fail> {
+        let alloc = rt.alloc();
+        let corners = vec![in alloc; corner(0, 0), corner(10_000, 0), corner(0, 10_000)]?;
+        let triangles = vec![in alloc; [0, 1, 2]]?;
+        assert!(rt; are_within_limits(&corners, &triangles));
+        let tin = Tin::of(corners, triangles, 0);
+        assert!(rt; is_positive(&tin, Frame::Source));
+        assert!(rt; is_positive(&tin, Frame::Target));
+        one_triangle_is_sound();
+        let index = TinIndex::build(alloc, SoundTin::of(tin))?;
+        for (x, y, want) in [
+            (2_500, 2_500, Some(0)),
+            (5_000, 5_000, Some(0)),
+            (0, 10_000, Some(0)),
+            (5_000, 5_001, None),
+            (-1, 0, None),
+            (i64::MAX, i64::MIN, None),
+        ] {
+            assert_eq!(rt; index.locate(Pt { x, y }), want, "at {x} {y}");
+        }
+        assert_eq!(rt; index.tin().triangles(), [[0, 1, 2]].as_slice());
+        Ok(())
+    }
+}

@@ -1,5 +1,5 @@
 use Rattle.tin_check.proofs.FirstFault.{meets}
-use Rattle.tin_check.proofs.Tests.{denied}
+use Rattle.tin_base.proofs.Telling.{denied}
 use Rattle.tin_check.proofs.checking.check_pair_in.Goals as goal
 
 pub returns-else-pair_fits-clause-first : goal.returns-else-pair_fits-clause-first

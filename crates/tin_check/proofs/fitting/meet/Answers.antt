@@ -1,5 +1,6 @@
 use Rattle.std.proofs.Common.{inl, inr, refl}
-use Rattle.tin_check.proofs.Tests.{yes, denied, seen_meets, last_side}
+use Rattle.tin_base.proofs.Telling.{yes, denied}
+use Rattle.tin_check.proofs.Tests.{seen_meets, last_side}
 use Rattle.tin_check.proofs.fitting.meet.Goals as goal
 
 pub returns-then-holds : goal.returns-then-holds

@@ -1,5 +1,6 @@
 use Rattle.std.proofs.Common.{refl}
-use Rattle.tin_check.proofs.Tests.{no, denied, side_beyond, last_beyond}
+use Rattle.tin_base.proofs.Telling.{no, denied}
+use Rattle.tin_check.proofs.Tests.{side_beyond, last_beyond}
 use Rattle.tin_check.proofs.fitting.meet_at_corner.Goals as goal
 
 pub returns-then-meets_side : goal.returns-then-meets_side

@@ -1,5 +1,6 @@
 use Rattle.std.proofs.Common.{refl}
-use Rattle.tin_index.proofs.InBox.{not_low, not_high, near_box, no, denied}
+use Rattle.tin_base.proofs.Telling.{no, denied}
+use Rattle.tin_index.proofs.InBox.{not_low, not_high, near_box}
 use Rattle.tin_index.proofs.boxes.has_point.Goals as goal
 
 pub returns-then-not-is_up_to : goal.returns-then-not-is_up_to

@@ -3,7 +3,7 @@ use borrow.Author.Count.{below_more}
 use Rattle.plane_base.specs.Plane.{whole}
 use Rattle.tin_base.specs.declared.frames.Frame.TheVariants.{Source}
 use Rattle.tin_base.specs.Triangulation.{IsInTriangle}
-use Rattle.tin_index.proofs.InBox.{denied}
+use Rattle.tin_base.proofs.Telling.{denied}
 use Rattle.tin_index.proofs.indexes.TinIndex.locate.Goals as goal
 
 pub loop-triangle-preserved : goal.loop-triangle-preserved
