@@ -70,9 +70,6 @@ impl TinIndex {
 
 #[cfg(test)]
 mod tests {
-    ghost use Rattle.std.specs.Prelude.{◌<◌, pos, ◌<ℤ◌, length, IsTrue};
-    ghost use Rattle.tin_base.specs.Soundness.{turn_in};
-
     use super::*;
     use plane_base::turn;
     use std::test::Fail;
@@ -87,12 +84,14 @@ mod tests {
         }
     }
 
-    fn is_positive(tin: &Tin, frame: Frame) -> bool
-        requires { 0 < length tin.now.triangles }
-        ensures { IsTrue result → pos 0 <ℤ turn_in tin.now frame 0 }
+    fn tin_of(corners: Vec<Corner>, triangles: Vec<[u32; 3]>) -> Option<Tin>
+        ensures { IfSome result (λ tin. tin.triangles ≡ triangles.items) }
     {
-        let corners = tin.tri(0, frame);
-        turn(corners.a, corners.b, corners.c) > 0
+        if are_within_limits(&corners, &triangles) {
+            Some(Tin::of(corners, triangles, 0))
+        } else {
+            None
+        }
     }
 
     #[test]
@@ -100,10 +99,11 @@ mod tests {
         let alloc = rt.alloc();
         let corners = vec![in alloc; corner(0, 0), corner(10_000, 0), corner(0, 10_000)]?;
         let triangles = vec![in alloc; [0, 1, 2]]?;
-        assert!(rt; are_within_limits(&corners, &triangles));
-        let tin = Tin::of(corners, triangles, 0);
-        assert!(rt; is_positive(&tin, Frame::Source));
-        assert!(rt; is_positive(&tin, Frame::Target));
+        let tin = tin_of(corners, triangles).expect(&rt, "within the limits");
+        let source = tin.tri(0, Frame::Source);
+        assert!(rt; turn(source.a, source.b, source.c) > 0);
+        let target = tin.tri(0, Frame::Target);
+        assert!(rt; turn(target.a, target.b, target.c) > 0);
         one_triangle_is_sound();
         let index = TinIndex::build(alloc, SoundTin::of(tin))?;
         for (x, y, want) in [
