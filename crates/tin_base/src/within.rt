@@ -129,3 +129,44 @@ fn is_in_reach(number: i64) -> bool
 {
     -REACH <= number && number <= REACH
 }
+
+#[cfg(test)]
+mod tests {
+    use super::*;
+
+    fn corner(sx: i64, ty: i64) -> Corner {
+        Corner {
+            sx,
+            sy: 0,
+            tx: 0,
+            ty,
+        }
+    }
+
+    #[test]
+    fn tells_the_limits(rt: HostRuntime) {
+        let reach = 1_000_000_000_000_000;
+        let span = 1_073_741_824;
+        for (second, third, numbers, want) in [
+            ((5, 0), (0, 5), [0, 1, 2], true),
+            ((5, 0), (0, 5), [0, 1, 3], false),
+            ((5, 0), (5, 0), [0, 1, 2], false),
+            ((5, 0), (5, 1), [0, 1, 2], true),
+            ((span - 1, 0), (0, 5), [0, 1, 2], true),
+            ((span, 0), (0, 5), [0, 1, 2], false),
+            ((0, -span), (0, 5), [0, 1, 2], false),
+            ((-1, 1), (span - 1, 0), [0, 1, 2], false),
+        ] {
+            let corners = [
+                corner(0, 0),
+                corner(second.0, second.1),
+                corner(third.0, third.1),
+            ];
+            let got = are_within_limits(&corners, &[numbers]);
+            assert_eq!(rt; got, want, "at {second:?} {third:?} {numbers:?}");
+        }
+        assert!(rt; are_within_limits(&[corner(reach, -reach)], &[]));
+        assert!(rt; !are_within_limits(&[corner(reach + 1, 0)], &[]));
+        assert!(rt; !are_within_limits(&[corner(0, -reach - 1)], &[]));
+    }
+}
