@@ -16,7 +16,8 @@ use tin_base::{Frame, SoundTin, Tin};
 /// The triangulation, where it is sound. Else its first fault: of the triangles in order, flat in the source, flat in the target, turned over;
 /// then of the pairs in order of the first and of the second number, those that do not fit in the source, and in the target.
 pub fn check_tin(alloc: Global, tin: Tin) -> Result<SoundTin, CheckFault>
-    ensures sound { IfOk result (λ sound. (sound ≡ tin) × IsSound tin) }
+    ensures same { IfOk result (λ sound. sound ≡ tin) }
+    ensures sound { OnOk result (IsSound tin) }
     ensures images { IfOk result (λ sound. IsOneToOne sound) }
     ensures first { IfErr result (λ fault. IsCause tin fault) }
     // So a sound triangulation is refused for want of memory alone.
@@ -263,7 +264,10 @@ mod tests {
         ];
         let got = found(rt.alloc(), &apart_in_source, &[[0, 1, 2], [3, 4, 5]]);
         assert_eq!(rt; got.err(), meets(0, 1, Frame::Target));
+    }
 
+    #[test]
+    fn names_a_pair_without_common_corners(rt: HostRuntime) {
         for (name, t, u) in [
             (
                 "a corner on a side",
