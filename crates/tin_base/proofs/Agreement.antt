@@ -1,5 +1,5 @@
 -- In a sound triangulation any two images of a point are the same, and points with the same image are the same.
-use Rattle.std.proofs.Common.{◌≡◌, ◌⊎◌, inl, inr, ℕ, ◌<◌, pos, ◌<ℤ◌, List, length, subst, arith}
+use Rattle.std.proofs.Common.{◌≡◌, ◌≢◌, ◌⊎◌, inl, inr, ℕ, ◌<◌, pos, ◌<ℤ◌, List, length, subst, arith}
 use Rattle.plane_base.specs.Plane.{Point, Same}
 use Rattle.tin_base.specs.declared.frames.Frame.{Frame}
 use Rattle.tin_base.specs.declared.frames.Frame.TheVariants.{Source, Target}
@@ -8,29 +8,27 @@ use Rattle.tin_base.specs.Soundness.{IsSound, common_of}
 use Rattle.tin_base.specs.Images.{AreLikeMixes, IsImageFrom}
 use Rattle.tin_base.specs.Laws.{EachHasImage, ImagesAgree, ImagesDiffer, EachIsImage}
 use Rattle.tin_base.proofs.Weights.{common_in_first, common_in_second}
-use Rattle.tin_base.proofs.Alike.{same_sym, same_trans, alike_more, alike_in, alike_of, alike_once}
+use Rattle.tin_base.proofs.Alike.{same_trans, alike_more, alike_in, alike_of, alike_once}
 
--- images by two triangles
-by_two : (tin : Triangulation) (frame : Frame) (t u : ℕ) (p r s : Point) → IsSound tin → pos 0 <ℤ p.w → t < u → u < length tin.triangles
+-- images by two different triangles
+by_two : (tin : Triangulation) (frame : Frame) (t u : ℕ) (p r s : Point) → IsSound tin → pos 0 <ℤ p.w → t ≢ u → t < length tin.triangles → u < length tin.triangles
     → AreLikeMixes tin frame (numbers_of tin t) p r → AreLikeMixes tin frame (numbers_of tin u) p s → Same r s
-by_two tin frame t u p r s sound hp below hu m n =
+by_two tin frame t u p r s sound hp differ ht hu m n =
     let ts = numbers_of tin t in let us = numbers_of tin u in
-    let ht : t < length tin.triangles = omega arith in
-    let q = alike_of tin frame (common_of tin t u) p (sound.meet frame t u below hu p hp (alike_in tin frame ts p r m) (alike_in tin frame us p s n)) in
+    let q = alike_of tin frame (common_of tin t u) p ((sound.fit frame t u differ ht hu).meet p hp (alike_in tin frame ts p r m) (alike_in tin frame us p s n)) in
     let in_t : Same r q.0 = alike_once tin frame ts p r q.0 hp (sound.positive frame t ht) m (alike_more tin frame ts (common_of tin t u) p q.0 (common_in_first ts us) q.2) in
     let in_u : Same q.0 s = alike_once tin frame us p q.0 s hp (sound.positive frame u hu) (alike_more tin frame us (common_of tin t u) p q.0 (common_in_second ts us) q.2) n in
     same_trans r q.0 s q.1 in_t in_u
 
-one_or_other : (t u : ℕ) → (t ≡ u) ⊎ ((t < u) ⊎ (u < t))
-one_or_other t u = grind arith
+one_or_two : (t u : ℕ) → (t ≡ u) ⊎ (t ≢ u)
+one_or_two t u = grind arith
 
 pub images_agree : (tin : Triangulation) (frame : Frame) (p r s : Point) → IsSound tin → pos 0 <ℤ p.w → IsImageFrom tin frame p r → IsImageFrom tin frame p s → Same r s
-images_agree tin frame p r s sound hp i j = go (one_or_other i.0 j.0)
+images_agree tin frame p r s sound hp i j = go (one_or_two i.0 j.0)
   where
-    go : (i.0 ≡ j.0) ⊎ ((i.0 < j.0) ⊎ (j.0 < i.0)) → Same r s
+    go : (i.0 ≡ j.0) ⊎ (i.0 ≢ j.0) → Same r s
     go (inl e) = alike_once tin frame (numbers_of tin j.0) p r s hp (sound.positive frame j.0 j.1) (subst (λ (t : ℕ). AreLikeMixes tin frame (numbers_of tin t) p r) e i.2) j.2
-    go (inr (inl below)) = by_two tin frame i.0 j.0 p r s sound hp below j.1 i.2 j.2
-    go (inr (inr below)) = same_sym s r (by_two tin frame j.0 i.0 p s r sound hp below i.1 j.2 i.2)
+    go (inr differ) = by_two tin frame i.0 j.0 p r s sound hp differ i.1 j.1 i.2 j.2
 
 -- an image of a point is one of each point of the same place
 pub image_moved : (tin : Triangulation) (frame : Frame) (p q r : Point) → pos 0 <ℤ p.w → Same q p → IsImageFrom tin frame p r → IsImageFrom tin frame q r

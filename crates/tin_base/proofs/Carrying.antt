@@ -2,8 +2,8 @@
 use Rattle.std.proofs.Common.{◌↔◌, inl, inr, ℕ, ◌<◌, pos, ◌<ℤ◌, length}
 use Rattle.plane_base.specs.Plane.{Point, Same, weighed}
 use Rattle.tin_base.specs.declared.frames.Frame.TheVariants.{Source, Target}
-use Rattle.tin_base.specs.declared.relations.Relation.{Relation}
-use Rattle.tin_base.specs.declared.relations.Relation.TheVariants.{Apart, Touching, Crossing, Overlapping}
+use Rattle.tin_base.specs.declared.relations.Rel.{Rel}
+use Rattle.tin_base.specs.declared.relations.Rel.TheVariants.{Apart, Touching, Crossing, Overlapping}
 use Rattle.tin_base.specs.Triangulation.{Triangulation, numbers_of, places, IsInTriangle}
 use Rattle.tin_base.specs.Soundness.{IsSound}
 use Rattle.tin_base.specs.Images.{AreLikeMixes, IsImage}
@@ -100,7 +100,7 @@ only_taken Im p q e f p' q' e' f' r r' t i h only = (
   λ s' k. let b = t.back s' k in let c = b.1 in let o = only.0 in t.agree b.0 r s' r' c.positive o.positive k.positive h.positive b.2 i (only.1 b.0 c),
 )
 
-taken : (Im : Point → Point → Type 0) (p q e f p' q' e' f' : Point) → Takes Im p q e f p' q' e' f' → (relation : Relation) → HaveRelation relation p q e f → HaveRelation relation p' q' e' f'
+taken : (Im : Point → Point → Type 0) (p q e f p' q' e' f' : Point) → Takes Im p q e f p' q' e' f' → (relation : Rel) → HaveRelation relation p q e f → HaveRelation relation p' q' e' f'
 taken Im p q e f p' q' e' f' t Apart none = λ r' h. let b = t.back r' h in none b.0 b.1
 taken Im p q e f p' q' e' f' t Touching h =
     let r = h.0 in
@@ -149,7 +149,7 @@ takes tin p q p' q' e f e' f' sound c d =
       hf' = d.positive_image_end;
     }
 
-pub relation_kept : (tin : Triangulation) (p q p' q' e f e' f' : Point) → IsSound tin → IsCarried tin p q p' q' → IsCarried tin e f e' f' → (relation : Relation) → HaveRelation relation p q e f ↔ HaveRelation relation p' q' e' f'
+pub relation_kept : (tin : Triangulation) (p q p' q' e f e' f' : Point) → IsSound tin → IsCarried tin p q p' q' → IsCarried tin e f e' f' → (relation : Rel) → HaveRelation relation p q e f ↔ HaveRelation relation p' q' e' f'
 relation_kept tin p q p' q' e f e' f' sound c d relation =
     let t = takes tin p q p' q' e f e' f' sound c d in (
       taken (λ r s. IsImage tin r s) p q e f p' q' e' f' t relation,

@@ -6,9 +6,11 @@ use Rattle.tin_base.specs.declared.corners.Corner.{Corner}
 use Rattle.tin_base.specs.declared.frames.Frame.{Frame}
 use Rattle.tin_base.specs.declared.frames.Frame.TheVariants.{Source, Target}
 use Rattle.tin_base.specs.Triangulation.{Triangulation, other, place, no_corner, corner_at, numbers_of, places}
-use Rattle.tin_base.specs.Soundness.{turn_of_three, IsSound, common_of}
+use Rattle.tin_base.specs.Soundness.{turn_of_three, IsSound, DoFit, common_of}
 use Rattle.tin_base.specs.Images.{AreLikeMixes, IsImage}
 use Rattle.tin_base.specs.Turned.{exchanged, turned_of}
+use Rattle.tin_base.specs.Laws.{IsOneToOne}
+use Rattle.tin_base.proofs.Agreement.{each_has_image, all_images_agree, images_differ, each_is_image}
 
 place-exchanged : (frame : Frame) (corner : Corner) → place frame (exchanged corner) ≡ place (other frame) corner
 place-exchanged Source corner = refl
@@ -28,16 +30,22 @@ turned_has P tin frame ns h = subst P (sym (places-turned tin frame ns)) h
 turned_had : (P : List Point → Type 0) (tin : Triangulation) (frame : Frame) (ns : List ℕ) → P (places (turned_of tin) frame ns) → P (places tin (other frame) ns)
 turned_had P tin frame ns h = subst P (places-turned tin frame ns) h
 
+turned_fits : (tin : Triangulation) (frame : Frame) (t u : ℕ) → DoFit tin (other frame) t u → DoFit (turned_of tin) frame t u
+turned_fits tin frame t u fit =
+    record {
+      two_common = fit.two_common;
+      meet = λ p hp in_t in_u.
+          turned_has (λ (ps : List Point). IsMix p ps) tin frame (common_of tin t u)
+          (fit.meet p hp
+          (turned_had (λ (ps : List Point). IsMix p ps) tin frame (numbers_of tin t) in_t)
+          (turned_had (λ (ps : List Point). IsMix p ps) tin frame (numbers_of tin u) in_u));
+    }
+
 pub turned_sound : (tin : Triangulation) → IsSound tin → IsSound (turned_of tin)
 turned_sound tin sound =
     record {
       positive = λ frame t h. turned_has (λ (ps : List Point). pos 0 <ℤ turn_of_three ps) tin frame (numbers_of tin t) (sound.positive (other frame) t h);
-      two_common = sound.two_common;
-      meet = λ frame t u below hu p hp in_t in_u.
-          turned_has (λ (ps : List Point). IsMix p ps) tin frame (common_of tin t u)
-          (sound.meet (other frame) t u below hu p hp
-          (turned_had (λ (ps : List Point). IsMix p ps) tin frame (numbers_of tin t) in_t)
-          (turned_had (λ (ps : List Point). IsMix p ps) tin frame (numbers_of tin u) in_u));
+      fit = λ frame t u differ ht hu. turned_fits tin frame t u (sound.fit (other frame) t u differ ht hu);
     }
 
 -- like mixes of the turned triangulation are those in the other direction
@@ -61,3 +69,14 @@ alike_unturned tin ns p r m = (
 
 pub converse : (tin : Triangulation) (p r : Point) → IsImage (turned_of tin) r p ↔ IsImage tin p r
 converse tin p r = (λ i. (i.0, i.1, alike_unturned tin (numbers_of tin i.0) p r i.2), λ i. (i.0, i.1, alike_turned tin (numbers_of tin i.0) p r i.2))
+
+pub one_to_one : (tin : Triangulation) → IsSound tin → IsOneToOne tin
+one_to_one tin sound =
+    record {
+      has_image = each_has_image tin;
+      one_image = all_images_agree tin sound;
+      differ = images_differ tin sound;
+      onto = each_is_image tin;
+      turned_sound = turned_sound tin sound;
+      converse = converse tin;
+    }

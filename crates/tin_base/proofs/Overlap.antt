@@ -236,30 +236,26 @@ carried_over tin a b ts us (c ∷ d ∷ []) r s x differ hr hs hx before few in_
         let line = along_line a b (place Source (corner_at tin c)) (place Source (corner_at tin d)) r s one one before mr ms in
         in_more tin us (c ∷ d ∷ []) (spot_at a b x) in_u (on_line_of tin ts c d (spot_at a b x) (spot-w a b x hx) t f.1 in_t.0 (in_t.1).0 (line.zero x) m)
 
--- of two triangles, the first before the second
-both_have : (tin : Triangulation) (a b : Pt) (t u : ℕ) (r s x : Spot) → IsSound tin → a ≢ b → t < u → u < length tin.triangles → IsShared tin a b t r → IsShared tin a b t s → IsShared tin a b u r → IsShared tin a b u s → IsBefore r s
-    → (IsShared tin a b t x → IsShared tin a b u x) × (IsShared tin a b u x → IsShared tin a b t x)
-both_have tin a b t u r s x sound differ below hu tr ts ur us before =
-    let ht : t < length tin.triangles = omega arith in
+-- of two different triangles
+other_has : (tin : Triangulation) (a b : Pt) (t u : ℕ) (r s x : Spot) → IsSound tin → a ≢ b → t ≢ u → t < length tin.triangles → u < length tin.triangles → IsShared tin a b t r → IsShared tin a b t s → IsShared tin a b u r → IsShared tin a b u s
+    → IsBefore r s → IsShared tin a b t x → IsShared tin a b u x
+other_has tin a b t u r s x sound differ two ht hu tr ts ur us before h =
+    let fit = sound.fit Source t u two ht hu in
     let cs = common_of tin t u in
-    let mr = sound.meet Source t u below hu (spot_at a b r) (spot-w a b r tr.some) tr.inside ur.inside in
-    let ms = sound.meet Source t u below hu (spot_at a b s) (spot-w a b s ts.some) ts.inside us.inside in
-    let few = sound.two_common t u below hu in
+    let mr = fit.meet (spot_at a b r) (spot-w a b r tr.some) tr.inside ur.inside in
+    let ms = fit.meet (spot_at a b s) (spot-w a b s ts.some) ts.inside us.inside in
     let in_t = common_in_first (numbers_of tin t) (numbers_of tin u) in
-    let in_u = common_in_second (numbers_of tin t) (numbers_of tin u) in (
-      λ h. record { some = h.some; inside = carried_over tin a b (numbers_of tin t) (numbers_of tin u) cs r s x differ tr.some ts.some h.some before few in_t in_u (sound.positive Source t ht) mr ms h.inside },
-      λ h. record { some = h.some; inside = carried_over tin a b (numbers_of tin u) (numbers_of tin t) cs r s x differ tr.some ts.some h.some before few in_u in_t (sound.positive Source u hu) mr ms h.inside },
-    )
+    let in_u = common_in_second (numbers_of tin t) (numbers_of tin u) in
+    record { some = h.some; inside = carried_over tin a b (numbers_of tin t) (numbers_of tin u) cs r s x differ tr.some ts.some h.some before fit.two_common in_t in_u (sound.positive Source t ht) mr ms h.inside }
 
 -- of any two triangles
 pub same_spots : (tin : Triangulation) (a b : Pt) (t u : ℕ) (r s x : Spot) → IsSound tin → a ≢ b → t < length tin.triangles → u < length tin.triangles → IsShared tin a b t r → IsShared tin a b t s → IsShared tin a b u r → IsShared tin a b u s → IsBefore r s
     → IsShared tin a b t x → IsShared tin a b u x
-same_spots tin a b t u r s x sound differ ht hu tr ts ur us before h = go (one_or_other t u)
+same_spots tin a b t u r s x sound differ ht hu tr ts ur us before h = go (one_or_two t u)
   where
-    one_or_other : (t u : ℕ) → (t ≡ u) ⊎ ((t < u) ⊎ (u < t))
-    one_or_other t u = grind arith
+    one_or_two : (t u : ℕ) → (t ≡ u) ⊎ (t ≢ u)
+    one_or_two t u = grind arith
 
-    go : (t ≡ u) ⊎ ((t < u) ⊎ (u < t)) → IsShared tin a b u x
+    go : (t ≡ u) ⊎ (t ≢ u) → IsShared tin a b u x
     go (inl e) = subst (λ (n : ℕ). IsShared tin a b n x) e h
-    go (inr (inl below)) = (both_have tin a b t u r s x sound differ below hu tr ts ur us before).0 h
-    go (inr (inr below)) = (both_have tin a b u t r s x sound differ below ht ur us tr ts before).1 h
+    go (inr two) = other_has tin a b t u r s x sound differ two ht hu tr ts ur us before h

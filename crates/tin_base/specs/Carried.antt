@@ -1,7 +1,7 @@
 -- Segments in one triangle, and their images.
 use Rattle.std.specs.Prelude.{◌↔◌, ◌≢◌, List, ℕ, pos, ◌<ℤ◌, ◌<◌, length}
 use Rattle.plane_base.specs.Plane.{Point}
-use Rattle.tin_base.specs.declared.relations.Relation.{Relation}
+use Rattle.tin_base.specs.declared.relations.Rel.{Rel}
 use Rattle.tin_base.specs.declared.frames.Frame.TheVariants.{Source}
 use Rattle.tin_base.specs.Triangulation.{Triangulation, IsInTriangle}
 use Rattle.tin_base.specs.Soundness.{IsSound}
@@ -39,7 +39,7 @@ SegmentsGoToSegments = (tin : Triangulation) → IsSound tin → (p q p' q' : Po
 abbrev pub RelationsAreKept : Type 0
 RelationsAreKept =
     (tin : Triangulation) → IsSound tin → (p q p' q' e f e' f' : Point) → IsCarried tin p q p' q' → IsCarried tin e f e' f'
-    → (relation : Relation) → HaveRelation relation p q e f ↔ HaveRelation relation p' q' e' f'
+    → (relation : Rel) → HaveRelation relation p q e f ↔ HaveRelation relation p' q' e' f'
 
 -- Of each sound triangulation: the pieces of a segment that is inside follow each other from its one end to the other, and have all its points
 abbrev pub PiecesFollow : Type 0

@@ -1,9 +1,10 @@
 -- What holds of the images of each sound triangulation.
-use Rattle.std.specs.Prelude.{◌≡◌, [], pos, ◌<ℤ◌, ◌↔◌}
+use Rattle.std.specs.Prelude.{◌≡◌, ℕ, ◌<◌, [], pos, ◌<ℤ◌, ◌↔◌, length}
 use Rattle.plane_base.specs.Plane.{Point, Same}
+use Rattle.tin_base.specs.declared.frames.Frame.{Frame}
 use Rattle.tin_base.specs.declared.frames.Frame.TheVariants.{Source, Target}
 use Rattle.tin_base.specs.Triangulation.{Triangulation}
-use Rattle.tin_base.specs.Soundness.{IsSound}
+use Rattle.tin_base.specs.Soundness.{turn_in, DoFit, IsSound}
 use Rattle.tin_base.specs.Images.{IsImage, IsInSome}
 use Rattle.tin_base.specs.Turned.{turned_of}
 
@@ -27,6 +28,15 @@ EachIsImage tin = (r : Point) → pos 0 <ℤ r.w → IsInSome tin Target r → (
 abbrev pub TurnedIsConverse : Triangulation → Type 0
 TurnedIsConverse tin = (p r : Point) → IsImage (turned_of tin) r p ↔ IsImage tin p r
 
+-- from the points of the source triangles to the points of the target triangles, images are a map, one to one and onto, and turned it goes back
+pub record IsOneToOne (tin : Triangulation) : Type 0 where
+  pub has_image : EachHasImage tin
+  pub one_image : ImagesAgree tin
+  pub differ : ImagesDiffer tin
+  pub onto : EachIsImage tin
+  pub turned_sound : IsSound (turned_of tin)
+  pub converse : TurnedIsConverse tin
+
 -- Of each sound triangulation: a point in some source triangle has an image, and any two images of it are the same
 abbrev pub PointsHaveOneImage : Type 0
 PointsHaveOneImage = (tin : Triangulation) → IsSound tin → EachHasImage tin × ImagesAgree tin
@@ -46,3 +56,17 @@ ConverseIsSound = (tin : Triangulation) → IsSound tin → IsSound (turned_of t
 -- a triangulation without triangles is sound
 abbrev pub NoTrianglesAreSound : Type 0
 NoTrianglesAreSound = (tin : Triangulation) → tin.triangles ≡ [] → IsSound tin
+
+-- where the turns are positive it is enough to look at each two triangles in one order
+abbrev pub EachPairOnceIsEnough : Type 0
+EachPairOnceIsEnough =
+    (tin : Triangulation) → ((frame : Frame) (t : ℕ) → t < length tin.triangles → pos 0 <ℤ turn_in tin frame t)
+    → ((frame : Frame) (t u : ℕ) → t < u → u < length tin.triangles → DoFit tin frame t u) → IsSound tin
+
+-- a triangulation of one triangle that is neither flat nor turned over is sound
+abbrev pub OneTriangleIsSound : Type 0
+OneTriangleIsSound = (tin : Triangulation) → length tin.triangles ≡ 1 → pos 0 <ℤ turn_in tin Source 0 → pos 0 <ℤ turn_in tin Target 0 → IsSound tin
+
+-- all of these laws in one, for a call that answers a sound triangulation
+abbrev pub SoundIsOneToOne : Type 0
+SoundIsOneToOne = (tin : Triangulation) → IsSound tin → IsOneToOne tin

@@ -1,8 +1,8 @@
 -- How two segments lie to each other, by their common points. A segment is given by its ends, and its points are their mixes.
 use Rattle.std.specs.Prelude.{◌⊎◌, pos, ◌<ℤ◌, [], ◌∷◌}
 use Rattle.plane_base.specs.Plane.{Point, Same, IsMix}
-use Rattle.tin_base.specs.declared.relations.Relation.{Relation}
-use Rattle.tin_base.specs.declared.relations.Relation.TheVariants.{Apart, Touching, Crossing, Overlapping}
+use Rattle.tin_base.specs.declared.relations.Rel.{Rel}
+use Rattle.tin_base.specs.declared.relations.Rel.TheVariants.{Apart, Touching, Crossing, Overlapping}
 
 abbrev pub IsBetween : Point → Point → Point → Type 0
 IsBetween p q r = IsMix r (p ∷ q ∷ [])
@@ -19,7 +19,7 @@ IsOnlyCommonPoint p q e f r = IsCommonPoint p q e f r × ((s : Point) → IsComm
 abbrev pub IsAnEnd : Point → Point → Point → Point → Point → Type 0
 IsAnEnd p q e f r = Same r p ⊎ (Same r q ⊎ (Same r e ⊎ Same r f))
 
-abbrev pub HaveRelation : Relation → Point → Point → Point → Point → Type 0
+abbrev pub HaveRelation : Rel → Point → Point → Point → Point → Type 0
 HaveRelation Apart p q e f = (r : Point) → IsCommonPoint p q e f r → ⊥
 HaveRelation Touching p q e f = (r : Point) × IsOnlyCommonPoint p q e f r × IsAnEnd p q e f r
 HaveRelation Crossing p q e f = (r : Point) × IsOnlyCommonPoint p q e f r × (IsAnEnd p q e f r → ⊥)

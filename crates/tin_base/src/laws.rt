@@ -1,4 +1,4 @@
-ghost use Rattle.tin_base.specs.Laws.{NoTrianglesAreSound, PointsHaveOneImage, DifferentPointsDiffer, TargetPointsAreImages, ConverseIsSound};
+ghost use Rattle.tin_base.specs.Laws.{EachPairOnceIsEnough, NoTrianglesAreSound, OneTriangleIsSound, PointsHaveOneImage, DifferentPointsDiffer, TargetPointsAreImages, ConverseIsSound, SoundIsOneToOne};
 ghost use Rattle.tin_base.specs.Carried.{SegmentsGoToSegments, RelationsAreKept, PiecesFollow};
 
 /// A law: each point in some source triangle of a sound triangulation has an image, and any two images of it are the same.
@@ -21,6 +21,11 @@ pub fn exchanged_frames_give_the_converse()
     ensures { ConverseIsSound }
 {}
 
+/// A law: the four laws above, in one word for the contracts of calls that answer a sound triangulation.
+pub fn sound_is_one_to_one()
+    ensures { SoundIsOneToOne }
+{}
+
 /// A law: the images of the points of a segment in one triangle of a sound triangulation are exactly the points between the images of its ends.
 pub fn segments_go_to_segments()
     ensures { SegmentsGoToSegments }
@@ -39,4 +44,14 @@ pub fn pieces_follow()
 /// A law: a triangulation without triangles is sound.
 pub fn no_triangles_are_sound()
     ensures { NoTrianglesAreSound }
+{}
+
+/// A law: a triangulation of one triangle whose turn is positive in both frames is sound.
+pub fn one_triangle_is_sound()
+    ensures { OneTriangleIsSound }
+{}
+
+/// A law: a triangulation whose turns are positive is sound where each two triangles fit together in one order, the lower number first.
+pub fn each_pair_once_is_enough()
+    ensures { EachPairOnceIsEnough }
 {}

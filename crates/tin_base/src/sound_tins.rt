@@ -1,7 +1,7 @@
 ghost use Rattle.std.specs.Prelude.{◌≡◌, ◌<◌, pos, ◌<ℤ◌, length};
 ghost use Rattle.plane_base.specs.Plane.{whole, turn_of, corners as corners_of, IsNearAll};
 ghost use Rattle.tin_base.specs.Triangulation.{places, numbers_of};
-ghost use Rattle.tin_base.specs.Soundness.{IsSound};
+ghost use Rattle.tin_base.specs.Soundness.{turn_in, IsSound};
 ghost use Rattle.tin_base.specs.Limits.{IsWithinLimits};
 ghost use Rattle.tin_base.specs.Turned.{turned_of};
 
@@ -66,6 +66,7 @@ impl SoundTin {
         requires { triangle < length self.now.triangles }
         ensures corners { corners_of result ≡ places self.now frame (numbers_of self.now triangle) }
         ensures near { IsNearAll result.a result.b result.c }
+        ensures turn { turn_of (whole result.a) (whole result.b) (whole result.c) ≡ turn_in self.now frame triangle }
         ensures positive { pos 0 <ℤ turn_of (whole result.a) (whole result.b) (whole result.c) }
     {
         self.tin.tri(triangle, frame)

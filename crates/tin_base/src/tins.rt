@@ -1,6 +1,7 @@
 ghost use Rattle.std.specs.Prelude.{◌≡◌, ◌<◌, length, map};
-ghost use Rattle.plane_base.specs.Plane.{whole, corners as corners_of, IsNearAll};
+ghost use Rattle.plane_base.specs.Plane.{whole, turn_of, corners as corners_of, IsNearAll};
 ghost use Rattle.tin_base.specs.Triangulation.{triangulation, place, places, corner_at, numbers_of};
+ghost use Rattle.tin_base.specs.Soundness.{turn_in};
 ghost use Rattle.tin_base.specs.Limits.{IsWithinLimits};
 ghost use Rattle.tin_base.specs.Turned.{exchanged, turned_of};
 
@@ -77,6 +78,7 @@ impl Tin {
         requires { triangle < length self.now.triangles }
         ensures corners { corners_of result ≡ places self.now frame (numbers_of self.now triangle) }
         ensures near { IsNearAll result.a result.b result.c }
+        ensures turn { turn_of (whole result.a) (whole result.b) (whole result.c) ≡ turn_in self.now frame triangle }
     {
         let numbers = &self.triangles[triangle as usize];
         Tri {

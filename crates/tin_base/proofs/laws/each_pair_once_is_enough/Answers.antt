@@ -1,0 +1,5 @@
+use Rattle.tin_base.proofs.InOrder.{sound_of_pairs}
+use Rattle.tin_base.proofs.laws.each_pair_once_is_enough.Goals as goal
+
+pub returns : goal.returns
+returns c = sound_of_pairs

@@ -1,0 +1,5 @@
+use Rattle.tin_base.proofs.Empty.{one_sound}
+use Rattle.tin_base.proofs.laws.one_triangle_is_sound.Goals as goal
+
+pub returns : goal.returns
+returns c = one_sound

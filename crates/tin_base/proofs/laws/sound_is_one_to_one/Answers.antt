@@ -1,0 +1,5 @@
+use Rattle.tin_base.proofs.Converse.{one_to_one}
+use Rattle.tin_base.proofs.laws.sound_is_one_to_one.Goals as goal
+
+pub returns : goal.returns
+returns c = one_to_one

@@ -1,0 +1,36 @@
+-- The slice of a segment by a triangle tells whether they have a common point.
+use Rattle.std.proofs.Common.{◌≡◌, ◌↔◌, ℤ, pos, ◌+ℤ◌, ◌-ℤ◌, ◌*ℤ◌, ◌<ℤ◌, Bool, IsTrue, [], ◌∷◌, Option, Some, None, is_some, refl, sym, subst}
+use Rattle.integer_ring.proofs.Ring.{num, ◌⊕◌, ◌⊖◌, ◌⊗◌}
+use Rattle.integer_ring.proofs.Claims.{◌≺◌, over, ◌because◌, ◌⇒◌, follows}
+use Rattle.plane_base.specs.Plane.{whole, corners, along}
+use Rattle.plane_base.specs.declared.shapes.Pt.{Pt}
+use Rattle.plane_base.specs.declared.shapes.Tri.{Tri}
+use Rattle.plane_base.specs.Slices.{slice_of}
+use Rattle.plane_base.specs.declared.slicing.Stretch.{Stretch}
+use Rattle.tin_check.specs.Meeting.{HaveCommonPoint}
+use Rattle.tin_check.proofs.Places.{same_sym, mix_moved, on_side, side_along, along_side}
+
+along-w : (n d : ℤ) → pos 0 <ℤ d → pos 0 <ℤ ((d -ℤ n) *ℤ pos 1 +ℤ n *ℤ pos 1)
+along-w = follows 2 (λ n d. num (pos 0) ≺ d ⇒ num (pos 0) ≺ (d ⊖ n) ⊗ num (pos 1) ⊕ n ⊗ num (pos 1) because over 0) tt
+
+tells : (a b : Pt) (t : Tri) (r : Option Stretch) → slice_of a b t r → IsTrue (is_some r) ↔ HaveCommonPoint (whole a ∷ whole b ∷ []) (corners t)
+tells a b t None none = (λ h. cc, λ h. absurd (none_met h))
+  where
+    none_met : HaveCommonPoint (whole a ∷ whole b ∷ []) (corners t) → ⊥
+    none_met h =
+        let s = on_side h.0 (whole a) (whole b) h.2 in
+        let at = side_along h.0 (whole a) (whole b) s in
+        let q = along (whole a) (whole b) (pos s.l) (pos s.k +ℤ pos s.l) in
+        none (pos s.l) (pos s.k +ℤ pos s.l) (at.0, mix_moved h.0 q (corners t) h.1 (same_sym h.0 q at.1) h.3)
+tells a b t (Some s) both = (
+  λ h. (
+    along (whole a) (whole b) s.lo.num s.lo.den,
+    along-w s.lo.num s.lo.den both.0.0.0,
+    along_side (whole a) (whole b) s.lo.num s.lo.den both.0.0,
+    both.0.1,
+  ),
+  λ h. refl,
+)
+
+pub slice_tells : (a b : Pt) (t : Tri) (r : Option Stretch) (found : Bool) → slice_of a b t r → found ≡ is_some r → IsTrue found ↔ HaveCommonPoint (whole a ∷ whole b ∷ []) (corners t)
+slice_tells a b t r found h e = subst (λ (x : Bool). IsTrue x ↔ HaveCommonPoint (whole a ∷ whole b ∷ []) (corners t)) (sym e) (tells a b t r h)

@@ -1,0 +1,5 @@
+use Rattle.tin_check.specs.Progress.{ArePositive}
+use Rattle.tin_check.proofs.checking.check_triangles.Given as goal
+
+abbrev pub invariant-loop-triangle : goal.invariant-loop-triangle
+invariant-loop-triangle l = ArePositive l.tin l.triangle

@@ -1,0 +1,5 @@
+use Rattle.tin_check.proofs.FirstFault.{unsound}
+use Rattle.tin_check.proofs.laws.faults_are_unsound.Goals as goal
+
+pub returns : goal.returns
+returns c = unsound

@@ -1,0 +1,5 @@
+use Rattle.tin_check.proofs.FirstFault.{one_first}
+use Rattle.tin_check.proofs.laws.first_fault_is_one.Goals as goal
+
+pub returns : goal.returns
+returns c = one_first

@@ -1,0 +1,11 @@
+ghost use Rattle.tin_check.specs.Faults.{FirstFaultIsOne, FaultsAreUnsound};
+
+/// A law: a triangulation has one first fault at most.
+pub fn first_fault_is_one()
+    ensures { FirstFaultIsOne }
+{}
+
+/// A law: a triangulation that has a fault is not sound.
+pub fn faults_are_unsound()
+    ensures { FaultsAreUnsound }
+{}

@@ -1,0 +1,13 @@
+use Rattle.std.proofs.Common.{ℕ, arith}
+use borrow.Author.Count.{below_more}
+use Rattle.plane_base.specs.Plane.{whole}
+use Rattle.tin_base.specs.declared.frames.Frame.TheVariants.{Source}
+use Rattle.tin_base.specs.Triangulation.{IsInTriangle}
+use Rattle.tin_base.proofs.Telling.{denied}
+use Rattle.tin_index.proofs.indexes.TinIndex.locate.Goals as goal
+
+pub loop-triangle-preserved : goal.loop-triangle-preserved
+loop-triangle-preserved c = below_more (λ (other : ℕ). IsInTriangle c.args.self.now Source other (whole c.args.p) → ⊥) c.loop-triangle.triangle c.loop-triangle.invariant (denied c.if-is_in.ensures)
+
+pub returns-clause-outside : goal.returns-clause-outside
+returns-clause-outside c = λ inside. c.loop-triangle.invariant inside.0 (omega (arith, inside.1)) inside.2

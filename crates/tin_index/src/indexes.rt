@@ -1,0 +1,122 @@
+ghost use Rattle.std.specs.Prelude.{◌≡◌, ◌↔◌, ℕ, ◌<◌, length, IsTrue, IfOk, IfSome, IfNone};
+ghost use Rattle.plane_base.specs.Plane.{whole};
+ghost use Rattle.tin_base.specs.declared.frames.Frame.TheVariants.{Source};
+ghost use Rattle.tin_base.specs.Triangulation.{IsInTriangle};
+ghost use Rattle.tin_base.specs.Images.{IsInSome};
+
+use crate::boxes::has_point;
+use plane_base::Pt;
+use std::alloc::{AllocError, Global};
+use std::marker::Model;
+use tin_base::{Frame, SoundTin};
+
+/// A sound triangulation whose triangles can be found by a point.
+#[derive(Debug, Drop)]
+pub struct TinIndex {
+    tin: SoundTin,
+}
+
+impl Model for TinIndex {
+    ghost use Rattle.tin_base.specs.Triangulation.{Triangulation};
+
+    ghost Value = { Triangulation };
+
+    ghost view = { λ index. index.tin };
+}
+
+impl TinIndex {
+    /// The index of a triangulation.
+    pub fn build(_alloc: Global, tin: SoundTin) -> Result<Self, AllocError>
+        ensures { IfOk result (λ index. index ≡ tin) }
+    {
+        Ok(TinIndex { tin })
+    }
+
+    /// The triangulation that it was built of.
+    pub fn tin(&self) -> &SoundTin
+        ensures { result.now ≡ self.now }
+    {
+        &self.tin
+    }
+
+    /// The number of the least source triangle that has the point, or none where no triangle has it. The point, in millimetres, may be anywhere.
+    pub fn locate(&self, p: Pt) -> Option<u32>
+        ensures found { IfSome result (λ triangle. (triangle < length self.now.triangles) × IsInTriangle self.now Source triangle (whole p)) }
+        ensures least { IfSome result (λ triangle. (other : ℕ) → other < triangle → IsInTriangle self.now Source other (whole p) → ⊥) }
+        ensures outside { IfNone result (IsInSome self.now Source (whole p) → ⊥) }
+    {
+        for triangle in 0..self.triangle_count() {
+            if self.is_in(triangle, p) {
+                return Some(triangle);
+            }
+        }
+        None
+    }
+
+    fn triangle_count(&self) -> u32
+        ensures { result ≡ length self.now.triangles }
+    {
+        self.tin.triangles().len() as u32
+    }
+
+    /// Has the source triangle the point?
+    fn is_in(&self, triangle: u32, p: Pt) -> bool
+        requires { triangle < length self.now.triangles }
+        ensures { IsTrue result ↔ IsInTriangle self.now Source triangle (whole p) }
+    {
+        has_point(&self.tin.tri(triangle, Frame::Source), p)
+    }
+}
+
+#[cfg(test)]
+mod tests {
+    use super::*;
+    use plane_base::turn;
+    use std::test::Fail;
+    use tin_base::{Corner, Tin, are_within_limits, one_triangle_is_sound};
+
+    fn corner(x: i32, y: i32) -> Corner {
+        Corner {
+            sx: i64::from(x),
+            sy: i64::from(y),
+            tx: i64::from(x),
+            ty: i64::from(y),
+        }
+    }
+
+    fn tin_of(corners: Vec<Corner>, triangles: Vec<[u32; 3]>) -> Option<Tin>
+        ensures { IfSome result (λ tin. tin.triangles ≡ triangles.items) }
+    {
+        if are_within_limits(&corners, &triangles) {
+            Some(Tin::of(corners, triangles, 0))
+        } else {
+            None
+        }
+    }
+
+    #[test]
+    fn locates_points(rt: HostRuntime) -> Result<(), Fail> {
+        let alloc = rt.alloc();
+        let corners = vec![in alloc; corner(0, 0), corner(10_000, 0), corner(0, 10_000)]?;
+        let triangles = vec![in alloc; [0, 1, 2]]?;
+        let tin = tin_of(corners, triangles).expect(&rt, "within the limits");
+        let source = tin.tri(0, Frame::Source);
+        assert!(rt; turn(source.a, source.b, source.c) > 0);
+        let target = tin.tri(0, Frame::Target);
+        assert!(rt; turn(target.a, target.b, target.c) > 0);
+        one_triangle_is_sound();
+        let index = TinIndex::build(alloc, SoundTin::of(tin))?;
+        for (x, y, want) in [
+            (2_500, 2_500, Some(0)),
+            (5_000, 5_000, Some(0)),
+            (0, 10_000, Some(0)),
+            (5_000, 5_001, None),
+            (-1, 0, None),
+            (i64::MAX, i64::MIN, None),
+        ] {
+            assert_eq!(rt; index.locate(Pt { x, y }), want, "at {x} {y}");
+        }
+        assert_eq!(rt; index.tin().triangles(), [[0, 1, 2]].as_slice());
+        Ok(())
+    }
+}
