@@ -1,0 +1,72 @@
+-- A run of digits is read as its digits are, one by one.
+use Rattle.std.proofs.Common.{◌≡◌, ℕ, ◌+◌, ◌-◌, ◌*◌, ◌≤◌, List, [], ◌∷◌, ◌++◌, refl, sym, arith, add-zero}
+use Rattle.std.specs.Prelude.{Some}
+use Rattle.mm_decimal.specs.Numerals.{IsDigit}
+use Rattle.mm_decimal.specs.Phases.{phase_after, IsRun}
+use Rattle.mm_decimal.specs.Leading.{IsCut}
+use Rattle.mm_decimal.specs.Scans.{Read, digit_read, run_read, IsView, HasRead}
+use Rattle.mm_decimal.proofs.ByteKinds.{digit_kind}
+use Rattle.mm_decimal.proofs.Passes.{taken}
+use Rattle.mm_decimal.specs.declared.kept.Kept.{Kept}
+use Rattle.mm_decimal.specs.declared.phase.Kind.TheVariants as kinds
+use Rattle.mm_decimal.specs.declared.phase.Phase.{Phase}
+use Rattle.mm_decimal.specs.declared.phase.Phase.TheVariants as phases
+use Rattle.mm_decimal.specs.declared.scan.Scan.{Scan}
+
+stays : (phase : Phase) → IsRun phase → phase_after phase kinds.Digit ≡ Some phase
+stays phases.Whole h = refl
+stays phases.Fraction h = refl
+stays phase h = absurd h
+
+-- the scan with a phase of its own
+abbrev with_phase : Scan → Phase → Scan
+with_phase scan phase = record scan { phase = phase }
+
+run_view : (phase : Phase) → IsRun phase → (scan : Scan) (kept next : Kept) (count digit bytes : ℕ) (read : Read)
+    → ((number : ℕ) → IsCut kept number → IsCut next (10 * number + digit)) → next.dropped ≤ kept.dropped + 1
+    → IsView (run_read (with_phase scan phase) kept count) bytes read
+    → IsView (run_read (with_phase scan phase) next (count + 1)) (bytes + 1) (digit_read phase digit read)
+run_view phases.Whole h scan kept next count digit bytes read cut dropped view = record {
+  phase = refl;
+  negative = view.negative;
+  digits = cut read.digits view.digits;
+  dropped = omega (arith, view.dropped, dropped);
+  places = view.places;
+  few_places = omega (arith, view.few_places);
+  lowered = view.lowered;
+  power = view.power;
+}
+run_view phases.Fraction h scan kept next count digit bytes read cut dropped view = record {
+  phase = refl;
+  negative = view.negative;
+  digits = cut read.digits view.digits;
+  dropped = omega (arith, view.dropped, dropped);
+  places = omega (arith, view.places);
+  few_places = omega (arith, view.few_places);
+  lowered = view.lowered;
+  power = view.power;
+}
+run_view phase h scan kept next count digit bytes read cut dropped view = absurd h
+
+-- no digit more
+nothing_more : (phase : Phase) (front : List ℕ) (scan : Scan) → HasRead front (with_phase scan phase)
+    → HasRead front (run_read (with_phase scan phase) scan.kept 0)
+nothing_more phases.Start front scan h = h
+nothing_more phases.Signed front scan h = h
+nothing_more phases.Whole front scan h = h
+nothing_more phases.Point front scan h = h
+nothing_more phases.Fraction front scan h = rw (add-zero scan.places) h
+nothing_more phases.Mark front scan h = h
+nothing_more phases.PowerSigned front scan h = h
+nothing_more phases.Power front scan h = h
+
+pub run_begins : (front : List ℕ) (scan : Scan) → HasRead front scan → HasRead front (run_read scan scan.kept 0)
+run_begins front scan h = nothing_more scan.phase front scan h
+
+pub run_taken : (front : List ℕ) (byte : ℕ) (scan : Scan) (kept next : Kept) (count : ℕ) → IsRun scan.phase → IsDigit byte
+    → ((number : ℕ) → IsCut kept number → IsCut next (10 * number + (byte - 48))) → next.dropped ≤ kept.dropped + 1
+    → HasRead front (run_read scan kept count) → HasRead (front ++ byte ∷ []) (run_read scan next (count + 1))
+run_taken front byte scan kept next count is_run digit cut dropped h =
+    taken front byte (run_read scan kept count) (run_read scan next (count + 1)) kinds.Digit scan.phase h
+    (sym (digit_kind byte digit)) (stays scan.phase is_run)
+    (λ bytes read view. run_view scan.phase is_run scan kept next count (byte - 48) bytes read cut dropped view)
