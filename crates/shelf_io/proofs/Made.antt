@@ -1,7 +1,9 @@
 -- Bytes at the end of the last file, over several writes.
-use Rattle.std.proofs.Common.{◌≡◌, ◌+◌, ◌-◌, ◌≤◌, ℕ, List, [], ◌∷◌, ◌++◌, take, take-take, drop, Option, Some, None, Result, Ok, Err, OnErr, refl, sym, ◌∙◌, ap, append-nil, append_assoc, arith}
+use Rattle.std.proofs.Common.{suc, zero, map, length, slice_index_or, slice_set, string_bytes, Vec, Global, ◌≡◌, ◌+◌, ◌-◌, ◌≤◌, ℕ, List, [], ◌∷◌, ◌++◌, take, take-take, drop, Option, Some, None, Result, Ok, Err, OnErr, refl, sym, ◌∙◌, ap, append-nil, append_assoc, arith}
 use Rattle.shelf_io.specs.Files.{Files}
 use Rattle.std.proofs.Math.Seq.{take-add}
+use Rattle.shelf_io.specs.MemoryFile.{named_bytes}
+use Rattle.shelf_io.specs.declared.mem_file.File.{File}
 use Rattle.shelf_io.specs.Made.{Adds, Appends, Becomes, IsKept, with_bytes, with_whole}
 
 with_bytes-nil : (files : Files) → with_bytes [] files ≡ files
@@ -48,6 +50,15 @@ printed before None (Some written) (Some now) name bytes adds appends kept = abs
 printed None (Some begun) (Some written) (Some now) name bytes adds appends kept = absurd adds
 printed (Some before) (Some begun) (Some written) (Some now) name bytes adds appends kept =
     kept ∙ (appends ∙ (ap (with_bytes bytes) adds ∙ with_bytes-last bytes name [] before))
+
+-- bytes written into the last file's place
+pub with_bytes-place : (files : List File) (file : File) (now : Vec ℕ Global) (bytes : List ℕ) (n : ℕ) → length files ≡ suc n → now.items ≡ (slice_index_or files n file).bytes.items ++ bytes → map named_bytes (slice_set files n record { name = (slice_index_or files n file).name; bytes = now }) ≡ with_bytes bytes (map named_bytes files)
+with_bytes-place [] file now bytes n long written = absurd (omega (arith, long))
+with_bytes-place (first ∷ []) file now bytes zero long written = ap (λ all. (string_bytes first.name, all) ∷ []) written
+with_bytes-place (first ∷ []) file now bytes (suc n) long written = absurd (omega (arith, long))
+with_bytes-place (first ∷ next ∷ files) file now bytes zero long written = absurd (omega (arith, long))
+with_bytes-place (first ∷ next ∷ files) file now bytes (suc n) long written =
+    ap (λ rest. named_bytes first ∷ rest) (with_bytes-place (next ∷ files) file now bytes n (omega (arith, long)) written)
 
 pub kept-refl : (files : Option Files) → IsKept files files
 kept-refl None = tt

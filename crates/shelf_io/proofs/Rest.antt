@@ -17,7 +17,7 @@ pub Taken-end : (rest before after : Option (List ℕ)) (bytes buf : List ℕ) �
 Taken-end None before after bytes buf so_far front = tt
 Taken-end (Some all) None after bytes buf so_far front = cc
 Taken-end (Some all) (Some left) after bytes buf so_far front =
-    let none : left ≡ [] = front.3 refl in cc (append-nil bytes)
+    let none : left ≡ [] = front.3.0 refl in cc (append-nil bytes)
 
 pub Taken-long : (rest left : Option (List ℕ)) (bytes : List ℕ) (limit : ℕ) → Taken rest left bytes → limit < length bytes → IfSome rest (λ all. limit < length all)
 Taken-long None left bytes limit so_far long = tt

@@ -1,6 +1,6 @@
 -- A shelf in memory, as contracts see it.
-use Rattle.std.specs.Prelude.{◌≡◌, ℕ, List, [], drop, Option, None, slice_get, option_map, option_and_then, Result, is_err, if◌then◌else◌}
-use Rattle.shelf_io.specs.Files.{Files}
+use Rattle.std.specs.Prelude.{◌+◌, ℕ, List, [], drop, Option, None, slice_get, option_map, option_and_then}
+use Rattle.shelf_io.specs.Files.{Files, number_of}
 use Rattle.shelf_io.specs.Count.{counted}
 
 pub record MemoryShelf : Type 0 where
@@ -29,9 +29,14 @@ rest_from files at_hand place =
 abbrev pub rest_at_hand : MemoryShelf → Option (List ℕ)
 rest_at_hand s = rest_from s.files s.at_hand s.place
 
--- one more call, one more fault where it failed, and what was set up stays
-pub record CountsCall {T E : Type 0} (old new : MemoryShelf) (result : Result T E) : Type 0 where
-  pub most : new.most ≡ old.most
-  pub fail : new.fail ≡ old.fail
-  pub calls : new.calls ≡ counted old.calls 1
-  pub faults : new.faults ≡ (if is_err result then counted old.faults 1 else old.faults)
+-- after a call that failed: one more call and one more fault, and no file at hand
+abbrev pub after_fault : MemoryShelf → MemoryShelf
+after_fault s = record s { at_hand = None; place = 0; calls = counted s.calls 1; faults = counted s.faults 1 }
+
+-- after a file was looked up: it is at hand from its front, where there is one of this name
+abbrev pub after_begin : MemoryShelf → List ℕ → MemoryShelf
+after_begin s name = record s { at_hand = number_of s.files name; place = 0; calls = counted s.calls 1 }
+
+-- after so many bytes were taken
+abbrev pub after_read : MemoryShelf → ℕ → MemoryShelf
+after_read s count = record s { place = s.place + count; calls = counted s.calls 1; given = counted s.given count }

@@ -1,5 +1,5 @@
 -- What the calls of a shelf say of its files.
-use Rattle.std.specs.Prelude.{◌≡◌, ℕ, Bool, true, false, List, [], ◌++◌, take, Option, Some, None, Result, Ok, Err}
+use Rattle.std.specs.Prelude.{◌≡◌, ◌↔◌, ℕ, Bool, true, false, List, [], ◌++◌, take, Option, Some, None, Result, Ok, Err}
 use Rattle.shelf_io.specs.Files.{Files, bytes_of}
 use Rattle.shelf_io.specs.declared.shelf.Failed.{Failed}
 
@@ -11,8 +11,8 @@ Begins None name left (Ok true) = Unit {0}
 Begins None name left (Ok false) = ⊥
 Begins files name left (Err e) = Unit {0}
 
--- The front of the buffer is the next `count` bytes of what was left, where that is told; 0 only at the end.
+-- The front of the buffer is the next `count` bytes of what was left, where that is told; 0 exactly at the end.
 abbrev pub TakesFront : Option (List ℕ) → Option (List ℕ) → ℕ → List ℕ → Type 0
 TakesFront None after count buf = Unit {0}
 TakesFront (Some rest) after count buf =
-    (now : List ℕ) × (after ≡ Some now) × (take count buf ++ now ≡ rest) × (count ≡ 0 → rest ≡ [])
+    (now : List ℕ) × (after ≡ Some now) × (take count buf ++ now ≡ rest) × ((count ≡ 0) ↔ (rest ≡ []))

@@ -10,10 +10,13 @@ use thiserror::Error;
 /// Why a file was not loaded.
 #[derive(Clone, Copy, Debug, PartialEq, Eq, Error)]
 pub enum LoadFault {
+    /// The shelf tells its files, and none has this name.
     #[error("there is no such file")]
     Missing,
+    /// A call of the shelf failed.
     #[error("the file could not be read")]
     Failed,
+    /// The file has more bytes than the limit.
     #[error("the file has more bytes than were asked for")]
     Long,
     #[error("out of memory")]
@@ -49,6 +52,7 @@ pub fn load<S: Shelf>(
     ensures long { IsErrOf result LoadFault.Long → IfSome (S.files shelf.old) (IsLonger name.now limit) }
     ensures long_given { IsErrOf result LoadFault.Long → counted (S.given shelf.old) (limit + 1) ≤ S.given shelf.new }
     ensures given { IfOk result (λ bytes. counted (S.given shelf.old) (vec_len bytes) ≤ S.given shelf.new) }
+    ensures given_later { S.given shelf.old ≤ S.given shelf.new }
 
     ensures failed { IsErrOf result LoadFault.Failed → Rose (S.faults shelf.old) (S.faults shelf.new) }
     ensures later { S.faults shelf.old ≤ S.faults shelf.new }
@@ -70,6 +74,7 @@ fn read_rest<S: Shelf>(alloc: Global, shelf: &mut S, limit: u64) -> Result<Vec<u
     ensures ok { IfOk result (λ bytes. IfSome (S.left shelf.old) (λ rest. bytes.items ≡ rest)) }
     ensures within { IfOk result (λ bytes. vec_len bytes ≤ limit) }
     ensures given { IfOk result (λ bytes. counted (S.given shelf.old) (vec_len bytes) ≤ S.given shelf.new) }
+    ensures given_later { S.given shelf.old ≤ S.given shelf.new }
     ensures missing { ¬ IsErrOf result LoadFault.Missing }
     ensures long { IsErrOf result LoadFault.Long → IfSome (S.left shelf.old) (λ rest. limit < length rest) }
     ensures long_given { IsErrOf result LoadFault.Long → counted (S.given shelf.old) (limit + 1) ≤ S.given shelf.new }

@@ -7,9 +7,9 @@ ghost use Rattle.shelf_io.specs.Shelf.{Begins, TakesFront};
 #[derive(Clone, Copy, Debug, PartialEq, Eq)]
 pub struct Failed;
 
-/// Files by name, read one at a time.
+/// Files by name, read one at a time. After each `Failed` no file is at hand.
 pub trait Shelf {
-    /// The files, each a name and its bytes, where the shelf tells them.
+    /// The files, each a name and its bytes, where the shelf tells them. No call changes them.
     ghost files: { Self → Option Files };
 
     /// Whether a file is at hand.
@@ -18,13 +18,14 @@ pub trait Shelf {
     /// The rest of the file at hand, where the shelf tells it.
     ghost left: { Self → Option (List ℕ) };
 
-    /// How many bytes were handed out.
+    /// How many bytes were handed out, up to the last u64. It never falls, and `begin` keeps it.
     ghost given: { Self → ℕ };
 
-    /// How often a call has failed.
+    /// How often a call has failed, up to the last u64. It never falls.
     ghost faults: { Self → ℕ };
 
-    /// Puts the named file at hand. `Ok(false)`: there is no such file.
+    /// Puts the named file at hand. `Ok(false)`: there is no such file, and none is at hand. Only a
+    /// shelf that tells its files says so.
     fn begin(&mut self, name: &str) -> Result<bool, Failed>
         ensures files { files self.new ≡ files self.old }
         ensures begins { Begins (files self.old) name.now (left self.new) result }
@@ -33,7 +34,7 @@ pub trait Shelf {
         ensures given { given self.new ≡ given self.old }
         ensures cause { HasCause (faults self.old) (faults self.new) result };
 
-    /// Takes some next bytes of the file at hand into the front of `buf`.
+    /// Takes some next bytes of the file at hand into the front of `buf`. `Ok(0)`: it has no more.
     fn read(&mut self, buf: &mut [u8]) -> Result<usize, Failed>
         requires room { 0 < length buf.old }
         requires at_hand { IsTrue (at_hand self.old) }
@@ -41,6 +42,7 @@ pub trait Shelf {
         ensures within { IfOk result (λ count. count ≤ length buf.new) }
         ensures bytes { IfOk result (λ count. TakesFront (left self.old) (left self.new) count buf.new) }
         ensures given { IfOk result (λ count. given self.new ≡ counted (given self.old) count) }
+        ensures given_later { given self.old ≤ given self.new }
         ensures given_err { OnErr result (given self.new ≡ given self.old) }
         ensures ok { OnOk result (at_hand self.new ≡ true) }
         ensures err { OnErr result (at_hand self.new ≡ false) }

@@ -8,5 +8,6 @@ loop-buf-init g c = record {
   at_hand = c.requires.at_hand;
   files = refl;
   given = omega arith;
+  given_later = omega arith;
   faults = refl;
 }

@@ -11,6 +11,7 @@ invariant-loop-buf g l =
       at_hand : IsTrue (shelf.at_hand l.shelf);
       files : shelf.files l.shelf ≡ shelf.files l.initial.shelf;
       given : counted (shelf.given l.initial.shelf) (vec_len l.bytes) ≤ shelf.given l.shelf;
+      given_later : shelf.given l.initial.shelf ≤ shelf.given l.shelf;
       faults : shelf.faults l.shelf ≡ shelf.faults l.initial.shelf;
     }
 

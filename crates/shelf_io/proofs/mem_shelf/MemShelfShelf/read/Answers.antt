@@ -1,11 +1,11 @@
-use Rattle.std.proofs.Common.{◌≡◌, ◌+◌, ◌++◌, length, take, drop, map, Option, Some, ℕ, [], arith, refl, sym, ◌∙◌, subst, slice_get}
+use Rattle.std.proofs.Common.{◌≡◌, ◌↔◌, ◌+◌, ◌++◌, length, take, drop, map, Option, Some, ℕ, [], arith, refl, sym, ◌∙◌, subst, slice_get}
 use Rattle.std.proofs.lemmas.Option.{slice_get_read}
 use Rattle.std.proofs.lemmas.List.{length-take-le}
-use Rattle.shelf_io.specs.Memory.{named_bytes}
+use Rattle.shelf_io.specs.MemoryFile.{named_bytes}
 use Rattle.shelf_io.specs.MemoryShelf.{MemoryShelf, rest_at_hand, rest_from}
 use Rattle.shelf_io.specs.Shelf.{TakesFront}
 use Rattle.shelf_io.proofs.Named.{takes_there, take-rest, none_at_end}
-use Rattle.shelf_io.proofs.memory.MemShelfShelf.read.Goals as goal
+use Rattle.shelf_io.proofs.mem_shelf.MemShelfShelf.read.Goals as goal
 
 pub returns-clause-bytes : goal.returns-clause-bytes
 returns-clause-bytes c =
@@ -22,7 +22,7 @@ returns-clause-bytes c =
     let same : copied ≡ take count (drop place bytes) = rw (c.deref-2.ensures.value, take-rest bytes place) at c.copy_from_slice.ensures.after in
     let size : length copied ≡ count = c.copy_from_slice.ensures.len ∙ length-take-le count c.args.buf.now (omega arith) in
     let smallest = rw (c.min.ensures, c.deref-2.ensures.value, take-rest bytes place) at c.min-count.ensures in
-    let given : count ≡ 0 → drop place bytes ≡ [] = none_at_end bytes c.args.buf.now place c.self.inside.most count c.requires.room c.self.invariant.most smallest in
+    let given : (count ≡ 0) ↔ (drop place bytes ≡ []) = none_at_end bytes c.args.buf.now place c.self.inside.most count c.requires.room c.self.invariant.most smallest in
     let taken = takes_there files number place count file copied after there same size given in
     let at_hand = subst (λ (n : Option ℕ). TakesFront (rest_from (map named_bytes files) n place) (rest_from (map named_bytes files) n (place + count)) count (copied ++ after)) (sym c.in-Some.is) taken in
     subst (λ (s : MemoryShelf). TakesFront (rest_at_hand s) (rest_from (map named_bytes files) c.self.inside.at_hand (place + count)) count (copied ++ after)) c.self.view_is at_hand

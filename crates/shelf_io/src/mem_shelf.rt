@@ -1,23 +1,16 @@
-ghost use Rattle.std.specs.Prelude.{◌≡◌, ◌↔◌, ◌<◌, [], ◌∷◌, ◌++◌, if◌then◌else◌, map, Contains, IsTrue, IsErr, IfOk, IfNone, IfSome, OnOk, OnErr, slice_get, is_some, Some, false};
+ghost use Rattle.std.specs.Prelude.{◌≡◌, ◌↔◌, ◌<◌, ◌≤◌, [], ◌∷◌, ◌++◌, length, Contains, IsTrue, IsErr, IfOk, OnOk, OnErr, is_some, Some, None, true, false};
 ghost use Rattle.shelf_io.specs.Count.{HasCause, counted};
-ghost use Rattle.shelf_io.specs.Files.{bytes_of};
-ghost use Rattle.shelf_io.specs.Memory.{named_bytes};
-ghost use Rattle.shelf_io.specs.MemoryShelf.{CountsCall, rest_at_hand};
-ghost use Rattle.shelf_io.specs.Shelf.{Begins};
-ghost use Rattle.shelf_io.specs.declared.memory.File.{File};
+ghost use Rattle.shelf_io.specs.Files.{bytes_of, AreDistinct};
+ghost use Rattle.shelf_io.specs.MemoryShelf.{after_begin, after_fault, after_read, rest_at_hand};
+ghost use Rattle.shelf_io.specs.Shelf.{Begins, TakesFront};
 
+use crate::mem_file::{File, fails, position_of};
 use crate::{Failed, Shelf};
 use std::alloc::{AllocError, Global};
 use std::marker::Model;
 
-/// A file in memory.
-#[derive(Drop)]
-struct File {
-    name: String,
-    bytes: Vec<u8>,
-}
-
-/// A shelf in memory, whose calls can be made to fail by their numbers, counted from 0.
+/// A shelf in memory, whose calls can be made to fail by their numbers, counted from 0 over its
+/// two functions. No two of its files have the same name.
 #[derive(Drop)]
 pub struct MemShelf {
     alloc: Global,
@@ -32,12 +25,11 @@ pub struct MemShelf {
 }
 
 impl Model for MemShelf {
-    ghost use Rattle.std.specs.Prelude.{◌≤◌, ◌<◌};
     ghost use Rattle.shelf_io.specs.MemoryShelf.{MemoryShelf};
 
     ghost Value = { MemoryShelf };
 
-    ghost use Rattle.shelf_io.specs.Memory.{shelf_of, IsSound};
+    ghost use Rattle.shelf_io.specs.MemoryShelfFields.{shelf_of, IsSound};
 
     ghost view = { shelf_of };
 
@@ -65,7 +57,7 @@ impl MemShelf {
         }
     }
 
-    /// Adds a file whose name the shelf lacks.
+    /// Adds a file whose name the shelf lacks, as the last one.
     pub fn add(&mut self, name: &str, bytes: &[u8]) -> Result<(), AllocError>
         requires { bytes_of self.old.files name.now ≡ None }
         ensures ok { OnOk result (self.new ≡ record self.old { files = self.old.files ++ (name.now, bytes.now) ∷ [] }) }
@@ -96,19 +88,6 @@ impl MemShelf {
     }
 }
 
-/// The number of the first file with this name.
-fn position_of(files: &[File], name: &str) -> Option<usize>
-    ensures missing { IfNone result (bytes_of (map named_bytes files.now) name.now ≡ None) }
-    ensures found { IfSome result (λ number. (file : File) × (slice_get files.now number ≡ Some file) × (bytes_of (map named_bytes files.now) name.now ≡ Some file.bytes.items)) }
-{
-    for (number, file) in files.iter().enumerate() {
-        if file.name.as_str() == name {
-            return Some(number);
-        }
-    }
-    None
-}
-
 impl Shelf for MemShelf {
     ghost files = { λ m. Some m.files };
 
@@ -121,7 +100,7 @@ impl Shelf for MemShelf {
     ghost faults = { λ m. m.faults };
 
     fn begin(&mut self, name: &str) -> Result<bool, Failed>
-        ensures files { self.new.files ≡ self.old.files }
+        ensures files { Some self.new.files ≡ Some self.old.files }
         ensures begins { Begins (Some self.old.files) name.now (rest_at_hand self.new) result }
         ensures at_hand { IfOk result (λ found. is_some self.new.at_hand ≡ found) }
         ensures err { OnErr result (is_some self.new.at_hand ≡ false) }
@@ -130,7 +109,9 @@ impl Shelf for MemShelf {
 
         // Exactly the calls whose numbers are listed fail.
         ensures listed { IsErr result ↔ Contains self.old.fail self.old.calls }
-        ensures counts { CountsCall self.old self.new result }
+        ensures begun { OnOk result (self.new ≡ after_begin self.old name.now) }
+        ensures failed { OnErr result (self.new ≡ after_fault self.old) }
+        ensures distinct { AreDistinct self.new.files }
     {
         self.at_hand = None;
         self.place = 0;
@@ -141,9 +122,27 @@ impl Shelf for MemShelf {
         Ok(self.at_hand.is_some())
     }
 
-    fn read(&mut self, buf: &mut [u8]) -> Result<usize, Failed> {
+    fn read(&mut self, buf: &mut [u8]) -> Result<usize, Failed>
+        requires room { 0 < length buf.old }
+        requires at_hand { IsTrue (is_some self.old.at_hand) }
+        ensures files { Some self.new.files ≡ Some self.old.files }
+        ensures within { IfOk result (λ count. count ≤ length buf.new) }
+        ensures bytes { IfOk result (λ count. TakesFront (rest_at_hand self.old) (rest_at_hand self.new) count buf.new) }
+        ensures given { IfOk result (λ count. self.new.given ≡ counted self.old.given count) }
+        ensures given_later { self.old.given ≤ self.new.given }
+        ensures given_err { OnErr result (self.new.given ≡ self.old.given) }
+        ensures ok { OnOk result (is_some self.new.at_hand ≡ true) }
+        ensures err { OnErr result (is_some self.new.at_hand ≡ false) }
+        ensures cause { HasCause self.old.faults self.new.faults result }
+
+        ensures listed { IsErr result ↔ Contains self.old.fail self.old.calls }
+        ensures most { IfOk result (λ count. count ≤ self.old.most) }
+        ensures taken { IfOk result (λ count. self.new ≡ after_read self.old count) }
+        ensures failed { OnErr result (self.new ≡ after_fault self.old) }
+    {
         if fails(&self.fail, &mut self.calls, &mut self.faults) {
             self.at_hand = None;
+            self.place = 0;
             return Err(Failed);
         }
         let Some(number) = self.at_hand else {
@@ -156,18 +155,4 @@ impl Shelf for MemShelf {
         self.given = self.given.saturating_add(count as u64);
         Ok(count)
     }
-}
-
-/// Counts a call, and a fault where the call's number is listed: then the call is to fail.
-fn fails(listed: &[u64], calls: &mut u64, faults: &mut u64) -> bool
-    ensures listed { IsTrue result ↔ Contains listed.now calls.old }
-    ensures calls { calls.new ≡ counted calls.old 1 }
-    ensures faults { faults.new ≡ (if result then counted faults.old 1 else faults.old) }
-{
-    let fails = listed.contains(calls);
-    *calls = calls.saturating_add(1);
-    if fails {
-        *faults = faults.saturating_add(1);
-    }
-    fails
 }
