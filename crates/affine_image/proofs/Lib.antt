@@ -1,0 +1,5 @@
+pub mod HalfUp
+pub mod Sizes
+pub mod Near
+pub mod Imaging
+pub mod Rounding

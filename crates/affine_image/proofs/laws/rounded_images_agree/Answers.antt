@@ -1,0 +1,5 @@
+use Rattle.affine_image.proofs.Rounding.{rounded_images_agree}
+use Rattle.affine_image.proofs.laws.rounded_images_agree.Goals as goal
+
+pub returns : goal.returns
+returns c = rounded_images_agree
