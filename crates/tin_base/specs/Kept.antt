@@ -3,8 +3,10 @@ use Rattle.tin_base.specs.declared.tins.Tin.TheInside.{Inside}
 use Rattle.tin_base.specs.Triangulation.{Triangulation, triangulation}
 use Rattle.tin_base.specs.Limits.{IsWithinLimits}
 
+-- the lists that the type holds
 abbrev pub seen : Inside → Triangulation
 seen tin = triangulation tin.corners.items tin.triangles.items tin.inexact
 
+-- what is true of each value of the type
 abbrev pub IsKept : Inside → Type 0
 IsKept tin = IsWithinLimits (seen tin)

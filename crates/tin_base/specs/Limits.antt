@@ -10,6 +10,7 @@ use Rattle.tin_base.specs.Triangulation.{Triangulation, x_in, y_in, no_corner, c
 abbrev pub IsInReach : ℤ → Type 0
 IsInReach z = (neg_ℤ REACH ≤ℤ z) × (z ≤ℤ REACH)
 
+-- both numbers of a corner in a frame are in reach
 abbrev pub IsCornerInReach : Frame → Corner → Type 0
 IsCornerInReach frame corner = IsInReach (x_in frame corner) × IsInReach (y_in frame corner)
 
@@ -33,6 +34,7 @@ AreFirstFine corners k = (n : ℕ) → n < k → ((frame : Frame) → IsCornerIn
 abbrev pub AreRowsBelow : List (List ℕ) → ℕ → ℕ → Type 0
 AreRowsBelow rows count k = (t : ℕ) → t < k → All (λ n. n < count) (slice_index_or rows t [])
 
+-- what each triangulation keeps
 pub record IsWithinLimits (tin : Triangulation) : Type 0 where
   pub three : (t : ℕ) → t < length tin.triangles → length (numbers_of tin t) ≡ 3
   pub in_range : (t : ℕ) → t < length tin.triangles → All (λ n. n < length tin.corners) (numbers_of tin t)

@@ -15,12 +15,15 @@ pub record Spot : Type 0 where
   pub of_a : ℕ
   pub of_b : ℕ
 
+-- the point of a spot
 abbrev pub spot_at : Pt → Pt → Spot → Point
 spot_at a b s = weighed (s.of_a ∷ s.of_b ∷ []) (whole a ∷ whole b ∷ [])
 
+-- the first end
 abbrev pub at_a : Spot
 at_a = record { of_a = 1; of_b = 0 }
 
+-- the last end
 abbrev pub at_b : Spot
 at_b = record { of_a = 0; of_b = 1 }
 
@@ -28,9 +31,11 @@ at_b = record { of_a = 0; of_b = 1 }
 abbrev pub IsBefore : Spot → Spot → Type 0
 IsBefore s t = s.of_b * t.of_a < t.of_b * s.of_a
 
+-- the first spot is before the second, or they are at one place
 abbrev pub IsNotAfter : Spot → Spot → Type 0
 IsNotAfter s t = s.of_b * t.of_a ≤ t.of_b * s.of_a
 
+-- the spots are at one place
 abbrev pub IsSameSpot : Spot → Spot → Type 0
 IsSameSpot s t = s.of_b * t.of_a ≡ t.of_b * s.of_a
 
@@ -48,14 +53,17 @@ pub record IsPart (tin : Triangulation) (a b : Pt) (t : ℕ) (first last : Spot)
   pub none_before : (s : Spot) → IsShared tin a b t s → IsNotAfter first s
   pub none_after : (s : Spot) → IsShared tin a b t s → IsNotAfter s last
 
+-- a triangle with its first and its last spot
 pub record Part : Type 0 where
   pub triangle : ℕ
   pub first : Spot
   pub last : Spot
 
+-- what a number stands for that is no part's
 abbrev pub no_part : Part
 no_part = record { triangle = 0; first = at_a; last = at_a }
 
+-- the i-th part
 abbrev pub part_at : List Part → ℕ → Part
 part_at parts i = slice_index_or parts i no_part
 

@@ -5,23 +5,28 @@ use Rattle.tin_base.specs.declared.corners.Corner.{Corner}
 use Rattle.tin_base.specs.declared.frames.Frame.{Frame}
 use Rattle.tin_base.specs.declared.frames.Frame.TheVariants.{Source, Target}
 
+-- corners, and of each triangle the numbers of its three corners
 pub record Triangulation : Type 0 where
   pub corners : List Corner
   pub triangles : List (List ℕ)
   -- how many of the numbers that it was read from lost digits
   pub inexact : ℕ
 
+-- the triangulation of these lists
 abbrev pub triangulation : List Corner → List (List ℕ) → ℕ → Triangulation
 triangulation corners triangles inexact = record { corners = corners; triangles = triangles; inexact = inexact }
 
+-- the frame that is not this one
 abbrev pub other : Frame → Frame
 other Source = Target
 other Target = Source
 
+-- a corner's first number in a frame
 abbrev pub x_in : Frame → Corner → ℤ
 x_in Source corner = corner.sx
 x_in Target corner = corner.tx
 
+-- a corner's second number in a frame
 abbrev pub y_in : Frame → Corner → ℤ
 y_in Source corner = corner.sy
 y_in Target corner = corner.ty

@@ -14,6 +14,7 @@ IsFault tin (TurnsOver triangle) = (triangle < length tin.triangles) × ((turn_i
 IsFault tin (Meets first second frame) = (first < second) × (second < length tin.triangles) × (DoFit tin frame first second → ⊥)
 IsFault tin NoMemory = ⊥
 
+-- the source before the target
 abbrev pub frame_rank : Frame → ℕ
 frame_rank Source = 0
 frame_rank Target = 1

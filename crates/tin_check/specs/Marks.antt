@@ -6,6 +6,7 @@ use Rattle.plane_base.specs.declared.shapes.Tri.{Tri}
 use Rattle.tin_check.specs.declared.marked_corners.Marked.{Marked}
 use Rattle.tin_check.specs.declared.marked_corners.Marked.TheVariants.{Nothing, Corner, Side, All}
 
+-- the three corners
 abbrev pub points_of : Tri → List Pt
 points_of t = t.a ∷ t.b ∷ t.c ∷ []
 
