@@ -1,6 +1,7 @@
 -- In a sound triangulation any two images of a point are the same, and points with the same image are the same.
 use Rattle.std.proofs.Common.{◌≡◌, ◌≢◌, ◌⊎◌, inl, inr, ℕ, ◌<◌, pos, ◌<ℤ◌, List, length, subst, arith}
 use Rattle.plane_base.specs.Plane.{Point, Same}
+use Rattle.plane_base.proofs.Mixes.{same_trans}
 use Rattle.tin_base.specs.declared.frames.Frame.{Frame}
 use Rattle.tin_base.specs.declared.frames.Frame.TheVariants.{Source, Target}
 use Rattle.tin_base.specs.Triangulation.{Triangulation, numbers_of}
@@ -8,7 +9,7 @@ use Rattle.tin_base.specs.Soundness.{IsSound, common_of}
 use Rattle.tin_base.specs.Images.{AreLikeMixes, IsImageFrom}
 use Rattle.tin_base.specs.Laws.{EachHasImage, ImagesAgree, ImagesDiffer, EachIsImage}
 use Rattle.tin_base.proofs.Weights.{common_in_first, common_in_second}
-use Rattle.tin_base.proofs.Alike.{same_trans, alike_more, alike_in, alike_of, alike_once}
+use Rattle.tin_base.proofs.Alike.{alike_more, alike_in, alike_of, alike_once}
 
 -- images by two different triangles
 by_two : (tin : Triangulation) (frame : Frame) (t u : ℕ) (p r s : Point) → IsSound tin → pos 0 <ℤ p.w → t ≢ u → t < length tin.triangles → u < length tin.triangles

@@ -1,34 +1,15 @@
 -- Points of one place, and two points that are the same mix of some corners in the two frames.
-use Rattle.std.proofs.Common.{◌≡◌, ℕ, ◌<◌, ℤ, pos, ◌*ℤ◌, ◌<ℤ◌, List, [], ◌∷◌, length, map, sum, sym, ◌∙◌, subst, refl, arith}
+use Rattle.std.proofs.Common.{◌≡◌, ℕ, ◌<◌, ℤ, pos, ◌<ℤ◌, List, [], ◌∷◌, length, map, sum, sym, ◌∙◌, subst, refl, arith}
 use Rattle.std.proofs.Math.ListN.{length-map}
 use Rattle.std.proofs.lemmas.Int.{ints}
-use Rattle.integer_ring.proofs.Ring.{num, neg, ◌⊗◌}
-use Rattle.integer_ring.proofs.Signs.{frac-≡_trans}
-use Rattle.integer_ring.proofs.Claims.{◌≐◌, eqn, ◌⊞◌, ◌because◌, ◌⇒◌, follows}
 use Rattle.plane_base.specs.Plane.{Point, Same, weighed, IsMix}
 use Rattle.plane_base.proofs.Image.{image_unique}
+use Rattle.plane_base.proofs.Mixes.{same_refl, same_sym, same_trans, same_moved}
 use Rattle.tin_base.specs.declared.frames.Frame.{Frame}
 use Rattle.tin_base.specs.Triangulation.{Triangulation, other, place, corner_at, places}
 use Rattle.tin_base.specs.Soundness.{turn_of_three}
 use Rattle.tin_base.specs.Images.{AreLikeMixes}
 use Rattle.tin_base.proofs.Weights.{weighed-x, weighed-y, weighed-w, total-ones, HasAll, Spread, spread}
-
--- ---- one place
-pub same_sym : (p q : Point) → Same p q → Same q p
-same_sym p q s = (sym s.0, sym s.1)
-
-pub same_trans : (p q r : Point) → pos 0 <ℤ q.w → Same p q → Same q r → Same p r
-same_trans p q r h s t = (frac-≡_trans p.x p.w q.x q.w r.x r.w h s.0 t.0, frac-≡_trans p.y p.w q.y q.w r.y r.w h s.1 t.1)
-
-pub same_refl : (p : Point) → Same p p
-same_refl p = (refl, refl)
-
-moved : (x w a b c d : ℤ) → a ≡ c → b ≡ d → x *ℤ b ≡ a *ℤ w → x *ℤ d ≡ c *ℤ w
-moved = follows 6 (λ x w a b c d. a ≐ c ⇒ b ≐ d ⇒ x ⊗ b ≐ a ⊗ w ⇒ x ⊗ d ≐ c ⊗ w because eqn 2 (num (pos 1)) ⊞ eqn 0 w ⊞ eqn 1 (neg x)) tt
-
--- a point may stand for another of the same numbers
-pub same_moved : (p q r : Point) → q.x ≡ r.x → q.y ≡ r.y → q.w ≡ r.w → Same p q → Same p r
-same_moved p q r ex ey ew s = (moved p.x p.w q.x q.w r.x r.w ex ew s.0, moved p.y p.w q.y q.w r.y r.w ey ew s.1)
 
 -- ---- mixes of corners
 pub spread_same : (at : ℕ → Point) (ns ks ws : List ℕ) (p : Point) (s : Spread ns ks ws) → Same p (weighed ws (map at ks)) → Same p (weighed s.weights (map at ns))

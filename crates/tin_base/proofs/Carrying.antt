@@ -1,6 +1,7 @@
 -- Segments go to segments, and two segments keep their relation.
 use Rattle.std.proofs.Common.{◌↔◌, inl, inr, ℕ, ◌<◌, pos, ◌<ℤ◌, length}
 use Rattle.plane_base.specs.Plane.{Point, Same, weighed}
+use Rattle.plane_base.proofs.Mixes.{same_refl, same_trans}
 use Rattle.tin_base.specs.declared.frames.Frame.TheVariants.{Source, Target}
 use Rattle.tin_base.specs.declared.relations.Rel.{Rel}
 use Rattle.tin_base.specs.declared.relations.Rel.TheVariants.{Apart, Touching, Crossing, Overlapping}
@@ -9,7 +10,7 @@ use Rattle.tin_base.specs.Soundness.{IsSound}
 use Rattle.tin_base.specs.Images.{AreLikeMixes, IsImage}
 use Rattle.tin_base.specs.Relations.{IsBetween, IsCommonPoint, IsOnlyCommonPoint, IsAnEnd, HaveRelation}
 use Rattle.tin_base.specs.Carried.{IsCarried, ImagesAreBetween, EachBetweenIsImage}
-use Rattle.tin_base.proofs.Alike.{same_refl, same_trans, alike_of}
+use Rattle.tin_base.proofs.Alike.{alike_of}
 use Rattle.tin_base.proofs.Agreement.{images_agree, image_moved, images_differ, alike_back, alike_forth}
 use Rattle.tin_base.proofs.Mixing.{between_images}
 

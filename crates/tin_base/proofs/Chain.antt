@@ -5,13 +5,12 @@ use Rattle.integer_ring.proofs.Claims.{◌≐◌, solve}
 use lib.Signed.{lt_z_yes}
 use Rattle.plane_base.specs.Plane.{Point, Same, IsMix, whole}
 use Rattle.plane_base.specs.declared.shapes.Pt.{Pt}
+use Rattle.plane_base.proofs.Mixes.{same_refl, same_sym, same_moved, mixed, between_weights, weights_between, between-w, mix_moved}
 use Rattle.tin_base.specs.declared.frames.Frame.TheVariants.{Source}
 use Rattle.tin_base.specs.Triangulation.{Triangulation, numbers_of, places}
 use Rattle.tin_base.specs.Soundness.{turn_of_three, IsSound}
 use Rattle.tin_base.specs.Relations.{IsBetween}
 use Rattle.tin_base.specs.Segments.{Spot, spot_at, at_a, at_b, IsBefore, IsNotAfter, IsSameSpot, IsInside, IsShared, IsPart, Part, part_at, ArePieces, AreChain, DoCover}
-use Rattle.tin_base.proofs.Alike.{same_refl, same_sym, same_trans, same_moved}
-use Rattle.tin_base.proofs.Mixing.{mixed, between_weights, weights_between, between-w}
 use Rattle.tin_base.proofs.Stepping.{StepsOn, steps_on}
 use Rattle.tin_base.proofs.Ends.{IsSpot, before_or, not_both, no_later, no_later_trans, before_trans_left, before_trans_right}
 use Rattle.tin_base.proofs.Parts.{part_of, between_in}
@@ -47,9 +46,6 @@ beyond r q n h = omega arith
 
 further_beyond : (x : Spot) (n : ℕ) → 0 < x.of_a → IsBefore x (further x (n + 1) 1)
 further_beyond x n h = beyond x.of_a x.of_b n h
-
-mix_moved : (p q : Point) (ps : List Point) → pos 0 <ℤ p.w → Same q p → IsMix p ps → IsMix q ps
-mix_moved p q ps h s m = (m.0, m.1, m.2, same_trans q p _ h s m.3)
 
 -- a point between a spot and b is a point of the segment
 on_segment : (a b : Pt) (x : Spot) (p : Point) → IsSpot x → IsBetween (spot_at a b x) (whole b) p → IsMix p (whole a ∷ whole b ∷ [])

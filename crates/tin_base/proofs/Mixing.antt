@@ -5,53 +5,16 @@ use Rattle.integer_ring.proofs.Ring.{num, ◌⊕◌, ◌⊗◌}
 use Rattle.integer_ring.proofs.Order.{nonneg_pos, to_nat, ≤_of_<}
 use Rattle.integer_ring.proofs.Claims.{◌≐◌, ◌≺◌, ◌≼◌, gap, over, eqn, ◌⊞◌, ◌⊠◌, ◌because◌, ◌⇒◌, follows}
 use Rattle.plane_base.specs.Plane.{Point, Same, weighed}
+use Rattle.plane_base.proofs.Mixes.{same_sym, same_trans, same_refl, same_moved, Between, mixed, between_weights, weights_between, between-w}
 use Rattle.tin_base.specs.declared.frames.Frame.{Frame}
 use Rattle.tin_base.specs.Triangulation.{Triangulation, other, place, corner_at, places}
 use Rattle.tin_base.specs.Images.{AreLikeMixes}
 use Rattle.tin_base.specs.Relations.{IsBetween}
 use Rattle.tin_base.proofs.Weights.{total, weighed-x, weighed-y, weighed-w, sum-cons}
-use Rattle.tin_base.proofs.Alike.{same_sym, same_trans, same_refl, same_moved, mix-w}
-
--- ---- two weights
-pub data Two (ks : List ℕ) : Type 0 where
-  two : (k l : ℕ) → ks ≡ k ∷ l ∷ [] → Two ks
-
-two_weights : (ks : List ℕ) → length ks ≡ 2 → Two ks
-two_weights [] e = absurd (omega arith)
-two_weights (k ∷ []) e = absurd (omega arith)
-two_weights (k ∷ l ∷ []) e = two k l refl
-two_weights (k ∷ l ∷ m ∷ ks) e = absurd (omega arith)
-
-abbrev pub mixed : ℕ → ℕ → Point → Point → Point
-mixed k l p q = weighed (k ∷ l ∷ []) (p ∷ q ∷ [])
-
-pub record Between (p q r : Point) : Type 0 where
-  pub k : ℕ
-  pub l : ℕ
-  pub some : 0 < k + l
-  pub same : Same r (mixed k l p q)
-
-pub between_weights : (p q r : Point) → IsBetween p q r → Between p q r
-between_weights p q r m = go m.0 (two_weights m.0 m.1) m.2 m.3
-  where
-    go : (ks : List ℕ) → Two ks → 0 < sum ks → Same r (weighed ks (p ∷ q ∷ [])) → Between p q r
-    go ks (two k l e) h s =
-        let h' : 0 < sum (k ∷ l ∷ []) = subst (λ (xs : List ℕ). 0 < sum xs) e h in
-        record { k = k; l = l; some = omega arith; same = subst (λ (xs : List ℕ). Same r (weighed xs (p ∷ q ∷ []))) e s }
-
-pub weights_between : (p q r : Point) → Between p q r → IsBetween p q r
-weights_between p q r b = (b.k ∷ b.l ∷ [], refl, (let h = b.some in omega arith), b.same)
-
-mixed-w : (k l v w : ℤ) → pos 0 <ℤ v → pos 0 <ℤ w → pos 0 <ℤ (k +ℤ l) → pos 0 ≤ℤ k → pos 0 ≤ℤ l → pos 0 <ℤ (k *ℤ v +ℤ (l *ℤ w +ℤ pos 0))
-mixed-w =
-    follows 4 (λ k l v w. num (pos 0) ≺ v ⇒ num (pos 0) ≺ w ⇒ num (pos 0) ≺ k ⊕ l ⇒ num (pos 0) ≼ k ⇒ num (pos 0) ≼ l
-    ⇒ num (pos 0) ≺ k ⊗ v ⊕ (l ⊗ w ⊕ num (pos 0)) because gap 3 ⊠ over 0 ⊞ gap 4 ⊠ over 1 ⊞ over 2) tt
+use Rattle.tin_base.proofs.Alike.{mix-w}
 
 some_weight : (k l : ℕ) → 0 < k + l → pos 0 <ℤ (pos k +ℤ pos l)
 some_weight k l h = omega (arith, ints)
-
-pub between-w : (p q r : Point) (b : Between p q r) → pos 0 <ℤ p.w → pos 0 <ℤ q.w → pos 0 <ℤ (mixed b.k b.l p q).w
-between-w p q r b hp hq = mixed-w (pos b.k) (pos b.l) p.w q.w hp hq (some_weight b.k b.l b.some) (nonneg_pos b.k) (nonneg_pos b.l)
 
 -- ---- the ends of a segment may stand for others of the same places
 -- in x: the ends a/v and b/w stand for c/s and d/t

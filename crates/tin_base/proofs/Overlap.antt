@@ -1,5 +1,5 @@
 -- Two triangles of a sound triangulation with two common spots of a segment have the same spots of it: the segment runs along their common side.
-use Rattle.std.proofs.Common.{◌≡◌, ◌≢◌, ◌⊎◌, inl, inr, ℕ, ◌+◌, ◌*◌, ◌<◌, ◌≤◌, ℤ, pos, ◌+ℤ◌, ◌-ℤ◌, ◌*ℤ◌, ◌≤ℤ◌, ◌<ℤ◌, neg_ℤ, Bool, true, false, ◌||◌, eqb, List, [], ◌∷◌, length, sum, sym, ◌∙◌, ap, ap₂, subst, arith}
+use Rattle.std.proofs.Common.{◌≡◌, ◌≢◌, ◌⊎◌, inl, inr, ℕ, ◌*◌, ◌<◌, ◌≤◌, ℤ, pos, ◌+ℤ◌, ◌-ℤ◌, ◌*ℤ◌, ◌≤ℤ◌, ◌<ℤ◌, neg_ℤ, Bool, true, false, ◌||◌, eqb, List, [], ◌∷◌, length, sum, sym, ◌∙◌, ap, ap₂, subst, arith}
 use Rattle.std.proofs.lemmas.Int.{ints}
 use Rattle.std.proofs.lemmas.Bool.Decides.{eqb_tells}
 use Rattle.integer_ring.proofs.Ring.{num, neg, ◌⊕◌, ◌⊖◌, ◌⊗◌}
@@ -8,18 +8,17 @@ use Rattle.integer_ring.proofs.Claims.{◌≐◌, ◌≺◌, gap, over, eqn, ◌
 use lib.Signed.{lt_z_yes}
 use Rattle.plane_base.specs.Plane.{Point, Same, turn_of, weighed, IsMix, whole}
 use Rattle.plane_base.specs.declared.shapes.Pt.{Pt}
-use Rattle.plane_base.proofs.Points.{turn, plus, nothing, solve_at}
-use Rattle.plane_base.proofs.Turns.{turn_cycle, turn_swap, turn_same}
+use Rattle.plane_base.proofs.Turns.{turn_cycle, turn_swap}
 use Rattle.plane_base.proofs.InTriangle.{turns_of_mix}
 use Rattle.plane_base.proofs.Meeting.{mix_of_side}
+use Rattle.plane_base.proofs.Mixes.{same_sym, same_trans, same_refl, mixed, between_weights, between-w, mix_swapped, turn_on_side}
 use Rattle.tin_base.specs.declared.frames.Frame.TheVariants.{Source}
 use Rattle.tin_base.specs.Triangulation.{Triangulation, place, corner_at, numbers_of, places}
 use Rattle.tin_base.specs.Soundness.{turn_of_three, has, common_of, IsSound}
 use Rattle.tin_base.specs.Segments.{Spot, spot_at, IsBefore, IsShared}
 use Rattle.tin_base.proofs.Weights.{HasAll, common_in_first, common_in_second}
 use Rattle.tin_base.proofs.Stepping.{turn_mixed}
-use Rattle.tin_base.proofs.Mixing.{mixed, between_weights, weights_between, between-w}
-use Rattle.tin_base.proofs.Alike.{same_sym, same_trans, same_refl, same_moved, alike_of, alike_in, alike_more}
+use Rattle.tin_base.proofs.Alike.{alike_of, alike_in, alike_more}
 use Rattle.tin_base.proofs.Ends.{IsSpot}
 
 one : pos 0 <ℤ pos 1
@@ -87,19 +86,6 @@ zero_v = follows 6 (λ u v r q s t. r ⊗ u ⊕ q ⊗ v ≐ num (pos 0) ⇒ s �
 zero_all : (u v s t : ℤ) → u ≡ pos 0 → v ≡ pos 0 → s *ℤ u +ℤ t *ℤ v ≡ pos 0
 zero_all = follows 4 (λ u v s t. u ≐ num (pos 0) ⇒ v ≐ num (pos 0) ⇒ s ⊗ u ⊕ t ⊗ v ≐ num (pos 0) because eqn 0 s ⊞ eqn 1 t) tt
 
--- the turn of a side is 0 at each of its points
-side_turn : (c d : Point) (k l : ℕ) → turn_of c d (mixed k l c d) ≡ pos 0
-side_turn c d k l = solve_at 2 2 (λ c d k l. turn c d (plus k c (plus l d nothing)) ≐ num (pos 0)) tt c d (pos k) (pos l)
-
-zero_turn : (s t v : ℤ) → s *ℤ t ≡ v *ℤ pos 0 → t *ℤ s ≡ pos 0 *ℤ s
-zero_turn = follows 3 (λ s t v. s ⊗ t ≐ v ⊗ num (pos 0) ⇒ t ⊗ s ≐ num (pos 0) ⊗ s because eqn 0 (num (pos 1))) tt
-
-turn_on_side : (c d p : Point) → pos 0 <ℤ c.w → pos 0 <ℤ d.w → IsMix p (c ∷ d ∷ []) → turn_of c d p ≡ pos 0
-turn_on_side c d p hc hd on =
-    let i = between_weights c d p on in
-    let q = mixed i.k i.l c d in
-    ≡_of_mul (turn_of c d p) (pos 0) q.w (between-w c d p i hc hd) (zero_turn q.w (turn_of c d p) p.w (turn_same c d p q i.same ∙ ap (λ (z : ℤ). p.w *ℤ z) (side_turn c d i.k i.l)))
-
 -- the segment runs along the line through c and d, since two of its spots are on it
 record IsAlong (a b : Pt) (c d : Point) : Type 0 where
   zero : (x : Spot) → turn_of c d (spot_at a b x) ≡ pos 0
@@ -118,19 +104,6 @@ along_line a b c d r s hc hd before mr ms =
 -- ---- a point of a triangle with turn 0 at a side is on it
 negated_zero : (s t : ℤ) → s ≡ neg_ℤ t → t ≡ pos 0 → s ≡ pos 0
 negated_zero = follows 2 (λ s t. s ≐ neg t ⇒ t ≐ num (pos 0) ⇒ s ≐ num (pos 0) because eqn 0 (num (pos 1)) ⊞ eqn 1 (neg (num (pos 1)))) tt
-
-swapped : (p c d : Point) → IsMix p (c ∷ d ∷ []) → IsMix p (d ∷ c ∷ [])
-swapped p c d m =
-    let i = between_weights c d p m in
-    weights_between d c p (record {
-      k = i.l;
-      l = i.k;
-      some = let h : 0 < i.k + i.l = i.some in omega arith;
-      same = same_moved p (mixed i.k i.l c d) (mixed i.l i.k d c) (last_first (pos i.k) (pos i.l) c.x d.x) (last_first (pos i.k) (pos i.l) c.y d.y) (last_first (pos i.k) (pos i.l) c.w d.w) i.same;
-    })
-  where
-    last_first : (k l a b : ℤ) → k *ℤ a +ℤ (l *ℤ b +ℤ pos 0) ≡ l *ℤ b +ℤ (k *ℤ a +ℤ pos 0)
-    last_first = solve 4 (λ k l a b. k ⊗ a ⊕ (l ⊗ b ⊕ num (pos 0)) ≐ l ⊗ b ⊕ (k ⊗ a ⊕ num (pos 0))) tt
 
 member : (i j k c : ℕ) → has (i ∷ j ∷ k ∷ []) c ≡ true → (i ≡ c) ⊎ ((j ≡ c) ⊎ (k ≡ c))
 member i j k c h = go (eqb_tells i c) (eqb_tells j c) (eqb_tells k c)
@@ -176,7 +149,7 @@ on_line tin i j k c d p hp t differ is_c is_d z m = go is_c is_d (turns_of_mix (
     back : (m n l : ℕ) → pos 0 <ℤ turn_of (place Source (corner_at tin m)) (place Source (corner_at tin n)) (place Source (corner_at tin l)) → pos 0 ≤ℤ turn_of (place Source (corner_at tin n)) (place Source (corner_at tin l)) p → pos 0 ≤ℤ turn_of (place Source (corner_at tin l)) (place Source (corner_at tin m)) p
         → m ≡ d → n ≡ c → IsMix p (places tin Source (c ∷ d ∷ []))
     back m n l u v w e f =
-        swapped p (place Source (corner_at tin d)) (place Source (corner_at tin c))
+        mix_swapped p (place Source (corner_at tin d)) (place Source (corner_at tin c))
         (on_side (place Source (corner_at tin m)) (place Source (corner_at tin n)) (place Source (corner_at tin l)) (place Source (corner_at tin d)) (place Source (corner_at tin c)) p one one hp u
         (subst (λ (x : ℕ). turn_of (place Source (corner_at tin x)) (place Source (corner_at tin n)) p ≡ pos 0) (sym e)
         (subst (λ (x : ℕ). turn_of (place Source (corner_at tin d)) (place Source (corner_at tin x)) p ≡ pos 0) (sym f)

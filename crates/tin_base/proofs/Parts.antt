@@ -4,13 +4,12 @@ use lib.Signed.{lt_z_yes}
 use Rattle.plane_base.specs.Plane.{Point, turn_of, IsMix, whole}
 use Rattle.plane_base.specs.declared.shapes.Pt.{Pt}
 use Rattle.plane_base.proofs.InTriangle.{turns_of_mix, mix_of_turns}
+use Rattle.plane_base.proofs.Mixes.{same_refl, between-w}
 use Rattle.tin_base.specs.declared.frames.Frame.TheVariants.{Source}
 use Rattle.tin_base.specs.Triangulation.{Triangulation, place, corner_at, numbers_of, places}
 use Rattle.tin_base.specs.Soundness.{turn_of_three}
 use Rattle.tin_base.specs.Segments.{Spot, spot_at, IsBefore, IsNotAfter, IsShared, IsPart}
 use Rattle.tin_base.proofs.Stepping.{turn_mixed}
-use Rattle.tin_base.proofs.Mixing.{between-w}
-use Rattle.tin_base.proofs.Alike.{same_refl}
 use Rattle.tin_base.proofs.Ends.{IsSpot, IsKeptAt, AreKeptAt, last_of_three, mirrored, mirror_later, mirror_three, no_later_trans, before_trans_left, before_trans_right}
 
 -- ---- a triangle has a spot exactly where its three turns are not negative there

@@ -10,11 +10,10 @@ use Rattle.plane_base.specs.declared.shapes.Pt.{Pt}
 use Rattle.plane_base.specs.declared.shapes.Tri.{Tri}
 use Rattle.plane_base.specs.Slices.{IsParam, IsIn, IsCommon}
 use Rattle.plane_base.specs.declared.slicing.Stretch.{Stretch}
+use Rattle.plane_base.proofs.Mixes.{same_refl, same_moved, same_trans, between-w}
 use Rattle.tin_base.specs.declared.frames.Frame.TheVariants.{Source}
 use Rattle.tin_base.specs.Triangulation.{Triangulation, numbers_of, places}
 use Rattle.tin_base.specs.Segments.{Spot, spot_at, IsPart}
-use Rattle.tin_base.proofs.Alike.{same_refl, same_moved, same_trans}
-use Rattle.tin_base.proofs.Mixing.{between-w}
 use Rattle.tin_base.proofs.Ends.{IsSpot}
 
 -- the spot at n/d

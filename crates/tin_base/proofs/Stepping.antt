@@ -10,13 +10,12 @@ use lib.Signed.{lt_z_yes}
 use Rattle.plane_base.specs.Plane.{Point, turn_of, IsMix}
 use Rattle.plane_base.proofs.Points.{turn, plus, nothing, solve_at}
 use Rattle.plane_base.proofs.InTriangle.{turns_of_mix, mix_of_turns}
+use Rattle.plane_base.proofs.Mixes.{same_refl, mixed, between-w, weights_between}
 use Rattle.tin_base.specs.declared.frames.Frame.{Frame}
 use Rattle.tin_base.specs.Triangulation.{Triangulation, place, corner_at, numbers_of, places, IsInTriangle}
 use Rattle.tin_base.specs.Soundness.{turn_of_three}
 use Rattle.tin_base.specs.Images.{IsInSome}
 use Rattle.tin_base.specs.Relations.{IsBetween}
-use Rattle.tin_base.proofs.Mixing.{mixed, between-w, weights_between}
-use Rattle.tin_base.proofs.Alike.{same_refl}
 
 -- ---- a value that goes from u to v: near u it has one sign all along
 abbrev IsNear : ℕ → ℕ → ℕ → Type 0

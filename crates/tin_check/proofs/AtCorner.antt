@@ -1,6 +1,6 @@
 -- Two triangles with their first corner in common: they have another point in common exactly where the side of the one that lies opposite has a point of the other.
 -- From the common corner through another common point runs a ray. Of the two opposite sides that it comes to, the first one has a point of both triangles.
-use Rattle.std.proofs.Common.{◌≡◌, ◌⊎◌, inl, inr, ℕ, ◌<◌, ℤ, pos, ◌+ℤ◌, ◌-ℤ◌, ◌*ℤ◌, ◌≤ℤ◌, ◌<ℤ◌, ◌+◌, negsuc, List, [], ◌∷◌, length, sum, sym, ◌∙◌, ap, subst, refl, arith}
+use Rattle.std.proofs.Common.{◌≡◌, ◌⊎◌, inl, inr, ℕ, ◌<◌, ℤ, pos, ◌+ℤ◌, ◌-ℤ◌, ◌*ℤ◌, ◌≤ℤ◌, ◌<ℤ◌, negsuc, List, [], ◌∷◌, length, sum, sym, ◌∙◌, ap, subst, refl, arith}
 use Rattle.std.proofs.lemmas.Int.{ints}
 use Rattle.integer_ring.proofs.Ring.{num, neg, ◌⊕◌, ◌⊖◌, ◌⊗◌}
 use Rattle.integer_ring.proofs.Order.{≤_or_>, ≤_of_<, nonneg_pos, to_nat}
@@ -10,8 +10,9 @@ use Rattle.plane_base.specs.Plane.{Point, Same, turn_of, weighed, IsMix}
 use Rattle.plane_base.proofs.Points.{turn, plus, nothing, follows_at, solve_at}
 use Rattle.plane_base.proofs.Turns.{turn_cycle, turn_same}
 use Rattle.plane_base.proofs.InTriangle.{turns_of_mix, mix_of_turns}
+use Rattle.plane_base.proofs.Mixes.{turn_on_side}
 use Rattle.tin_check.specs.Meeting.{HaveCommonPoint, MeetOnlyIn}
-use Rattle.tin_check.proofs.Places.{on_side, side_bc_in}
+use Rattle.tin_check.proofs.Places.{side_bc_in}
 
 abbrev NonNeg : ℤ → Type 0
 NonNeg z = pos 0 ≤ℤ z
@@ -111,23 +112,6 @@ meet_at_corner a b c f g ha hb hc hf hg d d' no_bc no_fg p hp in_t in_u =
         (subst (λ (z : ℤ). (turn_of f g p *ℤ turn_of a b c) ≤ℤ (turn_of b c p *ℤ z)) (sym (second f g)) (≤_of_< (turn_of f g p *ℤ turn_of a b c) (turn_of b c p *ℤ turn_of f g a) o)))))
 
 -- ---- and where one is, it is a common point that is not the corner
-side_turn : (b c : Point) (k l : ℤ) → turn_of b c (record { x = k *ℤ b.x +ℤ (l *ℤ c.x +ℤ pos 0); y = k *ℤ b.y +ℤ (l *ℤ c.y +ℤ pos 0); w = k *ℤ b.w +ℤ (l *ℤ c.w +ℤ pos 0) }) ≡ pos 0
-side_turn = solve_at 2 2 (λ b c k l. turn b c (plus k b (plus l c nothing)) ≐ num (pos 0)) tt
-
-zero_turn : (s t v : ℤ) → s *ℤ t ≡ v *ℤ pos 0 → t *ℤ s ≡ pos 0 *ℤ s
-zero_turn = follows 3 (λ s t v. s ⊗ t ≐ v ⊗ num (pos 0) ⇒ t ⊗ s ≐ num (pos 0) ⊗ s because eqn 0 (num (pos 1))) tt
-
-weight_sum : (k l : ℕ) → 0 < k + l → pos 0 <ℤ (pos k +ℤ pos l)
-weight_sum k l h = omega (arith, ints)
-
--- the turn of a side is 0 at each of its points
-pub turn_on_side : (b c p : Point) → pos 0 <ℤ b.w → pos 0 <ℤ c.w → IsMix p (b ∷ c ∷ []) → turn_of b c p ≡ pos 0
-turn_on_side b c p hb hc on =
-    let s = on_side p b c on in
-    let q = weighed (s.k ∷ s.l ∷ []) (b ∷ c ∷ []) in
-    ≡_of_mul (turn_of b c p) (pos 0) q.w (ahead-w b.w c.w (pos s.k) (pos s.l) hb hc (nonneg_pos s.k) (nonneg_pos s.l) (weight_sum s.k s.l s.some))
-    (zero_turn q.w (turn_of b c p) p.w (turn_same b c p q s.same ∙ ap (λ (z : ℤ). p.w *ℤ z) (side_turn b c (pos s.k) (pos s.l))))
-
 one_turn : (a b c : Point) (k : ℤ) → turn_of b c (record { x = k *ℤ a.x +ℤ pos 0; y = k *ℤ a.y +ℤ pos 0; w = k *ℤ a.w +ℤ pos 0 }) ≡ k *ℤ turn_of a b c
 one_turn = solve_at 3 1 (λ a b c k. turn b c (plus k a nothing) ≐ k ⊗ turn a b c) tt
 

@@ -9,8 +9,8 @@ use Rattle.plane_base.proofs.Points.{turn, plus, nothing, solve_at}
 use Rattle.plane_base.proofs.Turns.{turn_swap}
 use Rattle.plane_base.proofs.InTriangle.{turns_of_mix, mix_of_turns}
 use Rattle.plane_base.proofs.Meeting.{mix_of_side}
+use Rattle.plane_base.proofs.Mixes.{turn_on_side}
 use Rattle.tin_check.specs.Meeting.{MeetOnlyIn}
-use Rattle.tin_check.proofs.AtCorner.{turn_on_side}
 
 abbrev NonNeg : ℤ → Type 0
 NonNeg z = pos 0 ≤ℤ z

@@ -7,8 +7,9 @@ use Rattle.plane_base.specs.declared.shapes.Pt.{Pt}
 use Rattle.plane_base.specs.declared.shapes.Tri.{Tri}
 use Rattle.plane_base.specs.Slices.{slice_of}
 use Rattle.plane_base.specs.declared.slicing.Stretch.{Stretch}
+use Rattle.plane_base.proofs.Mixes.{same_sym, mix_moved, between_weights}
 use Rattle.tin_check.specs.Meeting.{HaveCommonPoint}
-use Rattle.tin_check.proofs.Places.{same_sym, mix_moved, on_side, side_along, along_side}
+use Rattle.tin_check.proofs.Places.{side_along, along_side}
 
 along-w : (n d : ℤ) → pos 0 <ℤ d → pos 0 <ℤ ((d -ℤ n) *ℤ pos 1 +ℤ n *ℤ pos 1)
 along-w = follows 2 (λ n d. num (pos 0) ≺ d ⇒ num (pos 0) ≺ (d ⊖ n) ⊗ num (pos 1) ⊕ n ⊗ num (pos 1) because over 0) tt
@@ -18,7 +19,7 @@ tells a b t None none = (λ h. cc, λ h. absurd (none_met h))
   where
     none_met : HaveCommonPoint (whole a ∷ whole b ∷ []) (corners t) → ⊥
     none_met h =
-        let s = on_side h.0 (whole a) (whole b) h.2 in
+        let s = between_weights (whole a) (whole b) h.0 h.2 in
         let at = side_along h.0 (whole a) (whole b) s in
         let q = along (whole a) (whole b) (pos s.l) (pos s.k +ℤ pos s.l) in
         none (pos s.l) (pos s.k +ℤ pos s.l) (at.0, mix_moved h.0 q (corners t) h.1 (same_sym h.0 q at.1) h.3)

@@ -4,9 +4,10 @@ use Rattle.plane_base.specs.Plane.{Point, IsMix, whole, corners}
 use Rattle.plane_base.specs.declared.shapes.Pt.{Pt}
 use Rattle.plane_base.specs.declared.shapes.Tri.{Tri}
 use Rattle.plane_base.proofs.Turns.{turn_cycle}
+use Rattle.plane_base.proofs.Mixes.{mix_swapped}
 use Rattle.tin_check.specs.Meeting.{MeetOnlyIn}
 use Rattle.tin_check.specs.Marks.{points_of, marked_of, IsAmong, HaveSamePoints, AreNearTris, next_of, IsCounted}
-use Rattle.tin_check.proofs.Places.{mix_next, mix_swap}
+use Rattle.tin_check.proofs.Places.{mix_next}
 use Rattle.tin_check.proofs.Tests.{IsPositive}
 
 -- ---- the same corners, the same turn and the same points
@@ -141,8 +142,8 @@ fits_by t u ps qs found e h i = (
 
 swapped : (t u : Tri) (p q : Pt) → MeetOnlyIn (corners t) (corners u) (whole p ∷ whole q ∷ []) ↔ MeetOnlyIn (corners t) (corners u) (whole q ∷ whole p ∷ [])
 swapped t u p q = (
-  λ only x hx in_t in_u. mix_swap x (whole p) (whole q) (only x hx in_t in_u),
-  λ only x hx in_t in_u. mix_swap x (whole q) (whole p) (only x hx in_t in_u),
+  λ only x hx in_t in_u. mix_swapped x (whole p) (whole q) (only x hx in_t in_u),
+  λ only x hx in_t in_u. mix_swapped x (whole q) (whole p) (only x hx in_t in_u),
 )
 
 pub fits_at_side : (t u r : Tri) (ps : List Pt) (found : Bool) → IsSide ps r → IsTrue found ↔ MeetOnlyIn (corners t) (corners u) (whole r.a ∷ whole r.b ∷ []) → IsTrue found ↔ FitsIn t u ps

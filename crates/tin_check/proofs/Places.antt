@@ -1,73 +1,13 @@
--- Points of one place, and mixes of some corners as mixes of more.
-use Rattle.std.proofs.Common.{◌≡◌, ℕ, ◌+◌, ◌<◌, ℤ, pos, ◌+ℤ◌, ◌-ℤ◌, ◌*ℤ◌, ◌<ℤ◌, List, [], ◌∷◌, length, sum, sym, subst, refl, arith}
+-- Mixes of some corners as mixes of more, and the points of a side by their parameter.
+use Rattle.std.proofs.Common.{◌≡◌, ℕ, ◌+◌, ◌<◌, ℤ, pos, ◌+ℤ◌, ◌-ℤ◌, ◌*ℤ◌, ◌<ℤ◌, List, [], ◌∷◌, length, sum, subst, refl, arith}
 use Rattle.std.proofs.lemmas.Int.{ints}
-use Rattle.integer_ring.proofs.Ring.{num, neg, ◌⊕◌, ◌⊖◌, ◌⊗◌}
-use Rattle.integer_ring.proofs.Signs.{frac-≡_trans}
+use Rattle.integer_ring.proofs.Ring.{num, ◌⊕◌, ◌⊖◌, ◌⊗◌}
 use Rattle.integer_ring.proofs.Claims.{◌≐◌, eqn, ◌⊞◌, ◌because◌, ◌⇒◌, follows, solve}
 use Rattle.integer_ring.proofs.Order.{to_nat, ≤-to-nonneg}
 use Rattle.plane_base.specs.Plane.{Point, Same, weighed, IsMix, along}
 use Rattle.plane_base.proofs.Points.{plus, nothing, solve_at}
 use Rattle.plane_base.specs.Slices.{IsParam}
-
-pub same_sym : (p q : Point) → Same p q → Same q p
-same_sym p q s = (sym s.0, sym s.1)
-
-pub same_trans : (p q r : Point) → pos 0 <ℤ q.w → Same p q → Same q r → Same p r
-same_trans p q r h s t = (frac-≡_trans p.x p.w q.x q.w r.x r.w h s.0 t.0, frac-≡_trans p.y p.w q.y q.w r.y r.w h s.1 t.1)
-
-moved : (x w a b c d : ℤ) → a ≡ c → b ≡ d → x *ℤ b ≡ a *ℤ w → x *ℤ d ≡ c *ℤ w
-moved = follows 6 (λ x w a b c d. a ≐ c ⇒ b ≐ d ⇒ x ⊗ b ≐ a ⊗ w ⇒ x ⊗ d ≐ c ⊗ w because eqn 2 (num (pos 1)) ⊞ eqn 0 w ⊞ eqn 1 (neg x)) tt
-
--- a point may stand for another of the same numbers
-pub same_moved : (p q r : Point) → q.x ≡ r.x → q.y ≡ r.y → q.w ≡ r.w → Same p q → Same p r
-same_moved p q r ex ey ew s = (moved p.x p.w q.x q.w r.x r.w ex ew s.0, moved p.y p.w q.y q.w r.y r.w ey ew s.1)
-
--- and for another of the same place
-pub mix_moved : (p q : Point) (ps : List Point) → pos 0 <ℤ p.w → Same q p → IsMix p ps → IsMix q ps
-mix_moved p q ps h s m = (m.0, m.1, m.2, same_trans q p (weighed m.0 ps) h s m.3)
-
--- ---- two and three weights
-pub data Two (ks : List ℕ) : Type 0 where
-  two : (k l : ℕ) → ks ≡ k ∷ l ∷ [] → Two ks
-
-pub two_weights : (ks : List ℕ) → length ks ≡ 2 → Two ks
-two_weights [] e = absurd (omega arith)
-two_weights (k ∷ []) e = absurd (omega arith)
-two_weights (k ∷ l ∷ []) e = two k l refl
-two_weights (k ∷ l ∷ m ∷ ks) e = absurd (omega arith)
-
--- the weights of a point of a side
-pub record OnSide (p a b : Point) : Type 0 where
-  pub k : ℕ
-  pub l : ℕ
-  pub some : 0 < k + l
-  pub same : Same p (weighed (k ∷ l ∷ []) (a ∷ b ∷ []))
-
-pub on_side : (p a b : Point) → IsMix p (a ∷ b ∷ []) → OnSide p a b
-on_side p a b m = go m.0 (two_weights m.0 m.1) m.2 m.3
-  where
-    go : (ks : List ℕ) → Two ks → 0 < sum ks → Same p (weighed ks (a ∷ b ∷ [])) → OnSide p a b
-    go ks (two k l e) h s =
-        let h' : 0 < sum (k ∷ l ∷ []) = subst (λ (xs : List ℕ). 0 < sum xs) e h in
-        record { k = k; l = l; some = omega arith; same = subst (λ (xs : List ℕ). Same p (weighed xs (a ∷ b ∷ []))) e s }
-
-pub side_mix : (p a b : Point) → OnSide p a b → IsMix p (a ∷ b ∷ [])
-side_mix p a b s = (s.k ∷ s.l ∷ [], refl, (let h = s.some in omega arith), s.same)
-
--- a mix of two is one in the other order
-last_first : (k l a b : ℤ) → k *ℤ a +ℤ (l *ℤ b +ℤ pos 0) ≡ l *ℤ b +ℤ (k *ℤ a +ℤ pos 0)
-last_first = solve 4 (λ k l a b. k ⊗ a ⊕ (l ⊗ b ⊕ num (pos 0)) ≐ l ⊗ b ⊕ (k ⊗ a ⊕ num (pos 0))) tt
-
-pub mix_swap : (p a b : Point) → IsMix p (a ∷ b ∷ []) → IsMix p (b ∷ a ∷ [])
-mix_swap p a b m =
-    let s = on_side p a b m in
-    let k = pos s.k in let l = pos s.l in
-    side_mix p b a (record {
-      k = s.l;
-      l = s.k;
-      some = let h : 0 < s.k + s.l = s.some in omega arith;
-      same = same_moved p (weighed (s.k ∷ s.l ∷ []) (a ∷ b ∷ [])) (weighed (s.l ∷ s.k ∷ []) (b ∷ a ∷ [])) (last_first k l a.x b.x) (last_first k l a.y b.y) (last_first k l a.w b.w) s.same;
-    })
+use Rattle.plane_base.proofs.Mixes.{same_moved, Between, between_weights, weights_between}
 
 -- a point of a side is in the triangle
 no_third : (k l a b c : ℤ) → k *ℤ a +ℤ (l *ℤ b +ℤ pos 0) ≡ k *ℤ a +ℤ (l *ℤ b +ℤ (pos 0 *ℤ c +ℤ pos 0))
@@ -78,7 +18,7 @@ no_first = solve 5 (λ k l a b c. k ⊗ b ⊕ (l ⊗ c ⊕ num (pos 0)) ≐ num 
 
 pub side_ab_in : (p a b c : Point) → IsMix p (a ∷ b ∷ []) → IsMix p (a ∷ b ∷ c ∷ [])
 side_ab_in p a b c m =
-    let s = on_side p a b m in
+    let s = between_weights a b p m in
     let k = pos s.k in let l = pos s.l in
     let h : 0 < s.k + s.l = s.some in (
       s.k ∷ s.l ∷ 0 ∷ [],
@@ -89,7 +29,7 @@ side_ab_in p a b c m =
 
 pub side_bc_in : (p a b c : Point) → IsMix p (b ∷ c ∷ []) → IsMix p (a ∷ b ∷ c ∷ [])
 side_bc_in p a b c m =
-    let s = on_side p b c m in
+    let s = between_weights b c p m in
     let k = pos s.k in let l = pos s.l in
     let h : 0 < s.k + s.l = s.some in (
       0 ∷ s.k ∷ s.l ∷ [],
@@ -149,7 +89,7 @@ param_of : (k l : ℕ) → 0 < k + l → IsParam (pos l) (pos k +ℤ pos l)
 param_of k l h = (omega (arith, ints), omega (arith, ints), omega (arith, ints))
 
 -- a point of a segment is the one at some parameter
-pub side_along : (p a b : Point) (s : OnSide p a b) → IsParam (pos s.l) (pos s.k +ℤ pos s.l) × Same p (along a b (pos s.l) (pos s.k +ℤ pos s.l))
+pub side_along : (p a b : Point) (s : Between a b p) → IsParam (pos s.l) (pos s.k +ℤ pos s.l) × Same p (along a b (pos s.l) (pos s.k +ℤ pos s.l))
 side_along p a b s =
     let k = pos s.k in let l = pos s.l in (
       param_of s.k s.l s.some,
@@ -169,7 +109,7 @@ along_side a b n d h = go (to_nat (d -ℤ n) (≤-to-nonneg n d h.2)) (to_nat n 
   where
     go : (k : ℕ) × (d -ℤ n ≡ pos k) → (l : ℕ) × (n ≡ pos l) → IsMix (along a b n d) (a ∷ b ∷ [])
     go k l =
-        side_mix (along a b n d) a b (record {
+        weights_between a b (along a b n d) (record {
           k = k.0;
           l = l.0;
           some = some_part k.0 l.0 n d k.1 l.1 h.0;
