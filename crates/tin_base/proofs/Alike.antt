@@ -4,7 +4,7 @@ use Rattle.std.proofs.Math.ListN.{length-map}
 use Rattle.std.proofs.lemmas.Int.{ints}
 use Rattle.plane_base.specs.Plane.{Point, Same, weighed, IsMix}
 use Rattle.plane_base.proofs.Image.{image_unique}
-use Rattle.plane_base.proofs.Mixes.{same_refl, same_sym, same_trans, same_moved}
+pub use Rattle.plane_base.proofs.Mixes.{same_refl, same_sym, same_trans, same_moved}
 use Rattle.tin_base.specs.declared.frames.Frame.{Frame}
 use Rattle.tin_base.specs.Triangulation.{Triangulation, other, place, corner_at, places}
 use Rattle.tin_base.specs.Soundness.{turn_of_three}

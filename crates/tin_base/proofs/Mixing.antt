@@ -5,7 +5,8 @@ use Rattle.integer_ring.proofs.Ring.{num, ◌⊕◌, ◌⊗◌}
 use Rattle.integer_ring.proofs.Order.{nonneg_pos, to_nat, ≤_of_<}
 use Rattle.integer_ring.proofs.Claims.{◌≐◌, ◌≺◌, ◌≼◌, gap, over, eqn, ◌⊞◌, ◌⊠◌, ◌because◌, ◌⇒◌, follows}
 use Rattle.plane_base.specs.Plane.{Point, Same, weighed}
-use Rattle.plane_base.proofs.Mixes.{same_sym, same_trans, same_refl, same_moved, Between, mixed, between_weights, weights_between, between-w}
+use Rattle.plane_base.proofs.Mixes.{same_sym, same_trans, same_refl, same_moved}
+pub use Rattle.plane_base.proofs.Mixes.{Between, mixed, between_weights, weights_between, between-w}
 use Rattle.tin_base.specs.declared.frames.Frame.{Frame}
 use Rattle.tin_base.specs.Triangulation.{Triangulation, other, place, corner_at, places}
 use Rattle.tin_base.specs.Images.{AreLikeMixes}
