@@ -1,15 +1,12 @@
 -- Points on the segment between two corners, and their images.
-use Rattle.std.proofs.Common.{◌≡◌, ℕ, ◌<◌, ℤ, pos, ◌+ℤ◌, ◌-ℤ◌, ◌*ℤ◌, ◌<ℤ◌, [], ◌∷◌, length, sum, ap, ap₂, sym, ◌∙◌, subst, refl, arith}
+use Rattle.std.proofs.Common.{◌≡◌, ℕ, ◌<◌, ℤ, pos, ◌+ℤ◌, ◌-ℤ◌, ◌*ℤ◌, ◌<ℤ◌, [], ◌∷◌, length, sum, ap, ap₂, sym, ◌∙◌, refl, arith}
 use Rattle.std.proofs.lemmas.Int.{ints}
-use Rattle.integer_ring.proofs.Ring.{num, neg, ◌⊕◌, ◌⊖◌, ◌⊗◌}
+use Rattle.integer_ring.proofs.Ring.{num, ◌⊕◌, ◌⊖◌, ◌⊗◌}
 use Rattle.integer_ring.proofs.Order.{to_nat, ≤-to-nonneg}
 use Rattle.integer_ring.proofs.Claims.{◌≐◌, ◌≺◌, over, eqn, ◌⊞◌, ◌because◌, ◌⇒◌, follows, solve}
 use Rattle.frac128.specs.Rounding.{half_up_of}
-use Rattle.plane_base.specs.Plane.{Point, Same, weighed, whole, along, IsNear, IsNearAll}
-use Rattle.plane_base.specs.Slices.{IsParam}
+use Rattle.plane_base.specs.Plane.{Point, Same, weighed, whole, along, IsNearAll}
 use Rattle.plane_base.specs.declared.shapes.Pt.{Pt}
-use Rattle.plane_base.specs.declared.shapes.Tri.{Tri}
-use Rattle.tin_base.specs.declared.frames.Frame.{Frame}
 use Rattle.tin_base.specs.declared.frames.Frame.TheVariants.{Source, Target}
 use Rattle.tin_base.specs.Triangulation.{Triangulation, place, corner_at, numbers_of}
 use Rattle.tin_base.specs.Images.{AreLikeMixes}

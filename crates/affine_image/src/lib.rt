@@ -5,6 +5,8 @@
 mod images;
 mod laws;
 mod mixing;
+#[cfg(test)]
+mod tests;
 mod weights;
 
 pub use images::{image_cut, image_of};

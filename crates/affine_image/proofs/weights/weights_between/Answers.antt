@@ -1,5 +1,5 @@
-use Rattle.std.proofs.Common.{rules, ◌≡◌, to_z, of_z, SFits, ℤ, pos, ◌+ℤ◌, ◌≤ℤ◌, ◌<ℤ◌, arith}
-use Rattle.std.proofs.lemmas.Int.{to_z-of_z, ints}
+use Rattle.std.proofs.Common.{rules, ◌≡◌, to_z, of_z, SFits}
+use Rattle.std.proofs.lemmas.Int.{to_z-of_z}
 use mir.Syntax.{w128}
 use Rattle.affine_image.proofs.Sizes.{no_more}
 use Rattle.affine_image.proofs.weights.weights_between.Goals as goal
