@@ -3,4 +3,5 @@ pub mod Sizes
 pub mod Near
 pub mod Imaging
 pub mod Cutting
+pub mod Reach
 pub mod Rounding

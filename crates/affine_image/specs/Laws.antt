@@ -5,6 +5,7 @@ use Rattle.plane_base.specs.Slices.{IsParam}
 use Rattle.plane_base.specs.declared.shapes.Pt.{Pt}
 use Rattle.tin_base.specs.declared.frames.Frame.TheVariants.{Source, Target}
 use Rattle.tin_base.specs.Triangulation.{Triangulation, numbers_of}
+use Rattle.tin_base.specs.Limits.{IsInReach, IsWithinLimits}
 use Rattle.tin_base.specs.Soundness.{IsSound, has}
 use Rattle.affine_image.specs.Rounded.{rounded, IsRoundedImageAt}
 use Rattle.affine_image.specs.Cuts.{cut_of}
@@ -19,3 +20,7 @@ abbrev pub CutsAreImages : Type 0
 CutsAreImages =
     (tin : Triangulation) (t p q : ℕ) (n d : ℤ) (place : Point) → t < length tin.triangles → has (numbers_of tin t) p ≡ true → has (numbers_of tin t) q ≡ true → IsParam n d
     → Same place (cut_of tin Source p q n d) → IsRoundedImageAt tin place (rounded (cut_of tin Target p q n d))
+
+-- a rounded image is in reach, as the corners are
+abbrev pub RoundedImagesAreInReach : Type 0
+RoundedImagesAreInReach = (tin : Triangulation) (p : Point) (image : Pt) → IsWithinLimits tin → IsRoundedImageAt tin p image → IsInReach image.x × IsInReach image.y

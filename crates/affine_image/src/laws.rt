@@ -1,4 +1,4 @@
-ghost use Rattle.affine_image.specs.Laws.{RoundedImagesAgree, CutsAreImages};
+ghost use Rattle.affine_image.specs.Laws.{RoundedImagesAgree, CutsAreImages, RoundedImagesAreInReach};
 
 /// A law: the rounded image of a place is one, whichever triangle gives it.
 pub fn rounded_images_agree()
@@ -9,4 +9,9 @@ pub fn rounded_images_agree()
 /// parameter between their target places.
 pub fn cuts_are_images()
     ensures { CutsAreImages }
+{}
+
+/// A law: the coordinates of a rounded image are within `REACH` of tin_base, as those of the corners are.
+pub fn rounded_images_are_in_reach()
+    ensures { RoundedImagesAreInReach }
 {}
