@@ -29,7 +29,7 @@ below =
 some_weight : (i j k : ℕ) → 0 < sum (i ∷ j ∷ k ∷ []) → pos 0 <ℤ (pos i +ℤ pos j +ℤ pos k)
 some_weight i j k h = omega (arith, ints)
 
-itself : (p : Pt) → IsNear p p
+pub itself : (p : Pt) → IsNear p p
 itself p = (omega (arith, ints), omega (arith, ints), omega (arith, ints), omega (arith, ints))
 
 pub turned : (p q : Pt) → IsNear p q → IsNear q p

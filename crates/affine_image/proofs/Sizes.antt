@@ -2,6 +2,8 @@
 use Rattle.std.proofs.Common.{◌≡◌, ◌≤◌, ◌<◌, ◌^◌, ◌-◌, ℤ, pos, negsuc, ◌+ℤ◌, ◌-ℤ◌, ◌*ℤ◌, ◌≤ℤ◌, ◌<ℤ◌, neg_ℤ, unsigned_abs, SFits, arith, mul-le-mul, subst, sym}
 use Rattle.std.proofs.lemmas.Int.{ints, unsigned_abs-mul}
 use mir.Syntax.{w64, w128}
+use Rattle.integer_ring.proofs.Ring.{num, ◌⊕◌}
+use Rattle.integer_ring.proofs.Claims.{◌≐◌, ◌≼◌, gap, eqn, ◌⊞◌, ◌because◌, ◌⇒◌, follows}
 use Rattle.frac128.specs.Sizes.{IsSmall}
 use Rattle.frac128.specs.Rounding.{half_up_of}
 use Rattle.frac128.specs.declared.frac.TheConstants.{TURN}
@@ -48,3 +50,7 @@ place_fits a b c r fa fb fc low high =
     let lr : l ≤ℤ r = low l (omega (arith, ints)) (omega (arith, ints)) (omega (arith, ints)) in
     let rm : r ≤ℤ m = high m (omega (arith, ints)) (omega (arith, ints)) (omega (arith, ints)) in
     omega (arith, ints)
+
+-- no more than the whole, where there is no third weight
+pub no_more : (n d u w : ℤ) → u ≡ n → w ≡ d → n ≤ℤ d → (u +ℤ pos 0) ≤ℤ w
+no_more = follows 4 (λ n d u w. u ≐ n ⇒ w ≐ d ⇒ n ≼ d ⇒ u ⊕ num (pos 0) ≼ w because gap 2 ⊞ eqn 0 (num (pos 1)) ⊞ eqn 1 (num (negsuc 0))) tt

@@ -1,12 +1,26 @@
 -- The laws of rounded images.
-use Rattle.std.specs.Prelude.{◌≡◌, pos, ◌<ℤ◌}
-use Rattle.plane_base.specs.Plane.{Point}
+use Rattle.std.specs.Prelude.{◌≡◌, ℕ, ◌<◌, ℤ, pos, ◌<ℤ◌, true, length}
+use Rattle.plane_base.specs.Plane.{Point, Same}
+use Rattle.plane_base.specs.Slices.{IsParam}
 use Rattle.plane_base.specs.declared.shapes.Pt.{Pt}
-use Rattle.tin_base.specs.Triangulation.{Triangulation}
-use Rattle.tin_base.specs.Soundness.{IsSound}
-use Rattle.affine_image.specs.Rounded.{IsRoundedImageAt}
+use Rattle.tin_base.specs.declared.frames.Frame.TheVariants.{Source, Target}
+use Rattle.tin_base.specs.Triangulation.{Triangulation, numbers_of}
+use Rattle.tin_base.specs.Limits.{IsInReach, IsWithinLimits}
+use Rattle.tin_base.specs.Soundness.{IsSound, has}
+use Rattle.affine_image.specs.Rounded.{rounded, IsRoundedImageAt}
+use Rattle.affine_image.specs.Cuts.{cut_of}
 
 -- a place has one rounded image, whichever triangle gives it
 abbrev pub RoundedImagesAgree : Type 0
 RoundedImagesAgree =
     (tin : Triangulation) (p : Point) (image also : Pt) → IsSound tin → pos 0 <ℤ p.w → IsRoundedImageAt tin p image → IsRoundedImageAt tin p also → image ≡ also
+
+-- where one triangle has the corners p and q, the place at n/d between them in the source has the rounded place at n/d between them in the target for its image
+abbrev pub CutsAreImages : Type 0
+CutsAreImages =
+    (tin : Triangulation) (t p q : ℕ) (n d : ℤ) (place : Point) → t < length tin.triangles → has (numbers_of tin t) p ≡ true → has (numbers_of tin t) q ≡ true → IsParam n d
+    → Same place (cut_of tin Source p q n d) → IsRoundedImageAt tin place (rounded (cut_of tin Target p q n d))
+
+-- a rounded image is in reach, as the corners are
+abbrev pub RoundedImagesAreInReach : Type 0
+RoundedImagesAreInReach = (tin : Triangulation) (p : Point) (image : Pt) → IsWithinLimits tin → IsRoundedImageAt tin p image → IsInReach image.x × IsInReach image.y

@@ -1,3 +1,4 @@
 pub mod Rounded
+pub mod Cuts
 pub mod Laws
 pub mod Weights

@@ -1,12 +1,16 @@
-ghost use Rattle.std.specs.Prelude.{◌<◌, length};
+ghost use Rattle.std.specs.Prelude.{◌≡◌, ◌<◌, length};
 ghost use Rattle.plane_base.specs.Plane.{whole};
-ghost use Rattle.tin_base.specs.declared.frames.Frame.TheVariants.{Source};
-ghost use Rattle.tin_base.specs.Triangulation.{IsInTriangle};
-ghost use Rattle.affine_image.specs.Rounded.{IsRoundedImage};
+ghost use Rattle.plane_base.specs.Slices.{IsParam};
+ghost use Rattle.tin_base.specs.declared.frames.Frame.TheVariants.{Source, Target};
+ghost use Rattle.tin_base.specs.Triangulation.{IsInTriangle, place, corner_at};
+ghost use Rattle.tin_base.specs.Limits.{IsWithinLimits};
+ghost use Rattle.affine_image.specs.Rounded.{rounded, IsRoundedImage};
+ghost use Rattle.affine_image.specs.Cuts.{cut_of};
 
 use crate::mixing::mixed;
-use crate::weights::weights_at;
-use plane_base::Pt;
+use crate::weights::{weights_at, weights_between};
+use frac128::Frac;
+use plane_base::{Pt, Tri};
 use tin_base::{Frame, SoundTin};
 
 /// The image of a point of a source triangle, in millimetres, rounded half up on each axis: one affine map per triangle, as PROJ's tinshift has it.
@@ -19,4 +23,29 @@ pub fn image_of(tin: &SoundTin, tri: u32, p: Pt) -> Pt
         weights_at(&tin.tri(tri, Frame::Source), p),
         &tin.tri(tri, Frame::Target),
     )
+}
+
+/// The point at `s`, from 0 to 1, on the segment from the target place of corner `p` to that of corner `q`, in millimetres, rounded half up on each axis.
+pub fn image_cut(tin: &SoundTin, p: u32, q: u32, s: Frac) -> Pt
+    requires p_in_range { p < length tin.now.corners }
+    requires q_in_range { q < length tin.now.corners }
+    requires between { IsParam s.num s.den }
+    ensures { result ≡ rounded (cut_of tin.now Target p q s.num s.den) }
+{
+    let from = target_place(tin, p);
+    let to = target_place(tin, q);
+    let edge = Tri {
+        a: from,
+        b: to,
+        c: from,
+    };
+    mixed(weights_between(s), &edge)
+}
+
+fn target_place(tin: &SoundTin, number: u32) -> Pt
+    requires { number < length tin.now.corners }
+    ensures place { whole result ≡ place Target (corner_at tin.now number) }
+    ensures limits { IsWithinLimits tin.now }
+{
+    tin.corners()[number as usize].at(Frame::Target)
 }

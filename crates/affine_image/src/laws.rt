@@ -1,6 +1,17 @@
-ghost use Rattle.affine_image.specs.Laws.{RoundedImagesAgree};
+ghost use Rattle.affine_image.specs.Laws.{RoundedImagesAgree, CutsAreImages, RoundedImagesAreInReach};
 
 /// A law: the rounded image of a place is one, whichever triangle gives it.
 pub fn rounded_images_agree()
     ensures { RoundedImagesAgree }
+{}
+
+/// A law: where one triangle has two corners, the rounded image of a place between their source places is the rounded place at the same
+/// parameter between their target places.
+pub fn cuts_are_images()
+    ensures { CutsAreImages }
+{}
+
+/// A law: the coordinates of a rounded image are within `REACH` of tin_base, as those of the corners are.
+pub fn rounded_images_are_in_reach()
+    ensures { RoundedImagesAreInReach }
 {}

@@ -1,11 +1,13 @@
-//! Images of points through a sound triangulation, rounded half up to whole millimetres: of a point in a triangle.
+//! Images of points through a sound triangulation, rounded half up to whole millimetres: of a point in a triangle, and of a point on an edge.
 //! Offsets are taken from a corner of the target frame, so that no product passes 128 bits.
 #![tactic(auto)]
 
 mod images;
 mod laws;
 mod mixing;
+#[cfg(test)]
+mod tests;
 mod weights;
 
-pub use images::image_of;
-pub use laws::rounded_images_agree;
+pub use images::{image_cut, image_of};
+pub use laws::{cuts_are_images, rounded_images_agree, rounded_images_are_in_reach};

@@ -1,7 +1,9 @@
 ghost use Rattle.std.specs.Prelude.{◌≡◌, pos, ◌+ℤ◌, ◌≤ℤ◌, ◌<ℤ◌};
 ghost use Rattle.frac128.specs.Sizes.{IsSmall};
+ghost use Rattle.plane_base.specs.Slices.{IsParam};
 ghost use Rattle.plane_base.specs.Plane.{whole, turn_of, IsNearAll, holds_of};
 
+use frac128::Frac;
 use plane_base::{Pt, Tri, turn};
 
 /// How much of the second and the third corner of a triangle a mix has, out of `whole`; the rest is of the first.
@@ -30,5 +32,19 @@ pub(crate) fn weights_at(t: &Tri, p: Pt) -> Weights
         second: turn(t.c, t.a, p),
         third: turn(t.a, t.b, p),
         whole: turn(t.a, t.b, t.c),
+    }
+}
+
+/// The weights of the point at `s` from the first corner to the second.
+pub(crate) fn weights_between(s: Frac) -> Weights
+    requires { IsParam s.num s.den }
+    ensures second { result.second ≡ s.num }
+    ensures third { result.third ≡ pos 0 }
+    ensures whole { result.whole ≡ s.den }
+{
+    Weights {
+        second: s.num,
+        third: 0,
+        whole: s.den,
     }
 }

@@ -1,0 +1,5 @@
+use Rattle.affine_image.proofs.Cutting.{cuts_are_images}
+use Rattle.affine_image.proofs.laws.cuts_are_images.Goals as goal
+
+pub returns : goal.returns
+returns c = cuts_are_images

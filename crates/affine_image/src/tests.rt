@@ -1,0 +1,222 @@
+ghost use Rattle.std.specs.Prelude.{◌≡◌, ◌↔◌, ◌<◌, ◌-ℤ◌, ◌<ℤ◌, length, IsTrue, IfSome};
+ghost use Rattle.plane_base.specs.Plane.{IsNear};
+ghost use Rattle.plane_base.specs.declared.shapes.TheConstants.{SPAN};
+ghost use Rattle.tin_base.specs.Triangulation.{triangulation};
+
+use crate::{image_cut, image_of};
+use frac128::Frac;
+use plane_base::{Pt, SPAN, holds, turn};
+use std::test::Fail;
+use tin_base::{Corner, Frame, SoundTin, Tin, are_within_limits, one_triangle_is_sound};
+
+fn tin_of(corners: Vec<Corner>, triangles: Vec<[u32; 3]>) -> Option<Tin>
+    ensures { IfSome result (λ tin. tin ≡ triangulation corners.items triangles.items 0) }
+{
+    if are_within_limits(&corners, &triangles) {
+        Some(Tin::of(corners, triangles, 0))
+    } else {
+        None
+    }
+}
+
+fn is_near_on(a: i64, b: i64) -> bool
+    ensures { IsTrue result ↔ (((a -ℤ b) <ℤ SPAN) × ((b -ℤ a) <ℤ SPAN)) }
+{
+    a.abs_diff(b) < SPAN as u64
+}
+
+fn is_near(p: Pt, q: Pt) -> bool
+    ensures { IsTrue result ↔ IsNear p q }
+{
+    if !is_near_on(p.x, q.x) {
+        return false;
+    }
+    is_near_on(p.y, q.y)
+}
+
+// The image by triangle 0, or none where that does not hold the point.
+fn image(tin: &SoundTin, p: Pt) -> Option<Pt>
+    requires { 0 < length tin.now.triangles }
+{
+    let source = tin.tri(0, Frame::Source);
+    if !is_near(source.a, p) || !is_near(source.b, p) || !is_near(source.c, p) {
+        return None;
+    }
+    if !holds(&source, p) {
+        return None;
+    }
+    Some(image_of(tin, 0, p))
+}
+
+fn sound_of(tin: Tin) -> Option<SoundTin>
+    requires { length tin.triangles ≡ 1 }
+    ensures { IfSome result (λ sound. sound ≡ tin) }
+{
+    let source = tin.tri(0, Frame::Source);
+    if turn(source.a, source.b, source.c) <= 0 {
+        return None;
+    }
+    let target = tin.tri(0, Frame::Target);
+    if turn(target.a, target.b, target.c) <= 0 {
+        return None;
+    }
+    one_triangle_is_sound();
+    Some(SoundTin::of(tin))
+}
+
+fn corner(source: (i64, i64), target: (i64, i64)) -> Corner
+    ensures { (result.sx ≡ source.0) × (result.sy ≡ source.1) × (result.tx ≡ target.0) × (result.ty ≡ target.1) }
+{
+    Corner {
+        sx: source.0,
+        sy: source.1,
+        tx: target.0,
+        ty: target.1,
+    }
+}
+
+#[test]
+fn gives_images(rt: HostRuntime) -> Result<(), Fail> {
+    let alloc = rt.alloc();
+    let corners = vec![in alloc;
+        corner((0, 0), (100_000, 100_000)),
+        corner((10_000, 0), (110_002, 100_000)),
+        corner((0, 10_000), (100_000, 110_000)),
+    ]?;
+    let tin = tin_of(corners, vec![in alloc; [0, 1, 2]]?).expect(&rt, "within the limits");
+    let sound = sound_of(tin).expect(&rt, "positive turns");
+    for (x, y, want) in [
+        (
+            5_000,
+            0,
+            Some(Pt {
+                x: 105_001,
+                y: 100_000,
+            }),
+        ),
+        (
+            2_500,
+            2_500,
+            Some(Pt {
+                x: 102_501,
+                y: 102_500,
+            }),
+        ),
+        (
+            7_501,
+            2_499,
+            Some(Pt {
+                x: 107_503,
+                y: 102_499,
+            }),
+        ),
+        (
+            10_000,
+            0,
+            Some(Pt {
+                x: 110_002,
+                y: 100_000,
+            }),
+        ),
+        (
+            0,
+            10_000,
+            Some(Pt {
+                x: 100_000,
+                y: 110_000,
+            }),
+        ),
+        (5_001, 5_000, None),
+    ] {
+        assert_eq!(rt; image(&sound, Pt { x, y }), want, "at {x} {y}");
+    }
+    Ok(())
+}
+
+#[test]
+fn rounds_half_up_below_zero(rt: HostRuntime) -> Result<(), Fail> {
+    let alloc = rt.alloc();
+    let corners = vec![in alloc;
+        corner((0, 0), (-110_000, 0)),
+        corner((10_000, 0), (-99_998, 0)),
+        corner((0, 10_000), (-110_000, 10_000)),
+    ]?;
+    let tin = tin_of(corners, vec![in alloc; [0, 1, 2]]?).expect(&rt, "within the limits");
+    let sound = sound_of(tin).expect(&rt, "positive turns");
+    let want = Pt {
+        x: -107_499,
+        y: 2_500,
+    };
+    assert_eq!(rt; image(&sound, Pt { x: 2_500, y: 2_500 }), Some(want));
+    Ok(())
+}
+
+#[test]
+fn reaches_the_largest(rt: HostRuntime) -> Result<(), Fail> {
+    let alloc = rt.alloc();
+    let corners = vec![in alloc;
+        corner(
+            (999_998_926_258_177, -1_000_000_000_000_000),
+            (-999_999_999_999_999, 999_998_926_258_177)
+        ),
+        corner(
+            (1_000_000_000_000_000, -1_000_000_000_000_000),
+            (-999_998_926_258_177, 999_998_926_258_178)
+        ),
+        corner(
+            (999_998_926_258_178, -999_998_926_258_177),
+            (-1_000_000_000_000_000, 1_000_000_000_000_000)
+        ),
+    ]?;
+    let tin = tin_of(corners, vec![in alloc; [0, 1, 2]]?).expect(&rt, "within the limits");
+    let sound = sound_of(tin).expect(&rt, "positive turns");
+    for (x, y, want) in [
+        (
+            999_999_284_172_118,
+            -999_999_642_086_059,
+            Some(Pt {
+                x: -999_999_642_086_059,
+                y: 999_999_284_172_118,
+            }),
+        ),
+        (
+            999_998_926_258_178,
+            -999_998_926_258_177,
+            Some(Pt {
+                x: -1_000_000_000_000_000,
+                y: 1_000_000_000_000_000,
+            }),
+        ),
+    ] {
+        assert_eq!(rt; image(&sound, Pt { x, y }), want, "at {x} {y}");
+    }
+    Ok(())
+}
+
+#[test]
+fn gives_points_of_edges(rt: HostRuntime) -> Result<(), Fail> {
+    let alloc = rt.alloc();
+    let corners = vec![in alloc;
+        corner((0, 0), (100_000, 100_000)),
+        corner((10_000, 0), (110_002, 100_000)),
+        corner((0, 10_000), (100_000, 110_000)),
+    ]?;
+    let tin = tin_of(corners, vec![in alloc; [0, 1, 2]]?).expect(&rt, "within the limits");
+    let sound = sound_of(tin).expect(&rt, "positive turns");
+    for (p, q, num, den, x, y) in [
+        (0, 1, 1, 2, 105_001, 100_000),
+        (0, 1, 2_500, 10_000, 102_501, 100_000),
+        (1, 0, 3, 4, 102_501, 100_000),
+        (1, 2, 1, 4, 107_502, 102_500),
+        (2, 1, 0, 7, 100_000, 110_000),
+        (2, 1, 7, 7, 110_002, 100_000),
+        (1, 1, 2, 3, 110_002, 100_000),
+    ] {
+        assert_eq!(rt;
+            image_cut(&sound, p, q, Frac { num, den }),
+            Pt { x, y },
+            "at {num}/{den} from {p} to {q}"
+        );
+    }
+    Ok(())
+}
