@@ -1,0 +1,15 @@
+use Rattle.std.proofs.Common.{◌≤◌, length, ◌≡◌, ◌-◌}
+use Rattle.std.specs.Prelude.{slice_range, Some}
+use Rattle.text_places.specs.Machine.{run}
+use Rattle.jtext.specs.Tokens.{number_step}
+use Rattle.jtext.proofs.number.number_end.Given as goal
+
+abbrev pub invariant-loop-at : goal.invariant-loop-at
+invariant-loop-at l = record {
+  begun : l.from ≤ l.at;
+  within : l.at ≤ length l.bytes;
+  passes : run number_step l.fn.first (slice_range l.bytes l.from l.at) ≡ Some l.place;
+}
+
+abbrev pub decreases-loop-at : goal.decreases-loop-at
+decreases-loop-at l = length l.bytes - l.at

@@ -1,0 +1,11 @@
+pub mod Numbers
+pub mod Characters
+pub mod Values
+pub mod Nodes
+pub mod Texts
+pub mod Places
+pub mod Lookups
+pub mod Signs
+pub mod Tokens
+pub mod States
+pub mod Units

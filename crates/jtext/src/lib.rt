@@ -1,0 +1,20 @@
+//! JSON text read into flat nodes with their places; members and texts are compared with escapes
+//! resolved.
+#![tactic(auto)]
+
+mod document;
+mod lookup;
+mod number;
+mod reading;
+mod sameness;
+mod signs;
+mod stack;
+mod steps;
+#[cfg(test)]
+mod tests;
+mod text;
+mod word;
+
+pub use document::{Doc, Kind, Node, Nodes};
+pub use lookup::{Repeat, member, same_text};
+pub use reading::{DEEPEST, JsonFault, answers_exclude_each_other, read_json};

@@ -1,0 +1,213 @@
+//! Texts whose nodes or first faults were found without this reader (bench/json_places.py).
+
+use crate::{Doc, JsonFault, Kind, Node, member, read_json, same_text};
+use std::alloc::{AllocError, Global};
+use std::test::Fail;
+
+/// The fault of a short text.
+fn fault(alloc: Global, text: &[u8]) -> Option<JsonFault> {
+    if text.len() > 1000 {
+        return None;
+    }
+    read_json(alloc, text).err()
+}
+
+fn repeated(alloc: Global, byte: u8, count: usize) -> Result<Vec<u8>, AllocError> {
+    let mut text = Vec::new(alloc);
+    for _ in 0..count {
+        text.push(byte)?;
+    }
+    Ok(text)
+}
+
+#[test]
+fn reads_nodes(rt: HostRuntime) -> Result<(), Fail> {
+    let text = b"[1,{\"a\":\"\\u0041\"}]";
+    let doc = read_json(rt.alloc(), text)?;
+    let node = |kind, start, end, next| Node {
+        kind,
+        start,
+        end,
+        next,
+    };
+    let want = [
+        node(Kind::Array, 0, 18, 5),
+        node(Kind::Number, 1, 2, 2),
+        node(Kind::Object, 3, 17, 5),
+        node(Kind::Text, 4, 7, 4),
+        node(Kind::Text, 8, 16, 5),
+    ];
+    assert_eq!(rt; doc.nodes.items(), want.as_slice());
+    assert_eq!(rt; member(&doc, text, 2, b"a"), Ok(Some(4)));
+    assert!(rt; same_text(&doc, text, 4, b"A"));
+    Ok(())
+}
+
+#[test]
+fn limits_nesting(rt: HostRuntime) -> Result<(), Fail> {
+    for (byte, count, want) in [
+        (b'[', 64, JsonFault::Bad { at: 64 }),
+        (b'[', 65, JsonFault::Deep { at: 64 }),
+        (b'[', 900, JsonFault::Deep { at: 64 }),
+    ] {
+        let text = repeated(rt.alloc(), byte, count)?;
+        assert_eq!(rt; fault(rt.alloc(), &text), Some(want));
+    }
+    Ok(())
+}
+
+#[test]
+fn finds_faults_in_words_and_numbers(rt: HostRuntime) {
+    for (text, at) in [
+        (b"".as_slice(), 0),
+        (b" ".as_slice(), 1),
+        (b"\t\n".as_slice(), 2),
+        (b"x".as_slice(), 0),
+        (b"nul".as_slice(), 3),
+        (b"nulL".as_slice(), 3),
+        (b"truf".as_slice(), 3),
+        (b"tru".as_slice(), 3),
+        (b"fals ".as_slice(), 4),
+        (b"fa1se".as_slice(), 2),
+        (b"True".as_slice(), 0),
+        (b"-".as_slice(), 1),
+        (b"--1".as_slice(), 1),
+        (b"-a".as_slice(), 1),
+        (b"01".as_slice(), 1),
+        (b"-01".as_slice(), 2),
+        (b"1.".as_slice(), 2),
+        (b"1.e3".as_slice(), 2),
+        (b".5".as_slice(), 0),
+        (b"+1".as_slice(), 0),
+        (b"1e".as_slice(), 2),
+        (b"1e+".as_slice(), 3),
+        (b"1e+-2".as_slice(), 3),
+        (b"1E5.0".as_slice(), 3),
+        (b"0x10".as_slice(), 1),
+        (b"1 2".as_slice(), 2),
+        (b"1,".as_slice(), 1),
+        (b"'a'".as_slice(), 0),
+    ] {
+        assert_eq!(rt;
+            fault(rt.alloc(), text),
+            Some(JsonFault::Bad { at }),
+            "{text:?}"
+        );
+    }
+}
+
+#[test]
+fn finds_faults_in_texts(rt: HostRuntime) {
+    for (text, at) in [
+        (b"\"".as_slice(), 1),
+        (b"\"a".as_slice(), 2),
+        (b"\"a\n\"".as_slice(), 2),
+        (b"\"\x1F\"".as_slice(), 1),
+        (b"\"\\".as_slice(), 2),
+        (b"\"\\x\"".as_slice(), 2),
+        (b"\"\\u12\"".as_slice(), 5),
+        (b"\"\\u12G4\"".as_slice(), 5),
+        (b"\"\\u".as_slice(), 3),
+        (b"\"a\"b".as_slice(), 3),
+        (b"\"\x80\"".as_slice(), 1),
+        (b"\"\xC1\x81\"".as_slice(), 1),
+        (b"\"\xC3\"".as_slice(), 2),
+        (b"\"\xC3(".as_slice(), 2),
+        (b"\"\xE0\x9F\xBF\"".as_slice(), 2),
+        (b"\"\xE1\x80".as_slice(), 3),
+        (b"\"\xED\xA0\x80\"".as_slice(), 2),
+        (b"\"\xEF\xBF\"".as_slice(), 3),
+        (b"\"\xF0\x8F\xBF\xBF\"".as_slice(), 2),
+        (b"\"\xF0\x90\x80\"".as_slice(), 4),
+        (b"\"\xF4\x90\x80\x80\"".as_slice(), 2),
+        (b"\"\xF5\x80\x80\x80\"".as_slice(), 1),
+        (b"\"\xFF\"".as_slice(), 1),
+    ] {
+        assert_eq!(rt;
+            fault(rt.alloc(), text),
+            Some(JsonFault::Bad { at }),
+            "{text:?}"
+        );
+    }
+}
+
+#[test]
+fn finds_faults_in_arrays(rt: HostRuntime) {
+    for (text, at) in [
+        (b"[".as_slice(), 1),
+        (b"[1".as_slice(), 2),
+        (b"[1,".as_slice(), 3),
+        (b"[,".as_slice(), 1),
+        (b"[1,]".as_slice(), 3),
+        (b"[1,,2]".as_slice(), 3),
+        (b"[1 2]".as_slice(), 3),
+        (b"[1}".as_slice(), 2),
+        (b"[1]]".as_slice(), 3),
+        (b"[1][".as_slice(), 3),
+        (b"]".as_slice(), 0),
+        (b"[}".as_slice(), 1),
+        (b"[\x0C]".as_slice(), 1),
+        (b"[nulla]".as_slice(), 5),
+        (b"[1:2]".as_slice(), 2),
+        (b"[[1,[2,[3,\"x\x00\"]]]]".as_slice(), 12),
+    ] {
+        assert_eq!(rt;
+            fault(rt.alloc(), text),
+            Some(JsonFault::Bad { at }),
+            "{text:?}"
+        );
+    }
+}
+
+#[test]
+fn finds_faults_in_objects(rt: HostRuntime) {
+    for (text, at) in [
+        (b"{".as_slice(), 1),
+        (b"{1".as_slice(), 1),
+        (b"{\"a".as_slice(), 3),
+        (b"{\"a\"".as_slice(), 4),
+        (b"{\"a\":".as_slice(), 5),
+        (b"{\"a\":}".as_slice(), 5),
+        (b"{\"a\" 1}".as_slice(), 5),
+        (b"{\"a\":1".as_slice(), 6),
+        (b"{\"a\":1,".as_slice(), 7),
+        (b"{\"a\":1,}".as_slice(), 7),
+        (b"{\"a\":1 \"b\":2}".as_slice(), 7),
+        (b"{\"a\"::1}".as_slice(), 5),
+        (b"{,}".as_slice(), 1),
+        (b"{\"a\":1]".as_slice(), 6),
+        (b"{]".as_slice(), 1),
+        (b"{\"a\",\"b\"}".as_slice(), 4),
+        (b"}".as_slice(), 0),
+        (b"{a:1}".as_slice(), 1),
+        (b"{\"file_type\":".as_slice(), 13),
+        (b"[{\"a\":[1,{\"b\":tru]}]".as_slice(), 17),
+        (b"{\"a\":[1,2,{\"b\":\"\\ud83\"}]}".as_slice(), 21),
+        (b"{\"a\":{\"b\":{\"c\":1e}}}".as_slice(), 17),
+    ] {
+        assert_eq!(rt;
+            fault(rt.alloc(), text),
+            Some(JsonFault::Bad { at }),
+            "{text:?}"
+        );
+    }
+}
+
+#[test]
+fn finds_faults_in_marks(rt: HostRuntime) {
+    for (text, at) in [
+        (b"\xEF".as_slice(), 1),
+        (b"\xEF\xBB".as_slice(), 2),
+        (b"\xEF\xBB\xBF".as_slice(), 3),
+        (b"\xEF\xBB\xBE1".as_slice(), 2),
+        (b"\xEF\xBB\xBF\xEF\xBB\xBF1".as_slice(), 3),
+        (b" \xEF\xBB\xBF1".as_slice(), 1),
+        (b"\xFE\xFF".as_slice(), 0),
+    ] {
+        assert_eq!(rt;
+            fault(rt.alloc(), text),
+            Some(JsonFault::Bad { at }),
+            "{text:?}"
+        );
+    }
+}
