@@ -19,6 +19,10 @@ fn tin_of(corners: Vec<Corner>, triangles: Vec<[u32; 3]>) -> Option<Tin>
     }
 }
 
+fn at(x: i64, y: i64) -> Pt {
+    Pt { x, y }
+}
+
 fn is_near_on(a: i64, b: i64) -> bool
     ensures { IsTrue result ↔ (((a -ℤ b) <ℤ SPAN) × ((b -ℤ a) <ℤ SPAN)) }
 {
@@ -86,46 +90,11 @@ fn gives_images(rt: HostRuntime) -> Result<(), Fail> {
     let tin = tin_of(corners, vec![in alloc; [0, 1, 2]]?).expect(&rt, "within the limits");
     let sound = sound_of(tin).expect(&rt, "positive turns");
     for (x, y, want) in [
-        (
-            5_000,
-            0,
-            Some(Pt {
-                x: 105_001,
-                y: 100_000,
-            }),
-        ),
-        (
-            2_500,
-            2_500,
-            Some(Pt {
-                x: 102_501,
-                y: 102_500,
-            }),
-        ),
-        (
-            7_501,
-            2_499,
-            Some(Pt {
-                x: 107_503,
-                y: 102_499,
-            }),
-        ),
-        (
-            10_000,
-            0,
-            Some(Pt {
-                x: 110_002,
-                y: 100_000,
-            }),
-        ),
-        (
-            0,
-            10_000,
-            Some(Pt {
-                x: 100_000,
-                y: 110_000,
-            }),
-        ),
+        (5_000, 0, Some(at(105_001, 100_000))),
+        (2_500, 2_500, Some(at(102_501, 102_500))),
+        (7_501, 2_499, Some(at(107_503, 102_499))),
+        (10_000, 0, Some(at(110_002, 100_000))),
+        (0, 10_000, Some(at(100_000, 110_000))),
         (5_001, 5_000, None),
     ] {
         assert_eq!(rt; image(&sound, Pt { x, y }), want, "at {x} {y}");
@@ -143,10 +112,7 @@ fn rounds_half_up_below_zero(rt: HostRuntime) -> Result<(), Fail> {
     ]?;
     let tin = tin_of(corners, vec![in alloc; [0, 1, 2]]?).expect(&rt, "within the limits");
     let sound = sound_of(tin).expect(&rt, "positive turns");
-    let want = Pt {
-        x: -107_499,
-        y: 2_500,
-    };
+    let want = at(-107_499, 2_500);
     assert_eq!(rt; image(&sound, Pt { x: 2_500, y: 2_500 }), Some(want));
     Ok(())
 }
@@ -174,18 +140,12 @@ fn reaches_the_largest(rt: HostRuntime) -> Result<(), Fail> {
         (
             999_999_284_172_118,
             -999_999_642_086_059,
-            Some(Pt {
-                x: -999_999_642_086_059,
-                y: 999_999_284_172_118,
-            }),
+            Some(at(-999_999_642_086_059, 999_999_284_172_118)),
         ),
         (
             999_998_926_258_178,
             -999_998_926_258_177,
-            Some(Pt {
-                x: -1_000_000_000_000_000,
-                y: 1_000_000_000_000_000,
-            }),
+            Some(at(-1_000_000_000_000_000, 1_000_000_000_000_000)),
         ),
     ] {
         assert_eq!(rt; image(&sound, Pt { x, y }), want, "at {x} {y}");
