@@ -1,0 +1,64 @@
+use Rattle.std.proofs.Common.{map, string_bytes}
+use Rattle.tinmove.specs.declared.status.Status.TheVariants.{Same}
+use Rattle.tinmove.specs.declared.refusal.Refusal.TheVariants.{NotUnderstood}
+use Rattle.tinmove.specs.Wanted.{job_of}
+use Rattle.tinmove.specs.Refusals.{status_of}
+use Rattle.tinmove.specs.Prepared.{files_of}
+use Rattle.tinmove.proofs.Ending.{line_file, printed_of, never-write, ends_so, makes_refusal, makes_no_job, makes_files, told, told_always, stands_refused, stands_written, limit_told}
+use Rattle.tinmove.proofs.run.run.Goals as goal
+
+pub returns-in_default-clause-ends : goal.returns-in_default-clause-ends
+returns-in_default-clause-ends g c =
+    let e = c.refuse.ensures in
+    told_always (g.S.Shelf.files c.args.shelf.now) (λ files.
+    ends_so (map string_bytes c.args.words.now) files _ _ (line_file NotUnderstood) (status_of NotUnderstood) c.refuse.result (g.P.Press.made c.refuse.new.press) (never-write NotUnderstood)
+    (makes_no_job (map string_bytes c.args.words.now) files _ c.in_default.ensures.none) (record { status = e.status; all = e.whole; front = e.front; rose = e.rose }))
+
+pub returns-in_default-clause-stands : goal.returns-in_default-clause-stands
+returns-in_default-clause-stands g c =
+    let e = c.refuse.ensures in
+    stands_refused NotUnderstood c.refuse.result (g.P.Press.made c.refuse.new.press) _ (record { status = e.status; all = e.whole; front = e.front; rose = e.rose })
+
+pub returns-in_default-clause-limit : goal.returns-in_default-clause-limit
+returns-in_default-clause-limit g c =
+    let e = c.refuse.ensures in
+    limit_told NotUnderstood c.refuse.result (g.P.Press.made c.refuse.new.press) _ _ (record { status = e.status; all = e.whole; front = e.front; rose = e.rose }) (λ no. cc) (λ no. cc)
+
+pub returns-in-Ok-clause-ends : goal.returns-in-Ok-clause-ends
+returns-in-Ok-clause-ends g c =
+    let e = c.publish.ensures in
+    told (g.S.Shelf.files c.args.shelf.now) (λ files is.
+    ends_so (map string_bytes c.args.words.now) files _ _ (files_of c.in-Ok.written) Same c.publish.result (g.P.Press.made c.publish.new.press) (λ no. cc)
+    (makes_files (map string_bytes c.args.words.now) files _ (job_of c.in-Some.wanted) (files_of c.in-Ok.written) c.in-Some.ensures.found is)
+    (printed_of (files_of c.in-Ok.written) Same c.publish.result (g.P.Press.made c.publish.new.press) _ e.status e.whole e.front e.rose)) c.in-Ok.ensures.ok
+
+pub returns-in-Ok-clause-stands : goal.returns-in-Ok-clause-stands
+returns-in-Ok-clause-stands g c =
+    let e = c.publish.ensures in
+    stands_written c.in-Ok.written c.publish.result (g.P.Press.made c.publish.new.press) _
+    (printed_of (files_of c.in-Ok.written) Same c.publish.result (g.P.Press.made c.publish.new.press) _ e.status e.whole e.front e.rose)
+
+pub returns-in-Ok-clause-no_job : goal.returns-in-Ok-clause-no_job
+returns-in-Ok-clause-no_job g c = λ lacks. absurd (lacks (job_of c.in-Some.wanted) c.in-Some.ensures.found)
+
+pub returns-in-Err-clause-ends : goal.returns-in-Err-clause-ends
+returns-in-Err-clause-ends g c =
+    let e = c.refuse-in-Err.ensures in
+    told (g.S.Shelf.files c.args.shelf.now) (λ files is.
+    ends_so (map string_bytes c.args.words.now) files _ _ (line_file c.in-Err.refusal) (status_of c.in-Err.refusal) c.refuse-in-Err.result (g.P.Press.made c.refuse-in-Err.new.press) (never-write c.in-Err.refusal)
+    (makes_refusal (map string_bytes c.args.words.now) files _ (job_of c.in-Some.wanted) c.in-Err.refusal c.in-Some.ensures.found is)
+    (record { status = e.status; all = e.whole; front = e.front; rose = e.rose })) c.in-Err.ensures.refused
+
+pub returns-in-Err-clause-stands : goal.returns-in-Err-clause-stands
+returns-in-Err-clause-stands g c =
+    let e = c.refuse-in-Err.ensures in
+    stands_refused c.in-Err.refusal c.refuse-in-Err.result (g.P.Press.made c.refuse-in-Err.new.press) _ (record { status = e.status; all = e.whole; front = e.front; rose = e.rose })
+
+pub returns-in-Err-clause-no_job : goal.returns-in-Err-clause-no_job
+returns-in-Err-clause-no_job g c = λ lacks. absurd (lacks (job_of c.in-Some.wanted) c.in-Some.ensures.found)
+
+pub returns-in-Err-clause-limit : goal.returns-in-Err-clause-limit
+returns-in-Err-clause-limit g c =
+    let e = c.refuse-in-Err.ensures in
+    limit_told c.in-Err.refusal c.refuse-in-Err.result (g.P.Press.made c.refuse-in-Err.new.press) _ _ (record { status = e.status; all = e.whole; front = e.front; rose = e.rose })
+    c.in-Err.ensures.causes.tin_long c.in-Err.ensures.causes.layer_long

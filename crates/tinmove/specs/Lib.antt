@@ -1,0 +1,15 @@
+pub mod Plain
+pub mod Filled
+pub mod Names
+pub mod Jobs
+pub mod Wanted
+pub mod OneTriangle
+pub mod PointLines
+pub mod Carrying
+pub mod ReportText
+pub mod Counts
+pub mod Status
+pub mod Refusals
+pub mod Outcome
+pub mod Ends
+pub mod Prepared

@@ -1,0 +1,28 @@
+-- The text of a run's report.
+use Rattle.std.specs.Prelude.{ℕ, List, [], ◌∷◌, ◌++◌, codes, decimal}
+use Rattle.std.specs.List.{concat}
+
+-- the numbers and names of a report on one layer
+pub record Report : Type 0 where
+  pub corners : ℕ
+  pub triangles : ℕ
+  pub tin_inexact : ℕ
+  pub tin_name : List ℕ
+  pub paths : ℕ
+  pub layer_inexact : ℕ
+  pub layer_name : List ℕ
+
+abbrev pub tin_line : Report → List ℕ
+tin_line report = concat (
+    codes "triangulation corners " ∷ decimal report.corners ∷ codes " triangles " ∷ decimal report.triangles
+    ∷ codes " inexact " ∷ decimal report.tin_inexact ∷ codes " name " ∷ report.tin_name ∷ codes "\n" ∷ [])
+
+-- a path of one point has one segment, and that one piece
+abbrev pub layer_line : Report → List ℕ
+layer_line report = concat (
+    codes "layer 0 paths " ∷ decimal report.paths ∷ codes " segments " ∷ decimal report.paths ∷ codes " pieces " ∷ decimal report.paths
+    ∷ codes " inexact " ∷ decimal report.layer_inexact ∷ codes " dropped 0 name " ∷ report.layer_name ∷ codes "\n" ∷ [])
+
+-- the lines of the report, each ended by a line feed
+abbrev pub report_text : Report → List ℕ
+report_text report = codes "tinmove report 0\n" ++ tin_line report ++ layer_line report ++ codes "end\n"

@@ -1,0 +1,59 @@
+//! The report of a run.
+
+ghost use Rattle.std.specs.Prelude.{◌≡◌, IfOk, string_bytes};
+ghost use Rattle.tinmove.specs.ReportText.{tin_line as tin_line_of, layer_line as layer_line_of, report_text};
+ghost use Rattle.tinmove.specs.Counts.{report_of_counts};
+
+use std::alloc::{AllocError, Global};
+
+/// The counts and the names that a run's report gives.
+#[derive(Clone, Copy)]
+pub struct Counts<'a> {
+    pub corners: usize,
+    pub triangles: usize,
+    /// How many numbers of the triangulation lost digits.
+    pub tin_inexact: u64,
+    pub tin_name: &'a str,
+    pub paths: usize,
+    /// How many numbers of the layer lost digits.
+    pub layer_inexact: u64,
+    pub layer_name: &'a str,
+}
+
+/// The line of the triangulation.
+fn tin_line(alloc: Global, counts: Counts<'_>) -> Result<String, AllocError>
+    ensures { IfOk result (λ text. string_bytes text ≡ tin_line_of (report_of_counts counts.entry)) }
+{
+    let corners = counts.corners;
+    let triangles = counts.triangles;
+    let inexact = counts.tin_inexact;
+    let name = counts.tin_name;
+    format!(in alloc;
+        "triangulation corners {corners} triangles {triangles} inexact {inexact} name {name}\n"
+    )
+}
+
+/// The line of the layer.
+fn layer_line(alloc: Global, counts: Counts<'_>) -> Result<String, AllocError>
+    ensures { IfOk result (λ text. string_bytes text ≡ layer_line_of (report_of_counts counts.entry)) }
+{
+    let paths = counts.paths;
+    let inexact = counts.layer_inexact;
+    let name = counts.layer_name;
+    format!(in alloc;
+        "layer 0 paths {paths} segments {paths} pieces {paths} inexact {inexact} dropped 0 name {name}\n"
+    )
+}
+
+/// The report's text.
+pub fn write_report(alloc: Global, counts: Counts<'_>) -> Result<String, AllocError>
+    ensures { IfOk result (λ text. string_bytes text ≡ report_text (report_of_counts counts.entry)) }
+{
+    let tin = tin_line(alloc, counts)?;
+    let layer = layer_line(alloc, counts)?;
+    let mut text = String::from_str(alloc, "tinmove report 0\n")?;
+    text.push_str(tin.as_str())?;
+    text.push_str(layer.as_str())?;
+    text.push_str("end\n")?;
+    Ok(text)
+}
