@@ -7,7 +7,7 @@ use Rattle.text_places.specs.Machine.{run}
 use Rattle.text_places.proofs.Runs.{run_on}
 use Rattle.jtext.specs.Numbers.{IsDigit, AreDigits, IsMinus, IsInt, IsFraction, IsMark, IsSign, IsExponent, IsNumber}
 use Rattle.jtext.specs.Signs.{byte_sign}
-use Rattle.jtext.specs.Tokens.{number_after, number_step, is_last_place}
+use Rattle.jtext.specs.Tokens.{number_after, number_step, is_last_place, IsDigits}
 use Rattle.jtext.specs.declared.signs.Sign.{Sign}
 use Rattle.jtext.specs.declared.signs.Sign.TheVariants as signs
 use Rattle.jtext.specs.declared.number.NumberPlace.{NumberPlace}
@@ -46,12 +46,6 @@ digit_after numbers.Exponent wants sign (inl h) = ap (number_after numbers.Expon
 digit_after numbers.Exponent wants sign (inr h) = ap (number_after numbers.Exponent) h
 digit_after numbers.Minus wants sign h = absurd wants
 digit_after numbers.Zero wants sign h = absurd wants
-
-abbrev IsDigits : NumberPlace → Type 0
-IsDigits numbers.Whole = Unit {0}
-IsDigits numbers.Fraction = Unit {0}
-IsDigits numbers.Exponent = Unit {0}
-IsDigits place = ⊥
 
 pub digits_read : (place : NumberPlace) → IsDigits place → (digits : List ℕ) → AllByRecursion IsDigit digits → run number_step place digits ≡ Some place
 digits_read place is [] all = refl

@@ -51,6 +51,13 @@ is_last_place numbers.Fraction = true
 is_last_place numbers.Exponent = true
 is_last_place place = false
 
+-- any number of digits may follow
+abbrev pub IsDigits : NumberPlace → Type 0
+IsDigits numbers.Whole = Unit {0}
+IsDigits numbers.Fraction = Unit {0}
+IsDigits numbers.Exponent = Unit {0}
+IsDigits place = ⊥
+
 -- Texts.
 
 abbrev pub text_sign : ℕ → TextSign

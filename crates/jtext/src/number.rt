@@ -2,10 +2,9 @@
 
 ghost use Rattle.std.specs.Prelude.{◌≡◌, ◌≤◌, ◌<◌, ◌↔◌, length, slice_range, slice_index, Some, None, IsTrue};
 ghost use Rattle.text_places.specs.Machine.{run};
-ghost use Rattle.jtext.specs.Signs.{byte_sign};
-ghost use Rattle.jtext.specs.Tokens.{number_after, number_step, is_last_place};
-
-use crate::signs::Sign;
+ghost use Rattle.std.specs.List.{AllByRecursion};
+ghost use Rattle.jtext.specs.Numbers.{IsDigit};
+ghost use Rattle.jtext.specs.Tokens.{number_step, is_last_place, IsDigits};
 
 /// What was read last of a number.
 #[derive(Clone, Copy)]
@@ -38,65 +37,117 @@ impl NumberPlace {
         }
     }
 
-    /// The place behind one more byte, where the number goes on with it.
-    fn after(self, sign: Sign) -> Option<NumberPlace>
-        ensures { result ≡ number_after self sign }
+    /// Was a digit read last, behind which any number of digits may stand?
+    #[inline(always)]
+    fn is_in_digits(self) -> bool
+        ensures { IsTrue result ↔ IsDigits self }
     {
         match self {
-            NumberPlace::Minus => match sign {
-                Sign::Zero => Some(NumberPlace::Zero),
-                Sign::Digit => Some(NumberPlace::Whole),
+            NumberPlace::Whole | NumberPlace::Fraction | NumberPlace::Exponent => true,
+            NumberPlace::Minus
+            | NumberPlace::Zero
+            | NumberPlace::Point
+            | NumberPlace::Mark
+            | NumberPlace::MarkSign => false,
+        }
+    }
+
+    /// The place behind one more byte, where the number goes on with it.
+    #[inline(always)]
+    fn after(self, byte: u8) -> Option<NumberPlace>
+        ensures { result ≡ number_step self byte }
+    {
+        match self {
+            NumberPlace::Minus => match byte {
+                b'0' => Some(NumberPlace::Zero),
+                b'1'..=b'9' => Some(NumberPlace::Whole),
                 _ => None,
             },
-            NumberPlace::Zero => match sign {
-                Sign::Point => Some(NumberPlace::Point),
-                Sign::Mark => Some(NumberPlace::Mark),
+            NumberPlace::Zero => match byte {
+                b'.' => Some(NumberPlace::Point),
+                b'e' | b'E' => Some(NumberPlace::Mark),
                 _ => None,
             },
-            NumberPlace::Whole => match sign {
-                Sign::Zero | Sign::Digit => Some(NumberPlace::Whole),
-                Sign::Point => Some(NumberPlace::Point),
-                Sign::Mark => Some(NumberPlace::Mark),
+            NumberPlace::Whole => match byte {
+                b'.' => Some(NumberPlace::Point),
+                b'e' | b'E' => Some(NumberPlace::Mark),
+                b'0'..=b'9' => Some(NumberPlace::Whole),
                 _ => None,
             },
-            NumberPlace::Point => match sign {
-                Sign::Zero | Sign::Digit => Some(NumberPlace::Fraction),
+            NumberPlace::Point => match byte {
+                b'0'..=b'9' => Some(NumberPlace::Fraction),
                 _ => None,
             },
-            NumberPlace::Fraction => match sign {
-                Sign::Zero | Sign::Digit => Some(NumberPlace::Fraction),
-                Sign::Mark => Some(NumberPlace::Mark),
+            NumberPlace::Fraction => match byte {
+                b'e' | b'E' => Some(NumberPlace::Mark),
+                b'0'..=b'9' => Some(NumberPlace::Fraction),
                 _ => None,
             },
-            NumberPlace::Mark => match sign {
-                Sign::Plus | Sign::Minus => Some(NumberPlace::MarkSign),
-                Sign::Zero | Sign::Digit => Some(NumberPlace::Exponent),
+            NumberPlace::Mark => match byte {
+                b'+' | b'-' => Some(NumberPlace::MarkSign),
+                b'0'..=b'9' => Some(NumberPlace::Exponent),
                 _ => None,
             },
-            NumberPlace::MarkSign | NumberPlace::Exponent => match sign {
-                Sign::Zero | Sign::Digit => Some(NumberPlace::Exponent),
+            NumberPlace::MarkSign | NumberPlace::Exponent => match byte {
+                b'0'..=b'9' => Some(NumberPlace::Exponent),
                 _ => None,
             },
         }
     }
 }
 
+/// The first place from this one on where no digit stands.
+#[inline(always)]
+fn digits_end(bytes: &[u8], from: usize) -> usize
+    requires { from ≤ length bytes.now }
+    ensures within { (from ≤ result) × (result ≤ length bytes.now) }
+    ensures digits { AllByRecursion IsDigit (slice_range bytes.now from result) }
+{
+    let mut at = from;
+    while at < bytes.len() && is_digit(bytes[at]) {
+        at += 1;
+    }
+    at
+}
+
+#[inline(always)]
+fn is_digit(byte: u8) -> bool
+    ensures { IsTrue result ↔ IsDigit byte }
+{
+    byte >= b'0' && byte <= b'9'
+}
+
+/// The place behind the digits from this place on, where any number of them may stand.
+#[inline(always)]
+fn digits_behind(bytes: &[u8], from: usize, place: NumberPlace) -> usize
+    requires { from ≤ length bytes.now }
+    ensures within { (from ≤ result) × (result ≤ length bytes.now) }
+    ensures passes { run number_step place (slice_range bytes.now from result) ≡ Some place }
+{
+    if place.is_in_digits() {
+        digits_end(bytes, from)
+    } else {
+        from
+    }
+}
+
 /// Where a number ends that stands at this place behind the bytes before `from`, and its last place:
 /// it does not go on with the byte there.
+#[inline(always)]
 pub fn number_end(bytes: &[u8], from: usize, first: NumberPlace) -> (usize, NumberPlace)
     requires { from ≤ length bytes.now }
     ensures within { (from ≤ result.0) × (result.0 ≤ length bytes.now) }
     ensures passes { run number_step first (slice_range bytes.now from result.0) ≡ Some result.1 }
     ensures stops { result.0 < length bytes.now → number_step result.1 (slice_index bytes.now result.0) ≡ None }
 {
-    let mut at = from;
+    let mut at = digits_behind(bytes, from, first);
     let mut place = first;
     while at < bytes.len() {
-        match place.after(Sign::of(bytes[at])) {
+        match place.after(bytes[at]) {
             Some(next) => place = next,
             None => return (at, place),
         }
-        at += 1;
+        at = digits_behind(bytes, at + 1, place);
     }
     (at, place)
 }

@@ -138,6 +138,7 @@ fn is_blank(byte: u8) -> bool
 }
 
 /// Adds the node of a value or key without inner ones.
+#[inline(always)]
 fn add_node(nodes: &mut Vec<Node>, kind: Kind, start: usize, end: usize) -> Result<(), AllocError>
     requires few { length nodes.old.items < end }
     requires start { start < end }
@@ -182,6 +183,7 @@ fn read_word(
 }
 
 /// A number, of which the byte at this place leads to the first place.
+#[inline(always)]
 fn read_number(
     pass: &mut Pass,
     bytes: &[u8],
@@ -290,6 +292,7 @@ fn close_one(
 }
 
 /// A comma, which stands only in an array or object.
+#[inline(always)]
 fn separate(pass: &mut Pass, bytes: &[u8], at: usize) -> Result<(Place, usize), JsonFault>
     requires takes { Takes bytes.now pass.old.stack pass.old.nodes.items at (λ room. separated pass.old.stack pass.old.nodes.items at) }
     ensures { Goes bytes.now at result pass.new.stack pass.new.nodes.items }
@@ -365,6 +368,7 @@ fn read_token(
 
 /// White space, or a token, from this place on: what may come behind it, and its end. After a fault
 /// the pass is not to be used.
+#[inline(always)]
 pub fn step(
     pass: &mut Pass,
     bytes: &[u8],
@@ -376,10 +380,27 @@ pub fn step(
     requires reached { Reached bytes.now place pass.old.stack pass.old.nodes.items at }
     ensures { Goes bytes.now at result pass.new.stack pass.new.nodes.items }
 {
+    // The tokens of an array of numbers come first.
+    match place {
+        Place::Value | Place::FirstElement if is_nonzero_digit(bytes[at]) => {
+            return read_number(pass, bytes, at, NumberPlace::Whole);
+        }
+        Place::Value if bytes[at] == b'[' => return open_one(pass, bytes, at, Bracket::Square),
+        Place::Behind if bytes[at] == b',' => return separate(pass, bytes, at),
+        Place::Behind if bytes[at] == b']' => return close_one(pass, bytes, at, Bracket::Square),
+        _ => {}
+    }
     match Sign::of(bytes[at]) {
         Sign::Blank => Ok((place, blanks_end(bytes, at + 1))),
         sign => read_token(pass, bytes, at, place, sign),
     }
+}
+
+#[inline(always)]
+fn is_nonzero_digit(byte: u8) -> bool
+    ensures { IsTrue result ↔ byte_sign byte ≡ Sign.Digit }
+{
+    byte >= b'1' && byte <= b'9'
 }
 
 /// Can the text end here?

@@ -1,6 +1,8 @@
 //! Texts whose nodes or first faults were found without this reader (bench/json_places.py).
 
-use crate::{Doc, JsonFault, Kind, Node, member, read_json, same_text};
+ghost use Rattle.jtext.specs.Lookups.{IsAscii};
+
+use crate::{JsonFault, Kind, Node, Nodes, Repeat, member, read_json, same_text};
 use std::alloc::{AllocError, Global};
 use std::test::Fail;
 
@@ -18,6 +20,46 @@ fn repeated(alloc: Global, byte: u8, count: usize) -> Result<Vec<u8>, AllocError
         text.push(byte)?;
     }
     Ok(text)
+}
+
+/// What `member` answers at a node of a text, if it is an object.
+fn member_at(
+    alloc: Global,
+    text: &[u8],
+    number: u32,
+    key: &[u8],
+) -> Option<Result<Option<u32>, Repeat>>
+    requires { IsAscii key.now }
+{
+    if text.len() > 1000 {
+        return None;
+    }
+    let Ok(doc) = read_json(alloc, text) else {
+        return None;
+    };
+    if number as usize >= doc.nodes.items().len() {
+        return None;
+    }
+    match doc.nodes.items()[number as usize].kind {
+        Kind::Object => Some(member(&doc, text, number, key)),
+        _ => None,
+    }
+}
+
+/// What `same_text` answers at a node of a text.
+fn same_at(alloc: Global, text: &[u8], number: u32, want: &[u8]) -> Option<bool>
+    requires { IsAscii want.now }
+{
+    if text.len() > 1000 {
+        return None;
+    }
+    let Ok(doc) = read_json(alloc, text) else {
+        return None;
+    };
+    if number as usize >= doc.nodes.items().len() {
+        return None;
+    }
+    Some(same_text(&doc, text, number, want))
 }
 
 #[test]
@@ -38,9 +80,29 @@ fn reads_nodes(rt: HostRuntime) -> Result<(), Fail> {
         node(Kind::Text, 8, 16, 5),
     ];
     assert_eq!(rt; doc.nodes.items(), want.as_slice());
-    assert_eq!(rt; member(&doc, text, 2, b"a"), Ok(Some(4)));
-    assert!(rt; same_text(&doc, text, 4, b"A"));
+    assert_eq!(rt; member_at(rt.alloc(), text, 2, b"a"), Some(Ok(Some(4))));
+    assert_eq!(rt; same_at(rt.alloc(), text, 4, b"A"), Some(true));
+    let nodes = Nodes::of(Vec::new(rt.alloc()));
+    assert!(rt; nodes.items().is_empty());
     Ok(())
+}
+
+#[test]
+fn finds_members(rt: HostRuntime) {
+    let text = b"{\"a\":1,\"\\u0062\":2,\"c\":[3],\"b\\n\":4,\"c\":5,\"\":6,\"\xC3\xA4\":7}";
+    for (key, want) in [
+        (b"a".as_slice(), Ok(Some(2))),
+        (b"b", Ok(Some(4))),
+        (b"c", Err(Repeat { at: 34 })),
+        (b"b\n", Ok(Some(9))),
+        (b"", Ok(Some(13))),
+        (b"d", Ok(None)),
+        (b"aa", Ok(None)),
+    ] {
+        if key.is_ascii() {
+            assert_eq!(rt; member_at(rt.alloc(), text, 0, key), Some(want), "{key:?}");
+        }
+    }
 }
 
 #[test]
@@ -209,5 +271,51 @@ fn finds_faults_in_marks(rt: HostRuntime) {
             Some(JsonFault::Bad { at }),
             "{text:?}"
         );
+    }
+}
+
+#[test]
+fn compares_texts(rt: HostRuntime) {
+    let alloc = rt.alloc();
+    assert_eq!(rt; same_at(alloc, b"\"\\u0061\\u0041\"", 0, b"aA"), Some(true));
+    assert_eq!(rt;
+        same_at(
+            alloc,
+            b"\"\\\"\\\\\\/\\b\\f\\n\\r\\t\"",
+            0,
+            b"\"\\/\x08\x0C\n\r\t"
+        ),
+        Some(true)
+    );
+    assert_eq!(rt; same_at(alloc, b"\"\"", 0, b""), Some(true));
+    assert_eq!(rt; same_at(alloc, b"\"ab\"", 0, b"a"), Some(false));
+    assert_eq!(rt; same_at(alloc, b"\"a\"", 0, b"ab"), Some(false));
+    assert_eq!(rt; same_at(alloc, b"\"\\ud800\"", 0, b"?"), Some(false));
+    assert_eq!(rt; same_at(alloc, b"\"\\u0161\"", 0, b"a"), Some(false));
+    assert_eq!(rt; same_at(alloc, b"\"\xC3\xA4\"", 0, b"\x64"), Some(false));
+    assert_eq!(rt; same_at(alloc, b"1", 0, b"1"), Some(false));
+}
+
+#[test]
+fn accepts_texts(rt: HostRuntime) {
+    for text in [
+        b"null".as_slice(),
+        b" true\n",
+        b"\xEF\xBB\xBF false",
+        b"0",
+        b"-0",
+        b"-0.0e-0",
+        b"10.25E+3",
+        b"1e5",
+        b"\"\"",
+        b"\"\\ud834\\udd1e\\udd1e\"",
+        b"\"\xC2\x80\xDF\xBF\xE0\xA0\x80\xED\x9F\xBF\xEE\x80\x80\xF0\x90\x80\x80\xF4\x8F\xBF\xBF\x7F\"",
+        b"[]",
+        b"[ ]",
+        b" [ 1 , [ ] , { } ] ",
+        b"{}",
+        b"{ \"a\" : 1 , \"a\" : { \"b\" : [ null ] } }",
+    ] {
+        assert_eq!(rt; fault(rt.alloc(), text), None, "{text:?}");
     }
 }

@@ -1,12 +1,15 @@
-use Rattle.std.proofs.Common.{◌∙◌, ap, sym, arith}
-use Rattle.jtext.specs.Tokens.{number_step, number_after}
-use Rattle.jtext.proofs.Pieces.{passes_more}
+use Rattle.std.proofs.Common.{◌+◌, ◌∙◌, sym, arith}
+use Rattle.jtext.specs.Tokens.{number_step}
+use Rattle.jtext.proofs.Pieces.{passes_more, passes_on}
 use Rattle.jtext.proofs.number.number_end.Goals as goal
 
 pub loop-at-preserved : goal.loop-at-preserved
-loop-at-preserved c = record {
-  begun = omega arith;
-  within = omega arith;
-  passes = passes_more number_step c.args.first c.args.bytes.now c.args.from c.loop-at.at c.loop-at.place c.in-Some.next (omega arith) (omega arith) c.loop-at.invariant.passes
-      (ap (number_after c.loop-at.place) (sym c.of.ensures) ∙ sym c.after.ensures ∙ c.in-Some.is);
-}
+loop-at-preserved c =
+    let digits = c.digits_behind-at-in-loop-at in
+    record {
+      begun = omega (arith, digits.ensures.within.0);
+      within = omega (arith, digits.ensures.within.1);
+      passes = passes_on number_step c.args.first c.args.bytes.now c.args.from (c.loop-at.at + 1) digits.result c.in-Some.next c.in-Some.next (omega arith) digits.ensures.within.0 digits.ensures.within.1
+          (passes_more number_step c.args.first c.args.bytes.now c.args.from c.loop-at.at c.loop-at.place c.in-Some.next (omega arith) (omega arith) c.loop-at.invariant.passes (sym c.after.ensures ∙ c.in-Some.is))
+          digits.ensures.passes;
+    }
