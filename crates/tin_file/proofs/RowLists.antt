@@ -1,0 +1,60 @@
+-- Lists of rows, row by row.
+use Rattle.std.proofs.Common.{◌≡◌, ℕ, ◌+◌, List, [], ◌∷◌, ◌++◌, refl, sym, ap, ◌∙◌, append_assoc, append-nil}
+use Rattle.std.specs.Prelude.{Result, Ok, Err, IsErrAnd}
+use Rattle.jtext.specs.Values.{Json}
+use Rattle.tin_file.specs.Standing.{Gives, Equals}
+use Rattle.tin_file.specs.Vertices.{in_front}
+use Rattle.tin_file.specs.declared.faults.TinFault.{TinFault}
+use Rattle.tin_file.specs.declared.faults.TinFault.TheVariants.{NoMemory}
+
+-- what was read, and then what follows or the first fault
+abbrev pub behind : {A : Type 0} → List A → Result (List A) TinFault → Result (List A) TinFault
+behind done (Ok more) = Ok (done ++ more)
+behind done (Err fault) = Err fault
+
+pub equals_ok : {A : Type 0} (value : A) (wanted : Result A TinFault) → Equals (Ok value) wanted → wanted ≡ Ok value
+equals_ok value (Ok other) h = ap Ok (sym h)
+equals_ok value (Err fault) h = absurd h
+
+-- the fault of a part is the fault of the whole
+pub fault_of_part : {A B C : Type 0} (R : B → C → Type 0) (fault : TinFault) (part : Result A TinFault) (whole : Result C TinFault)
+    → Equals (Err fault) part → (part ≡ Err fault → whole ≡ Err fault) → Gives R (Err fault) whole
+fault_of_part R NoMemory part whole h on = tt
+fault_of_part R fault part whole h on = sym (on (sym h))
+
+module _ {A : Type 0} (of_row : ℕ → Json → Result A TinFault) (rows : ℕ → List Json → Result (List A) TinFault) where
+  -- the rows are taken one by one
+  abbrev pub AreByRow : Type 0
+  AreByRow = ((n : ℕ) → rows n [] ≡ Ok []) × ((n : ℕ) (value : Json) (values : List Json) → rows n (value ∷ values) ≡ in_front (of_row n value) (rows (n + 1) values))
+
+  -- these rows are read, and the whole is what follows them
+  pub record AreRead (done : List A) (n : ℕ) (rest : List Json) (whole : Result (List A) TinFault) : Type 0 where
+    pub whole_is : whole ≡ behind done (rows n rest)
+
+  module _ (by_row : AreByRow) (done : List A) (n : ℕ) (whole : Result (List A) TinFault) where
+    put_behind : (one : A) (more : Result (List A) TinFault) → behind done (in_front (Ok one) more) ≡ behind (done ++ one ∷ []) more
+    put_behind one (Ok others) = ap Ok (sym (append_assoc done (one ∷ []) others))
+    put_behind one (Err fault) = refl
+
+    pub row_read : (value : Json) (values : List Json) (one : A) → AreRead done n (value ∷ values) whole → of_row n value ≡ Ok one → AreRead (done ++ one ∷ []) (n + 1) values whole
+    row_read value values one h is = record {
+      whole_is = h.whole_is ∙ ap (behind done) (by_row.1 n value values ∙ ap (λ r. in_front r (rows (n + 1) values)) is) ∙ put_behind one (rows (n + 1) values);
+    }
+
+    pub row_refused : (value : Json) (values : List Json) (fault : TinFault) → AreRead done n (value ∷ values) whole → of_row n value ≡ Err fault → whole ≡ Err fault
+    row_refused value values fault h is = h.whole_is ∙ ap (behind done) (by_row.1 n value values ∙ ap (λ r. in_front r (rows (n + 1) values)) is)
+
+    pub rows_end : AreRead done n [] whole → whole ≡ Ok done
+    rows_end h = h.whole_is ∙ ap (behind done) (by_row.0 n) ∙ ap Ok (append-nil done)
+
+pub rows_begin : {A : Type 0} (of_row : ℕ → Json → Result A TinFault) (rows : ℕ → List Json → Result (List A) TinFault) (all : List Json) → AreRead of_row rows [] 0 all (rows 0 all)
+rows_begin {A} of_row rows all = record { whole_is = none (rows 0 all) }
+  where
+    none : (r : Result (List A) TinFault) → r ≡ behind [] r
+    none (Ok more) = refl
+    none (Err fault) = refl
+
+-- what an error is that a `?` passed on
+pub passed_on : {A : Type 0} (fault : TinFault) (r : Result A TinFault) → IsErrAnd r (λ e. e ≡ fault) → r ≡ Err fault
+passed_on fault (Ok value) h = absurd h
+passed_on fault (Err e) h = ap Err h

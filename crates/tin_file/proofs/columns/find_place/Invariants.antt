@@ -1,0 +1,11 @@
+use Rattle.std.proofs.Common.{◌≡◌, ◌++◌, List, drop}
+use Rattle.jtext.specs.Values.{Json}
+use Rattle.tin_file.specs.Headings.{places_of}
+use Rattle.tin_file.specs.Standing.{AreThere}
+use Rattle.tin_file.proofs.Loops.{found_places}
+use Rattle.tin_file.proofs.columns.find_place.Given as goal
+
+abbrev pub invariant-loop-place : goal.invariant-loop-place
+invariant-loop-place l =
+    (all : List Json) → AreThere l.doc.nodes l.bytes l.values all
+    → places_of l.name 0 all ≡ found_places l.found ++ places_of l.name l.place (drop l.place all)

@@ -1,0 +1,5 @@
+use Rattle.tin_file.proofs.Found.{says_is}
+use Rattle.tin_file.proofs.elements.tells.Goals as goal
+
+pub returns : goal.returns
+returns c is there = says_is is c.args.text.now c.same_text.result (c.same_text.ensures there.0 is there.1)

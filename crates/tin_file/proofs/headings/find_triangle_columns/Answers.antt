@@ -1,0 +1,32 @@
+use Rattle.std.proofs.Common.{◌≡◌, List, subst, sym}
+use Rattle.jtext.specs.Values.{Json}
+use Rattle.tin_file.specs.Headings.{triangle_columns, triangle_columns_in}
+use Rattle.tin_file.specs.Keys.{needed_list}
+use Rattle.tin_file.specs.Standing.{AreThere, AreNodes}
+use Rattle.tin_file.specs.declared.faults.Top.TheVariants as tops
+use Rattle.tin_file.proofs.There.{members_there}
+use Rattle.tin_file.proofs.Found.{values_found}
+use Rattle.tin_file.proofs.Sequels.{equals_is, fault_stays, then_made}
+use Rattle.tin_file.proofs.headings.find_triangle_columns.Goals as goal
+
+pub read_triangle_columns-requires-clause-nodes : goal.read_triangle_columns-requires-clause-nodes
+read_triangle_columns-requires-clause-nodes c =
+    let nodes = c.args.doc.now.nodes in let bytes = c.args.bytes.now in
+    let (members, h) = members_there c.args.doc.now bytes c.requires.read c.requires.object in
+    subst (AreNodes nodes bytes) (sym c.deref.ensures.value)
+    (values_found nodes bytes c.find_list.new.numbers.items (needed_list tops.TrianglesColumns members) (c.in-Ok.ensures members h))
+
+pub returns-in-Ok-clause-columns : goal.returns-in-Ok-clause-columns
+unfolding triangle_columns
+returns-in-Ok-clause-columns c members h =
+    let nodes = c.args.doc.now.nodes in let bytes = c.args.bytes.now in
+    then_made (λ (done : Unit {0}) (values : List Json). AreThere nodes bytes c.find_list.new.numbers.items values) (λ one other. one ≡ other) triangle_columns_in c.in-Ok.field-0 (needed_list tops.TrianglesColumns members)
+    c.read_triangle_columns.result (c.in-Ok.ensures members h)
+    (λ values there. equals_is c.read_triangle_columns.result (triangle_columns_in values)
+    (c.read_triangle_columns.ensures.columns values (subst (λ numbers. AreThere nodes bytes numbers values) (sym c.deref.ensures.value) there)))
+
+pub returns-in-Err-clause-columns : goal.returns-in-Err-clause-columns
+unfolding triangle_columns
+returns-in-Err-clause-columns c members h =
+    fault_stays (λ (done : Unit {0}) (values : List Json). AreThere c.args.doc.now.nodes c.args.bytes.now c.find_list.new.numbers.items values) (λ one other. one ≡ other) triangle_columns_in c.in-Err.fault
+    (needed_list tops.TrianglesColumns members) (c.in-Err.ensures members h)

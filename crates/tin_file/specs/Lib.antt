@@ -1,0 +1,8 @@
+pub mod Keys
+pub mod Headings
+pub mod Vertices
+pub mod Triangles
+pub mod Corners
+pub mod Reading
+pub mod Standing
+pub mod Gathered

@@ -1,0 +1,18 @@
+//! Triangulation files of PROJ's `tinshift` kind, formats 1.0 and 1.1, read from JSON text. Equal
+//! vertex rows are one corner, and clockwise triangles are turned.
+#![tactic(auto)]
+
+mod columns;
+mod elements;
+mod faults;
+mod headings;
+mod orienting;
+mod reading;
+mod spans;
+#[cfg(test)]
+mod tests;
+mod triangles;
+mod vertices;
+
+pub use faults::{Nearest, Rows, TinFault, Top};
+pub use reading::{MOST_BYTES, read_tin};

@@ -1,0 +1,234 @@
+//! Vertex rows, and the corners that they are.
+
+ghost use Rattle.std.specs.Prelude.{◌≡◌, ◌+◌, ◌^◌, ◌<◌, ◌≤◌, List, [], ◌∷◌, ◌++◌, length, OnOk, IfOk, IfErr};
+ghost use Rattle.jtext.specs.Values.{Json};
+ghost use Rattle.jtext.specs.Places.{IsReadFrom};
+ghost use Rattle.tin_base.specs.declared.limits.TheConstants.{MOST_CORNERS};
+ghost use Rattle.tin_file.specs.Vertices.{lost, accepted, number_in, vertex_from, vertex_in, vertex_of, vertex_rows};
+ghost use Rattle.tin_file.specs.Standing.{IsThere, AreThere, IsNode, AreNodes, Gives, Equals};
+ghost use Rattle.tin_file.specs.Gathered.{AreVertexColumns, AreGathered, AreCollected, numbers_in};
+ghost use Rattle.indexmap.specs.IndexSet.{index_set_len};
+
+use crate::columns::VertexColumns;
+use crate::elements::{holds_array, holds_number, list_elements, text_at};
+use crate::faults::{Rows, TinFault};
+use indexmap::IndexSet;
+use jtext::Doc;
+use mm_decimal::{MmRead, NumFault, read_mm};
+use sheet_base::How;
+use std::alloc::Global;
+use tin_base::Corner;
+
+/// The corner of a vertex row, and how many of its four numbers lost digits.
+#[derive(Clone, Copy)]
+pub struct Vertex {
+    pub corner: Corner,
+    pub inexact: u64,
+}
+
+/// The four numbers of a corner, by which rows are compared.
+#[derive(Clone, Copy, PartialEq, Eq, Hash)]
+pub struct Numbers {
+    pub source_x: i64,
+    pub source_y: i64,
+    pub target_x: i64,
+    pub target_y: i64,
+}
+
+/// Corners in order of their first rows, the number of each row's corner, and how many numbers lost
+/// digits.
+#[derive(Drop)]
+pub struct Vertices {
+    pub corners: Vec<Corner>,
+    pub numbers: Vec<u32>,
+    pub inexact: u64,
+}
+
+/// What is read of a number text, where it is accepted.
+fn accept(how: How, row: u32, answer: Result<MmRead, NumFault>) -> Result<MmRead, TinFault>
+    ensures { result ≡ accepted how row answer }
+{
+    match answer {
+        Ok(read) => {
+            if how.exact && !read.exact {
+                Err(TinFault::Inexact { row })
+            } else {
+                Ok(read)
+            }
+        }
+        Err(fault) => Err(TinFault::Number { row, fault }),
+    }
+}
+
+/// The number that a value of this vertex row is.
+fn read_number(doc: &Doc, bytes: &[u8], how: How, row: u32, value: u32) -> Result<MmRead, TinFault>
+    requires { IsNode doc.now.nodes bytes.now value }
+    ensures { (is : Json) → IsThere doc.now.nodes bytes.now value is
+        → result ≡ number_in how row is }
+{
+    if holds_number(doc, value) {
+        accept(how, row, read_mm(text_at(doc, bytes, value)))
+    } else {
+        Err(TinFault::Row {
+            list: Rows::Vertices,
+            row,
+        })
+    }
+}
+
+/// 1 where digits were lost.
+fn count_lost(read: MmRead) -> u64
+    ensures lost { result ≡ lost read }
+    ensures small { result ≤ 1 }
+{
+    if read.exact { 0 } else { 1 }
+}
+
+/// The corner of four numbers, or the first fault of them.
+fn combine(
+    sx: Result<MmRead, TinFault>,
+    sy: Result<MmRead, TinFault>,
+    tx: Result<MmRead, TinFault>,
+    ty: Result<MmRead, TinFault>,
+) -> Result<Vertex, TinFault>
+    ensures vertex { result ≡ vertex_from sx sy tx ty }
+    ensures small { IfOk result (λ vertex. vertex.inexact ≤ 4) }
+{
+    match (sx, sy, tx, ty) {
+        (Ok(sx), Ok(sy), Ok(tx), Ok(ty)) => Ok(Vertex {
+            corner: Corner {
+                sx: sx.mm,
+                sy: sy.mm,
+                tx: tx.mm,
+                ty: ty.mm,
+            },
+            inexact: count_lost(sx) + (count_lost(sy) + (count_lost(tx) + count_lost(ty))),
+        }),
+        (Err(fault), _, _, _) => Err(fault),
+        (Ok(_), Err(fault), _, _) => Err(fault),
+        (Ok(_), Ok(_), Err(fault), _) => Err(fault),
+        (Ok(_), Ok(_), Ok(_), Err(fault)) => Err(fault),
+    }
+}
+
+/// The corner of a row with these elements.
+fn read_elements(
+    doc: &Doc,
+    bytes: &[u8],
+    how: How,
+    columns: VertexColumns,
+    row: u32,
+    values: &[u32],
+) -> Result<Vertex, TinFault>
+    requires columns { AreVertexColumns columns }
+    requires nodes { AreNodes doc.now.nodes bytes.now values.now }
+    ensures vertex { (all : List Json) → AreThere doc.now.nodes bytes.now values.now all
+        → result ≡ vertex_in how columns row all }
+    ensures small { IfOk result (λ vertex. vertex.inexact ≤ 4) }
+{
+    if values.len() != columns.count {
+        return Err(TinFault::Row {
+            list: Rows::Vertices,
+            row,
+        });
+    }
+    let sx = read_number(doc, bytes, how, row, values[columns.source_x]);
+    let sy = read_number(doc, bytes, how, row, values[columns.source_y]);
+    let tx = read_number(doc, bytes, how, row, values[columns.target_x]);
+    let ty = read_number(doc, bytes, how, row, values[columns.target_y]);
+    combine(sx, sy, tx, ty)
+}
+
+/// The corner of a row. The list is room for the row's elements.
+fn read_vertex(
+    doc: &Doc,
+    bytes: &[u8],
+    how: How,
+    columns: VertexColumns,
+    row: u32,
+    value: u32,
+    values: &mut Vec<u32>,
+) -> Result<Vertex, TinFault>
+    requires columns { AreVertexColumns columns }
+    requires node { IsNode doc.now.nodes bytes.now value }
+    ensures vertex { (is : Json) → IsThere doc.now.nodes bytes.now value is
+        → Equals result (vertex_of how columns row is) }
+    ensures small { IfOk result (λ vertex. vertex.inexact ≤ 4) }
+{
+    if !holds_array(doc, value) {
+        return Err(TinFault::Row {
+            list: Rows::Vertices,
+            row,
+        });
+    }
+    list_elements(doc, value, values)?;
+    read_elements(doc, bytes, how, columns, row, values)
+}
+
+/// The four numbers of a corner.
+fn numbers_of(corner: Corner) -> Numbers
+    ensures { result ≡ numbers_in corner }
+{
+    Numbers {
+        source_x: corner.sx,
+        source_y: corner.sy,
+        target_x: corner.tx,
+        target_y: corner.ty,
+    }
+}
+
+/// Adds a row's corner, where no earlier row has it, and its number.
+fn add(
+    vertices: &mut Vertices,
+    seen: &mut IndexSet<Numbers>,
+    vertex: Vertex,
+) -> Result<(), TinFault>
+    requires few { index_set_len seen.old < MOST_CORNERS }
+    requires room { vertices.old.inexact + vertex.inexact < 2 ^ 64 }
+    ensures added { OnOk result ((rows : List Vertex) → AreCollected vertices.old seen.old rows
+        → AreCollected vertices.new seen.new (rows ++ vertex ∷ [])) }
+    ensures count { OnOk result (index_set_len seen.new ≤ index_set_len seen.old + 1) }
+    ensures inexact { OnOk result (vertices.new.inexact ≡ vertices.old.inexact + vertex.inexact) }
+    ensures memory { IfErr result (λ fault. fault ≡ TinFault.NoMemory) }
+{
+    match seen.insert_full(numbers_of(vertex.corner)) {
+        Ok((number, is_new)) => {
+            if is_new {
+                vertices.corners.push(vertex.corner)?;
+            }
+            vertices.numbers.push(number as u32)?;
+            vertices.inexact += vertex.inexact;
+            Ok(())
+        }
+        Err(_) => Err(TinFault::NoMemory),
+    }
+}
+
+/// The corners of all rows. The list is room for the elements of a row.
+pub fn read_vertices(
+    alloc: Global,
+    doc: &Doc,
+    bytes: &[u8],
+    how: How,
+    columns: VertexColumns,
+    rows: &[u32],
+    values: &mut Vec<u32>,
+) -> Result<Vertices, TinFault>
+    requires columns { AreVertexColumns columns }
+    requires few { length rows.now ≤ MOST_CORNERS }
+    requires nodes { AreNodes doc.now.nodes bytes.now rows.now }
+    ensures { (all : List Json) → AreThere doc.now.nodes bytes.now rows.now all
+        → Gives AreGathered result (vertex_rows how columns 0 all) }
+{
+    let mut seen = IndexSet::with_capacity(alloc, rows.len())?;
+    let mut vertices = Vertices {
+        corners: Vec::with_capacity(alloc, rows.len())?,
+        numbers: Vec::with_capacity(alloc, rows.len())?,
+        inexact: 0,
+    };
+    for (row, value) in rows.iter().enumerate() {
+        let vertex = read_vertex(doc, bytes, how, columns, row as u32, *value, values)?;
+        add(&mut vertices, &mut seen, vertex)?;
+    }
+    Ok(vertices)
+}
