@@ -1,6 +1,17 @@
-//! What all formats of layers share. It begins with how a file is read.
+//! What all formats of layers share: how a file is read, the sheet of paths and edits that is read of a layer, and the
+//! images that take the place of its points.
 #![tactic(auto)]
 
+mod edits;
 mod flags;
+mod images;
+mod lists;
+mod paths;
+mod sheets;
 
+pub use edits::{Edit, What};
 pub use flags::How;
+pub use images::Images;
+pub use lists::Listed;
+pub use paths::{PathKind, PathRow};
+pub use sheets::Sheet;

@@ -1,0 +1,37 @@
+-- When images fit a sheet: one run of images for each of its points.
+use Rattle.std.specs.Prelude.{◌≡◌, ◌≢◌, ◌⊎◌, ℕ, ◌+◌, ◌<◌, ◌≤◌, ◌^◌, unsigned_abs, All, List, length, slice_index_or}
+use Rattle.mm_decimal.specs.declared.limits.TheConstants.{LIMIT}
+use Rattle.plane_base.specs.declared.shapes.Pt.{Pt}
+use Rattle.sheet_base.specs.declared.paths.PathKind.TheVariants.{Loop}
+use Rattle.sheet_base.specs.declared.paths.PathRow.{PathRow}
+use Rattle.sheet_base.specs.Sheets.{Contents}
+use Rattle.sheet_base.specs.Segments.{points_in}
+
+-- the images of a layer's points and crossings in order, and the place of each point's own image among them
+pub record Runs : Type 0 where
+  pub points : List Pt
+  pub run : List ℕ
+
+-- where the run of this point begins; behind the last one, where the images end
+abbrev pub run_begin : Runs → ℕ → ℕ
+run_begin images point = slice_index_or images.run point (length images.points)
+
+-- the run of this point is its own image alone
+abbrev pub IsAlone : Runs → ℕ → Type 0
+IsAlone images point = run_begin images (point + 1) ≡ run_begin images point + 1
+
+-- no crossing stands behind the last point of the path, where that begins no segment to another point
+abbrev pub EndsAlone : Runs → PathRow → Type 0
+EndsAlone images path = (path.kind ≢ Loop) ⊎ (points_in path ≡ 1) → (last : ℕ) → last + 1 ≡ path.past → IsAlone images last
+
+abbrev pub IsWithinReach : Pt → Type 0
+IsWithinReach point = (unsigned_abs point.x ≤ LIMIT) × (unsigned_abs point.y ≤ LIMIT)
+
+-- each point of the sheet has one run, the runs follow each other without a gap from the first image to the last, and none is empty
+pub record DoFit (sheet : Contents) (images : Runs) : Type 0 where
+  pub few : length images.points < 2 ^ 32
+  pub one_each : length images.run ≡ length sheet.points
+  pub begins : run_begin images 0 ≡ 0
+  pub rises : (point : ℕ) → point < length sheet.points → run_begin images point < run_begin images (point + 1)
+  pub alone : All (EndsAlone images) sheet.paths
+  pub in_reach : All IsWithinReach images.points

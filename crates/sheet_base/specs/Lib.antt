@@ -1,0 +1,4 @@
+pub mod Sheets
+pub mod Segments
+pub mod Fitting
+pub mod Kept

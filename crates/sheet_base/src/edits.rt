@@ -1,0 +1,41 @@
+/// The text that takes the place of an edit's bytes. Paths and points are told by their numbers in the sheet.
+/// A path's image list has the images of its points, each with those of the crossings behind it.
+#[derive(Clone, Copy, Debug, PartialEq, Eq)]
+pub enum What {
+    /// The path's image list in well-known text.
+    WktList { path: u32 },
+    /// The path's image list in well-known text, and its first image again.
+    WktRing { path: u32 },
+    /// The path's image list as GeoJSON positions.
+    GeoList { path: u32 },
+    /// The path's image list as GeoJSON positions, and its first image again.
+    GeoRing { path: u32 },
+    /// The least box of the images of the paths from the number `first` to before the number `past`.
+    Bounds { first: u32, past: u32 },
+    /// The word `null`.
+    Null,
+    /// The x of the point's image.
+    X { point: u32 },
+    /// The y of the point's image.
+    Y { point: u32 },
+    /// A vertex of a polyline for each crossing behind the point.
+    Vertices { point: u32 },
+    /// The number of images of the points from the number `first` to before the number `past`.
+    Tally { first: u32, past: u32 },
+    /// A copy of a line's entity for each of its pieces.
+    Lines { path: u32 },
+    /// A copy of a vertex's entity for the point's image and for each crossing behind it.
+    Vertex { point: u32 },
+    /// The handle after the last one that was given.
+    NextHandle,
+    /// Nothing.
+    Drop,
+}
+
+/// A change of a layer's bytes: what takes the place of those from `start` to before `end`, counted from 0.
+#[derive(Clone, Copy, Debug, PartialEq, Eq)]
+pub struct Edit {
+    pub start: u32,
+    pub end: u32,
+    pub what: What,
+}
