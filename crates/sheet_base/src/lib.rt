@@ -3,6 +3,7 @@
 #![tactic(auto)]
 
 mod edits;
+mod faults;
 mod flags;
 mod images;
 mod lists;
@@ -10,6 +11,7 @@ mod paths;
 mod sheets;
 
 pub use edits::{Edit, What};
+pub use faults::LayerFault;
 pub use flags::How;
 pub use images::Images;
 pub use lists::Listed;
