@@ -1,0 +1,124 @@
+-- The slice of a triangle, and the part that begins at a parameter.
+use Rattle.std.proofs.Common.{◌≡◌, ℕ, ◌+◌, ◌*◌, ◌<◌, ◌≤◌, ℤ, pos, ◌+ℤ◌, ◌-ℤ◌, ◌*ℤ◌, ◌≤ℤ◌, ◌<ℤ◌, List, sym, subst, refl, length, arith}
+use Rattle.std.proofs.lemmas.Int.{ints}
+use Rattle.integer_ring.proofs.Ring.{num, neg, ◌⊕◌, ◌⊖◌, ◌⊗◌}
+use Rattle.integer_ring.proofs.Claims.{◌≐◌, ◌≼◌, gap, eqn, ◌⊞◌, ◌because◌, ◌⇒◌, follows}
+use lib.Signed.{lt_z_yes}
+use Rattle.frac128.specs.declared.frac.Frac.{Frac}
+use Rattle.frac128.specs.Fractions.{IsSameValue, IsBelow}
+use Rattle.plane_base.specs.Plane.{Point, IsMix, whole, corners, along}
+use Rattle.plane_base.specs.Slices.{IsParam, IsIn}
+use Rattle.plane_base.specs.declared.shapes.Pt.{Pt}
+use Rattle.plane_base.specs.declared.shapes.Tri.{Tri}
+use Rattle.plane_base.specs.declared.slicing.Stretch.{Stretch}
+use Rattle.plane_base.proofs.Mixes.{same_refl, same_moved, same_trans, between-w}
+use Rattle.tin_base.specs.declared.frames.Frame.TheVariants.{Source}
+use Rattle.tin_base.specs.Triangulation.{Triangulation, numbers_of, places}
+use Rattle.tin_base.specs.Limits.{IsWithinLimits}
+use Rattle.tin_base.specs.Segments.{Spot, spot_at, IsNotAfter, IsSameSpot, IsShared, IsPart}
+use Rattle.tin_base.proofs.Ends.{IsSpot, before_trans_left, before_trans_right, no_later_trans}
+use Rattle.tin_base.proofs.Slicing.{SlicePart, slice_part}
+use Rattle.seg_walk.specs.Steps.{spot_of, IsSliceIn}
+use Rattle.seg_walk.specs.Beginning.{MissesTriangle}
+use Rattle.seg_walk.proofs.Standing.{stands}
+use Rattle.seg_walk.proofs.Spots.{at_spot, spot_is, spot_some, same_value, below}
+use Rattle.seg_walk.proofs.Apart.{same_of, from_same, up_to_same}
+
+-- ---- the spots of a triangle are parameters of its points
+param_of : (k l : ℕ) → 0 < l + k → IsParam (pos k) (pos l +ℤ pos k)
+param_of k l h = (omega (arith, ints), omega (arith, ints), omega (arith, ints))
+
+itself : (k l : ℕ) → pos l +ℤ pos k -ℤ pos k ≡ pos l
+itself k l = omega (arith, ints)
+
+one_axis : (n d k l a b : ℤ) → n ≡ k → d -ℤ n ≡ l → (d -ℤ n) *ℤ a +ℤ n *ℤ b ≡ l *ℤ a +ℤ (k *ℤ b +ℤ pos 0)
+one_axis = follows 6 (λ n d k l a b. n ≐ k ⇒ d ⊖ n ≐ l ⇒ (d ⊖ n) ⊗ a ⊕ n ⊗ b ≐ l ⊗ a ⊕ (k ⊗ b ⊕ num (pos 0)) because eqn 0 b ⊞ eqn 1 a) tt
+
+mix_by : (p q : Point) (ps : List Point) → pos 0 <ℤ p.w → q.x ≡ p.x → q.y ≡ p.y → q.w ≡ p.w → IsMix p ps → IsMix q ps
+mix_by p q ps h ex ey ew m = (m.0, m.1, m.2, same_trans q p _ h (same_moved q q p ex ey ew (same_refl q)) m.3)
+
+one : pos 0 <ℤ pos 1
+one = lt_z_yes tt
+
+pub spot-w : (a b : Pt) (s : Spot) → IsSpot s → pos 0 <ℤ (spot_at a b s).w
+spot-w a b s some = between-w (whole a) (whole b) (spot_at a b s) (record { k = s.of_a; l = s.of_b; some = some; same = same_refl (spot_at a b s) }) one one
+
+pub in_spot : (a b : Pt) (r : Tri) (s : Spot) → IsSpot s → IsMix (spot_at a b s) (corners r) → IsIn a b r (pos s.of_b) (pos s.of_a +ℤ pos s.of_b)
+in_spot a b r s some m =
+    let k = pos s.of_b in let l = pos s.of_a in
+    let e = itself s.of_b s.of_a in (
+      param_of s.of_b s.of_a some,
+      mix_by (spot_at a b s) (along (whole a) (whole b) k (l +ℤ k)) (corners r) (spot-w a b s some)
+          (one_axis k (l +ℤ k) k l a.x b.x refl e) (one_axis k (l +ℤ k) k l a.y b.y refl e) (one_axis k (l +ℤ k) k l (pos 1) (pos 1) refl e) m,
+    )
+
+-- ---- a triangle with a part is not missed
+pub not_missed : (tin : Triangulation) (a b : Pt) (t : ℕ) (s : Spot) → IsWithinLimits tin → t < length tin.triangles → MissesTriangle tin a b t → IsShared tin a b t s → ⊥
+not_missed tin a b t s limits ht misses h = go (stands tin t limits ht)
+  where
+    go : (r : Tri) × (corners r ≡ places tin Source (numbers_of tin t)) → ⊥
+    go r = misses r.0 r.1 (pos s.of_b) (pos s.of_a +ℤ pos s.of_b) (in_spot a b r.0 s h.some (subst (λ (ps : List Point). IsMix (spot_at a b s) ps) (sym r.1) h.inside))
+
+-- ---- a slice that goes on is the part
+pub part_told : (tin : Triangulation) (a b : Pt) (t : ℕ) (slice : Stretch) → IsWithinLimits tin → t < length tin.triangles → IsSliceIn tin a b t slice → IsBelow slice.lo slice.hi → IsPart tin a b t (spot_of slice.lo) (spot_of slice.hi)
+part_told tin a b t slice limits ht told order = go (stands tin t limits ht)
+  where
+    by : SlicePart tin a b t slice → IsPart tin a b t (spot_of slice.lo) (spot_of slice.hi)
+    by p = subst (λ (s : Spot). IsPart tin a b t (spot_of slice.lo) s) (sym (spot_is slice.hi p.last p.at_hi)) (subst (λ (s : Spot). IsPart tin a b t s p.last) (sym (spot_is slice.lo p.first p.at_lo)) p.part)
+
+    go : (r : Tri) × (corners r ≡ places tin Source (numbers_of tin t)) → IsPart tin a b t (spot_of slice.lo) (spot_of slice.hi)
+    go r = by (slice_part tin a b t r.0 slice ht r.1 (told r.0 r.1).0 order)
+
+-- ---- both ends of a slice are parameters
+pub record HasParams (slice : Stretch) : Type 0 where
+  pub lo : IsParam slice.lo.num slice.lo.den
+  pub hi : IsParam slice.hi.num slice.hi.den
+
+pub params : (tin : Triangulation) (a b : Pt) (t : ℕ) (slice : Stretch) → IsWithinLimits tin → t < length tin.triangles → IsSliceIn tin a b t slice → HasParams slice
+params tin a b t slice limits ht told = go (stands tin t limits ht)
+  where
+    go : (r : Tri) × (corners r ≡ places tin Source (numbers_of tin t)) → HasParams slice
+    go r = let common = (told r.0 r.1).0 in record { lo = common.0.0; hi = common.1.0 }
+
+-- ---- each spot of the triangle is from the slice's first to its last
+from_z : (n d k l s t : ℤ) → n ≡ k → d -ℤ n ≡ l → (n *ℤ (s +ℤ t)) ≤ℤ (t *ℤ d) → (k *ℤ s) ≤ℤ (t *ℤ l)
+from_z = follows 6 (λ n d k l s t. n ≐ k ⇒ d ⊖ n ≐ l ⇒ n ⊗ (s ⊕ t) ≼ t ⊗ d ⇒ k ⊗ s ≼ t ⊗ l because gap 2 ⊞ eqn 0 (neg s) ⊞ eqn 1 t) tt
+
+upto_z : (n d k l s t : ℤ) → n ≡ k → d -ℤ n ≡ l → (t *ℤ d) ≤ℤ (n *ℤ (s +ℤ t)) → (t *ℤ l) ≤ℤ (k *ℤ s)
+upto_z = follows 6 (λ n d k l s t. n ≐ k ⇒ d ⊖ n ≐ l ⇒ t ⊗ d ≼ n ⊗ (s ⊕ t) ⇒ t ⊗ l ≼ k ⊗ s because gap 2 ⊞ eqn 0 s ⊞ eqn 1 (neg t)) tt
+
+out_z : (m n : ℕ) → pos m ≤ℤ pos n → m ≤ n
+out_z m n h = omega (arith, ints)
+
+within : (tin : Triangulation) (a b : Pt) (t : ℕ) (slice : Stretch) (s : Spot) → IsWithinLimits tin → t < length tin.triangles → IsSliceIn tin a b t slice → IsShared tin a b t s → IsNotAfter (spot_of slice.lo) s × IsNotAfter s (spot_of slice.hi)
+within tin a b t slice s limits ht told h = go (stands tin t limits ht) (params tin a b t slice limits ht told)
+  where
+    go : (r : Tri) × (corners r ≡ places tin Source (numbers_of tin t)) → HasParams slice → IsNotAfter (spot_of slice.lo) s × IsNotAfter s (spot_of slice.hi)
+    go r ends =
+        let common = (told r.0 r.1).0 in
+        let at_lo = at_spot slice.lo ends.lo in let at_hi = at_spot slice.hi ends.hi in
+        let first = spot_of slice.lo in let last = spot_of slice.hi in
+        let between = common.2 (pos s.of_b) (pos s.of_a +ℤ pos s.of_b) (in_spot a b r.0 s h.some (subst (λ (ps : List Point). IsMix (spot_at a b s) ps) (sym r.1) h.inside)) in (
+          out_z (first.of_b * s.of_a) (s.of_b * first.of_a) (from_z slice.lo.num slice.lo.den (pos first.of_b) (pos first.of_a) (pos s.of_a) (pos s.of_b) at_lo.share at_lo.rest between.0),
+          out_z (s.of_b * last.of_a) (last.of_b * s.of_a) (upto_z slice.hi.num slice.hi.den (pos last.of_b) (pos last.of_a) (pos s.of_a) (pos s.of_b) at_hi.share at_hi.rest between.1),
+        )
+
+-- ---- a triangle whose slice does not go on from a parameter has no part that begins there
+pub not_begun : (tin : Triangulation) (a b : Pt) (t : ℕ) (slice : Stretch) (at : Frac) (f l : Spot) → IsWithinLimits tin → t < length tin.triangles → IsSliceIn tin a b t slice → IsParam at.num at.den → (IsSameValue slice.lo at × IsBelow slice.lo slice.hi → ⊥) → IsPart tin a b t f l → IsSameSpot f (spot_of at) → ⊥
+not_begun tin a b t slice at f l limits ht told param out p begins = go (params tin a b t slice limits ht told)
+  where
+    go : HasParams slice → ⊥
+    go ends =
+        let has_f = p.has_first in let has_l = p.has_last in
+        let lo = spot_of slice.lo in let hi = spot_of slice.hi in
+        let by_f = within tin a b t slice f limits ht told p.has_first in
+        let by_l = within tin a b t slice l limits ht told p.has_last in
+        let lo_some = spot_some slice.lo ends.lo in
+        let hi_some = spot_some slice.hi ends.hi in
+        let at_some = spot_some at param in
+        let order = below slice.lo slice.hi ends.lo ends.hi (before_trans_left lo f hi lo_some by_f.0 (before_trans_right f l hi hi_some p.differ by_l.1)) in
+        let part = part_told tin a b t slice limits ht told order in
+        let f_lo = p.none_before lo part.has_first in
+        let upto = no_later_trans lo f (spot_of at) has_f.some by_f.0 (up_to_same f (spot_of at) begins) in
+        let from = no_later_trans (spot_of at) f lo has_f.some (from_same f (spot_of at) begins) f_lo in
+        out (same_value slice.lo at ends.lo param (same_of lo (spot_of at) upto from), order)

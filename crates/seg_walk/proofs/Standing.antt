@@ -1,0 +1,129 @@
+-- A point that some triangle has is near each corner of the triangulation, and near each other such point.
+use Rattle.std.proofs.Common.{◌≡◌, ℕ, ◌<◌, ℤ, pos, negsuc, ◌+ℤ◌, ◌-ℤ◌, ◌*ℤ◌, ◌≤ℤ◌, ◌<ℤ◌, List, [], ◌∷◌, length, sum, All, get_or, refl, ap, subst, arith}
+use Rattle.std.proofs.lemmas.Int.{ints}
+use Rattle.integer_ring.proofs.Ring.{num, ◌⊕◌, ◌⊗◌}
+use Rattle.integer_ring.proofs.Order.{nonneg_pos}
+use Rattle.integer_ring.proofs.Claims.{◌≐◌, ◌≼◌, ◌≺◌, gap, over, eqn, ◌⊞◌, ◌⊠◌, ◌otherwise◌, ◌⇒◌, follows}
+use Rattle.plane_base.specs.Plane.{Point, Same, weighed, IsMix, whole, corners, IsNear, IsNearTri}
+use Rattle.plane_base.specs.declared.shapes.Pt.{Pt}
+use Rattle.plane_base.specs.declared.shapes.Tri.{Tri}
+use Rattle.plane_base.specs.declared.shapes.TheConstants.{SPAN}
+use Rattle.tin_base.specs.declared.frames.Frame.TheVariants.{Source}
+use Rattle.tin_base.specs.Triangulation.{Triangulation, corner_at, numbers_of, places, IsInTriangle}
+use Rattle.tin_base.specs.Images.{IsInSome}
+use Rattle.tin_base.specs.Limits.{IsWithinLimits}
+
+-- where a corner stands
+abbrev pub source_at : Triangulation → ℕ → Pt
+source_at tin n = record { x = (corner_at tin n).sx; y = (corner_at tin n).sy }
+
+-- a mix of three numbers is not below what none of them is below
+not_below : (l a b c z i j k : ℤ) → l ≤ℤ a → l ≤ℤ b → l ≤ℤ c → pos 0 ≤ℤ i → pos 0 ≤ℤ j → pos 0 ≤ℤ k → pos 0 <ℤ (i +ℤ j +ℤ k)
+    → z *ℤ (i *ℤ pos 1 +ℤ (j *ℤ pos 1 +ℤ (k *ℤ pos 1 +ℤ pos 0))) ≡ (i *ℤ a +ℤ (j *ℤ b +ℤ (k *ℤ c +ℤ pos 0))) *ℤ pos 1 → l ≤ℤ z
+not_below =
+    follows 8 (λ l a b c z i j k.
+    l ≼ a ⇒ l ≼ b ⇒ l ≼ c ⇒ num (pos 0) ≼ i ⇒ num (pos 0) ≼ j ⇒ num (pos 0) ≼ k ⇒ num (pos 0) ≺ i ⊕ j ⊕ k
+    ⇒ z ⊗ (i ⊗ num (pos 1) ⊕ (j ⊗ num (pos 1) ⊕ (k ⊗ num (pos 1) ⊕ num (pos 0)))) ≐ (i ⊗ a ⊕ (j ⊗ b ⊕ (k ⊗ c ⊕ num (pos 0)))) ⊗ num (pos 1)
+    ⇒ l ≼ z otherwise gap 0 ⊠ gap 3 ⊞ gap 1 ⊠ gap 4 ⊞ gap 2 ⊠ gap 5 ⊞ gap 6 ⊠ over 8 ⊞ over 6 ⊞ eqn 7 (num (negsuc 0))) tt
+
+not_above : (m a b c z i j k : ℤ) → a ≤ℤ m → b ≤ℤ m → c ≤ℤ m → pos 0 ≤ℤ i → pos 0 ≤ℤ j → pos 0 ≤ℤ k → pos 0 <ℤ (i +ℤ j +ℤ k)
+    → z *ℤ (i *ℤ pos 1 +ℤ (j *ℤ pos 1 +ℤ (k *ℤ pos 1 +ℤ pos 0))) ≡ (i *ℤ a +ℤ (j *ℤ b +ℤ (k *ℤ c +ℤ pos 0))) *ℤ pos 1 → z ≤ℤ m
+not_above =
+    follows 8 (λ m a b c z i j k.
+    a ≼ m ⇒ b ≼ m ⇒ c ≼ m ⇒ num (pos 0) ≼ i ⇒ num (pos 0) ≼ j ⇒ num (pos 0) ≼ k ⇒ num (pos 0) ≺ i ⊕ j ⊕ k
+    ⇒ z ⊗ (i ⊗ num (pos 1) ⊕ (j ⊗ num (pos 1) ⊕ (k ⊗ num (pos 1) ⊕ num (pos 0)))) ≐ (i ⊗ a ⊕ (j ⊗ b ⊕ (k ⊗ c ⊕ num (pos 0)))) ⊗ num (pos 1)
+    ⇒ z ≼ m otherwise gap 0 ⊠ gap 3 ⊞ gap 1 ⊠ gap 4 ⊞ gap 2 ⊠ gap 5 ⊞ gap 6 ⊠ over 8 ⊞ over 6 ⊞ eqn 7 (num (pos 1))) tt
+
+some_weight : (i j k : ℕ) → 0 < sum (i ∷ j ∷ k ∷ []) → pos 0 <ℤ (pos i +ℤ pos j +ℤ pos k)
+some_weight i j k h = omega (arith, ints)
+
+-- what is near three numbers is near their mix
+near_mix : (q a b c z : ℤ) (i j k : ℕ) → 0 < sum (i ∷ j ∷ k ∷ []) → ((q -ℤ a) <ℤ SPAN) × ((a -ℤ q) <ℤ SPAN) → ((q -ℤ b) <ℤ SPAN) × ((b -ℤ q) <ℤ SPAN) → ((q -ℤ c) <ℤ SPAN) × ((c -ℤ q) <ℤ SPAN)
+    → z *ℤ (pos i *ℤ pos 1 +ℤ (pos j *ℤ pos 1 +ℤ (pos k *ℤ pos 1 +ℤ pos 0))) ≡ (pos i *ℤ a +ℤ (pos j *ℤ b +ℤ (pos k *ℤ c +ℤ pos 0))) *ℤ pos 1 → ((q -ℤ z) <ℤ SPAN) × ((z -ℤ q) <ℤ SPAN)
+near_mix q a b c z i j k some ha hb hc e =
+    let low = not_below (q -ℤ SPAN +ℤ pos 1) a b c z (pos i) (pos j) (pos k) (up a ha.0) (up b hb.0) (up c hc.0) (nonneg_pos i) (nonneg_pos j) (nonneg_pos k) (some_weight i j k some) e in
+    let high = not_above (q +ℤ SPAN -ℤ pos 1) a b c z (pos i) (pos j) (pos k) (down a ha.1) (down b hb.1) (down c hc.1) (nonneg_pos i) (nonneg_pos j) (nonneg_pos k) (some_weight i j k some) e in
+    (omega (arith, ints), omega (arith, ints))
+  where
+    up : (r : ℤ) → (q -ℤ r) <ℤ SPAN → (q -ℤ SPAN +ℤ pos 1) ≤ℤ r
+    up r h = omega (arith, ints)
+
+    down : (r : ℤ) → (r -ℤ q) <ℤ SPAN → r ≤ℤ (q +ℤ SPAN -ℤ pos 1)
+    down r h = omega (arith, ints)
+
+-- a point near each corner is near each point that some triangle has
+pub near_all : (tin : Triangulation) (t : ℕ) (p q : Pt) → IsWithinLimits tin → t < length tin.triangles → IsInTriangle tin Source t (whole p) → ((n : ℕ) → n < length tin.corners → IsNear q (source_at tin n)) → IsNear q p
+near_all tin t p q limits ht m near = go (numbers_of tin t) (limits.three t ht) (limits.in_range t ht) m
+  where
+    mix : (i j k : ℕ) (ks : List ℕ) → length ks ≡ 3 → 0 < sum ks → Same (whole p) (weighed ks (places tin Source (i ∷ j ∷ k ∷ []))) → IsNear q (source_at tin i) → IsNear q (source_at tin j) → IsNear q (source_at tin k) → IsNear q p
+    mix i j k [] e some same hi hj hk = absurd (omega arith)
+    mix i j k (f ∷ []) e some same hi hj hk = absurd (omega arith)
+    mix i j k (f ∷ g ∷ []) e some same hi hj hk = absurd (omega arith)
+    mix i j k (f ∷ g ∷ h ∷ l ∷ ks) e some same hi hj hk = absurd (omega arith)
+    mix i j k (f ∷ g ∷ h ∷ []) e some same hi hj hk =
+        let x = near_mix q.x (corner_at tin i).sx (corner_at tin j).sx (corner_at tin k).sx p.x f g h some (hi.0, hi.1) (hj.0, hj.1) (hk.0, hk.1) same.0 in
+        let y = near_mix q.y (corner_at tin i).sy (corner_at tin j).sy (corner_at tin k).sy p.y f g h some (hi.2, hi.3) (hj.2, hj.3) (hk.2, hk.3) same.1 in
+        (x.0, x.1, y.0, y.1)
+
+    go : (ns : List ℕ) → length ns ≡ 3 → All (λ n. n < length tin.corners) ns → IsMix (whole p) (places tin Source ns) → IsNear q p
+    go [] e below m = absurd (omega arith)
+    go (i ∷ []) e below m = absurd (omega arith)
+    go (i ∷ j ∷ []) e below m = absurd (omega arith)
+    go (i ∷ j ∷ k ∷ l ∷ ns) e below m = absurd (omega arith)
+    go (i ∷ j ∷ k ∷ []) e below m = mix i j k m.0 m.1 m.2 m.3 (near i (below 0 0 (omega arith))) (near j (below 1 0 (omega arith))) (near k (below 2 0 (omega arith)))
+
+turned : (p q : Pt) → IsNear p q → IsNear q p
+turned p q h = (h.1, h.0, h.3, h.2)
+
+corner_near : (tin : Triangulation) (m n : ℕ) → IsWithinLimits tin → m < length tin.corners → n < length tin.corners → IsNear (source_at tin m) (source_at tin n)
+corner_near tin m n limits hm hn = let there = limits.near Source m n hm hn in let back = limits.near Source n m hn hm in (there.0, back.0, there.1, back.1)
+
+pub near_corner : (tin : Triangulation) (n : ℕ) (p : Pt) → IsWithinLimits tin → n < length tin.corners → IsInSome tin Source (whole p) → IsNear (source_at tin n) p
+near_corner tin n p limits hn has = near_all tin has.0 p (source_at tin n) limits has.1 has.2 (λ m hm. corner_near tin n m limits hn hm)
+
+pub near_ends : (tin : Triangulation) (a b : Pt) → IsWithinLimits tin → IsInSome tin Source (whole a) → IsInSome tin Source (whole b) → IsNear a b
+near_ends tin a b limits has_a has_b = near_all tin has_b.0 b a limits has_b.1 has_b.2 (λ n hn. turned (source_at tin n) a (near_corner tin n a limits hn has_a))
+
+near_by : (p q a : Pt) → p.x ≡ q.x → p.y ≡ q.y → IsNear q a → IsNear p a
+near_by p q a e f h = (omega (arith, ints), omega (arith, ints), omega (arith, ints), omega (arith, ints))
+
+abbrev nowhere : Point
+nowhere = record { x = pos 0; y = pos 0; w = pos 0 }
+
+pub near_tri : (tin : Triangulation) (t : ℕ) (r : Tri) (p : Pt) → IsWithinLimits tin → t < length tin.triangles → corners r ≡ places tin Source (numbers_of tin t) → IsInSome tin Source (whole p) → IsNearTri r p
+near_tri tin t r p limits ht is has = go (numbers_of tin t) (limits.three t ht) (limits.in_range t ht) is
+  where
+    go : (ns : List ℕ) → length ns ≡ 3 → All (λ n. n < length tin.corners) ns → corners r ≡ places tin Source ns → IsNearTri r p
+    go [] e below is = absurd (omega arith)
+    go (i ∷ []) e below is = absurd (omega arith)
+    go (i ∷ j ∷ []) e below is = absurd (omega arith)
+    go (i ∷ j ∷ k ∷ l ∷ ns) e below is = absurd (omega arith)
+    go (i ∷ j ∷ k ∷ []) e below is = (
+      near_by r.a (source_at tin i) p (ap (λ (ps : List Point). (get_or ps 0 nowhere).x) is) (ap (λ (ps : List Point). (get_or ps 0 nowhere).y) is) (near_corner tin i p limits (below 0 0 (omega arith)) has),
+      near_by r.b (source_at tin j) p (ap (λ (ps : List Point). (get_or ps 1 nowhere).x) is) (ap (λ (ps : List Point). (get_or ps 1 nowhere).y) is) (near_corner tin j p limits (below 1 0 (omega arith)) has),
+      near_by r.c (source_at tin k) p (ap (λ (ps : List Point). (get_or ps 2 nowhere).x) is) (ap (λ (ps : List Point). (get_or ps 2 nowhere).y) is) (near_corner tin k p limits (below 2 0 (omega arith)) has),
+    )
+
+-- ---- a triangle that stands where one does is this one
+abbrev point_of : Point → Pt
+point_of p = record { x = p.x; y = p.y }
+
+abbrev tri_of : List Point → Tri
+tri_of ps = record { a = point_of (get_or ps 0 nowhere); b = point_of (get_or ps 1 nowhere); c = point_of (get_or ps 2 nowhere) }
+
+same_tri : (r s : Tri) → corners r ≡ corners s → r ≡ s
+same_tri r s e = ap tri_of e
+
+pub moved_to : (P : Tri → Type 0) (r s : Tri) → corners r ≡ corners s → P r → P s
+moved_to P r s e p = subst P (same_tri r s e) p
+
+-- ---- each triangle stands somewhere
+pub stands : (tin : Triangulation) (t : ℕ) → IsWithinLimits tin → t < length tin.triangles → (r : Tri) × (corners r ≡ places tin Source (numbers_of tin t))
+stands tin t limits ht = go (numbers_of tin t) (limits.three t ht)
+  where
+    go : (ns : List ℕ) → length ns ≡ 3 → (r : Tri) × (corners r ≡ places tin Source ns)
+    go [] e = absurd (omega arith)
+    go (i ∷ []) e = absurd (omega arith)
+    go (i ∷ j ∷ []) e = absurd (omega arith)
+    go (i ∷ j ∷ k ∷ l ∷ ns) e = absurd (omega arith)
+    go (i ∷ j ∷ k ∷ []) e = (record { a = source_at tin i; b = source_at tin j; c = source_at tin k }, refl)

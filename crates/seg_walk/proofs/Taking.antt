@@ -1,0 +1,126 @@
+-- Steps as pieces.
+use Rattle.std.proofs.Common.{◌≡◌, ◌≢◌, ℕ, ◌<◌, ℤ, pos, ◌+ℤ◌, ◌*ℤ◌, ◌-ℤ◌, ◌≤ℤ◌, ◌<ℤ◌, unsigned_abs, List, [], ◌∷◌, ◌++◌, map, length, sym, subst, refl, arith}
+use Rattle.std.proofs.lemmas.Int.{ints}
+use Rattle.std.proofs.lemmas.List.{map-append}
+use Rattle.integer_ring.proofs.Ring.{num, ◌⊕◌, ◌⊗◌}
+use Rattle.integer_ring.proofs.Order.{not-<-to-≤}
+use Rattle.integer_ring.proofs.Claims.{◌≐◌, solve}
+use lib.Signed.{lt_z_yes}
+use Rattle.frac128.specs.declared.frac.Frac.{Frac}
+use Rattle.plane_base.specs.Plane.{whole}
+use Rattle.plane_base.specs.Slices.{IsParam}
+use Rattle.plane_base.specs.declared.shapes.Pt.{Pt}
+use Rattle.plane_base.proofs.Mixes.{mix_moved, same_trans, mixed, between-w, weights_between, between_weights}
+use Rattle.tin_base.specs.declared.frames.Frame.TheVariants.{Source}
+use Rattle.tin_base.specs.Triangulation.{Triangulation, numbers_of, places, IsInTriangle}
+use Rattle.tin_base.specs.Images.{IsInSome}
+use Rattle.tin_base.specs.Limits.{IsWithinLimits}
+use Rattle.tin_base.specs.Soundness.{IsSound}
+use Rattle.tin_base.specs.Segments.{spot_at, at_a, Part, IsInside}
+use Rattle.seg_walk.specs.declared.steps.Step.{Step}
+use Rattle.seg_walk.specs.Steps.{spot_of, spot_by, part_of, point_of, IsSliceIn, HaveSlices, AreSteps}
+use Rattle.seg_walk.specs.Beginning.{IsStepFrom, MissesTriangle}
+use Rattle.seg_walk.proofs.Spots.{same_spot}
+use Rattle.seg_walk.proofs.Beginning.{HasParams, params, not_missed}
+use Rattle.seg_walk.proofs.Further.{start_is}
+use Rattle.seg_walk.proofs.Unused.{unused, less_left}
+use Rattle.seg_walk.proofs.Walk.{IsWalked, Follows, more, not_again, all_walked}
+
+have_more : (tin : Triangulation) (a b : Pt) (steps : List Step) (step : Step) → HaveSlices tin a b steps → IsSliceIn tin a b step.tri step.slice → HaveSlices tin a b (steps ++ step ∷ [])
+have_more tin a b [] step h k = (k, tt)
+have_more tin a b (s ∷ steps) step h k = (h.0, have_more tin a b steps step h.1 k)
+
+pub step_params : (tin : Triangulation) (a b : Pt) (at : Frac) (step : Step) → IsWithinLimits tin → IsStepFrom tin a b at step → HasParams step.slice
+step_params tin a b at step limits from = let part = from.part in params tin a b step.tri step.slice limits part.in_range from.slice
+
+follows_of : (tin : Triangulation) (a b : Pt) (at : Frac) (step : Step) → IsWithinLimits tin → IsParam at.num at.den → IsStepFrom tin a b at step → Follows tin a b (spot_of at) (part_of step)
+follows_of tin a b at step limits param from =
+    let ends = step_params tin a b at step limits from in
+    let begins = same_spot step.slice.lo at ends.lo param from.begins in
+    record { part = from.part; begins = begins; least = λ u h p. from.least u (spot_of step.slice.lo) (spot_of step.slice.hi) h p begins }
+
+-- what stands after one step more
+pub record Stepped (tin : Triangulation) (a b : Pt) (steps items : List Step) (step : Step) : Type 0 where
+  pub param : IsParam step.slice.hi.num step.slice.hi.den
+  pub slices : HaveSlices tin a b items
+  pub walked : IsWalked tin a b (map part_of items) (spot_of step.slice.hi)
+  pub less : unused (map part_of items) (length tin.triangles) < unused (map part_of steps) (length tin.triangles)
+
+pub stepped : (tin : Triangulation) (a b : Pt) (steps items : List Step) (at : Frac) (step : Step) → IsWithinLimits tin → IsSound tin → a ≢ b → IsParam at.num at.den → HaveSlices tin a b steps → IsWalked tin a b (map part_of steps) (spot_of at) → IsStepFrom tin a b at step → items ≡ steps ++ step ∷ [] → Stepped tin a b steps items step
+stepped tin a b steps items at step limits sound differ param slices walked from e = subst (λ (xs : List Step). Stepped tin a b steps xs step) (sym e) (go (let part = from.part in part.in_range))
+  where
+    new : Follows tin a b (spot_of at) (part_of step)
+    new = follows_of tin a b at step limits param from
+
+    listed : map part_of (steps ++ step ∷ []) ≡ map part_of steps ++ part_of step ∷ []
+    listed = map-append part_of steps (step ∷ [])
+
+    go : step.tri < length tin.triangles → Stepped tin a b steps (steps ++ step ∷ []) step
+    go h =
+        let ends = step_params tin a b at step limits from in
+        record {
+          param = ends.hi;
+          slices = have_more tin a b steps step slices from.slice;
+          walked = subst (λ (ps : List Part). IsWalked tin a b ps (spot_of step.slice.hi)) (sym listed) (more tin a b (map part_of steps) (spot_of at) (part_of step) sound differ walked new);
+          less = subst (λ (ps : List Part). unused ps (length tin.triangles) < unused (map part_of steps) (length tin.triangles)) (sym listed)
+              (less_left (map part_of steps) (part_of step) (length tin.triangles) h (not_again tin a b (map part_of steps) (spot_of at) (part_of step) walked new));
+        }
+
+-- ---- the end of the way
+pub no_more_of_a : (n d : ℤ) → IsParam n d → (n <ℤ d → ⊥) → (spot_by n d).of_a ≡ 0
+no_more_of_a n d h out = at_end n d h.2 (not-<-to-≤ d n out)
+  where
+    at_end : (n d : ℤ) → n ≤ℤ d → d ≤ℤ n → unsigned_abs (d -ℤ n) ≡ 0
+    at_end n d h k = omega (arith, ints)
+
+pub more_of_a : (n d : ℤ) → n <ℤ d → 0 < (spot_by n d).of_a
+more_of_a n d h = omega (arith, ints)
+
+pub all_steps : (tin : Triangulation) (a b : Pt) (steps : List Step) (n d : ℤ) → a ≢ b → HaveSlices tin a b steps → IsWalked tin a b (map part_of steps) (spot_by n d) → (spot_by n d).of_a ≡ 0 → AreSteps tin a b steps
+all_steps tin a b steps n d differ slices walked e =
+    record {
+      parts = map part_of steps;
+      pieces = (λ same. absurd (differ same), λ _. all_walked tin a b (map part_of steps) (spot_by n d) e walked);
+      of_point = λ same. absurd (differ same);
+      of_segment = λ _. refl;
+      slices = slices;
+    }
+
+-- ---- a segment that is one point
+pub one_step : (tin : Triangulation) (p : Pt) (step : Step) → step.tri < length tin.triangles → IsInTriangle tin Source step.tri (whole p) → ((u : ℕ) → u < step.tri → IsInTriangle tin Source u (whole p) → ⊥) → IsSliceIn tin p p step.tri step.slice → AreSteps tin p p (step ∷ [])
+one_step tin p step h has least slice =
+    record {
+      parts = point_of step ∷ [];
+      pieces = (λ _. (h, has, least, refl, refl), λ differ. absurd (differ refl));
+      of_point = λ _. refl;
+      of_segment = λ differ. absurd (differ refl);
+      slices = (slice, tt);
+    }
+
+point_axis : (k l a : ℤ) → (k *ℤ a +ℤ (l *ℤ a +ℤ pos 0)) *ℤ pos 1 ≡ a *ℤ (k *ℤ pos 1 +ℤ (l *ℤ pos 1 +ℤ pos 0))
+point_axis = solve 3 (λ k l a. (k ⊗ a ⊕ (l ⊗ a ⊕ num (pos 0))) ⊗ num (pos 1) ≐ a ⊗ (k ⊗ num (pos 1) ⊕ (l ⊗ num (pos 1) ⊕ num (pos 0)))) tt
+
+one : pos 0 <ℤ pos 1
+one = lt_z_yes tt
+
+pub point_inside : (tin : Triangulation) (p : Pt) → IsInSome tin Source (whole p) → IsInside tin p p
+point_inside tin p has q hq m =
+    let i = between_weights (whole p) (whole p) q m in
+    let same = same_trans q (mixed i.k i.l (whole p) (whole p)) (whole p) (between-w (whole p) (whole p) q i one one) i.same (point_axis (pos i.k) (pos i.l) p.x, point_axis (pos i.k) (pos i.l) p.y) in
+    (has.0, has.1, mix_moved (whole p) q (places tin Source (numbers_of tin has.0)) one same has.2)
+
+first_axis : (a b : ℤ) → a *ℤ (pos 1 *ℤ pos 1 +ℤ (pos 0 *ℤ pos 1 +ℤ pos 0)) ≡ (pos 1 *ℤ a +ℤ (pos 0 *ℤ b +ℤ pos 0)) *ℤ pos 1
+first_axis = solve 2 (λ a b. a ⊗ (num (pos 1) ⊗ num (pos 1) ⊕ (num (pos 0) ⊗ num (pos 1) ⊕ num (pos 0))) ≐ (num (pos 1) ⊗ a ⊕ (num (pos 0) ⊗ b ⊕ num (pos 0))) ⊗ num (pos 1)) tt
+
+last_axis : (a b : ℤ) → b *ℤ (pos 0 *ℤ pos 1 +ℤ (pos 1 *ℤ pos 1 +ℤ pos 0)) ≡ (pos 0 *ℤ a +ℤ (pos 1 *ℤ b +ℤ pos 0)) *ℤ pos 1
+last_axis = solve 2 (λ a b. b ⊗ (num (pos 0) ⊗ num (pos 1) ⊕ (num (pos 1) ⊗ num (pos 1) ⊕ num (pos 0))) ≐ (num (pos 0) ⊗ a ⊕ (num (pos 1) ⊗ b ⊕ num (pos 0))) ⊗ num (pos 1)) tt
+
+pub first_inside : (tin : Triangulation) (a b : Pt) → IsInside tin a b → IsInSome tin Source (whole a)
+first_inside tin a b inside = inside (whole a) one (weights_between (whole a) (whole b) (whole a) (record { k = 1; l = 0; some = omega arith; same = (first_axis a.x b.x, first_axis a.y b.y) }))
+
+pub last_inside : (tin : Triangulation) (a b : Pt) → IsInside tin a b → IsInSome tin Source (whole b)
+last_inside tin a b inside = inside (whole b) one (weights_between (whole a) (whole b) (whole b) (record { k = 0; l = 1; some = omega arith; same = (last_axis a.x b.x, last_axis a.y b.y) }))
+
+pub point_not_missed : (tin : Triangulation) (p : Pt) (t : ℕ) → IsWithinLimits tin → t < length tin.triangles → IsInTriangle tin Source t (whole p) → MissesTriangle tin p p t → ⊥
+point_not_missed tin p t limits h has misses =
+    not_missed tin p p t at_a limits h misses (record { some = omega arith; inside = mix_moved (whole p) (spot_at p p at_a) (places tin Source (numbers_of tin t)) one (start_is p p at_a refl) has })

@@ -1,0 +1,98 @@
+ghost use Rattle.std.specs.Prelude.{◌≡◌, ◌≢◌, ◌↔◌, ℕ, ◌<◌, ◌<ℤ◌, length, IsTrue, IfOk, IsErrOf};
+ghost use Rattle.plane_base.specs.Plane.{whole};
+ghost use Rattle.tin_base.specs.declared.frames.Frame.TheVariants.{Source};
+ghost use Rattle.tin_base.specs.Images.{IsInSome};
+ghost use Rattle.tin_base.specs.Limits.{IsWithinLimits};
+ghost use Rattle.tin_base.specs.Segments.{IsInside};
+ghost use Rattle.tin_base.specs.Soundness.{IsSound};
+ghost use Rattle.tin_base.specs.Triangulation.{IsInTriangle};
+ghost use Rattle.seg_walk.specs.declared.faults.WalkFault.{WalkFault};
+ghost use Rattle.seg_walk.specs.declared.faults.WalkFault.TheVariants.{Outside};
+ghost use Rattle.seg_walk.specs.Steps.{AreSteps};
+
+use crate::slicing::{known, slice_in, step_from};
+use crate::{Step, Steps, WalkFault};
+use frac128::Frac;
+use plane_base::Pt;
+use smallvec::SmallVec;
+use std::alloc::Global;
+use tin_base::SoundTin;
+use tin_index::TinIndex;
+
+/// The one piece of a segment from a point to itself.
+fn cut_point(alloc: Global, tin: &SoundTin, triangle: u32, p: Pt) -> Result<Steps, WalkFault>
+    requires limits { IsWithinLimits tin.now }
+    requires in_range { triangle < length tin.now.triangles }
+    requires has_point { IsInTriangle tin.now Source triangle (whole p) }
+    requires least { (other : ℕ) → other < triangle → IsInTriangle tin.now Source other (whole p) → ⊥ }
+    ensures pieces { IfOk result (λ steps. AreSteps tin.now p p steps.items) }
+    ensures outside { ¬ IsErrOf result Outside }
+{
+    let mut steps = SmallVec::new(alloc);
+    if let Some(slice) = slice_in(tin, triangle, p, p) {
+        steps.push(Step {
+            tri: triangle,
+            slice,
+        })?;
+        return Ok(steps);
+    }
+    Err(WalkFault::Outside)
+}
+
+fn is_same(a: Pt, b: Pt) -> bool
+    ensures { IsTrue result ↔ (a ≡ b) }
+{
+    a == b
+}
+
+fn is_before_end(at: Frac) -> bool
+    ensures { IsTrue result ↔ (at.num <ℤ at.den) }
+{
+    at.num < at.den
+}
+
+/// The pieces one after the other: from the end of each, the piece that begins there.
+fn cut_way(alloc: Global, tin: &SoundTin, a: Pt, b: Pt) -> Result<Steps, WalkFault>
+    requires limits { IsWithinLimits tin.now }
+    requires sound { IsSound tin.now }
+    requires differ { a ≢ b }
+    requires has_a { IsInSome tin.now Source (whole a) }
+    requires has_b { IsInSome tin.now Source (whole b) }
+    ensures pieces { IfOk result (λ steps. AreSteps tin.now a b steps.items) }
+    ensures inside { IfOk result (λ _. IsInside tin.now a b) }
+    ensures outside { IsErrOf result Outside → IsInside tin.now a b → ⊥ }
+{
+    let mut steps = SmallVec::new(alloc);
+    let mut at = Frac { num: 0, den: 1 };
+    while is_before_end(at) {
+        let Some(step) = step_from(tin, a, b, at) else {
+            return Err(WalkFault::Outside);
+        };
+        steps.push(step)?;
+        at = step.slice.hi;
+    }
+    Ok(steps)
+}
+
+/// The pieces of the segment from `a` to `b`, in millimetres of the source frame, in order from `a` to `b`.
+/// Each is the part of a triangle, with the least triangle that has it and the slice of that triangle.
+/// Where `a` is `b`, the one piece is the point. The points may be anywhere.
+/// `Outside` comes exactly where some point of the segment is in no triangle.
+pub fn cut(alloc: Global, index: &TinIndex, a: Pt, b: Pt) -> Result<Steps, WalkFault>
+    ensures pieces { IfOk result (λ steps. AreSteps index.now a b steps.items) }
+    ensures inside { IfOk result (λ _. IsInside index.now a b) }
+    ensures outside { IsErrOf result Outside → IsInside index.now a b → ⊥ }
+{
+    let Some(triangle) = index.locate(a) else {
+        return Err(WalkFault::Outside);
+    };
+    if index.locate(b).is_none() {
+        return Err(WalkFault::Outside);
+    }
+    let tin = index.tin();
+    known(tin);
+    if is_same(a, b) {
+        return cut_point(alloc, tin, triangle, a);
+    }
+    cut_way(alloc, tin, a, b)
+}

@@ -1,0 +1,14 @@
+//! The pieces of a segment: the parts of the triangles that it goes through, in order from its first end to its last.
+//! Each comes with the exact slice of its triangle; a segment that leaves the triangles anywhere is refused.
+#![tactic(auto)]
+
+mod cutting;
+mod faults;
+mod slicing;
+mod steps;
+#[cfg(test)]
+mod tests;
+
+pub use cutting::cut;
+pub use faults::WalkFault;
+pub use steps::{Step, Steps};

@@ -1,0 +1,74 @@
+ghost use Rattle.std.specs.Prelude.{◌≡◌, ◌↔◌, ◌<◌, length, IsTrue, IfSome, IfNone};
+ghost use Rattle.frac128.specs.Fractions.{IsSameValue, IsBelow};
+ghost use Rattle.plane_base.specs.Plane.{whole};
+ghost use Rattle.plane_base.specs.Slices.{IsParam};
+ghost use Rattle.tin_base.specs.declared.frames.Frame.TheVariants.{Source};
+ghost use Rattle.tin_base.specs.Images.{IsInSome};
+ghost use Rattle.tin_base.specs.Limits.{IsWithinLimits};
+ghost use Rattle.tin_base.specs.Soundness.{IsSound};
+ghost use Rattle.seg_walk.specs.Steps.{IsSliceIn};
+ghost use Rattle.seg_walk.specs.Beginning.{IsStepFrom, HasNoneFrom, MissesTriangle};
+
+use crate::Step;
+use frac128::{Frac, order};
+use plane_base::{Pt, Stretch, slice};
+use std::cmp::Ordering;
+use tin_base::{Frame, SoundTin};
+
+/// What the type keeps of a sound triangulation.
+pub fn known(tin: &SoundTin)
+    ensures limits { IsWithinLimits tin.now }
+    ensures sound { IsSound tin.now }
+{
+    let _ = tin.triangles();
+}
+
+fn triangle_count(tin: &SoundTin) -> u32
+    ensures { result ≡ length tin.now.triangles }
+{
+    tin.triangles().len() as u32
+}
+
+/// The part of the segment in a source triangle, or none where they have no common point.
+pub fn slice_in(tin: &SoundTin, triangle: u32, a: Pt, b: Pt) -> Option<Stretch>
+    requires in_range { triangle < length tin.now.triangles }
+    requires limits { IsWithinLimits tin.now }
+    requires has_a { IsInSome tin.now Source (whole a) }
+    requires has_b { IsInSome tin.now Source (whole b) }
+    ensures some { IfSome result (λ s. IsSliceIn tin.now a b triangle s) }
+    ensures none { IfNone result (MissesTriangle tin.now a b triangle) }
+{
+    slice(a, b, &tin.tri(triangle, Frame::Source))
+}
+
+/// Does the stretch begin at the parameter, and end behind it?
+fn goes_on_from(slice: Stretch, at: Frac) -> bool
+    ensures { IsTrue result ↔ (IsSameValue slice.lo at × IsBelow slice.lo slice.hi) }
+{
+    if order(slice.lo, slice.hi) != Ordering::Less {
+        return false;
+    }
+    order(slice.lo, at) == Ordering::Equal
+}
+
+/// The piece that begins at the parameter, with the least triangle that has it.
+pub fn step_from(tin: &SoundTin, a: Pt, b: Pt, at: Frac) -> Option<Step>
+    requires limits { IsWithinLimits tin.now }
+    requires has_a { IsInSome tin.now Source (whole a) }
+    requires has_b { IsInSome tin.now Source (whole b) }
+    requires param { IsParam at.num at.den }
+    ensures some { IfSome result (λ step. IsStepFrom tin.now a b at step) }
+    ensures none { IfNone result (HasNoneFrom tin.now a b at (length tin.now.triangles)) }
+{
+    for triangle in 0..triangle_count(tin) {
+        if let Some(slice) = slice_in(tin, triangle, a, b) {
+            if goes_on_from(slice, at) {
+                return Some(Step {
+                    tri: triangle,
+                    slice,
+                });
+            }
+        }
+    }
+    None
+}
