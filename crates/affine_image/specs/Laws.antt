@@ -1,6 +1,6 @@
 -- The laws of rounded images.
 use Rattle.std.specs.Prelude.{◌≡◌, ℕ, ◌<◌, ℤ, pos, ◌<ℤ◌, true, length}
-use Rattle.plane_base.specs.Plane.{Point, Same}
+use Rattle.plane_base.specs.Plane.{Point, Same, IsNear}
 use Rattle.plane_base.specs.Slices.{IsParam}
 use Rattle.plane_base.specs.declared.shapes.Pt.{Pt}
 use Rattle.tin_base.specs.declared.frames.Frame.TheVariants.{Source, Target}
@@ -24,3 +24,8 @@ CutsAreImages =
 -- a rounded image is in reach, as the corners are
 abbrev pub RoundedImagesAreInReach : Type 0
 RoundedImagesAreInReach = (tin : Triangulation) (p : Point) (image : Pt) → IsWithinLimits tin → IsRoundedImageAt tin p image → IsInReach image.x × IsInReach image.y
+
+-- any two rounded images are near each other, as the corners are
+abbrev pub RoundedImagesAreNear : Type 0
+RoundedImagesAreNear =
+    (tin : Triangulation) (p q : Point) (image also : Pt) → IsWithinLimits tin → IsRoundedImageAt tin p image → IsRoundedImageAt tin q also → IsNear image also

@@ -1,4 +1,4 @@
-ghost use Rattle.affine_image.specs.Laws.{RoundedImagesAgree, CutsAreImages, RoundedImagesAreInReach};
+ghost use Rattle.affine_image.specs.Laws.{RoundedImagesAgree, CutsAreImages, RoundedImagesAreInReach, RoundedImagesAreNear};
 
 /// A law: the rounded image of a place is one, whichever triangle gives it.
 pub fn rounded_images_agree()
@@ -14,4 +14,9 @@ pub fn cuts_are_images()
 /// A law: the coordinates of a rounded image are within `REACH` of tin_base, as those of the corners are.
 pub fn rounded_images_are_in_reach()
     ensures { RoundedImagesAreInReach }
+{}
+
+/// A law: any two rounded images of one triangulation are less than `SPAN` of plane_base apart on each axis, as its corners are.
+pub fn rounded_images_are_near()
+    ensures { RoundedImagesAreNear }
 {}

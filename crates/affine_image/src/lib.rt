@@ -10,4 +10,6 @@ mod tests;
 mod weights;
 
 pub use images::{image_cut, image_of};
-pub use laws::{cuts_are_images, rounded_images_agree, rounded_images_are_in_reach};
+pub use laws::{
+    cuts_are_images, rounded_images_agree, rounded_images_are_in_reach, rounded_images_are_near,
+};

@@ -1,0 +1,5 @@
+use Rattle.affine_image.proofs.Reach.{rounded_images_are_near}
+use Rattle.affine_image.proofs.laws.rounded_images_are_near.Goals as goal
+
+pub returns : goal.returns
+returns c = rounded_images_are_near
