@@ -2,3 +2,7 @@ pub mod Rounded
 pub mod Cuts
 pub mod Laws
 pub mod Weights
+pub mod SheetSegments
+pub mod SheetPieces
+pub mod SheetImages
+pub mod SheetLaws

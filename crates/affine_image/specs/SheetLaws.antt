@@ -1,0 +1,33 @@
+-- The laws of the pieces and images of a sheet.
+use Rattle.std.specs.Prelude.{◌≡◌, ℕ, ◌+◌, ◌<◌, ◌^◌, List, All, length, slice_get, Some}
+use Rattle.sheet_base.specs.Sheets.{Contents, IsSheet}
+use Rattle.sheet_base.specs.Fitting.{Runs, DoFit}
+use Rattle.tin_base.specs.declared.pieces.Piece.{Piece}
+use Rattle.tin_base.specs.Triangulation.{Triangulation}
+use Rattle.tin_base.specs.Limits.{IsWithinLimits}
+use Rattle.tin_base.specs.Soundness.{IsSound}
+use Rattle.tin_base.specs.Segments.{IsInside}
+use Rattle.affine_image.specs.Rounded.{IsRoundedImage}
+use Rattle.affine_image.specs.SheetSegments.{Segment}
+use Rattle.affine_image.specs.SheetPieces.{ArePiecesOfSegment, ArePiecesOfSheet, IsImagedPiece}
+use Rattle.affine_image.specs.SheetImages.{AreImagesOf}
+
+-- the images of the pieces of a segment are joined: the first begins at the image of a, each at the end of the one before it, and the last ends at the image of b
+pub record AreImagesJoined (tin : Triangulation) (segment : Segment) (pieces : List Piece) : Type 0 where
+  pub some : 0 < length pieces
+  pub begins : (piece : Piece) → slice_get pieces 0 ≡ Some piece → IsRoundedImage tin segment.a piece.ia
+  pub joined : (i : ℕ) (piece next : Piece) → slice_get pieces i ≡ Some piece → slice_get pieces (i + 1) ≡ Some next → piece.ib ≡ next.ia
+  pub ends : (i : ℕ) (piece : Piece) → i + 1 ≡ length pieces → slice_get pieces i ≡ Some piece → IsRoundedImage tin segment.b piece.ib
+
+-- Of each sound triangulation: so it is with the pieces of each segment that is inside
+abbrev pub PieceImagesAreJoined : Type 0
+PieceImagesAreJoined =
+    (tin : Triangulation) (layer : ℕ) (segment : Segment) (pieces : List Piece) → IsSound tin → IsInside tin segment.a segment.b → ArePiecesOfSegment tin layer segment pieces → AreImagesJoined tin segment pieces
+
+-- each piece of a sheet is a piece of the triangulation, with the rounded images of its ends
+abbrev pub SheetPiecesArePieces : Type 0
+SheetPiecesArePieces = (tin : Triangulation) (layer : ℕ) (sheet : Contents) (pieces : List Piece) → ArePiecesOfSheet tin layer sheet pieces → All (IsImagedPiece tin) pieces
+
+-- the images of a sheet fit it, where they are few enough to be counted in 32 bits
+abbrev pub ImagesFit : Type 0
+ImagesFit = (tin : Triangulation) (sheet : Contents) (images : Runs) → IsWithinLimits tin → IsSheet sheet → AreImagesOf tin sheet images → length images.points < 2 ^ 32 → DoFit sheet images

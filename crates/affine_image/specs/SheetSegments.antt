@@ -1,0 +1,49 @@
+-- The vertices of a sheet's paths in order, and the segments that begin at them.
+use Rattle.std.specs.Prelude.{ℕ, ◌+◌, nat_lt, if◌then◌else◌, Option, Some, None, List, [], ◌∷◌, ◌++◌, map, filter_map}
+use Rattle.std.specs.List.{range_with_len}
+use Rattle.plane_base.specs.declared.shapes.Pt.{Pt}
+use Rattle.sheet_base.specs.declared.paths.PathRow.{PathRow}
+use Rattle.sheet_base.specs.Segments.{points_in, segments_in, begin_of, end_of}
+use Rattle.sheet_base.specs.Sheets.{Contents}
+
+-- a segment from a to b: the path that it is of, and its number in the path, each counted from 0
+pub record Segment : Type 0 where
+  pub path : ℕ
+  pub number : ℕ
+  pub a : Pt
+  pub b : Pt
+
+-- a point of a path, and the segment that begins there, where one does
+pub record PathVertex : Type 0 where
+  pub point : Pt
+  pub segment : Option Segment
+
+-- the segment of this number, of the path of that number
+abbrev pub segment_at : List Pt → ℕ → PathRow → ℕ → Segment
+segment_at points path row number = record { path = path; number = number; a = begin_of points row number; b = end_of points row number }
+
+-- the path's vertex of this number: the segment of the same number begins there, if the path has one
+abbrev pub vertex_at : List Pt → ℕ → PathRow → ℕ → PathVertex
+vertex_at points path row number =
+    record { point = begin_of points row number; segment = if nat_lt number (segments_in row) then Some (segment_at points path row number) else None }
+
+-- the vertices of a path
+abbrev pub path_vertices : List Pt → ℕ → PathRow → List PathVertex
+path_vertices points path row = map (vertex_at points path row) (range_with_len 0 (points_in row))
+
+-- of paths that are numbered from this number on
+abbrev pub vertices_from : List Pt → ℕ → List PathRow → List PathVertex
+vertices_from points path [] = []
+vertices_from points path (row ∷ rows) = path_vertices points path row ++ vertices_from points (path + 1) rows
+
+-- the vertices of a sheet
+abbrev pub sheet_vertices : Contents → List PathVertex
+sheet_vertices sheet = vertices_from sheet.points 0 sheet.paths
+
+-- the segments that begin at some vertices
+abbrev pub segments_begun : List PathVertex → List Segment
+segments_begun vertices = filter_map (λ vertex. vertex.segment) vertices
+
+-- the segments of a sheet: path by path, and in each from point to point
+abbrev pub sheet_segments : Contents → List Segment
+sheet_segments sheet = segments_begun (sheet_vertices sheet)
