@@ -2,3 +2,4 @@ pub mod Sheets
 pub mod Segments
 pub mod Fitting
 pub mod Kept
+pub mod Splices

@@ -9,6 +9,9 @@ mod images;
 mod lists;
 mod paths;
 mod sheets;
+mod splices;
+#[cfg(test)]
+mod tests;
 
 pub use edits::{Edit, What};
 pub use faults::LayerFault;
@@ -17,3 +20,4 @@ pub use images::Images;
 pub use lists::Listed;
 pub use paths::{PathKind, PathRow};
 pub use sheets::Sheet;
+pub use splices::{EditTexts, splice, splices_keep_the_rest};

@@ -1,0 +1,5 @@
+use Rattle.sheet_base.proofs.Splicing.{splices_keep}
+use Rattle.sheet_base.proofs.splices.splices_keep_the_rest.Goals as goal
+
+pub returns : goal.returns
+returns c = splices_keep
