@@ -1,17 +1,29 @@
 -- How a run ends, from what its last call says.
-use Rattle.std.proofs.Common.{◌≡◌, ◌≢◌, ◌⊎◌, inl, inr, ℕ, zero, suc, List, [], ◌∷◌, length, take, get_or, codes, Option, None, Some, IfSome, refl, sym, ◌∙◌, ap, subst, arith}
+use Rattle.std.proofs.Common.{◌≡◌, ◌≢◌, ◌⊎◌, inl, inr, ℕ, zero, suc, List, [], ◌∷◌, length, take, get_or, codes, Option, None, Some, IfSome, string_bytes, refl, sym, ◌∙◌, ap, subst, arith}
 use Rattle.std.proofs.Math.Seq.{take-length}
 use Rattle.shelf_io.specs.Files.{Files}
+use Rattle.mm_decimal.specs.declared.reading.NumFault.{NumFault}
+use Rattle.mm_decimal.specs.declared.reading.NumFault.TheVariants.{Form, Long, Range}
+use Rattle.tin_base.specs.declared.frames.Frame.TheVariants.{Source, Target}
+use Rattle.tin_check.specs.declared.faults.CheckFault.{CheckFault}
+use Rattle.tin_check.specs.declared.faults.CheckFault.TheVariants.{Flat, TurnsOver, Meets, NoMemory as CheckMemory}
+use Rattle.tin_file.specs.declared.faults.Nearest.TheVariants.{Side, Centroid}
+use Rattle.tin_file.specs.declared.faults.Rows.TheVariants.{Vertices, Triangles}
+use Rattle.tin_file.specs.declared.faults.TinFault.{TinFault}
+use Rattle.tin_file.specs.declared.faults.TinFault.TheVariants.{Json, Deep, Key, Version, Fallback, NoHorizontal, TooMany, Row, Number, Inexact, Index, Span, NoMemory as TinMemory}
+use Rattle.tinmove.specs.declared.preparing.LayerFile.{LayerFile}
 use Rattle.tinmove.specs.declared.status.Status.{Status}
-use Rattle.tinmove.specs.declared.status.Status.TheVariants.{Same, Write}
+use Rattle.tinmove.specs.declared.status.Status.TheVariants.{Same, Write, Memory}
 use Rattle.tinmove.specs.declared.refusal.Refusal.{Refusal}
-use Rattle.tinmove.specs.declared.refusal.Refusal.TheVariants.{NotUnderstood, TinUnread, TinLong, TinNotYet, LayerUnread, LayerLong, LayerNotYet, Outside, TooManyPieces, NoMemory}
-use Rattle.tinmove.specs.declared.run.Written.{Written}
-use Rattle.tinmove.specs.Jobs.{Job, IsJob, LacksJob}
-use Rattle.tinmove.specs.Outcome.{IsJobMigrated, no_job, refused, migrated}
-use Rattle.tinmove.specs.Refusals.{status_of, line_of}
-use Rattle.tinmove.specs.Prepared.{files_of}
-use Rattle.tinmove.specs.Ends.{IsFrontOf, Makes, by_outcome, after_read_fault, out_of_memory, made_whole, after_write_fault, EndsTold, Stands, all_written, line_alone, front_of_files, front_of_line, MayRefuse, by_the_files, unread, no_room, TellsBytes}
+use Rattle.tinmove.specs.declared.refusal.Refusal.TheVariants.{NotUnderstood, TinUnread, TinLong, Tin, Check, LayerUnread, LayerLong, LayerNotYet, Outside, TooManyPieces, NoMemory}
+use Rattle.tinmove.specs.Jobs.{Job, migrates, checks, IsJob, LacksJob, IsCheck}
+use Rattle.tinmove.specs.Names.{HasSlash}
+use Rattle.tinmove.specs.Lines.{tin_line, check_line, number_line}
+use Rattle.tinmove.specs.Outcome.{IsJobDone, no_job, refused, done}
+use Rattle.tinmove.specs.Refusals.{status_of, line_of, status_of_tin, status_of_check}
+use Rattle.tinmove.specs.Prepared.{files_with, HasFormWith}
+use Rattle.tinmove.specs.Ends.{IsFrontOf, Makes, by_outcome, after_read_fault, out_of_memory, made_whole, after_write_fault, EndsTold, Stands, all_written, sound_alone, line_alone, front_of_files, front_of_sound, front_of_line, MayRefuse, by_the_files, unread, no_room, TellsBytes, MayEnd, IsEndOfCheck}
+use Rattle.tinmove.proofs.Faults.{of_text, of_check, not_write}
 
 -- the file that a refusal makes
 abbrev pub line_file : Refusal → Files
@@ -37,7 +49,8 @@ pub never-write : (refusal : Refusal) → status_of refusal ≢ Write
 never-write NotUnderstood = λ e. cc
 never-write TinUnread = λ e. cc
 never-write TinLong = λ e. cc
-never-write TinNotYet = λ e. cc
+never-write (Tin fault) = not_write _ (of_text fault)
+never-write (Check fault) = not_write _ (of_check fault)
 never-write LayerUnread = λ e. cc
 never-write LayerLong = λ e. cc
 never-write LayerNotYet = λ e. cc
@@ -61,18 +74,53 @@ ends_so words files shelf_rose press_rose whole wanted result (Some made) other 
       | inr is ↦ after_write_fault is (printed.rose is) wanted whole makes (printed.front is)
     ]
 
+text-memory : (fault : TinFault) → status_of_tin fault ≡ Memory → tin_line fault ≡ line_of NoMemory
+text-memory (Json at) is = cc
+text-memory (Deep at) is = cc
+text-memory (Key which) is = cc
+text-memory Version is = cc
+text-memory (Fallback which) is = cc
+text-memory NoHorizontal is = cc
+text-memory (TooMany list) is = cc
+text-memory (Row list row) is = cc
+text-memory (Number row fault) is = cc
+text-memory (Inexact row) is = cc
+text-memory (Index triangle) is = cc
+text-memory (Span frame axis) is = cc
+text-memory TinMemory is = refl
+
+check-memory : (fault : CheckFault) → status_of_check fault ≡ Memory → check_line fault ≡ line_of NoMemory
+check-memory (Flat triangle frame) is = cc
+check-memory (TurnsOver triangle) is = cc
+check-memory (Meets first second frame) is = cc
+check-memory CheckMemory is = refl
+
+-- want of memory has one line, wherever it came
+memory-line : (refusal : Refusal) → status_of refusal ≡ Memory → line_of refusal ≡ line_of NoMemory
+memory-line NotUnderstood is = cc
+memory-line TinUnread is = cc
+memory-line TinLong is = cc
+memory-line (Tin fault) is = text-memory fault is
+memory-line (Check fault) is = check-memory fault is
+memory-line LayerUnread is = cc
+memory-line LayerLong is = cc
+memory-line LayerNotYet is = cc
+memory-line (Outside path) is = cc
+memory-line TooManyPieces is = cc
+memory-line NoMemory is = refl
+
 -- a job's refusal is what a run may make
-pub makes_refusal : (words : List (List ℕ)) (files : Files) (shelf_rose : Type 0) (job : Job) (refusal : Refusal) → IsJob words job → MayRefuse job files shelf_rose refusal
+pub makes_refusal : (words : List (List ℕ)) (files : Files) (shelf_rose : Type 0) (job : Job) (refusal : Refusal) → IsJob words job → MayRefuse files job shelf_rose refusal
     → Makes words files shelf_rose (status_of refusal) (line_file refusal)
 makes_refusal words files shelf_rose job refusal given (by_the_files is) = by_outcome (refused job given refusal is (record { status_is = refl; made_is = refl }))
 makes_refusal words files shelf_rose job refusal given (unread rose reached) = after_read_fault rose job given refusal reached (record { status_is = refl; made_is = refl })
-makes_refusal words files shelf_rose job refusal given (no_room is) = out_of_memory (record { status_is = ap status_of is; made_is = ap line_file is })
+makes_refusal words files shelf_rose job refusal given (no_room is) = out_of_memory (record { status_is = is; made_is = ap (λ line. (codes "-", line) ∷ []) (memory-line refusal is) })
 
 pub makes_no_job : (words : List (List ℕ)) (files : Files) (shelf_rose : Type 0) → LacksJob words → Makes words files shelf_rose (status_of NotUnderstood) (line_file NotUnderstood)
 makes_no_job words files shelf_rose lacks = by_outcome (no_job lacks (record { status_is = refl; made_is = refl }))
 
-pub makes_files : (words : List (List ℕ)) (files : Files) (shelf_rose : Type 0) (job : Job) (made : Files) → IsJob words job → IsJobMigrated job files made → Makes words files shelf_rose Same made
-makes_files words files shelf_rose job made given is = by_outcome (migrated job given refl is)
+pub makes_files : (words : List (List ℕ)) (files : Files) (shelf_rose : Type 0) (job : Job) (made : Files) → IsJob words job → IsJobDone files job made → Makes words files shelf_rose Same made
+makes_files words files shelf_rose job made given is = by_outcome (done job given refl is)
 
 -- a fact of the files that a shelf tells follows from another
 pub told : {P Q : Files → Type 0} (files : Option Files) → ((f : Files) → P f → Q f) → IfSome files P → IfSome files Q
@@ -93,9 +141,15 @@ stands_refused refusal result (Some made) press_rose printed =
     ]
 
 -- what stands after a success
-pub stands_written : (written : Written) (result : Status) (made : Option Files) (press_rose : Type 0) → HasPrinted (files_of written) Same result made press_rose → IfSome made (Stands result)
-stands_written written result None press_rose printed = tt
-stands_written written result (Some made) press_rose printed =
+pub stands_done : (layer : Option LayerFile) (said : List ℕ) (result : Status) (made : Option Files) (press_rose : Type 0) → HasFormWith layer said → HasPrinted (files_with layer said) Same result made press_rose
+    → IfSome made (Stands result)
+stands_done layer said result None press_rose form printed = tt
+stands_done None said result (Some made) press_rose (tin, is_said) printed =
+    elim printed.status [
+      | inl is ↦ sound_alone is tin (printed.all (λ write. let e = sym is ∙ write in cc) ∙ ap (λ text. (codes "-", text) ∷ []) is_said)
+      | inr is ↦ front_of_sound is tin (subst (λ text. IsFrontOf made ((codes "-", text) ∷ [])) is_said (printed.front is))
+    ]
+stands_done (Some file) said result (Some made) press_rose form printed =
     elim printed.status [
       | inl is ↦ all_written is _ _ _ (printed.all (λ write. let e = sym is ∙ write in cc))
       | inr is ↦ front_of_files is _ _ _ (printed.front is)
@@ -115,36 +169,145 @@ differs_at text line count k same other some =
       | inr is ↦ some (ap (λ t. get_or t k 0) same ∙ is)
     ]
 
+-- at some place the line differs from both that tell of bytes
+record TellsNone (line : List ℕ) : Type 0 where
+  place : ℕ
+  other_tin : get_or (line_of TinLong) place 0 ≢ get_or line place 0
+  other_layer : get_or (line_of LayerLong) place 0 ≢ get_or line place 0
+  some_tin : get_or (line_of TinLong) place 0 ≢ 0
+  some_layer : get_or (line_of LayerLong) place 0 ≢ 0
+
+at-first : (line : List ℕ) (byte : ℕ) → get_or line 0 0 ≡ byte → byte ≢ 108 → TellsNone line
+at-first line byte is other = record {
+  place = 0;
+  other_tin = λ e. other (sym is ∙ sym e);
+  other_layer = λ e. other (sym is ∙ sym e);
+  some_tin = λ e. omega (arith, e);
+  some_layer = λ e. omega (arith, e);
+}
+
+at-second : (line : List ℕ) (byte : ℕ) → get_or line 1 0 ≡ byte → byte ≢ 105 → TellsNone line
+at-second line byte is other = record {
+  place = 1;
+  other_tin = λ e. other (sym is ∙ sym e);
+  other_layer = λ e. other (sym is ∙ sym e);
+  some_tin = λ e. omega (arith, e);
+  some_layer = λ e. omega (arith, e);
+}
+
+at-eighth : (line : List ℕ) (byte : ℕ) → get_or line 7 0 ≡ byte → byte ≢ 98 → TellsNone line
+at-eighth line byte is other = record {
+  place = 7;
+  other_tin = λ e. other (sym is ∙ sym e);
+  other_layer = λ e. other (sym is ∙ sym e);
+  some_tin = λ e. omega (arith, e);
+  some_layer = λ e. omega (arith, e);
+}
+
+-- the lines of a triangulation begin with a t
+t-line : (line : List ℕ) → get_or line 0 0 ≡ 116 → TellsNone line
+t-line line is = at-first line 116 is (λ e. omega (arith, e))
+
+number-none : (row : ℕ) (fault : NumFault) → TellsNone (number_line row fault)
+number-none row (Form at) = t-line _ refl
+number-none row Long = t-line _ refl
+number-none row Range = t-line _ refl
+
+text-none : (fault : TinFault) → TellsNone (tin_line fault)
+text-none (Json at) = t-line _ refl
+text-none (Deep at) = t-line _ refl
+text-none (Key which) = t-line _ refl
+text-none Version = t-line _ refl
+text-none (Fallback Side) = t-line _ refl
+text-none (Fallback Centroid) = t-line _ refl
+text-none NoHorizontal = t-line _ refl
+text-none (TooMany Vertices) = at-eighth _ 118 refl (λ e. omega (arith, e))
+text-none (TooMany Triangles) = at-eighth _ 116 refl (λ e. omega (arith, e))
+text-none (Row list row) = t-line _ refl
+text-none (Number row fault) = number-none row fault
+text-none (Inexact row) = t-line _ refl
+text-none (Index triangle) = t-line _ refl
+text-none (Span Source axis) = t-line _ refl
+text-none (Span Target axis) = t-line _ refl
+text-none TinMemory = at-first _ 110 refl (λ e. omega (arith, e))
+
+check-none : (fault : CheckFault) → TellsNone (check_line fault)
+check-none (Flat triangle frame) = t-line _ refl
+check-none (TurnsOver triangle) = t-line _ refl
+check-none (Meets first second frame) = t-line _ refl
+check-none CheckMemory = at-first _ 110 refl (λ e. omega (arith, e))
+
 -- a front of a line that does not tell of bytes does not
-tells-none : (refusal : Refusal) (k : ℕ) (made : Files) → IsFrontOf made (line_file refusal) → TellsBytes made
-    → get_or (line_of TinLong) k 0 ≢ get_or (line_of refusal) k 0 → get_or (line_of LayerLong) k 0 ≢ get_or (line_of refusal) k 0
-    → get_or (line_of TinLong) k 0 ≢ 0 → get_or (line_of LayerLong) k 0 ≢ 0 → ⊥
-tells-none refusal k made front (inl is) tin layer some_tin some_layer =
-    let (count, same) = rw is at front in differs_at (line_of TinLong) (line_of refusal) count k (ap (λ (f : List ℕ × List ℕ). f.1) same) tin some_tin
-tells-none refusal k made front (inr is) tin layer some_tin some_layer =
-    let (count, same) = rw is at front in differs_at (line_of LayerLong) (line_of refusal) count k (ap (λ (f : List ℕ × List ℕ). f.1) same) layer some_layer
+front-none : (line : List ℕ) (made : Files) → TellsNone line → IsFrontOf made ((codes "-", line) ∷ []) → TellsBytes made → ⊥
+front-none line made none front (inl is) =
+    let (count, same) = rw is at front in
+    differs_at (line_of TinLong) line count none.place (ap (λ (f : List ℕ × List ℕ). f.1) same) none.other_tin none.some_tin
+front-none line made none front (inr is) =
+    let (count, same) = rw is at front in
+    differs_at (line_of LayerLong) line count none.place (ap (λ (f : List ℕ × List ℕ). f.1) same) none.other_layer none.some_layer
 
 -- a line that tells of bytes is that of a file with too many
-pub tells_long : (refusal : Refusal) (passed : Type 0) (made : Files) → IsFrontOf made (line_file refusal) → TellsBytes made → (refusal ≡ TinLong → passed) → (refusal ≡ LayerLong → passed) → passed
+tells_long : (refusal : Refusal) (passed : Type 0) (made : Files) → IsFrontOf made (line_file refusal) → TellsBytes made → (refusal ≡ TinLong → passed) → (refusal ≡ LayerLong → passed) → passed
 tells_long TinLong passed made front tells tin layer = tin refl
 tells_long LayerLong passed made front tells tin layer = layer refl
-tells_long NotUnderstood passed made front tells tin layer = absurd (tells-none NotUnderstood 0 made front tells (λ e. omega (arith, e)) (λ e. omega (arith, e)) (λ e. omega (arith, e)) (λ e. omega (arith, e)))
-tells_long TinUnread passed made front tells tin layer = absurd (tells-none TinUnread 0 made front tells (λ e. omega (arith, e)) (λ e. omega (arith, e)) (λ e. omega (arith, e)) (λ e. omega (arith, e)))
-tells_long TinNotYet passed made front tells tin layer = absurd (tells-none TinNotYet 0 made front tells (λ e. omega (arith, e)) (λ e. omega (arith, e)) (λ e. omega (arith, e)) (λ e. omega (arith, e)))
-tells_long LayerUnread passed made front tells tin layer = absurd (tells-none LayerUnread 0 made front tells (λ e. omega (arith, e)) (λ e. omega (arith, e)) (λ e. omega (arith, e)) (λ e. omega (arith, e)))
-tells_long LayerNotYet passed made front tells tin layer = absurd (tells-none LayerNotYet 1 made front tells (λ e. omega (arith, e)) (λ e. omega (arith, e)) (λ e. omega (arith, e)) (λ e. omega (arith, e)))
-tells_long (Outside path) passed made front tells tin layer = absurd (tells-none (Outside path) 0 made front tells (λ e. omega (arith, e)) (λ e. omega (arith, e)) (λ e. omega (arith, e)) (λ e. omega (arith, e)))
-tells_long TooManyPieces passed made front tells tin layer = absurd (tells-none TooManyPieces 7 made front tells (λ e. omega (arith, e)) (λ e. omega (arith, e)) (λ e. omega (arith, e)) (λ e. omega (arith, e)))
-tells_long NoMemory passed made front tells tin layer = absurd (tells-none NoMemory 0 made front tells (λ e. omega (arith, e)) (λ e. omega (arith, e)) (λ e. omega (arith, e)) (λ e. omega (arith, e)))
+tells_long NotUnderstood passed made front tells tin layer = absurd (front-none _ made (at-first _ 119 refl (λ e. omega (arith, e))) front tells)
+tells_long TinUnread passed made front tells tin layer = absurd (front-none _ made (at-first _ 114 refl (λ e. omega (arith, e))) front tells)
+tells_long (Tin fault) passed made front tells tin layer = absurd (front-none _ made (text-none fault) front tells)
+tells_long (Check fault) passed made front tells tin layer = absurd (front-none _ made (check-none fault) front tells)
+tells_long LayerUnread passed made front tells tin layer = absurd (front-none _ made (at-first _ 114 refl (λ e. omega (arith, e))) front tells)
+tells_long LayerNotYet passed made front tells tin layer = absurd (front-none _ made (at-second _ 97 refl (λ e. omega (arith, e))) front tells)
+tells_long (Outside path) passed made front tells tin layer = absurd (front-none _ made (at-first _ 111 refl (λ e. omega (arith, e))) front tells)
+tells_long TooManyPieces passed made front tells tin layer = absurd (front-none _ made (at-eighth _ 112 refl (λ e. omega (arith, e))) front tells)
+tells_long NoMemory passed made front tells tin layer = absurd (front-none _ made (at-first _ 110 refl (λ e. omega (arith, e))) front tells)
 
--- what is printed of a refusal is a front of its line
+-- what is printed of a line is a front of it
+front-of : (line : List ℕ) (wanted result : Status) (made : Files) (press_rose : Type 0) → wanted ≢ Write → HasPrinted ((codes "-", line) ∷ []) wanted result (Some made) press_rose → IsFrontOf made ((codes "-", line) ∷ [])
+front-of line wanted result made press_rose other printed =
+    elim printed.status [
+      | inl is ↦
+          let same : made ≡ (codes "-", line) ∷ [] = printed.all (λ write. other (sym is ∙ write)) in
+          rw same (length line, ap (λ text. (codes "-", text)) (sym (take-length line)))
+      | inr is ↦ printed.front is
+    ]
+
 pub limit_told : (refusal : Refusal) (result : Status) (made : Option Files) (press_rose passed : Type 0) → HasPrinted (line_file refusal) (status_of refusal) result made press_rose
     → (refusal ≡ TinLong → passed) → (refusal ≡ LayerLong → passed) → IfSome made (λ files. TellsBytes files → passed)
 limit_told refusal result None press_rose passed printed tin layer = tt
 limit_told refusal result (Some made) press_rose passed printed tin layer = λ tells.
+    tells_long refusal passed made (front-of (line_of refusal) (status_of refusal) result made press_rose (never-write refusal) printed) tells tin layer
+
+-- the words of a check give no other job
+pub check_job : (words : List (List ℕ)) (job : Job) (name : List ℕ) (status : Status) → IsJob words job → IsCheck words name → MayEnd job status → IsEndOfCheck status
+check_job words (checks other) name status given check may = may
+check_job words (migrates carriage) name status given check may = let same = sym given.spelled ∙ check.spelled in cc
+
+pub end_as : (status result : Status) → (result ≡ status) ⊎ (result ≡ Write) → IsEndOfCheck status → IsEndOfCheck result
+end_as status result (inl is) may = rw is may
+end_as status result (inr is) may = rw is tt
+
+-- standard output is no file in a folder
+slash-dash : HasSlash (codes "-") → ⊥
+slash-dash (zero, within, is) = omega (arith, is)
+slash-dash (suc place, within, is) = omega (arith, within)
+
+named-file : (name bytes said : List ℕ) (made : Files) → HasSlash name → IsFrontOf made ((name, bytes) ∷ (codes "-", said) ∷ []) → TellsBytes made → ⊥
+named-file name bytes said made slash front (inl is) =
+    let (count, same) = rw is at front in slash-dash (subst HasSlash (sym (ap (λ (f : List ℕ × List ℕ). f.0) same)) slash)
+named-file name bytes said made slash front (inr is) =
+    let (count, same) = rw is at front in slash-dash (subst HasSlash (sym (ap (λ (f : List ℕ × List ℕ). f.0) same)) slash)
+
+two-files : (file next : List ℕ × List ℕ) (made : Files) → made ≡ file ∷ next ∷ [] → TellsBytes made → ⊥
+two-files file next made same (inl is) = let e = sym same ∙ is in cc
+two-files file next made same (inr is) = let e = sym same ∙ is in cc
+
+-- what is printed of a success tells of no bytes
+pub limit_done : (layer : Option LayerFile) (said : List ℕ) (result : Status) (made : Option Files) (press_rose passed : Type 0) → HasFormWith layer said → HasPrinted (files_with layer said) Same result made press_rose
+    → IfSome made (λ files. TellsBytes files → passed)
+limit_done layer said result None press_rose passed form printed = tt
+limit_done None said result (Some made) press_rose passed (tin, is_said) printed = λ tells.
+    absurd (front-none said made (rw is_said (at-first _ 115 refl (λ e. omega (arith, e)))) (front-of said Same result made press_rose (λ no. cc) printed) tells)
+limit_done (Some file) said result (Some made) press_rose passed form printed = λ tells.
     elim printed.status [
-      | inl is ↦
-          let same : made ≡ line_file refusal = printed.all (λ write. never-write refusal (sym is ∙ write)) in
-          tells_long refusal passed made (rw same (length (line_of refusal), ap (λ text. (codes "-", text)) (sym (take-length (line_of refusal))))) tells tin layer
-      | inr is ↦ tells_long refusal passed made (printed.front is) tells tin layer
+      | inl is ↦ let same = printed.all (λ write. let e = sym is ∙ write in cc) in absurd (two-files _ _ made same tells)
+      | inr is ↦ absurd (named-file (string_bytes file.name) file.bytes.items said made form (printed.front is) tells)
     ]

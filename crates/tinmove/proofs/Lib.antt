@@ -3,13 +3,11 @@ pub mod Cutting
 pub mod PlainTexts
 pub mod Forms
 pub mod Filling
-pub mod NearCorners
-pub mod ThreeCorners
-pub mod Reaches
 pub mod FirstLines
 pub mod PointReading
 pub mod PointWriting
 pub mod CarryingOn
 pub mod LastParts
-pub mod Preparing
+pub mod Faults
+pub mod Readied
 pub mod Ending

@@ -2,24 +2,43 @@
 use Rattle.std.specs.Prelude.{◌≡◌, ℕ, List, [], ◌∷◌, codes}
 use Rattle.tinmove.specs.Names.{IsName, EndsWith}
 
--- to carry a layer through a triangulation into a folder
-pub record Job : Type 0 where
+-- the names of a triangulation, of a folder, and of a layer that is to be carried into it
+pub record Carriage : Type 0 where
   pub tin : List ℕ
   pub out : List ℕ
   pub layer : List ℕ
 
--- its three names may be taken, and the layer's is that of a WKT file
-pub record AreNames (job : Job) : Type 0 where
-  pub tin : IsName job.tin
-  pub out : IsName job.out
-  pub layer : IsName job.layer
-  pub suffix : EndsWith job.layer (codes ".wkt")
+-- to carry a layer, or to check the triangulation of a name
+pub data Job : Type 0 where
+  migrates : Carriage → Job
+  checks : List ℕ → Job
+
+-- the three names may be taken, and the layer's is that of a WKT file
+pub record AreNames (carriage : Carriage) : Type 0 where
+  pub tin : IsName carriage.tin
+  pub out : IsName carriage.out
+  pub layer : IsName carriage.layer
+  pub suffix : EndsWith carriage.layer (codes ".wkt")
 
 -- the words `migrate --tin FILE --out FOLDER LAYER` of such names
-pub record IsJob (words : List (List ℕ)) (job : Job) : Type 0 where
-  pub spelled : words ≡ codes "migrate" ∷ codes "--tin" ∷ job.tin ∷ codes "--out" ∷ job.out ∷ job.layer ∷ []
-  pub names : AreNames job
+pub record IsMigration (words : List (List ℕ)) (carriage : Carriage) : Type 0 where
+  pub spelled : words ≡ codes "migrate" ∷ codes "--tin" ∷ carriage.tin ∷ codes "--out" ∷ carriage.out ∷ carriage.layer ∷ []
+  pub names : AreNames carriage
+
+-- the words `check --tin FILE` of a name that may be taken
+pub record IsCheck (words : List (List ℕ)) (name : List ℕ) : Type 0 where
+  pub spelled : words ≡ codes "check" ∷ codes "--tin" ∷ name ∷ []
+  pub named : IsName name
+
+abbrev pub IsJob : List (List ℕ) → Job → Type 0
+IsJob words (migrates carriage) = IsMigration words carriage
+IsJob words (checks name) = IsCheck words name
 
 -- the words give no job
 abbrev pub LacksJob : List (List ℕ) → Type 0
 LacksJob words = (job : Job) → IsJob words job → ⊥
+
+-- the name of the triangulation's file
+abbrev pub tin_name : Job → List ℕ
+tin_name (migrates carriage) = carriage.tin
+tin_name (checks name) = name

@@ -3,12 +3,13 @@ pub mod Filled
 pub mod Names
 pub mod Jobs
 pub mod Wanted
-pub mod OneTriangle
+pub mod Triangulations
 pub mod PointLines
 pub mod Carrying
 pub mod ReportText
 pub mod Counts
 pub mod Status
+pub mod Lines
 pub mod Refusals
 pub mod Outcome
 pub mod Ends

@@ -1,36 +1,61 @@
 -- What is ready to be written.
-use Rattle.std.specs.Prelude.{◌≡◌, ℕ, List, [], ◌∷◌, codes, string_bytes, Option, IfSome}
+use Rattle.std.specs.Prelude.{◌≡◌, ℕ, List, [], ◌∷◌, codes, string_bytes, Option, None, Some, IfSome, Err}
 use Rattle.shelf_io.specs.Files.{Files}
 use Rattle.shelf_io.specs.Load.{LacksName}
 use Rattle.plane_base.specs.declared.shapes.Pt.{Pt}
 use Rattle.tin_base.specs.Triangulation.{Triangulation}
+use Rattle.tin_check.specs.Faults.{IsCause}
+use Rattle.tin_file.specs.Reading.{Answers}
 use Rattle.tinmove.specs.declared.refusal.Refusal.{Refusal}
-use Rattle.tinmove.specs.declared.refusal.Refusal.TheVariants.{LayerNotYet, Outside, TooManyPieces, NoMemory}
-use Rattle.tinmove.specs.Names.{IsNameIn}
-use Rattle.tinmove.specs.Jobs.{Job}
+use Rattle.tinmove.specs.declared.refusal.Refusal.TheVariants.{TinUnread, TinLong, Tin, Check, LayerNotYet, Outside, TooManyPieces, NoMemory}
+use Rattle.tinmove.specs.declared.preparing.LayerFile.{LayerFile}
+use Rattle.tinmove.specs.declared.preparing.Written.{Written}
+use Rattle.tinmove.specs.Names.{IsNameIn, HasSlash}
+use Rattle.tinmove.specs.Jobs.{Carriage}
+use Rattle.tinmove.specs.Triangulations.{IsRead, plain}
 use Rattle.tinmove.specs.PointLines.{IsLayerText, LacksPoints, carried_text}
 use Rattle.tinmove.specs.Carrying.{IsCarried, IsFirstOutside, HasTooMany}
-use Rattle.tinmove.specs.ReportText.{report_text}
-use Rattle.tinmove.specs.Outcome.{HasLongFile, report_of}
-use Rattle.tinmove.specs.declared.run.Written.{Written}
+use Rattle.tinmove.specs.ReportText.{report_text, sound_text}
+use Rattle.tinmove.specs.Outcome.{HasFile, HasLongFile, report_of}
+
+-- a layer's file and then what is said, or what is said alone
+abbrev pub files_with : Option LayerFile → List ℕ → Files
+files_with None said = (codes "-", said) ∷ []
+files_with (Some file) said = (string_bytes file.name, file.bytes.items) ∷ (codes "-", said) ∷ []
 
 abbrev pub files_of : Written → Files
-files_of written = (string_bytes written.name, written.layer.items) ∷ (codes "-", string_bytes written.report) ∷ []
+files_of written = files_with written.layer (string_bytes written.said)
 
--- the layer of a job is carried through its triangulation: what is written is what a run makes
-abbrev pub IsCarriedOff : Job → Triangulation → List ℕ → Written → Type 0
-IsCarriedOff job tin bytes written =
-    (points : List Pt) × (inexact : ℕ) × (images : List Pt) × IsLayerText bytes points inexact × IsCarried tin points images
-    × IsNameIn job.out job.layer (string_bytes written.name) × (written.layer.items ≡ carried_text bytes images)
-    × (string_bytes written.report ≡ report_text (report_of job tin points inexact))
+-- a layer's file stands in a folder; where there is none, a sound triangulation is told of
+abbrev pub HasFormWith : Option LayerFile → List ℕ → Type 0
+HasFormWith None said = (tin : Triangulation) × (said ≡ sound_text tin)
+HasFormWith (Some file) said = HasSlash (string_bytes file.name)
 
--- the layer of a text is refused
-abbrev pub IsLayerRefused : Triangulation → List ℕ → Refusal → Type 0
-IsLayerRefused tin bytes LayerNotYet = LacksPoints bytes
-IsLayerRefused tin bytes (Outside path) = (points : List Pt) × (inexact : ℕ) × IsLayerText bytes points inexact × IsFirstOutside tin points path
-IsLayerRefused tin bytes TooManyPieces = (points : List Pt) × (inexact : ℕ) × IsLayerText bytes points inexact × HasTooMany tin points
-IsLayerRefused tin bytes NoMemory = Unit {0}
-IsLayerRefused tin bytes refusal = ⊥
+abbrev pub HasForm : Written → Type 0
+HasForm written = HasFormWith written.layer (string_bytes written.said)
+
+-- the text gives no sound triangulation, or memory ran out
+abbrev pub IsTextRefused : List ℕ → Refusal → Type 0
+IsTextRefused text (Tin fault) = Answers plain text (Err fault)
+IsTextRefused text (Check fault) = (tin : Triangulation) × IsRead text tin × IsCause tin fault
+IsTextRefused text NoMemory = Unit {0}
+IsTextRefused text refusal = ⊥
+
+-- a layer is carried through a triangulation: what is written is what a run makes
+abbrev pub IsCarriedOff : Carriage → Triangulation → List ℕ → Written → Type 0
+IsCarriedOff carriage tin bytes written =
+    (points : List Pt) × (inexact : ℕ) × (images : List Pt) × (file : LayerFile) × (written.layer ≡ Some file)
+    × IsLayerText bytes points inexact × IsCarried tin points images
+    × IsNameIn carriage.out carriage.layer (string_bytes file.name) × (file.bytes.items ≡ carried_text bytes images)
+    × (string_bytes written.said ≡ report_text (report_of carriage tin points inexact))
+
+-- the layer of a text is not carried, or memory ran out
+abbrev pub IsNotCarried : Triangulation → List ℕ → Refusal → Type 0
+IsNotCarried tin bytes LayerNotYet = LacksPoints bytes
+IsNotCarried tin bytes (Outside path) = (points : List Pt) × (inexact : ℕ) × IsLayerText bytes points inexact × IsFirstOutside tin points path
+IsNotCarried tin bytes TooManyPieces = (points : List Pt) × (inexact : ℕ) × IsLayerText bytes points inexact × HasTooMany tin points
+IsNotCarried tin bytes NoMemory = Unit {0}
+IsNotCarried tin bytes refusal = ⊥
 
 -- why a file is not loaded: `unread` where it is missing or a read failed, `long` where it has too many bytes
 pub data IsUnloaded (files : Option Files) (name : List ℕ) (unread long : Refusal) (shelf_rose given_passed : Type 0) (refusal : Refusal) : Type 0 where
@@ -38,3 +63,8 @@ pub data IsUnloaded (files : Option Files) (name : List ℕ) (unread long : Refu
   fault : refusal ≡ unread → shelf_rose → IsUnloaded files name unread long shelf_rose given_passed refusal
   too_long : refusal ≡ long → IfSome files (λ files. HasLongFile files name) → given_passed → IsUnloaded files name unread long shelf_rose given_passed refusal
   no_room : refusal ≡ NoMemory → IsUnloaded files name unread long shelf_rose given_passed refusal
+
+-- why no sound triangulation is loaded: its file is not, or its text gives none
+pub data IsTinUnready (files : Option Files) (name : List ℕ) (shelf_rose given_passed : Type 0) (refusal : Refusal) : Type 0 where
+  not_loaded : IsUnloaded files name TinUnread TinLong shelf_rose given_passed refusal → IsTinUnready files name shelf_rose given_passed refusal
+  no_tin : (text : List ℕ) → IfSome files (λ files. HasFile files name text) → IsTextRefused text refusal → IsTinUnready files name shelf_rose given_passed refusal

@@ -1,6 +1,7 @@
--- The text of a run's report.
-use Rattle.std.specs.Prelude.{ℕ, List, [], ◌∷◌, ◌++◌, codes, decimal}
+-- The text of a run's report, and the line of a check.
+use Rattle.std.specs.Prelude.{ℕ, List, [], ◌∷◌, ◌++◌, codes, decimal, length}
 use Rattle.std.specs.List.{concat}
+use Rattle.tin_base.specs.Triangulation.{Triangulation}
 
 -- the numbers and names of a report on one layer
 pub record Report : Type 0 where
@@ -26,3 +27,9 @@ layer_line report = concat (
 -- the lines of the report, each ended by a line feed
 abbrev pub report_text : Report → List ℕ
 report_text report = codes "tinmove report 0\n" ++ tin_line report ++ layer_line report ++ codes "end\n"
+
+-- the line of a triangulation that was found sound
+abbrev pub sound_text : Triangulation → List ℕ
+sound_text tin = concat (
+    codes "sound: corners " ∷ decimal (length tin.corners) ∷ codes " triangles " ∷ decimal (length tin.triangles)
+    ∷ codes " inexact " ∷ decimal tin.inexact ∷ codes "\n" ∷ [])

@@ -4,14 +4,20 @@
 
 mod carrying;
 mod filled;
-mod one_triangle;
+mod lines;
+mod loading;
 mod points;
+mod preparing;
+mod publishing;
 mod refusal;
 mod report;
 mod run;
 mod status;
 #[cfg(test)]
 mod tests;
+#[cfg(test)]
+mod tin_tests;
+mod triangulations;
 mod words;
 
 use run::run;

@@ -1,14 +1,15 @@
 //! Why a run is refused, and the one line that says so.
 
 ghost use Rattle.std.specs.Prelude.{◌≡◌};
-ghost use Rattle.tinmove.specs.Refusals.{line_of, status_of, of_layer};
-ghost use Rattle.tinmove.specs.declared.refusal.Refusal.TheVariants.{NoMemory};
+ghost use Rattle.tinmove.specs.Refusals.{line_of, status_of, status_of_tin, status_of_check, of_layer};
+ghost use Rattle.tinmove.specs.declared.refusal.Refusal.TheVariants.{Tin, Check, NoMemory};
 
+use crate::lines::{Line, check_line, said, said_number, tin_line};
 use crate::points::LayerFault;
 use crate::status::Status;
-use arrayvec::ArrayString;
-use itoa::Buffer;
 use std::alloc::AllocError;
+use tin_check::CheckFault;
+use tin_file::TinFault;
 
 /// Why nothing was carried.
 #[derive(Clone, Copy, Debug, PartialEq, Eq)]
@@ -19,8 +20,10 @@ pub enum Refusal {
     TinUnread,
     /// The triangulation's file has too many bytes.
     TinLong,
-    /// The triangulation's file has a form that is not read yet.
-    TinNotYet,
+    /// The triangulation's text is not read.
+    Tin(TinFault),
+    /// The triangulation is not sound.
+    Check(CheckFault),
     /// The layer's file is missing or could not be read.
     LayerUnread,
     /// The layer's file has too many bytes.
@@ -35,14 +38,27 @@ pub enum Refusal {
     NoMemory,
 }
 
-/// The room for a refusal's line, in bytes.
-pub const LINE_ROOM: usize = 96;
-
 impl From<AllocError> for Refusal {
     ghost from_gives = { λ _ refusal. refusal ≡ NoMemory };
 
     fn from(_: AllocError) -> Self {
         Refusal::NoMemory
+    }
+}
+
+impl From<TinFault> for Refusal {
+    ghost from_gives = { λ fault refusal. refusal ≡ Tin fault };
+
+    fn from(fault: TinFault) -> Self {
+        Refusal::Tin(fault)
+    }
+}
+
+impl From<CheckFault> for Refusal {
+    ghost from_gives = { λ fault refusal. refusal ≡ Check fault };
+
+    fn from(fault: CheckFault) -> Self {
+        Refusal::Check(fault)
     }
 }
 
@@ -57,6 +73,27 @@ impl From<LayerFault> for Refusal {
     }
 }
 
+/// The status of a triangulation's text that is not read.
+fn tin_status(fault: TinFault) -> Status
+    ensures { result ≡ status_of_tin fault }
+{
+    match fault {
+        TinFault::TooMany { .. } => Status::Limit,
+        TinFault::NoMemory => Status::Memory,
+        _ => Status::Tin,
+    }
+}
+
+/// The status of a triangulation that is not known to be sound.
+fn check_status(fault: CheckFault) -> Status
+    ensures { result ≡ status_of_check fault }
+{
+    match fault {
+        CheckFault::NoMemory => Status::Memory,
+        _ => Status::Tin,
+    }
+}
+
 impl Refusal {
     /// The status with which the run ends.
     pub fn status(self) -> Status
@@ -66,7 +103,8 @@ impl Refusal {
             Refusal::NotUnderstood => Status::Words,
             Refusal::TinUnread | Refusal::LayerUnread => Status::Read,
             Refusal::TinLong | Refusal::LayerLong | Refusal::TooManyPieces => Status::Limit,
-            Refusal::TinNotYet => Status::Tin,
+            Refusal::Tin(fault) => tin_status(fault),
+            Refusal::Check(fault) => check_status(fault),
             Refusal::LayerNotYet => Status::Layer,
             Refusal::Outside { .. } => Status::Outside,
             Refusal::NoMemory => Status::Memory,
@@ -74,27 +112,23 @@ impl Refusal {
     }
 
     /// The line that says so, with its line feed. It takes no memory.
-    pub fn line(self) -> ArrayString<LINE_ROOM>
+    pub fn line(self) -> Line
         ensures { result.bytes ≡ line_of self }
     {
-        let mut line = ArrayString::new();
         match self {
-            Refusal::NotUnderstood => line.push_str("words: not understood\n"),
-            Refusal::TinUnread => line.push_str("read fault: triangulation\n"),
-            Refusal::TinLong => line.push_str("limit: bytes of triangulation\n"),
-            Refusal::TinNotYet => line.push_str("triangulation: not yet\n"),
-            Refusal::LayerUnread => line.push_str("read fault: layer 0\n"),
-            Refusal::LayerLong => line.push_str("limit: bytes of layers\n"),
-            Refusal::LayerNotYet => line.push_str("layer 0: not yet\n"),
+            Refusal::NotUnderstood => said("words: not understood\n"),
+            Refusal::TinUnread => said("read fault: triangulation\n"),
+            Refusal::TinLong => said("limit: bytes of triangulation\n"),
+            Refusal::Tin(fault) => tin_line(fault),
+            Refusal::Check(fault) => check_line(fault),
+            Refusal::LayerUnread => said("read fault: layer 0\n"),
+            Refusal::LayerLong => said("limit: bytes of layers\n"),
+            Refusal::LayerNotYet => said("layer 0: not yet\n"),
             Refusal::Outside { path } => {
-                let mut digits = Buffer::new();
-                line.push_str("outside: layer 0 path ");
-                line.push_str(digits.format(path));
-                line.push_str(" segment 0\n");
+                said_number("outside: layer 0 path ", u64::from(path), " segment 0\n")
             }
-            Refusal::TooManyPieces => line.push_str("limit: pieces\n"),
-            Refusal::NoMemory => line.push_str("no memory\n"),
+            Refusal::TooManyPieces => said("limit: pieces\n"),
+            Refusal::NoMemory => said("no memory\n"),
         }
-        line
     }
 }

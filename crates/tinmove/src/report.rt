@@ -1,10 +1,11 @@
-//! The report of a run.
+//! The report of a run, and the line of a check.
 
 ghost use Rattle.std.specs.Prelude.{◌≡◌, IfOk, string_bytes};
-ghost use Rattle.tinmove.specs.ReportText.{tin_line as tin_line_of, layer_line as layer_line_of, report_text};
+ghost use Rattle.tinmove.specs.ReportText.{tin_line as tin_line_of, layer_line as layer_line_of, report_text, sound_text};
 ghost use Rattle.tinmove.specs.Counts.{report_of_counts};
 
 use std::alloc::{AllocError, Global};
+use tin_base::SoundTin;
 
 /// The counts and the names that a run's report gives.
 #[derive(Clone, Copy)]
@@ -56,4 +57,14 @@ pub fn write_report(alloc: Global, counts: Counts<'_>) -> Result<String, AllocEr
     text.push_str(layer.as_str())?;
     text.push_str("end\n")?;
     Ok(text)
+}
+
+/// The line of a triangulation that was found sound.
+pub fn sound_line(alloc: Global, tin: &SoundTin) -> Result<String, AllocError>
+    ensures { IfOk result (λ text. string_bytes text ≡ sound_text tin.now) }
+{
+    let corners = tin.corners().len();
+    let triangles = tin.triangles().len();
+    let inexact = tin.inexact();
+    format!(in alloc; "sound: corners {corners} triangles {triangles} inexact {inexact}\n")
 }

@@ -13,14 +13,6 @@ const TIN: &[u8] =
 const TIN_AT_ZERO: &[u8] =
     br#"{"file_type":"triangulation_file","format_version":"1.1","transformed_components":["horizontal"],"vertices_columns":["source_x","source_y","target_x","target_y"],"triangles_columns":["idx_vertex1","idx_vertex2","idx_vertex3"],"vertices":[[0,0,-110,0],[10,0,-99.998,0],[0,10,-110,10]],"triangles":[[0,1,2]]}"#;
 
-/// The same with its corners clockwise in the target.
-const TIN_TURNED_OVER: &[u8] =
-    br#"{"file_type":"triangulation_file","format_version":"1.1","transformed_components":["horizontal"],"vertices_columns":["source_x","source_y","target_x","target_y"],"triangles_columns":["idx_vertex1","idx_vertex2","idx_vertex3"],"vertices":[[0,0,100,100],[10,0,100,110],[0,10,110.002,100]],"triangles":[[0,1,2]]}"#;
-
-/// The same with a number that is none of JSON.
-const TIN_OF_ANOTHER_FORM: &[u8] =
-    br#"{"file_type":"triangulation_file","format_version":"1.1","transformed_components":["horizontal"],"vertices_columns":["source_x","source_y","target_x","target_y"],"triangles_columns":["idx_vertex1","idx_vertex2","idx_vertex3"],"vertices":[[00,0,100,100],[10,0,110.002,100],[0,10,100,110]],"triangles":[[0,1,2]]}"#;
-
 fn words(alloc: Global, texts: &[&str]) -> Result<Vec<String>, AllocError> {
     let mut words = Vec::new(alloc);
     for text in texts {
@@ -127,19 +119,6 @@ fn refusals_print_their_line(rt: HostRuntime) -> Result<(), Fail> {
         (TIN, b"POINT (5 05)", Status::Layer, b"layer 0: not yet\n"),
         (TIN, b"POINT (5 0.)", Status::Layer, b"layer 0: not yet\n"),
         (TIN, b"POINT (5 +0)", Status::Layer, b"layer 0: not yet\n"),
-        (
-            TIN_TURNED_OVER,
-            b"",
-            Status::Tin,
-            b"triangulation: not yet\n",
-        ),
-        (
-            TIN_OF_ANOTHER_FORM,
-            b"",
-            Status::Tin,
-            b"triangulation: not yet\n",
-        ),
-        (b"", b"", Status::Tin, b"triangulation: not yet\n"),
     ] {
         let mut shelf = MemShelf::new(alloc, 4096);
         shelf.add("t.json", tin)?;
@@ -161,6 +140,12 @@ fn words_that_give_no_job(rt: HostRuntime) -> Result<(), Fail> {
         &["migrate", "--tin", "", "--out", "o", "p.wkt"],
         &["migrate", "--tin", "t\n", "--out", "o", "p.wkt"],
         &["migrate", "--out", "o", "--tin", "t.json", "p.wkt"],
+        &["check", "--tin", "t.json", "p.wkt"],
+        &["check", "--tin", ""],
+        &["check", "--tin", "t\t"],
+        &["check", "t.json", "--tin"],
+        &["check", "--tin"],
+        &["check"],
         &["migrate", "--tin", "t.json", "--out", "o"],
         &["migrate", "--tin", "t.json", "--out", "o", "p.wkt", "q.wkt"],
         &[],

@@ -1,19 +1,28 @@
 //! The words of the command line, and the job that they give.
 
-ghost use Rattle.std.specs.Prelude.{◌≡◌, ◌↔◌, codes, IsTrue, IfSome, IfNone, map, string_bytes};
+ghost use Rattle.std.specs.Prelude.{◌≡◌, ◌↔◌, ℕ, List, codes, IsTrue, IfSome, IfNone, map, string_bytes};
 ghost use Rattle.tinmove.specs.Names.{IsName, EndsWith};
-ghost use Rattle.tinmove.specs.Jobs.{AreNames, IsJob, LacksJob};
-ghost use Rattle.tinmove.specs.Wanted.{job_of};
+ghost use Rattle.tinmove.specs.Jobs.{Carriage, AreNames, IsMigration, IsCheck, IsJob, LacksJob};
+ghost use Rattle.tinmove.specs.Wanted.{carriage_of, job_of};
 
-/// What the words ask for: to carry a layer through a triangulation into a folder.
+/// A layer that is to be carried through a triangulation into a folder.
 #[derive(Clone, Copy)]
-pub struct Wanted<'a> {
+pub struct Migration<'a> {
     /// The name of the triangulation's file.
     pub tin: &'a str,
     /// The folder into which the layer is written.
     pub out: &'a str,
     /// The name of the layer's file.
     pub layer: &'a str,
+}
+
+/// What the words ask for.
+#[derive(Clone, Copy)]
+pub enum Wanted<'a> {
+    /// To carry a layer.
+    Migrate(Migration<'a>),
+    /// To check the triangulation of the file of this name.
+    Check(&'a str),
 }
 
 /// Whether a word may name a file: it is not empty, and no byte of it is below 32.
@@ -38,25 +47,25 @@ fn is_wkt(name: &str) -> bool
 }
 
 /// Whether the three names and the layer's format may be taken.
-fn is_job(wanted: Wanted<'_>) -> bool
-    ensures { IsTrue result ↔ AreNames (job_of wanted.entry) }
+fn are_names(migration: Migration<'_>) -> bool
+    ensures { IsTrue result ↔ AreNames (carriage_of migration.entry) }
 {
-    if !is_name(wanted.tin) {
+    if !is_name(migration.tin) {
         return false;
     }
-    if !is_name(wanted.out) {
+    if !is_name(migration.out) {
         return false;
     }
-    if !is_name(wanted.layer) {
+    if !is_name(migration.layer) {
         return false;
     }
-    is_wkt(wanted.layer)
+    is_wkt(migration.layer)
 }
 
-/// The job of the words `migrate --tin FILE --out FOLDER LAYER`, where LAYER ends in `.wkt`.
-pub fn read_words(words: &[String]) -> Option<Wanted<'_>>
-    ensures found { IfSome result (λ wanted. IsJob (map string_bytes words.now) (job_of wanted)) }
-    ensures none { IfNone result (LacksJob (map string_bytes words.now)) }
+/// What the words `migrate --tin FILE --out FOLDER LAYER` ask for, where LAYER ends in `.wkt`.
+fn read_migration(words: &[String]) -> Option<Migration<'_>>
+    ensures found { IfSome result (λ migration. IsMigration (map string_bytes words.now) (carriage_of migration)) }
+    ensures none { IfNone result ((carriage : Carriage) → IsMigration (map string_bytes words.now) carriage → ⊥) }
 {
     let [mode, tin_option, tin, out_option, out, layer] = words else {
         return None;
@@ -70,10 +79,49 @@ pub fn read_words(words: &[String]) -> Option<Wanted<'_>>
     if !is_word(out_option, "--out") {
         return None;
     }
-    let wanted = Wanted {
+    let migration = Migration {
         tin: tin.as_str(),
         out: out.as_str(),
         layer: layer.as_str(),
     };
-    if is_job(wanted) { Some(wanted) } else { None }
+    if are_names(migration) {
+        Some(migration)
+    } else {
+        None
+    }
+}
+
+/// The name of the file that the words `check --tin FILE` want checked.
+fn read_check(words: &[String]) -> Option<&str>
+    ensures found { IfSome result (λ tin. IsCheck (map string_bytes words.now) tin.now) }
+    ensures none { IfNone result ((name : List ℕ) → IsCheck (map string_bytes words.now) name → ⊥) }
+{
+    let [mode, tin_option, tin] = words else {
+        return None;
+    };
+    if !is_word(mode, "check") {
+        return None;
+    }
+    if !is_word(tin_option, "--tin") {
+        return None;
+    }
+    if is_name(tin.as_str()) {
+        Some(tin.as_str())
+    } else {
+        None
+    }
+}
+
+/// The job of the words.
+pub fn read_words(words: &[String]) -> Option<Wanted<'_>>
+    ensures found { IfSome result (λ wanted. IsJob (map string_bytes words.now) (job_of wanted)) }
+    ensures none { IfNone result (LacksJob (map string_bytes words.now)) }
+{
+    if let Some(migration) = read_migration(words) {
+        return Some(Wanted::Migrate(migration));
+    }
+    match read_check(words) {
+        Some(tin) => Some(Wanted::Check(tin)),
+        None => None,
+    }
 }

@@ -4,7 +4,7 @@ use Rattle.tinmove.specs.declared.refusal.Refusal.TheVariants.{NotUnderstood}
 use Rattle.tinmove.specs.Wanted.{job_of}
 use Rattle.tinmove.specs.Refusals.{status_of}
 use Rattle.tinmove.specs.Prepared.{files_of}
-use Rattle.tinmove.proofs.Ending.{line_file, printed_of, never-write, ends_so, makes_refusal, makes_no_job, makes_files, told, told_always, stands_refused, stands_written, limit_told}
+use Rattle.tinmove.proofs.Ending.{line_file, printed_of, never-write, ends_so, makes_refusal, makes_no_job, makes_files, told, told_always, stands_refused, stands_done, limit_told, limit_done, check_job, end_as}
 use Rattle.tinmove.proofs.run.run.Goals as goal
 
 pub returns-in_default-clause-ends : goal.returns-in_default-clause-ends
@@ -35,11 +35,17 @@ returns-in-Ok-clause-ends g c =
 pub returns-in-Ok-clause-stands : goal.returns-in-Ok-clause-stands
 returns-in-Ok-clause-stands g c =
     let e = c.publish.ensures in
-    stands_written c.in-Ok.written c.publish.result (g.P.Press.made c.publish.new.press) _
+    stands_done c.in-Ok.written.layer (string_bytes c.in-Ok.written.said) c.publish.result (g.P.Press.made c.publish.new.press) _ c.in-Ok.ensures.form
     (printed_of (files_of c.in-Ok.written) Same c.publish.result (g.P.Press.made c.publish.new.press) _ e.status e.whole e.front e.rose)
 
 pub returns-in-Ok-clause-no_job : goal.returns-in-Ok-clause-no_job
 returns-in-Ok-clause-no_job g c = λ lacks. absurd (lacks (job_of c.in-Some.wanted) c.in-Some.ensures.found)
+
+pub returns-in-Ok-clause-limit : goal.returns-in-Ok-clause-limit
+returns-in-Ok-clause-limit g c =
+    let e = c.publish.ensures in
+    limit_done c.in-Ok.written.layer (string_bytes c.in-Ok.written.said) c.publish.result (g.P.Press.made c.publish.new.press) _ _ c.in-Ok.ensures.form
+    (printed_of (files_of c.in-Ok.written) Same c.publish.result (g.P.Press.made c.publish.new.press) _ e.status e.whole e.front e.rose)
 
 pub returns-in-Err-clause-ends : goal.returns-in-Err-clause-ends
 returns-in-Err-clause-ends g c =
@@ -62,3 +68,7 @@ returns-in-Err-clause-limit g c =
     let e = c.refuse-in-Err.ensures in
     limit_told c.in-Err.refusal c.refuse-in-Err.result (g.P.Press.made c.refuse-in-Err.new.press) _ _ (record { status = e.status; all = e.whole; front = e.front; rose = e.rose })
     c.in-Err.ensures.causes.tin_long c.in-Err.ensures.causes.layer_long
+
+pub returns-in-Err-clause-check : goal.returns-in-Err-clause-check
+returns-in-Err-clause-check g c = λ name check.
+    end_as _ c.refuse-in-Err.result c.refuse-in-Err.ensures.status (check_job _ (job_of c.in-Some.wanted) name _ c.in-Some.ensures.found check c.in-Err.ensures.causes.may_end)

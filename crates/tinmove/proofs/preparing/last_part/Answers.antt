@@ -1,5 +1,5 @@
 use Rattle.tinmove.proofs.LastParts.{whole_name, part_behind}
-use Rattle.tinmove.proofs.run.last_part.Goals as goal
+use Rattle.tinmove.proofs.preparing.last_part.Goals as goal
 
 pub returns-in-Some : goal.returns-in-Some
 returns-in-Some c =

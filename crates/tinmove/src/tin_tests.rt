@@ -1,0 +1,441 @@
+//! Runs over triangulations of all kinds, in memory. The expected lines and images are worked out by hand.
+
+use crate::run::run;
+use crate::status::Status;
+use shelf_io::{MemPress, MemShelf};
+use std::alloc::{AllocError, Global};
+use std::test::Fail;
+
+/// Two triangles that make a square, whose diagonal is longer in the target.
+const SQUARE: &str = "[0,0,100,100],[10,0,110,100],[10,10,110.003,110.003],[0,10,100,110]";
+
+/// The text of a triangulation with these rows.
+fn tin_text(alloc: Global, vertices: &str, triangles: &str) -> Result<String, AllocError> {
+    let mut text = String::from_str(
+        alloc,
+        r#"{"file_type":"triangulation_file","format_version":"1.1","transformed_components":["horizontal"],"vertices_columns":["source_x","source_y","target_x","target_y"],"triangles_columns":["idx_vertex1","idx_vertex2","idx_vertex3"],"vertices":["#,
+    )?;
+    text.push_str(vertices)?;
+    text.push_str(r#"],"triangles":["#)?;
+    text.push_str(triangles)?;
+    text.push_str("]}")?;
+    Ok(text)
+}
+
+/// A run of these words over a triangulation and a layer.
+fn run_of(
+    alloc: Global,
+    texts: &[&str],
+    tin: &[u8],
+    layer: &[u8],
+) -> Result<(Status, MemPress), AllocError> {
+    let mut words = Vec::new(alloc);
+    for text in texts {
+        words.push(String::from_str(alloc, text)?)?;
+    }
+    let mut shelf = MemShelf::new(alloc, 4096);
+    shelf.add("t.json", tin)?;
+    shelf.add("p.wkt", layer)?;
+    let mut press = MemPress::new(alloc, 4096);
+    let status = run(alloc, &words, &mut shelf, &mut press);
+    Ok((status, press))
+}
+
+const CHECK: [&str; 3] = ["check", "--tin", "t.json"];
+
+const MIGRATE: [&str; 6] = ["migrate", "--tin", "t.json", "--out", "o", "p.wkt"];
+
+#[test]
+fn checks_rows(rt: HostRuntime) -> Result<(), Fail> {
+    let alloc = rt.alloc();
+    for (vertices, triangles, wanted, line) in [
+        (
+            SQUARE,
+            "[0,1,2],[0,2,3]",
+            Status::Same,
+            "sound: corners 4 triangles 2 inexact 0\n",
+        ),
+        (
+            SQUARE,
+            "[0,1,2],[0,2,3],[2,0,1]",
+            Status::Tin,
+            "triangulation: meets 0 2 source\n",
+        ),
+        (
+            "[0,0,100,100],[10,0,110,100],[5,8,105,108],[5,0,105,100],[2,-8,102,92],[8,-8,108,92]",
+            "[0,1,2],[3,4,5]",
+            Status::Tin,
+            "triangulation: meets 0 1 source\n",
+        ),
+        (
+            "[0,0,0,0],[10,0,10,0],[0,10,0,10],[20,0,10,0],[30,0,20,0],[20,10,10,10]",
+            "[0,1,2],[3,4,5]",
+            Status::Tin,
+            "triangulation: meets 0 1 target\n",
+        ),
+        (
+            "[0,0,0,0],[10,0,10,0],[0,10,20,0]",
+            "[0,1,2]",
+            Status::Tin,
+            "triangulation: flat 0 target\n",
+        ),
+        (
+            "[0,0,0,0],[10,10,10,0],[20,20,0,10]",
+            "[0,1,2]",
+            Status::Tin,
+            "triangulation: flat 0 source\n",
+        ),
+        (
+            "[0,0,0,0],[10,0,0,10],[0,10,10,0]",
+            "[0,1,2]",
+            Status::Tin,
+            "triangulation: turns over 0\n",
+        ),
+        (
+            "[0,0,0,0],[0,10,0,10],[10,0,10,0]",
+            "[0,1,2]",
+            Status::Same,
+            "sound: corners 3 triangles 1 inexact 0\n",
+        ),
+        (
+            "[0,0,100,100],[10,0,110.002,100],[0,10,100,110],[0,0,100,100]",
+            "[3,1,2]",
+            Status::Same,
+            "sound: corners 3 triangles 1 inexact 0\n",
+        ),
+        (
+            "[0,0.0004,0,0],[10,0,10,1e-4],[0,10,0,10]",
+            "[0,1,2]",
+            Status::Same,
+            "sound: corners 3 triangles 1 inexact 2\n",
+        ),
+        (
+            "",
+            "",
+            Status::Same,
+            "sound: corners 0 triangles 0 inexact 0\n",
+        ),
+        (
+            "[0,0,0,0],[1073741.824,0,10,0],[0,10,0,10]",
+            "[0,1,2]",
+            Status::Tin,
+            "triangulation: span source x\n",
+        ),
+        (
+            "[0,0,0,0],[0,1073741.824,10,0],[10,0,0,10]",
+            "[0,1,2]",
+            Status::Tin,
+            "triangulation: span source y\n",
+        ),
+        (
+            "[0,0,0,0],[0,10,1073741.824,0],[10,0,0,10]",
+            "[0,1,2]",
+            Status::Tin,
+            "triangulation: span target x\n",
+        ),
+        (
+            "[0,0,0,0],[0,10,0,-1073741.824],[10,0,0,10]",
+            "[0,1,2]",
+            Status::Tin,
+            "triangulation: span target y\n",
+        ),
+        (
+            "[0,0,0]",
+            "",
+            Status::Tin,
+            "triangulation: row 0 of vertices\n",
+        ),
+        (
+            "[0,0,0,0]",
+            "[0,0,0],[0,0]",
+            Status::Tin,
+            "triangulation: row 1 of triangles\n",
+        ),
+        (
+            "[0,0,0,0]",
+            "[0,0,1]",
+            Status::Tin,
+            "triangulation: index in triangle 0\n",
+        ),
+        (
+            "[0,0,0,0],[0,0,0,1e13]",
+            "",
+            Status::Tin,
+            "triangulation: number range in row 1\n",
+        ),
+        (
+            "[0,0,0,0.00000000000000000000000000000000000000000000000000000000000000000]",
+            "",
+            Status::Tin,
+            "triangulation: number long in row 0\n",
+        ),
+    ] {
+        let tin = tin_text(alloc, vertices, triangles)?;
+        let (status, press) = run_of(alloc, &CHECK, tin.as_bytes(), b"")?;
+        assert_eq!(rt; status, wanted, "at {vertices} {triangles}");
+        assert_eq!(rt;
+            press.made_bytes("-"),
+            Some(line.as_bytes()),
+            "at {vertices} {triangles}"
+        );
+    }
+    Ok(())
+}
+
+#[test]
+fn checks_texts(rt: HostRuntime) -> Result<(), Fail> {
+    let alloc = rt.alloc();
+    for (text, line) in [
+        (r#"{"file_type":"#, "triangulation: json at 13\n"),
+        (
+            "[[[[[[[[[[[[[[[[[[[[[[[[[[[[[[[[[[[[[[[[[[[[[[[[[[[[[[[[[[[[[[[[[",
+            "triangulation: deep at 64\n",
+        ),
+        ("", "triangulation: json at 0\n"),
+        ("[]", "triangulation: key top\n"),
+        ("{}", "triangulation: key file_type\n"),
+        (
+            r#"{"file_type":"triangulation_file"}"#,
+            "triangulation: key format_version\n",
+        ),
+        (
+            r#"{"file_type":"triangulation_file","format_version":"2.0"}"#,
+            "triangulation: version\n",
+        ),
+        (
+            r#"{"file_type":"triangulation_file","format_version":"1.1","fallback_strategy":1}"#,
+            "triangulation: key fallback_strategy\n",
+        ),
+        (
+            r#"{"file_type":"triangulation_file","format_version":"1.1","fallback_strategy":"nearest_side"}"#,
+            "triangulation: fallback nearest_side\n",
+        ),
+        (
+            r#"{"file_type":"triangulation_file","format_version":"1.1","fallback_strategy":"nearest_centroid"}"#,
+            "triangulation: fallback nearest_centroid\n",
+        ),
+        (
+            r#"{"file_type":"triangulation_file","format_version":"1.1"}"#,
+            "triangulation: key transformed_components\n",
+        ),
+        (
+            r#"{"file_type":"triangulation_file","format_version":"1.1","transformed_components":["vertical"]}"#,
+            "triangulation: no horizontal\n",
+        ),
+        (
+            r#"{"file_type":"triangulation_file","format_version":"1.1","transformed_components":["horizontal"]}"#,
+            "triangulation: key vertices_columns\n",
+        ),
+        (
+            r#"{"file_type":"triangulation_file","format_version":"1.1","transformed_components":["horizontal"],"vertices_columns":["source_x","source_y","target_x","target_y"]}"#,
+            "triangulation: key triangles_columns\n",
+        ),
+        (
+            r#"{"file_type":"triangulation_file","format_version":"1.1","transformed_components":["horizontal"],"vertices_columns":["source_x","source_y","target_x","target_y"],"triangles_columns":["idx_vertex1","idx_vertex2","idx_vertex3"]}"#,
+            "triangulation: key vertices\n",
+        ),
+        (
+            r#"{"file_type":"triangulation_file","format_version":"1.1","transformed_components":["horizontal"],"vertices_columns":["source_x","source_y","target_x","target_y"],"triangles_columns":["idx_vertex1","idx_vertex2","idx_vertex3"],"vertices":[]}"#,
+            "triangulation: key triangles\n",
+        ),
+    ] {
+        for words in [CHECK.as_slice(), &MIGRATE] {
+            let (status, press) = run_of(alloc, words, text.as_bytes(), b"")?;
+            assert_eq!(rt; status, Status::Tin, "at {text}");
+            assert_eq!(rt; press.made_bytes("-"), Some(line.as_bytes()), "at {text}");
+            assert_eq!(rt; press.made_bytes("o/p.wkt"), None, "at {text}");
+        }
+    }
+    Ok(())
+}
+
+/// As many elements as these of a list.
+fn push_many(text: &mut String, element: &str, count: u32) -> Result<(), AllocError> {
+    for _ in 0..count {
+        text.push_str(element)?;
+    }
+    Ok(())
+}
+
+#[test]
+fn too_many_rows_pass_a_limit(rt: HostRuntime) -> Result<(), Fail> {
+    let alloc = rt.alloc();
+    let mut vertices = String::from_str(alloc, "0")?;
+    push_many(&mut vertices, ",0", 1 << 20)?;
+    let many_vertices = tin_text(alloc, vertices.as_str(), "")?;
+    let mut triangles = String::from_str(alloc, "0")?;
+    push_many(&mut triangles, ",0", 1 << 21)?;
+    let many_triangles = tin_text(alloc, "", triangles.as_str())?;
+    for (tin, line) in [
+        (many_vertices, b"limit: vertices\n".as_slice()),
+        (many_triangles, b"limit: triangles\n"),
+    ] {
+        let (status, press) = run_of(alloc, &CHECK, tin.as_bytes(), b"")?;
+        assert_eq!(rt; status, Status::Limit);
+        assert_eq!(rt; press.made_bytes("-"), Some(line));
+    }
+    Ok(())
+}
+
+#[test]
+fn carries_through_triangulations(rt: HostRuntime) -> Result<(), Fail> {
+    let alloc = rt.alloc();
+    for (vertices, triangles, layer, written) in [
+        (
+            SQUARE,
+            "[0,1,2],[0,2,3]",
+            "POINT (6 4)",
+            "POINT (106.001 104.001)",
+        ),
+        (
+            SQUARE,
+            "[0,1,2],[0,2,3]",
+            "POINT (0 10)",
+            "POINT (100.000 110.000)",
+        ),
+        (
+            SQUARE,
+            "[0,1,2],[0,2,3]",
+            "POINT (5 5)",
+            "POINT (105.002 105.002)",
+        ),
+        (
+            "[0,0,0,0],[1073741.823,0,10,0],[0,10,0,10]",
+            "[0,1,2]",
+            "POINT (1073741.823 0)",
+            "POINT (10.000 0.000)",
+        ),
+        (
+            "[0,0,100,100],[10,0,110.002,100],[0,10,100,110],[0,0,100,100]",
+            "[3,1,2]",
+            "POINT (5 0)",
+            "POINT (105.001 100.000)",
+        ),
+        ("", "", "\n", "\n"),
+    ] {
+        let tin = tin_text(alloc, vertices, triangles)?;
+        let (status, press) = run_of(alloc, &MIGRATE, tin.as_bytes(), layer.as_bytes())?;
+        assert_eq!(rt; status, Status::Same, "at {layer}");
+        assert_eq!(rt;
+            press.made_bytes("o/p.wkt"),
+            Some(written.as_bytes()),
+            "at {layer}"
+        );
+    }
+    Ok(())
+}
+
+#[test]
+fn points_outside(rt: HostRuntime) -> Result<(), Fail> {
+    let alloc = rt.alloc();
+    for (vertices, triangles, layer, line) in [
+        ("", "", "POINT (0 0)", "outside: layer 0 path 0 segment 0\n"),
+        (
+            "[0,0,100,100],[10,0,110,100],[20,0,120,100],[20,10,120,110],[10,10,110,110],[10,20,110,120],[0,20,100,120],[0,10,100,110]",
+            "[0,1,4],[0,4,7],[1,2,3],[1,3,4],[7,4,5],[7,5,6]",
+            "POINT (18 9)\nPOINT (9 18)\nPOINT (13.5 13.5)",
+            "outside: layer 0 path 2 segment 0\n",
+        ),
+    ] {
+        let tin = tin_text(alloc, vertices, triangles)?;
+        let (status, press) = run_of(alloc, &MIGRATE, tin.as_bytes(), layer.as_bytes())?;
+        assert_eq!(rt; status, Status::Outside, "at {layer}");
+        assert_eq!(rt; press.made_bytes("-"), Some(line.as_bytes()), "at {layer}");
+        assert_eq!(rt; press.made_bytes("o/p.wkt"), None, "at {layer}");
+    }
+    Ok(())
+}
+
+/// The example of PROJ's manual of tinshift, with the members that its files have.
+const KKJ: &str = r#"{
+  "file_type": "triangulation_file",
+  "format_version": "1.0",
+  "name": "Name",
+  "version": "Version",
+  "publication_date": "2018-07-01T00:00:00Z",
+  "license": "Creative Commons Attribution 4.0 International",
+  "description": "Test triangulation",
+  "authority": { "name": "Authority name", "url": "http://example.com", "address": "Adress", "email": "test@example.com" },
+  "links": [ { "href": "https://example.com/about.html", "rel": "about", "type": "text/html", "title": "About" } ],
+  "input_crs": "EPSG:2393",
+  "target_crs": "EPSG:3067",
+  "transformed_components": [ "horizontal" ],
+  "vertices_columns": [ "source_x", "source_y", "target_x", "target_y" ],
+  "triangles_columns": [ "idx_vertex1", "idx_vertex2", "idx_vertex3" ],
+  "vertices": [ [3244102.707, 6693710.937, 244037.137, 6690900.686], [3205290.722, 6715311.822, 205240.895, 6712492.577], [3218328.492, 6649538.429, 218273.648, 6646745.973] ],
+  "triangles": [ [0, 1, 2] ]
+}
+"#;
+
+/// Another order of the columns, a column of another name, and members that are passed over.
+const NAMED_ROWS: &str =
+    r#"{"file_type":"triangulation_file","format_version":"1.0","name":"n","license":"l","input_crs":"EPSG:1","output_crs":"EPSG:2","transformed_components":["horizontal"],"vertices_columns":["name","target_x","target_y","source_x","source_y"],"triangles_columns":["idx_vertex1","idx_vertex2","idx_vertex3"],"vertices":[["A",100,100,0,0],["B",110.002,100,10,0],["C",100,110,0,10]],"triangles":[[0,1,2]]}"#;
+
+#[test]
+fn files_of_the_kind_of_proj(rt: HostRuntime) -> Result<(), Fail> {
+    let alloc = rt.alloc();
+    for (tin, layer, written) in [
+        // PROJ answers 209948.3217 6697187.0009.
+        (
+            KKJ,
+            "POINT (3210000 6700000)",
+            "POINT (209948.322 6697187.001)",
+        ),
+        (NAMED_ROWS, "POINT (5 0)", "POINT (105.001 100.000)"),
+    ] {
+        let (status, press) = run_of(alloc, &MIGRATE, tin.as_bytes(), layer.as_bytes())?;
+        assert_eq!(rt; status, Status::Same, "at {layer}");
+        assert_eq!(rt;
+            press.made_bytes("o/p.wkt"),
+            Some(written.as_bytes()),
+            "at {layer}"
+        );
+        assert_eq!(rt;
+            run_of(alloc, &CHECK, tin.as_bytes(), b"")?
+                .1
+                .made_bytes("-"),
+            Some(b"sound: corners 3 triangles 1 inexact 0\n".as_slice())
+        );
+    }
+    Ok(())
+}
+
+#[test]
+fn a_check_writes_its_line_alone(rt: HostRuntime) -> Result<(), Fail> {
+    let alloc = rt.alloc();
+    let tin = tin_text(alloc, SQUARE, "[0,1,2],[0,2,3]")?;
+    let mut words = Vec::new(alloc);
+    for text in CHECK {
+        words.push(String::from_str(alloc, text)?)?;
+    }
+    // With writes of 4 bytes: standard output is begun by call 0, and its 39 bytes are written by ten.
+    for (call, front) in [
+        (0, None),
+        (1, Some(b"".as_slice())),
+        (3, Some(b"sound: c")),
+        (11, Some(b"sound: corners 4 triangles 2 inexact 0\n")),
+    ] {
+        let mut shelf = MemShelf::new(alloc, 4096);
+        shelf.add("t.json", tin.as_bytes())?;
+        let mut press = MemPress::new(alloc, 4);
+        press.fail_at(call)?;
+        let status = run(alloc, &words, &mut shelf, &mut press);
+        assert_eq!(rt; status, Status::Write, "at call {call}");
+        assert_eq!(rt; press.made_bytes("-"), front, "at call {call}");
+    }
+    for (call, line) in [
+        (None, b"read fault: triangulation\n".as_slice()),
+        (Some(0), b"read fault: triangulation\n"),
+    ] {
+        let mut shelf = MemShelf::new(alloc, 4096);
+        if let Some(call) = call {
+            shelf.add("t.json", tin.as_bytes())?;
+            shelf.fail_at(call)?;
+        }
+        let mut press = MemPress::new(alloc, 4096);
+        let status = run(alloc, &words, &mut shelf, &mut press);
+        assert_eq!(rt; status, Status::Read);
+        assert_eq!(rt; press.made_bytes("-"), Some(line));
+    }
+    Ok(())
+}
