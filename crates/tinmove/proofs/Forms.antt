@@ -3,23 +3,22 @@ use Rattle.std.proofs.Common.{◌≡◌, ◌≢◌, ◌==◌, inl, inr, ℕ, Lis
 use Rattle.std.proofs.lemmas.Bool.Decides.{eqb_tells}
 use Rattle.mm_decimal.specs.declared.reading.MmRead.{MmRead}
 use Rattle.tinmove.specs.declared.filled.TheConstants.{BLANK}
-use Rattle.tinmove.specs.Plain.{IsNumberByte, AreNumberBytes, IsPlainNumber, Stops}
+use Rattle.tinmove.specs.Tokens.{IsNumberByte, AreNumberBytes, IsWorth, Stops}
 use Rattle.tinmove.specs.Filled.{IsNumberAt, IsFilled}
 use Rattle.tinmove.proofs.Cutting.{StopsAt, one_cut}
-use Rattle.tinmove.proofs.PlainTexts.{plain-bytes}
 
 stops-at : (rest : List ℕ) → Stops rest → StopsAt IsNumberByte rest
 stops-at [] stops = tt
 stops-at (byte ∷ rest) stops = stops
 
--- a text is cut in one way into a number text and what stands behind it
+-- a text is cut in one way into a number token and what stands behind it
 pub number_cut : (text number rest : List ℕ) (read : MmRead) (behind : List ℕ) → number ++ rest ≡ text → AreNumberBytes number → Stops rest → IsNumberAt text read behind
-    → IsPlainNumber number read × (behind ≡ rest)
-number_cut text number rest read behind same bytes stops (other, spelled, plain, stops_there) =
-    let cut = one_cut IsNumberByte number other rest behind bytes (plain-bytes other plain.0) (stops-at rest stops) (stops-at behind stops_there) (same ∙ spelled) in
-    (rw cut.0 plain, sym cut.1)
+    → IsWorth number read × (behind ≡ rest)
+number_cut text number rest read behind same bytes stops (other, spelled, other_bytes, stops_there, worth) =
+    let cut = one_cut IsNumberByte number other rest behind bytes other_bytes (stops-at rest stops) (stops-at behind stops_there) (same ∙ spelled) in
+    (rw cut.0 worth, sym cut.1)
 
--- a blank: a number text and the rest of the form
+-- a blank: a number token and the rest of the form
 pub filled-number : (byte : ℕ) (form : List ℕ) (read : MmRead) (reads : List MmRead) (text rest : List ℕ) → byte ≡ BLANK → IsNumberAt text read rest → IsFilled form reads rest → IsFilled (byte ∷ form) (read ∷ reads) text
 filled-number byte form read reads text rest is number filled = let blank : (byte == BLANK) ≡ true = eq-eqb byte BLANK is in rw blank (rest, number, filled)
 

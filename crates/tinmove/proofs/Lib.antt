@@ -1,6 +1,5 @@
 pub mod Answering
 pub mod Cutting
-pub mod PlainTexts
 pub mod Forms
 pub mod Filling
 pub mod FirstLines

@@ -1,4 +1,4 @@
-pub mod Plain
+pub mod Tokens
 pub mod Filled
 pub mod Names
 pub mod Jobs

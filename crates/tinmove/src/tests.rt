@@ -50,6 +50,8 @@ fn layers_of_points_are_carried(rt: HostRuntime) -> Result<(), Fail> {
             b"\nPOINT (100.000 100.000)\n\nPOINT (100.000 110.000)",
         ),
         (TIN, b"POINT (5 0.0004)", b"POINT (105.001 100.000)"),
+        (TIN, b"POINT (5. +05)", b"POINT (105.001 105.000)"),
+        (TIN, b"POINT (+.5E1 -0e0)", b"POINT (105.001 100.000)"),
     ] {
         let mut shelf = MemShelf::new(alloc, 7);
         shelf.add("t.json", tin)?;
@@ -116,9 +118,18 @@ fn refusals_print_their_line(rt: HostRuntime) -> Result<(), Fail> {
         ),
         (TIN, b"POINT(5 0)", Status::Layer, b"layer 0: not yet\n"),
         (TIN, b"POINT (5 0) ", Status::Layer, b"layer 0: not yet\n"),
-        (TIN, b"POINT (5 05)", Status::Layer, b"layer 0: not yet\n"),
-        (TIN, b"POINT (5 0.)", Status::Layer, b"layer 0: not yet\n"),
-        (TIN, b"POINT (5 +0)", Status::Layer, b"layer 0: not yet\n"),
+        (TIN, b"POINT (5 0-)", Status::Layer, b"layer 0: not yet\n"),
+        (TIN, b"POINT (5 .)", Status::Layer, b"layer 0: not yet\n"),
+        (TIN, b"POINT (5 )", Status::Layer, b"layer 0: not yet\n"),
+        (TIN, b"POINT (e5 0)", Status::Layer, b"layer 0: not yet\n"),
+        (TIN, b"POINT (5 0x)", Status::Layer, b"layer 0: not yet\n"),
+        (
+            TIN,
+            b"POINT (5 1e100)",
+            Status::Layer,
+            b"layer 0: not yet\n",
+        ),
+        (TIN, b"POINT (5 0 1)", Status::Layer, b"layer 0: not yet\n"),
     ] {
         let mut shelf = MemShelf::new(alloc, 4096);
         shelf.add("t.json", tin)?;
