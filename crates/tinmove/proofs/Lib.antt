@@ -10,3 +10,5 @@ pub mod LastParts
 pub mod Faults
 pub mod Readied
 pub mod Ending
+pub mod OnePoints
+pub mod OneOutcome

@@ -14,3 +14,4 @@ pub mod Refusals
 pub mod Outcome
 pub mod Ends
 pub mod Prepared
+pub mod Laws

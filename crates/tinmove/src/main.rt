@@ -4,6 +4,7 @@
 
 mod carrying;
 mod filled;
+mod laws;
 mod lines;
 mod loading;
 mod points;

@@ -1,0 +1,315 @@
+-- A run has one outcome, where no text is read in two ways.
+use Rattle.std.proofs.Common.{◌≡◌, ◌≢◌, ◌⊎◌, inl, inr, ℕ, ◌<◌, ◌≤◌, List, [], ◌∷◌, ◌++◌, None, Result, Ok, Err, length, codes, refl, sym, ◌∙◌, ap, subst, arith}
+use Rattle.std.specs.List.{AllByRecursion}
+use Rattle.std.proofs.lemmas.Option.{none-some, same_Some}
+use Rattle.shelf_io.specs.Files.{Files, bytes_of}
+use Rattle.plane_base.specs.declared.shapes.Pt.{Pt}
+use Rattle.tin_base.specs.Triangulation.{Triangulation}
+use Rattle.tin_base.specs.Soundness.{IsSound}
+use Rattle.tin_check.specs.declared.faults.CheckFault.{CheckFault}
+use Rattle.tin_check.proofs.FirstFault.{unsound, one_first}
+use Rattle.tin_file.specs.declared.faults.TinFault.{TinFault}
+use Rattle.tin_file.specs.declared.faults.TinFault.TheVariants.{NoMemory as TinMemory}
+use Rattle.tinmove.specs.declared.loading.TheConstants.{MOST_BYTES}
+use Rattle.tinmove.specs.declared.status.Status.{Status}
+use Rattle.tinmove.specs.declared.status.Status.TheVariants.{Same}
+use Rattle.tinmove.specs.declared.refusal.Refusal.{Refusal}
+use Rattle.tinmove.specs.declared.refusal.Refusal.TheVariants.{NotUnderstood, TinUnread, TinLong, Tin, Check, LayerUnread, LayerLong, LayerNotYet, Outside, TooManyPieces}
+use Rattle.tinmove.specs.Names.{EndsWith, IsLastPart, IsNameIn}
+use Rattle.tinmove.specs.Jobs.{Carriage, Job, migrates, checks, IsJob, LacksJob}
+use Rattle.tinmove.specs.Triangulations.{IsTin, LacksTin, IsUnsound}
+use Rattle.tinmove.specs.PointLines.{IsLayerText, LacksPoints, carried_text}
+use Rattle.tinmove.specs.Carrying.{IsCarried, IsFirstOutside, HasTooMany}
+use Rattle.tinmove.specs.ReportText.{report_text, sound_text}
+use Rattle.tinmove.specs.Refusals.{status_of, line_of}
+use Rattle.tinmove.specs.Outcome.{HasFile, HasLongFile, HasTin, IsTinRefused, IsLayerRefused, IsJobRefused, IsJobDone, report_of, HasOutcome, no_job, refused, done}
+use Rattle.tinmove.specs.Laws.{TextsAreReadInOneWay, OutcomeIsOne}
+use Rattle.tinmove.proofs.OnePoints.{points_one, first_one, outside_many, outside_carried, many_carried, carried_one}
+
+-- the words give one job
+job_one : (words : List (List ℕ)) (job other : Job) → IsJob words job → IsJob words other → job ≡ other
+job_one words (migrates a) (migrates b) x y =
+    let same = sym x.spelled ∙ y.spelled in
+    let tin : a.tin ≡ b.tin = cc in
+    let out : a.out ≡ b.out = cc in
+    let layer : a.layer ≡ b.layer = cc in
+    ap (λ t. migrates (record { tin = t; out = a.out; layer = a.layer })) tin
+    ∙ (ap (λ t. migrates (record { tin = b.tin; out = t; layer = a.layer })) out ∙ ap (λ t. migrates (record { tin = b.tin; out = b.out; layer = t })) layer)
+job_one words (migrates a) (checks name) x y = let same = sym x.spelled ∙ y.spelled in cc
+job_one words (checks name) (migrates b) x y = let same = sym x.spelled ∙ y.spelled in cc
+job_one words (checks name) (checks other) x y = let same = sym x.spelled ∙ y.spelled in let names : name ≡ other = cc in ap checks names
+
+-- a name has one last part
+abbrev HasNoSlash : List ℕ → Type 0
+HasNoSlash part = AllByRecursion (λ byte. byte ≢ 47) part
+
+slash-in : (stem part : List ℕ) → HasNoSlash (stem ++ 47 ∷ part) → ⊥
+slash-in [] part none = none.0 refl
+slash-in (byte ∷ stem) part none = slash-in stem part none.1
+
+last-part : (a b x y : List ℕ) → HasNoSlash x → HasNoSlash y → a ++ 47 ∷ x ≡ b ++ 47 ∷ y → x ≡ y
+last-part [] [] x y fx fy same = cc
+last-part [] (byte ∷ b) x y fx fy same = let rest : x ≡ b ++ 47 ∷ y = cc in absurd (slash-in b y (subst HasNoSlash rest fx))
+last-part (byte ∷ a) [] x y fx fy same = let rest : a ++ 47 ∷ x ≡ y = cc in absurd (slash-in a x (subst HasNoSlash (sym rest) fy))
+last-part (byte ∷ a) (other ∷ b) x y fx fy same = let rest : a ++ 47 ∷ x ≡ b ++ 47 ∷ y = cc in last-part a b x y fx fy rest
+
+part-one : (name x y : List ℕ) → IsLastPart name x → IsLastPart name y → x ≡ y
+part-one name x y p q = go p.ends q.ends
+  where
+    go : (name ≡ x) ⊎ EndsWith name (47 ∷ x) → (name ≡ y) ⊎ EndsWith name (47 ∷ y) → x ≡ y
+    go (inl a) (inl b) = sym a ∙ b
+    go (inl a) (inr (stem, b)) = absurd (slash-in stem y (subst HasNoSlash (sym a ∙ b) p.no_slash))
+    go (inr (stem, a)) (inl b) = absurd (slash-in stem x (subst HasNoSlash (sym b ∙ a) q.no_slash))
+    go (inr (stem, a)) (inr (other, b)) = last-part stem other x y p.no_slash q.no_slash (sym a ∙ b)
+
+name_one : (folder layer a b : List ℕ) → IsNameIn folder layer a → IsNameIn folder layer b → a ≡ b
+name_one folder layer a b (x, p, is) (y, q, also) =
+    let same = part-one layer x y p q in
+    is ∙ (ap (λ part. folder ++ codes "/" ++ part) same ∙ sym also)
+
+-- a file is missing, too long or read
+text_one : (files : Files) (name a b : List ℕ) → HasFile files name a → HasFile files name b → a ≡ b
+text_one files name a b x y = same_Some a b (sym x.found ∙ y.found)
+
+none_fine : (files : Files) (name text : List ℕ) → bytes_of files name ≡ None → HasFile files name text → ⊥
+none_fine files name text none x = none-some text (sym none ∙ x.found)
+
+none_long : (files : Files) (name : List ℕ) → bytes_of files name ≡ None → HasLongFile files name → ⊥
+none_long files name none (text, found, many) = none-some text (sym none ∙ found)
+
+long_fine : (files : Files) (name text : List ℕ) → HasLongFile files name → HasFile files name text → ⊥
+long_fine files name text (long, found, many) x =
+    let same : long ≡ text = same_Some long text (sym found ∙ x.found) in
+    let few : length text ≤ MOST_BYTES = x.within in
+    let many_here : MOST_BYTES < length text = subst (λ t. MOST_BYTES < length t) same many in
+    omega (arith, few, many_here)
+
+-- how the reading of a triangulation ends
+abbrev IsTinEnd : Files → List ℕ → Result Triangulation Refusal → Type 0
+IsTinEnd files name (Ok tin) = HasTin files name tin
+IsTinEnd files name (Err refusal) = IsTinRefused files name refusal
+
+-- that of a text which has been read from a file
+data IsTextEnd (text : List ℕ) (end : Result Triangulation Refusal) : Type 0 where
+  sound_text_end : (tin : Triangulation) → end ≡ Ok tin → IsTin text tin → IsTextEnd text end
+  faulty_end : (why : TinFault) → end ≡ Err (Tin why) → LacksTin text why → IsTextEnd text end
+  unsound_end : (why : CheckFault) → end ≡ Err (Check why) → IsUnsound text why → IsTextEnd text end
+
+data IsFileEnd (files : Files) (name : List ℕ) (end : Result Triangulation Refusal) : Type 0 where
+  absent_end : end ≡ Err TinUnread → bytes_of files name ≡ None → IsFileEnd files name end
+  too_long_end : end ≡ Err TinLong → HasLongFile files name → IsFileEnd files name end
+  read_end : (text : List ℕ) → HasFile files name text → IsTextEnd text end → IsFileEnd files name end
+
+file_end : (files : Files) (name : List ℕ) (end : Result Triangulation Refusal) → IsTinEnd files name end → IsFileEnd files name end
+file_end files name (Ok tin) (text, file, is) = read_end text file (sound_text_end tin refl is)
+file_end files name (Err TinUnread) is = absent_end refl is
+file_end files name (Err TinLong) is = too_long_end refl is
+file_end files name (Err (Tin why)) (text, file, is) = read_end text file (faulty_end why refl is)
+file_end files name (Err (Check why)) (text, file, is) = read_end text file (unsound_end why refl is)
+file_end files name (Err refusal) is = absurd is
+
+tin_answer : (fault : TinFault) → fault ≢ TinMemory → ◌≢◌ {A = Result Triangulation TinFault} (Err fault) (Err TinMemory)
+tin_answer fault other same = let e : fault ≡ TinMemory = cc in other e
+
+module _ (one : TextsAreReadInOneWay) where
+  same_tin : (text : List ℕ) (a b : Triangulation) → IsTin text a → IsTin text b → a ≡ b
+  same_tin text a b x y = let e = one text (Ok a) (Ok b) (x.read, λ no. cc) (y.read, λ no. cc) in cc
+
+  same_fault : (text : List ℕ) (a b : TinFault) → LacksTin text a → LacksTin text b → a ≡ b
+  same_fault text a b x y = let e = one text (Err a) (Err b) (x.answers, tin_answer a x.of_text) (y.answers, tin_answer b y.of_text) in cc
+
+  read_or_not : (text : List ℕ) (tin : Triangulation) (why : TinFault) → IsTin text tin → LacksTin text why → ⊥
+  read_or_not text tin why x y = let e = one text (Ok tin) (Err why) (x.read, λ no. cc) (y.answers, tin_answer why y.of_text) in cc
+
+  unsound_or_not : (text : List ℕ) (tin : Triangulation) (why : CheckFault) → IsTin text tin → IsUnsound text why → ⊥
+  unsound_or_not text tin why x y =
+      let e = one text (Ok tin) (Ok y.tin) (x.read, λ no. cc) (y.read, λ no. cc) in
+      let same : tin ≡ y.tin = cc in
+      unsound y.tin why y.first.is_one (subst IsSound same x.sound)
+
+  unsound_or_unread : (text : List ℕ) (why : TinFault) (fault : CheckFault) → LacksTin text why → IsUnsound text fault → ⊥
+  unsound_or_unread text why fault x y = let e = one text (Ok y.tin) (Err why) (y.read, λ no. cc) (x.answers, tin_answer why x.of_text) in cc
+
+  same_check : (text : List ℕ) (a b : CheckFault) → IsUnsound text a → IsUnsound text b → a ≡ b
+  same_check text a b x y =
+      let e = one text (Ok x.tin) (Ok y.tin) (x.read, λ no. cc) (y.read, λ no. cc) in
+      let same : x.tin ≡ y.tin = cc in
+      one_first y.tin a b (rw same at x.first) y.first
+
+  text_end_one : (text : List ℕ) (a b : Result Triangulation Refusal) → IsTextEnd text a → IsTextEnd text b → a ≡ b
+  text_end_one text a b (sound_text_end tin is x) (sound_text_end other also y) = is ∙ (ap Ok (same_tin text tin other x y) ∙ sym also)
+  text_end_one text a b (sound_text_end tin is x) (faulty_end why also y) = absurd (read_or_not text tin why x y)
+  text_end_one text a b (sound_text_end tin is x) (unsound_end why also y) = absurd (unsound_or_not text tin why x y)
+  text_end_one text a b (faulty_end why is x) (sound_text_end other also y) = absurd (read_or_not text other why y x)
+  text_end_one text a b (faulty_end why is x) (faulty_end other also y) = is ∙ (ap (λ f. Err (Tin f)) (same_fault text why other x y) ∙ sym also)
+  text_end_one text a b (faulty_end why is x) (unsound_end fault also y) = absurd (unsound_or_unread text why fault x y)
+  text_end_one text a b (unsound_end why is x) (sound_text_end other also y) = absurd (unsound_or_not text other why y x)
+  text_end_one text a b (unsound_end why is x) (faulty_end fault also y) = absurd (unsound_or_unread text fault why y x)
+  text_end_one text a b (unsound_end why is x) (unsound_end other also y) = is ∙ (ap (λ f. Err (Check f)) (same_check text why other x y) ∙ sym also)
+
+  file_end_one : (files : Files) (name : List ℕ) (a b : Result Triangulation Refusal) → IsFileEnd files name a → IsFileEnd files name b → a ≡ b
+  file_end_one files name a b (absent_end is x) (absent_end also y) = is ∙ sym also
+  file_end_one files name a b (absent_end is x) (too_long_end also y) = absurd (none_long files name x y)
+  file_end_one files name a b (absent_end is x) (read_end text y end) = absurd (none_fine files name text x y)
+  file_end_one files name a b (too_long_end is x) (absent_end also y) = absurd (none_long files name y x)
+  file_end_one files name a b (too_long_end is x) (too_long_end also y) = is ∙ sym also
+  file_end_one files name a b (too_long_end is x) (read_end text y end) = absurd (long_fine files name text x y)
+  file_end_one files name a b (read_end text x end) (absent_end also y) = absurd (none_fine files name text y x)
+  file_end_one files name a b (read_end text x end) (too_long_end also y) = absurd (long_fine files name text y x)
+  file_end_one files name a b (read_end text x end) (read_end other y also) = text_end_one other a b (rw (text_one files name text other x y) at end) also
+
+  tin_end_one : (files : Files) (name : List ℕ) (a b : Result Triangulation Refusal) → IsTinEnd files name a → IsTinEnd files name b → a ≡ b
+  tin_end_one files name a b x y = file_end_one files name a b (file_end files name a x) (file_end files name b y)
+
+-- how a job ends: its made files, or its refusal
+abbrev IsJobEnd : Files → Job → Result Files Refusal → Type 0
+IsJobEnd files job (Ok made) = IsJobDone files job made
+IsJobEnd files job (Err refusal) = IsJobRefused files job refusal
+
+-- how the carrying of a layer ends
+abbrev made_of : Carriage → Triangulation → List ℕ → List Pt → ℕ → List Pt → List ℕ → Files
+made_of carriage tin bytes points inexact images name = (name, carried_text bytes images) ∷ (codes "-", report_text (report_of carriage tin points inexact)) ∷ []
+
+data IsPointsEnd (carriage : Carriage) (tin : Triangulation) (bytes : List ℕ) (points : List Pt) (inexact : ℕ) (end : Result Files Refusal) : Type 0 where
+  outside_end : (path : ℕ) → end ≡ Err (Outside path) → IsFirstOutside tin points path → IsPointsEnd carriage tin bytes points inexact end
+  many_end : end ≡ Err TooManyPieces → HasTooMany tin points → IsPointsEnd carriage tin bytes points inexact end
+  carried_end : (images : List Pt) (name : List ℕ) → end ≡ Ok (made_of carriage tin bytes points inexact images name) → IsCarried tin points images → IsNameIn carriage.out carriage.layer name
+      → IsPointsEnd carriage tin bytes points inexact end
+
+data IsLayerTextEnd (carriage : Carriage) (tin : Triangulation) (bytes : List ℕ) (end : Result Files Refusal) : Type 0 where
+  other_text : end ≡ Err LayerNotYet → LacksPoints bytes → IsLayerTextEnd carriage tin bytes end
+  points_text : (points : List Pt) (inexact : ℕ) → IsLayerText bytes points inexact → IsPointsEnd carriage tin bytes points inexact end → IsLayerTextEnd carriage tin bytes end
+
+data IsLayerEnd (files : Files) (carriage : Carriage) (tin : Triangulation) (end : Result Files Refusal) : Type 0 where
+  unread_layer : end ≡ Err LayerUnread → bytes_of files carriage.layer ≡ None → IsLayerEnd files carriage tin end
+  long_layer : end ≡ Err LayerLong → HasLongFile files carriage.layer → IsLayerEnd files carriage tin end
+  read_layer : (bytes : List ℕ) → HasFile files carriage.layer bytes → IsLayerTextEnd carriage tin bytes end → IsLayerEnd files carriage tin end
+
+same_made : (carriage : Carriage) (tin : Triangulation) → IsSound tin → (bytes : List ℕ) (points : List Pt) (inexact : ℕ) (images others : List Pt) (name called : List ℕ)
+    → IsCarried tin points images → IsCarried tin points others → IsNameIn carriage.out carriage.layer name → IsNameIn carriage.out carriage.layer called
+    → ◌≡◌ {A = Result Files Refusal} (Ok (made_of carriage tin bytes points inexact images name)) (Ok (made_of carriage tin bytes points inexact others called))
+same_made carriage tin sound bytes points inexact images others name called x y p q =
+    ap (λ pictures. Ok (made_of carriage tin bytes points inexact pictures name)) (carried_one tin points images others sound x y)
+    ∙ ap (λ given. Ok (made_of carriage tin bytes points inexact others given)) (name_one carriage.out carriage.layer name called p q)
+
+points_end_one : (carriage : Carriage) (tin : Triangulation) (bytes : List ℕ) (points : List Pt) (inexact : ℕ) (a b : Result Files Refusal) → IsSound tin
+    → IsPointsEnd carriage tin bytes points inexact a → IsPointsEnd carriage tin bytes points inexact b → a ≡ b
+points_end_one carriage tin bytes points inexact a b sound (outside_end path is x) (outside_end other also y) = is ∙ (ap (λ k. Err (Outside k)) (first_one tin points path other x y) ∙ sym also)
+points_end_one carriage tin bytes points inexact a b sound (outside_end path is x) (many_end also y) = absurd (outside_many tin points path x y)
+points_end_one carriage tin bytes points inexact a b sound (outside_end path is x) (carried_end images name also y named) = absurd (outside_carried tin points images path x y)
+points_end_one carriage tin bytes points inexact a b sound (many_end is x) (outside_end path also y) = absurd (outside_many tin points path y x)
+points_end_one carriage tin bytes points inexact a b sound (many_end is x) (many_end also y) = is ∙ sym also
+points_end_one carriage tin bytes points inexact a b sound (many_end is x) (carried_end images name also y named) = absurd (many_carried tin points images x y)
+points_end_one carriage tin bytes points inexact a b sound (carried_end images name is x named) (outside_end path also y) = absurd (outside_carried tin points images path y x)
+points_end_one carriage tin bytes points inexact a b sound (carried_end images name is x named) (many_end also y) = absurd (many_carried tin points images y x)
+points_end_one carriage tin bytes points inexact a b sound (carried_end images name is x named) (carried_end others called also y named_too) =
+    is ∙ (same_made carriage tin sound bytes points inexact images others name called x y named named_too ∙ sym also)
+
+with_points : (carriage : Carriage) (tin : Triangulation) (bytes : List ℕ) (points others : List Pt) (m n : ℕ) (end : Result Files Refusal) → (points ≡ others) × (m ≡ n)
+    → IsPointsEnd carriage tin bytes points m end → IsPointsEnd carriage tin bytes others n end
+with_points carriage tin bytes points others m n end same is =
+    subst (λ k. IsPointsEnd carriage tin bytes others k end) same.1 (subst (λ ps. IsPointsEnd carriage tin bytes ps m end) same.0 is)
+
+layer_text_end_one : (carriage : Carriage) (tin : Triangulation) (bytes : List ℕ) (a b : Result Files Refusal) → IsSound tin → IsLayerTextEnd carriage tin bytes a → IsLayerTextEnd carriage tin bytes b → a ≡ b
+layer_text_end_one carriage tin bytes a b sound (other_text is lacks) (other_text also lacks_too) = is ∙ sym also
+layer_text_end_one carriage tin bytes a b sound (other_text is lacks) (points_text points inexact text end) = absurd (lacks points inexact text)
+layer_text_end_one carriage tin bytes a b sound (points_text points inexact text end) (other_text also lacks) = absurd (lacks points inexact text)
+layer_text_end_one carriage tin bytes a b sound (points_text points m text end) (points_text others n text_too also) =
+    points_end_one carriage tin bytes others n a b sound (with_points carriage tin bytes points others m n a (points_one bytes points others m n text text_too) end) also
+
+layer_end_one : (files : Files) (carriage : Carriage) (tin : Triangulation) (a b : Result Files Refusal) → IsSound tin → IsLayerEnd files carriage tin a → IsLayerEnd files carriage tin b → a ≡ b
+layer_end_one files carriage tin a b sound (unread_layer is x) (unread_layer also y) = is ∙ sym also
+layer_end_one files carriage tin a b sound (unread_layer is x) (long_layer also y) = absurd (none_long files carriage.layer x y)
+layer_end_one files carriage tin a b sound (unread_layer is x) (read_layer bytes y end) = absurd (none_fine files carriage.layer bytes x y)
+layer_end_one files carriage tin a b sound (long_layer is x) (unread_layer also y) = absurd (none_long files carriage.layer y x)
+layer_end_one files carriage tin a b sound (long_layer is x) (long_layer also y) = is ∙ sym also
+layer_end_one files carriage tin a b sound (long_layer is x) (read_layer bytes y end) = absurd (long_fine files carriage.layer bytes x y)
+layer_end_one files carriage tin a b sound (read_layer bytes x end) (unread_layer also y) = absurd (none_fine files carriage.layer bytes y x)
+layer_end_one files carriage tin a b sound (read_layer bytes x end) (long_layer also y) = absurd (long_fine files carriage.layer bytes y x)
+layer_end_one files carriage tin a b sound (read_layer bytes x end) (read_layer other y also) =
+    layer_text_end_one carriage tin other a b sound (subst (λ text. IsLayerTextEnd carriage tin text a) (text_one files carriage.layer bytes other x y) end) also
+
+-- a migration ends before its layer, or at it
+data IsMigrationEnd (files : Files) (carriage : Carriage) (end : Result Files Refusal) : Type 0 where
+  at_tin : (refusal : Refusal) → end ≡ Err refusal → IsTinEnd files carriage.tin (Err refusal) → IsMigrationEnd files carriage end
+  at_layer : (tin : Triangulation) → IsTinEnd files carriage.tin (Ok tin) → IsLayerEnd files carriage tin end → IsMigrationEnd files carriage end
+
+layer_refused : (files : Files) (carriage : Carriage) (refusal : Refusal) → IsLayerRefused files carriage refusal → IsMigrationEnd files carriage (Err refusal)
+layer_refused files carriage LayerUnread (tin, ready, none) = at_layer tin ready (unread_layer refl none)
+layer_refused files carriage LayerLong (tin, ready, long) = at_layer tin ready (long_layer refl long)
+layer_refused files carriage LayerNotYet (tin, bytes, ready, file, lacks) = at_layer tin ready (read_layer bytes file (other_text refl lacks))
+layer_refused files carriage (Outside path) (tin, bytes, points, inexact, layer, outside) =
+    at_layer tin layer.ready (read_layer bytes layer.file (points_text points inexact layer.text (outside_end path refl outside)))
+layer_refused files carriage TooManyPieces (tin, bytes, points, inexact, layer, many) =
+    at_layer tin layer.ready (read_layer bytes layer.file (points_text points inexact layer.text (many_end refl many)))
+layer_refused files carriage refusal is = absurd is
+
+migration_end : (files : Files) (carriage : Carriage) (end : Result Files Refusal) → IsJobEnd files (migrates carriage) end → IsMigrationEnd files carriage end
+migration_end files carriage (Ok made) is =
+    at_layer is.tin is.layer.ready (read_layer is.bytes is.layer.file (points_text is.points is.inexact is.layer.text (carried_end is.images is.name (ap Ok is.made_is) is.carried is.named)))
+migration_end files carriage (Err refusal) (inl is) = at_tin refusal refl is
+migration_end files carriage (Err refusal) (inr is) = layer_refused files carriage refusal is
+
+sound_of : (files : Files) (name : List ℕ) (tin : Triangulation) → HasTin files name tin → IsSound tin
+sound_of files name tin (text, file, is) = is.sound
+
+-- how a check ends, by how its triangulation does
+abbrev said_of : Result Triangulation Refusal → Result Files Refusal
+said_of (Ok tin) = Ok ((codes "-", sound_text tin) ∷ [])
+said_of (Err refusal) = Err refusal
+
+check_end : (files : Files) (name : List ℕ) (end : Result Files Refusal) → IsJobEnd files (checks name) end → (tin : Result Triangulation Refusal) × IsTinEnd files name tin × (end ≡ said_of tin)
+check_end files name (Ok made) is = (Ok is.tin, is.ready, ap Ok is.made_is)
+check_end files name (Err refusal) is = (Err refusal, is, refl)
+
+module _ (one : TextsAreReadInOneWay) where
+  migration_end_one : (files : Files) (carriage : Carriage) (a b : Result Files Refusal) → IsMigrationEnd files carriage a → IsMigrationEnd files carriage b → a ≡ b
+  migration_end_one files carriage a b (at_tin refusal is x) (at_tin other also y) =
+      let e = tin_end_one one files carriage.tin (Err refusal) (Err other) x y in
+      let same : refusal ≡ other = cc in
+      is ∙ (ap Err same ∙ sym also)
+  migration_end_one files carriage a b (at_tin refusal is x) (at_layer tin y end) = let e = tin_end_one one files carriage.tin (Err refusal) (Ok tin) x y in cc
+  migration_end_one files carriage a b (at_layer tin x end) (at_tin refusal is y) = let e = tin_end_one one files carriage.tin (Ok tin) (Err refusal) x y in cc
+  migration_end_one files carriage a b (at_layer tin x end) (at_layer other y also) =
+      let e = tin_end_one one files carriage.tin (Ok tin) (Ok other) x y in
+      let same : tin ≡ other = cc in
+      layer_end_one files carriage other a b (sound_of files carriage.tin other y) (rw same at end) also
+
+  job_end_one : (files : Files) (job : Job) (a b : Result Files Refusal) → IsJobEnd files job a → IsJobEnd files job b → a ≡ b
+  job_end_one files (migrates carriage) a b x y = migration_end_one files carriage a b (migration_end files carriage a x) (migration_end files carriage b y)
+  job_end_one files (checks name) a b x y =
+      let (tin, ready, is) = check_end files name a x in
+      let (other, also_ready, also) = check_end files name b y in
+      is ∙ (ap said_of (tin_end_one one files name tin other ready also_ready) ∙ sym also)
+
+-- what an end makes
+abbrev status_at : Result Files Refusal → Status
+status_at (Ok made) = Same
+status_at (Err refusal) = status_of refusal
+
+abbrev files_at : Result Files Refusal → Files
+files_at (Ok made) = made
+files_at (Err refusal) = (codes "-", line_of refusal) ∷ []
+
+data IsRunEnd (words : List (List ℕ)) (files : Files) (status : Status) (made : Files) : Type 0 where
+  without_job : LacksJob words → status ≡ status_of NotUnderstood → made ≡ (codes "-", line_of NotUnderstood) ∷ [] → IsRunEnd words files status made
+  with_job : (job : Job) → IsJob words job → (end : Result Files Refusal) → IsJobEnd files job end → status ≡ status_at end → made ≡ files_at end → IsRunEnd words files status made
+
+run_end : (words : List (List ℕ)) (files : Files) (status : Status) (made : Files) → HasOutcome words files status made → IsRunEnd words files status made
+run_end words files status made (no_job lacks is) = without_job lacks is.status_is is.made_is
+run_end words files status made (refused job given refusal why is) = with_job job given (Err refusal) why is.status_is is.made_is
+run_end words files status made (done job given is what) = with_job job given (Ok made) what is refl
+
+run_end_one : TextsAreReadInOneWay → (words : List (List ℕ)) (files : Files) (status other : Status) (made others : Files) → IsRunEnd words files status made → IsRunEnd words files other others
+    → (status ≡ other) × (made ≡ others)
+run_end_one one words files status other made others (without_job lacks s m) (without_job lacks_too t n) = (s ∙ sym t, m ∙ sym n)
+run_end_one one words files status other made others (without_job lacks s m) (with_job job given end is t n) = absurd (lacks job given)
+run_end_one one words files status other made others (with_job job given end is s m) (without_job lacks t n) = absurd (lacks job given)
+run_end_one one words files status other made others (with_job job given end is s m) (with_job also given_too another is_too t n) =
+    let same = job_one words job also given given_too in
+    let ends = job_end_one one files also end another (subst (λ j. IsJobEnd files j end) same is) is_too in
+    (s ∙ (ap status_at ends ∙ sym t), m ∙ (ap files_at ends ∙ sym n))
+
+pub outcome_is_one : TextsAreReadInOneWay → OutcomeIsOne
+outcome_is_one one words files status other made others x y =
+    run_end_one one words files status other made others (run_end words files status made x) (run_end words files other others y)
