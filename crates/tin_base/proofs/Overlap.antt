@@ -71,7 +71,7 @@ at_one p c hc m = go m.0 m.1 m.2 m.3
     go (k ∷ l ∷ ks) e h s = absurd (omega arith)
     go (k ∷ []) e h s = same_trans p (weighed (k ∷ []) (c ∷ [])) c (one-w (pos k) c.w (a_weight k h) hc) s (scaled (pos k) c.x c.w, scaled (pos k) c.y c.w)
 
-at_twice : (p c : Point) → pos 0 <ℤ c.w → IsMix p (c ∷ c ∷ []) → Same p c
+pub at_twice : (p c : Point) → pos 0 <ℤ c.w → IsMix p (c ∷ c ∷ []) → Same p c
 at_twice p c hc m =
     let i = between_weights c c p m in
     same_trans p (mixed i.k i.l c c) c (between-w c c p i hc hc) i.same (scaled_twice (pos i.k) (pos i.l) c.x c.w, scaled_twice (pos i.k) (pos i.l) c.y c.w)

@@ -1,12 +1,14 @@
 -- What holds of the images of each sound triangulation.
 use Rattle.std.specs.Prelude.{◌≡◌, ℕ, ◌<◌, [], pos, ◌<ℤ◌, ◌↔◌, length}
-use Rattle.plane_base.specs.Plane.{Point, Same}
+use Rattle.plane_base.specs.Plane.{Point, Same, whole, IsNear}
+use Rattle.plane_base.specs.declared.shapes.Pt.{Pt}
 use Rattle.tin_base.specs.declared.frames.Frame.{Frame}
 use Rattle.tin_base.specs.declared.frames.Frame.TheVariants.{Source, Target}
 use Rattle.tin_base.specs.Triangulation.{Triangulation}
 use Rattle.tin_base.specs.Soundness.{turn_in, DoFit, IsSound}
 use Rattle.tin_base.specs.Images.{IsImage, IsInSome}
 use Rattle.tin_base.specs.Turned.{turned_of}
+use Rattle.tin_base.specs.Limits.{IsWithinLimits}
 
 -- each point in some source triangle has an image
 abbrev pub EachHasImage : Triangulation → Type 0
@@ -70,3 +72,7 @@ OneTriangleIsSound = (tin : Triangulation) → length tin.triangles ≡ 1 → po
 -- all of these laws in one, for a call that answers a sound triangulation
 abbrev pub SoundIsOneToOne : Type 0
 SoundIsOneToOne = (tin : Triangulation) → IsSound tin → IsOneToOne tin
+
+-- whole points that are in source triangles are near each other, as the corners are
+abbrev pub PointsInsideAreNear : Type 0
+PointsInsideAreNear = (tin : Triangulation) → IsWithinLimits tin → (p q : Pt) → IsInSome tin Source (whole p) → IsInSome tin Source (whole q) → IsNear p q

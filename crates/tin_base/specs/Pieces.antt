@@ -4,6 +4,7 @@ use Rattle.plane_base.specs.Plane.{Point, whole}
 use Rattle.tin_base.specs.declared.frames.Frame.TheVariants.{Source}
 use Rattle.tin_base.specs.declared.pieces.Piece.{Piece}
 use Rattle.tin_base.specs.Triangulation.{Triangulation, IsInTriangle}
+use Rattle.tin_base.specs.Images.{IsInSome}
 use Rattle.tin_base.specs.Segments.{Part, at_a, spot_at, IsPart}
 
 -- the piece of a segment from a point to itself: the point, which its triangle has
@@ -29,3 +30,9 @@ last_point piece part = spot_at piece.a piece.b part.last
 -- it is a piece of some segment's
 abbrev pub IsPiece : Triangulation → Piece → Type 0
 IsPiece tin piece = (part : Part) × IsPieceOf tin piece part
+
+-- a piece of a segment whose two ends are in source triangles
+pub record IsPieceInside (tin : Triangulation) (piece : Piece) : Type 0 where
+  pub is_piece : IsPiece tin piece
+  pub begins : IsInSome tin Source (whole piece.a)
+  pub ends : IsInSome tin Source (whole piece.b)

@@ -1,4 +1,4 @@
-ghost use Rattle.tin_base.specs.Laws.{EachPairOnceIsEnough, NoTrianglesAreSound, OneTriangleIsSound, PointsHaveOneImage, DifferentPointsDiffer, TargetPointsAreImages, ConverseIsSound, SoundIsOneToOne};
+ghost use Rattle.tin_base.specs.Laws.{EachPairOnceIsEnough, NoTrianglesAreSound, OneTriangleIsSound, PointsHaveOneImage, PointsInsideAreNear, DifferentPointsDiffer, TargetPointsAreImages, ConverseIsSound, SoundIsOneToOne};
 ghost use Rattle.tin_base.specs.Carried.{SegmentsGoToSegments, RelationsAreKept, PiecesFollow};
 
 /// A law: each point in some source triangle of a sound triangulation has an image, and any two images of it are the same.
@@ -54,4 +54,9 @@ pub fn one_triangle_is_sound()
 /// A law: a triangulation whose turns are positive is sound where each two triangles fit together in one order, the lower number first.
 pub fn each_pair_once_is_enough()
     ensures { EachPairOnceIsEnough }
+{}
+
+/// A law: any two whole points that are in source triangles are near each other, as the corners are.
+pub fn points_inside_are_near()
+    ensures { PointsInsideAreNear }
 {}

@@ -68,6 +68,7 @@ impl SoundTin {
         ensures near { IsNearAll result.a result.b result.c }
         ensures turn { turn_of (whole result.a) (whole result.b) (whole result.c) ≡ turn_in self.now frame triangle }
         ensures positive { pos 0 <ℤ turn_of (whole result.a) (whole result.b) (whole result.c) }
+        ensures limits { IsWithinLimits self.now }
     {
         self.tin.tri(triangle, frame)
     }

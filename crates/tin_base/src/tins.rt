@@ -79,6 +79,7 @@ impl Tin {
         ensures corners { corners_of result ≡ places self.now frame (numbers_of self.now triangle) }
         ensures near { IsNearAll result.a result.b result.c }
         ensures turn { turn_of (whole result.a) (whole result.b) (whole result.c) ≡ turn_in self.now frame triangle }
+        ensures limits { IsWithinLimits self.now }
     {
         let numbers = &self.triangles[triangle as usize];
         Tri {

@@ -1,0 +1,5 @@
+use Rattle.tin_base.proofs.Closeness.{near_inside}
+use Rattle.tin_base.proofs.laws.points_inside_are_near.Goals as goal
+
+pub returns : goal.returns
+returns c = λ tin limits p q h k. near_inside tin p q limits h k
