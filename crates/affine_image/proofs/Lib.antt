@@ -5,3 +5,6 @@ pub mod Imaging
 pub mod Cutting
 pub mod Reach
 pub mod Rounding
+pub mod Moving
+pub mod Joining
+pub mod Told

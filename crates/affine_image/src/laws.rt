@@ -1,4 +1,5 @@
 ghost use Rattle.affine_image.specs.Laws.{RoundedImagesAgree, CutsAreImages, RoundedImagesAreInReach, RoundedImagesAreNear};
+ghost use Rattle.affine_image.specs.SheetLaws.{PieceImagesAreJoined};
 
 /// A law: the rounded image of a place is one, whichever triangle gives it.
 pub fn rounded_images_agree()
@@ -19,4 +20,10 @@ pub fn rounded_images_are_in_reach()
 /// A law: any two rounded images of one triangulation are less than `SPAN` of plane_base apart on each axis, as its corners are.
 pub fn rounded_images_are_near()
     ensures { RoundedImagesAreNear }
+{}
+
+/// A law: the images of the pieces of a segment that is inside a sound triangulation are joined. The first begins at the image of
+/// the segment's first end, each other where the one before it ends, and the last ends at the image of the last end.
+pub fn piece_images_are_joined()
+    ensures { PieceImagesAreJoined }
 {}

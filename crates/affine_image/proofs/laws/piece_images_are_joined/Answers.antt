@@ -1,0 +1,5 @@
+use Rattle.affine_image.proofs.Told.{piece_images_are_joined}
+use Rattle.affine_image.proofs.laws.piece_images_are_joined.Goals as goal
+
+pub returns : goal.returns
+returns c = piece_images_are_joined
