@@ -8,3 +8,5 @@ pub mod Rounding
 pub mod Moving
 pub mod Joining
 pub mod Told
+pub mod Fitting
+pub mod Bearing

@@ -1,5 +1,5 @@
 ghost use Rattle.affine_image.specs.Laws.{RoundedImagesAgree, CutsAreImages, RoundedImagesAreInReach, RoundedImagesAreNear};
-ghost use Rattle.affine_image.specs.SheetLaws.{PieceImagesAreJoined};
+ghost use Rattle.affine_image.specs.SheetLaws.{PieceImagesAreJoined, SheetPiecesArePieces, ImagesFit};
 
 /// A law: the rounded image of a place is one, whichever triangle gives it.
 pub fn rounded_images_agree()
@@ -26,4 +26,14 @@ pub fn rounded_images_are_near()
 /// the segment's first end, each other where the one before it ends, and the last ends at the image of the last end.
 pub fn piece_images_are_joined()
     ensures { PieceImagesAreJoined }
+{}
+
+/// A law: each piece of a sheet is a piece of the triangulation, with the rounded images of its own ends.
+pub fn sheet_pieces_are_pieces()
+    ensures { SheetPiecesArePieces }
+{}
+
+/// A law: the images of a sheet fit it, where there are fewer than 2^32.
+pub fn images_fit()
+    ensures { ImagesFit }
 {}

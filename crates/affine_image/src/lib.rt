@@ -11,6 +11,6 @@ mod weights;
 
 pub use images::{image_cut, image_of};
 pub use laws::{
-    cuts_are_images, piece_images_are_joined, rounded_images_agree, rounded_images_are_in_reach,
-    rounded_images_are_near,
+    cuts_are_images, images_fit, piece_images_are_joined, rounded_images_agree,
+    rounded_images_are_in_reach, rounded_images_are_near, sheet_pieces_are_pieces,
 };

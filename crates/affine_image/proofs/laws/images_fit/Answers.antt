@@ -1,0 +1,5 @@
+use Rattle.affine_image.proofs.Fitting.{images_fit}
+use Rattle.affine_image.proofs.laws.images_fit.Goals as goal
+
+pub returns : goal.returns
+returns c = images_fit

@@ -1,0 +1,5 @@
+use Rattle.affine_image.proofs.Bearing.{sheet_pieces_are_pieces}
+use Rattle.affine_image.proofs.laws.sheet_pieces_are_pieces.Goals as goal
+
+pub returns : goal.returns
+returns c = sheet_pieces_are_pieces
