@@ -1,0 +1,52 @@
+ghost use Rattle.std.specs.Prelude.{◌≡◌, ◌↔◌, pos, IsTrue};
+ghost use Rattle.plane_base.specs.Plane.{whole, turn_of};
+ghost use Rattle.tin_base.specs.Relations.{HaveRelation};
+ghost use Rattle.meet_rel.specs.Signs.{first_of, last_of, DoSpansMeet, AreOnOneLine};
+
+use plane_base::Pt;
+use tin_base::Rel;
+
+/// How two segments of one line lie to each other: by their numbers on the first axis on which not all four are the same.
+pub(crate) fn rel_on_line(a: Pt, b: Pt, c: Pt, d: Pt) -> Rel
+    requires { AreOnOneLine a b c d }
+    ensures { HaveRelation result (whole a) (whole b) (whole c) (whole d) }
+{
+    if are_same(a.x, b.x, c.x, d.x) {
+        rel_of_spans(a.y, b.y, c.y, d.y)
+    } else {
+        rel_of_spans(a.x, b.x, c.x, d.x)
+    }
+}
+
+fn are_same(a: i64, b: i64, c: i64, d: i64) -> bool
+    ensures { IsTrue result ↔ ((a ≡ b) × (b ≡ c) × (c ≡ d)) }
+{
+    a == b && b == c && c == d
+}
+
+// How the numbers from `a` to `b` and those from `c` to `d` lie to each other.
+fn rel_of_spans(a: i64, b: i64, c: i64, d: i64) -> Rel
+    ensures { DoSpansMeet result a b c d }
+{
+    let first = first_of(a, b, c, d);
+    let last = last_of(a, b, c, d);
+    if last < first {
+        Rel::Apart
+    } else if first < last {
+        Rel::Overlapping
+    } else {
+        Rel::Touching
+    }
+}
+
+fn first_of(a: i64, b: i64, c: i64, d: i64) -> i64
+    ensures { result ≡ first_of a b c d }
+{
+    a.min(b).max(c.min(d))
+}
+
+fn last_of(a: i64, b: i64, c: i64, d: i64) -> i64
+    ensures { result ≡ last_of a b c d }
+{
+    a.max(b).min(c.max(d))
+}
