@@ -138,7 +138,7 @@ turn_last = solve_at 2 0 (λ a b. turn a b b ≐ num (pos 0)) tt
 negated : (z : ℤ) → z ≡ pos 0 → neg_ℤ z ≡ pos 0
 negated = follows 1 (λ z. z ≐ num (pos 0) ⇒ neg z ≐ num (pos 0) because eqn 0 (num (negsuc 0))) tt
 
-same_or_not : (a b : ℤ) → (a ≡ b) ⊎ (a ≡ b → ⊥)
+pub same_or_not : (a b : ℤ) → (a ≡ b) ⊎ (a ≡ b → ⊥)
 same_or_not a b = go (≤_or_> a b) (≤_or_> b a)
   where
     same : (a b : ℤ) → a ≤ℤ b → b ≤ℤ a → a ≡ b

@@ -6,3 +6,12 @@ pub mod Spans
 pub mod Axes
 pub mod Crossings
 pub mod Told
+pub mod Ways
+pub mod Replacing
+pub mod Ending
+pub mod Cutting
+pub mod ByCuts
+pub mod Picking
+pub mod Sliced
+pub mod Clipping
+pub mod Keeping

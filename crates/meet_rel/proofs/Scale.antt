@@ -2,14 +2,14 @@
 use Rattle.std.proofs.Common.{◌≡◌, ◌⊎◌, inl, inr, ℕ, ◌+◌, ◌<◌, ℤ, pos, ◌+ℤ◌, ◌-ℤ◌, ◌*ℤ◌, ◌≤ℤ◌, ◌<ℤ◌, [], ◌∷◌, sym, ◌∙◌, subst, refl, arith}
 use Rattle.std.proofs.lemmas.Int.{ints}
 use Rattle.integer_ring.proofs.Ring.{num, neg, ◌⊕◌, ◌⊖◌, ◌⊗◌}
-use Rattle.integer_ring.proofs.Order.{nonneg_pos, to_nat, ≤-to-nonneg, ≤_antisymm, ≤_of_≡}
+use Rattle.integer_ring.proofs.Order.{≤_or_>, nonneg_pos, to_nat, ≤-to-nonneg, ≤_antisymm, ≤_of_≡}
 use Rattle.integer_ring.proofs.Signs.{≡_of_mul, zero_cases, frac-≤_trans}
 use Rattle.integer_ring.proofs.Claims.{◌≐◌, ◌≼◌, ◌≺◌, gap, over, eqn, ◌⊞◌, ◌⊠◌, ◌because◌, ◌otherwise◌, ◌⇒◌, follows, solve}
 use Rattle.plane_base.specs.Plane.{Point, Same, turn_of, IsMix, whole}
 use Rattle.plane_base.specs.declared.shapes.Pt.{Pt}
 use Rattle.plane_base.proofs.Points.{turn, plus, nothing, solve_at}
 use Rattle.plane_base.proofs.Turns.{turn_same}
-use Rattle.plane_base.proofs.Mixes.{mixed, Between, between_weights, weights_between, between-w, same_refl, mix_moved}
+use Rattle.plane_base.proofs.Mixes.{mixed, Between, between_weights, weights_between, between-w, same_refl, mix_moved, mix_swapped}
 
 -- two whole points, and a direction whose share is not the same at both
 pub record Scale : Type 0 where
@@ -212,3 +212,43 @@ between_of s p q r hp hq hr a b = go (to_nat (share s q *ℤ r.w -ℤ share s r 
             let e : share s r *ℤ m.w ≡ (pos k.0 *ℤ share s p +ℤ (pos l.0 *ℤ share s q +ℤ pos 0)) *ℤ r.w = weights_level (share s p) p.w (share s q) q.w (share s r) r.w (pos k.0) (pos l.0) k.1 l.1 in
             let level : IsLevel s r m = record { even = subst (λ (z : ℤ). share s r *ℤ m.w ≡ z *ℤ r.w) (sym (share_mixed s p q k.0 l.0)) e } in
             mix_moved m r (p ∷ q ∷ []) m_on.positive (level_same s r m hr m_on level) m_between
+
+-- ---- ends, and points between two from before or behind both
+mix_one : (a b v w : ℤ) → a *ℤ (pos 1 *ℤ v +ℤ (pos 0 *ℤ w +ℤ pos 0)) ≡ (pos 1 *ℤ a +ℤ (pos 0 *ℤ b +ℤ pos 0)) *ℤ v
+mix_one = solve 4 (λ a b v w. a ⊗ (num (pos 1) ⊗ v ⊕ (num (pos 0) ⊗ w ⊕ num (pos 0))) ≐ (num (pos 1) ⊗ a ⊕ (num (pos 0) ⊗ b ⊕ num (pos 0))) ⊗ v) tt
+
+pub mix_first : (p q : Point) → IsMix p (p ∷ q ∷ [])
+mix_first p q = weights_between p q p (record { k = 1; l = 0; some = omega arith; same = (mix_one p.x q.x p.w q.w, mix_one p.y q.y p.w q.w) })
+
+pub mix_last : (p q : Point) → IsMix q (p ∷ q ∷ [])
+mix_last p q = mix_swapped q q p (mix_first q p)
+
+pub up_or : (s : Scale) (p q : Point) → IsUpTo s p q ⊎ IsUpTo s q p
+up_or s p q = go (≤_or_> (share s p *ℤ q.w) (share s q *ℤ p.w))
+  where
+    less : (a b : ℤ) → a <ℤ b → a ≤ℤ b
+    less a b h = omega (arith, ints)
+
+    go : ((share s p *ℤ q.w) ≤ℤ (share s q *ℤ p.w)) ⊎ ((share s q *ℤ p.w) <ℤ (share s p *ℤ q.w)) → IsUpTo s p q ⊎ IsUpTo s q p
+    go (inl h) = inl (record { order = h })
+    go (inr h) = inr (record { order = less (share s q *ℤ p.w) (share s p *ℤ q.w) h })
+
+pub up_from_both : (s : Scale) (x p q r : Point) → IsOn s x → IsOn s p → IsOn s q → pos 0 <ℤ r.w → IsUpTo s x p → IsUpTo s x q → IsMix r (p ∷ q ∷ []) → IsUpTo s x r
+up_from_both s x p q r hx hp hq hr a b m = go (up_or s p q)
+  where
+    hon : IsOn s r
+    hon = between_on s p q r hp hq hr m
+
+    go : IsUpTo s p q ⊎ IsUpTo s q p → IsUpTo s x r
+    go (inl o) = up_to_trans s x p r hx hp hon a (after_first s p q r hp hq hr o m)
+    go (inr o) = up_to_trans s x q r hx hq hon b (after_first s q p r hq hp hr o (mix_swapped r p q m))
+
+pub up_to_both : (s : Scale) (x p q r : Point) → IsOn s x → IsOn s p → IsOn s q → pos 0 <ℤ r.w → IsUpTo s p x → IsUpTo s q x → IsMix r (p ∷ q ∷ []) → IsUpTo s r x
+up_to_both s x p q r hx hp hq hr a b m = go (up_or s p q)
+  where
+    hon : IsOn s r
+    hon = between_on s p q r hp hq hr m
+
+    go : IsUpTo s p q ⊎ IsUpTo s q p → IsUpTo s r x
+    go (inl o) = up_to_trans s r q x hon hq hx (before_last s p q r hp hq hr o m) b
+    go (inr o) = up_to_trans s r p x hon hp hx (before_last s q p r hq hp hr o (mix_swapped r p q m)) a

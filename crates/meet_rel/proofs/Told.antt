@@ -76,3 +76,10 @@ second_tells r s A B tells failed other = (λ h. inr (other.0 h), λ k. go k)
     go : A ⊎ B → IsTrue s
     go (inl a) = absurd (not_told r A tells failed a)
     go (inr b) = other.1 b
+
+-- ---- parallel lines
+pub other_equal : (a b c d : Pt) → turn_of (whole a) (whole b) (whole c) ≡ turn_of (whole a) (whole b) (whole d) → turn_of (whole c) (whole d) (whole a) ≡ turn_of (whole c) (whole d) (whole b)
+other_equal a b c d e = falls (turn_of (whole c) (whole d) (whole a)) (turn_of (whole c) (whole d) (whole b)) (turn_of (whole a) (whole b) (whole d)) (turn_of (whole a) (whole b) (whole c)) (same_fall a b c d) (sym e)
+  where
+    falls : (s t u v : ℤ) → s -ℤ t ≡ u -ℤ v → u ≡ v → s ≡ t
+    falls s t u v h k = omega (arith, ints)

@@ -1,3 +1,4 @@
 pub mod Near
 pub mod Signs
 pub mod Laws
+pub mod Clips

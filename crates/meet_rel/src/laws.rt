@@ -1,6 +1,12 @@
-ghost use Rattle.meet_rel.specs.Laws.{RelationsAreExclusive};
+ghost use Rattle.meet_rel.specs.Laws.{RelationsAreExclusive, PiecesKeepRelations};
 
 /// A law: two segments have one relation and no other.
 pub fn relations_are_exclusive()
     ensures { RelationsAreExclusive }
+{}
+
+/// A law: two pieces, in one triangle of a sound triangulation or in two, have the relation that their exact images have.
+/// So the relation of two pieces in the source frame is also that of their images before rounding.
+pub fn pieces_keep_relations()
+    ensures { PiecesKeepRelations }
 {}

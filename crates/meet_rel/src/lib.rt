@@ -2,11 +2,16 @@
 //! Signs of turns and comparisons of fractions decide; no crossing's coordinates are formed.
 #![tactic(auto)]
 
+mod clips;
+mod cuts;
 mod laws;
 mod lines;
+mod meetings;
+mod pieces;
 mod segments;
 #[cfg(test)]
 mod tests;
 
-pub use laws::relations_are_exclusive;
+pub use laws::{pieces_keep_relations, relations_are_exclusive};
+pub use pieces::piece_rel;
 pub use segments::rel;

@@ -1,0 +1,166 @@
+-- A piece is its clip: its exact ends are the ends of what its triangle has of its segment.
+use Rattle.std.proofs.Common.{◌≡◌, ◌≢◌, ◌⊎◌, inl, inr, ℕ, ◌+◌, ◌<◌, ℤ, pos, ◌*ℤ◌, ◌+ℤ◌, ◌-ℤ◌, ◌<ℤ◌, List, [], ◌∷◌, sym, ap₂, subst, arith}
+use lib.Signed.{lt_z_yes}
+use Rattle.integer_ring.proofs.Ring.{num, ◌⊕◌, ◌⊖◌, ◌⊗◌}
+use Rattle.integer_ring.proofs.Claims.{◌≐◌, ◌≺◌, never, over, ◌because◌, ◌⇒◌, follows, solve}
+use Rattle.plane_base.specs.Plane.{Point, Same, IsMix, whole, corners}
+use Rattle.plane_base.specs.declared.shapes.Pt.{Pt}
+use Rattle.plane_base.proofs.Mixes.{same_refl, same_sym, same_trans, Between, between_weights, weights_between, between-w, mix_moved, mixes_mix, turn_on_side}
+use Rattle.tin_base.specs.declared.frames.Frame.TheVariants.{Source}
+use Rattle.tin_base.specs.declared.pieces.Piece.{Piece}
+use Rattle.tin_base.specs.Triangulation.{Triangulation, numbers_of, places, IsInTriangle}
+use Rattle.tin_base.specs.Segments.{Spot, Part, at_a, spot_at, IsShared, IsPart}
+use Rattle.tin_base.specs.Pieces.{IsPieceOf, first_point, last_point}
+use Rattle.tin_base.proofs.Closeness.{places_stand}
+use Rattle.tin_base.proofs.Overlap.{at_twice}
+use Rattle.meet_rel.specs.declared.clips.Clip.{Clip}
+use Rattle.meet_rel.specs.Clips.{IsOf, AreEnds}
+use Rattle.meet_rel.proofs.Axes.{same_or_not}
+use Rattle.meet_rel.proofs.Scale.{IsOn, between_of, mix_first}
+use Rattle.meet_rel.proofs.Ways.{AreDifferent, way, different_x, different_y, on_line, up_spot}
+
+one : pos 0 <ℤ pos 1
+one = lt_z_yes tt
+
+-- the clip of a piece
+pub record IsClipOf (tin : Triangulation) (piece : Piece) (clip : Clip) : Type 0 where
+  pub a_is : clip.a ≡ piece.a
+  pub b_is : clip.b ≡ piece.b
+  pub tri_is : corners clip.tri ≡ places tin Source (numbers_of tin piece.tri)
+
+-- ---- two points are the same or differ
+pub same_or_different : (a b : Pt) → (a ≡ b) ⊎ AreDifferent a b
+same_or_different a b = go (same_or_not a.x b.x) (same_or_not a.y b.y)
+  where
+    point : ℤ → ℤ → Pt
+    point x y = record { x = x; y = y }
+
+    go : (a.x ≡ b.x) ⊎ (a.x ≡ b.x → ⊥) → (a.y ≡ b.y) ⊎ (a.y ≡ b.y → ⊥) → (a ≡ b) ⊎ AreDifferent a b
+    go (inl h) (inl k) = inl (ap₂ (λ (x y : ℤ). point x y) h k)
+    go (inr h) k = inr (different_x a b h)
+    go (inl h) (inr k) = inr (different_y a b k)
+
+pub different_not : (a b : Pt) → AreDifferent a b → a ≢ b
+different_not a b d e = no (subst (λ (p : Pt). AreDifferent a p) (sym e) d)
+  where
+    zero : (x y : ℤ) → pos 0 <ℤ ((x -ℤ x) *ℤ (x -ℤ x) +ℤ (y -ℤ y) *ℤ (y -ℤ y)) → ⊥
+    zero = follows 2 (λ x y. num (pos 0) ≺ (x ⊖ x) ⊗ (x ⊖ x) ⊕ (y ⊖ y) ⊗ (y ⊖ y) ⇒ never because over 0) tt
+
+    no : AreDifferent a a → ⊥
+    no h = zero a.x a.y h.far_positive
+
+-- ---- spots
+abbrev spot_between : (a b : Pt) (s : Spot) → 0 < s.of_a + s.of_b → Between (whole a) (whole b) (spot_at a b s)
+spot_between a b s some = record { k = s.of_a; l = s.of_b; some = some; same = same_refl (spot_at a b s) }
+
+spot_mix : (a b : Pt) (s : Spot) → 0 < s.of_a + s.of_b → IsMix (spot_at a b s) (whole a ∷ whole b ∷ [])
+spot_mix a b s some = weights_between (whole a) (whole b) (spot_at a b s) (spot_between a b s some)
+
+pub spot-w : (a b : Pt) (s : Spot) → 0 < s.of_a + s.of_b → pos 0 <ℤ (spot_at a b s).w
+spot-w a b s some = between-w (whole a) (whole b) (spot_at a b s) (spot_between a b s some) one one
+
+-- ---- the part of a segment
+part_ends : (tin : Triangulation) (a b : Pt) (t : ℕ) (clip : Clip) (first last : Spot) → clip.a ≡ a → clip.b ≡ b → corners clip.tri ≡ places tin Source (numbers_of tin t) → AreDifferent a b → IsPart tin a b t first last → AreEnds clip (spot_at a b first) (spot_at a b last)
+part_ends tin a b t clip first last ea eb et d part =
+    record {
+      first_positive = spot-w a b first some_first;
+      last_positive = spot-w a b last some_last;
+      forth = λ r hr m. to_clip r
+          (mixes_mix r (f ∷ l ∷ []) (whole a ∷ whole b ∷ []) (spot-w a b first some_first, (spot-w a b last some_last, tt)) (one, (one, tt)) (spot_mix a b first some_first, (spot_mix a b last some_last, tt)) m)
+          (mixes_mix r (f ∷ l ∷ []) (places tin Source (numbers_of tin t)) (spot-w a b first some_first, (spot-w a b last some_last, tt)) (places_stand tin Source (numbers_of tin t)) (has_f.inside, (has_l.inside, tt)) m);
+      back = λ r hr of. of_clip r hr (of_between r of) (subst (λ (ps : List Point). IsMix r ps) et of.inside);
+    }
+  where
+    f : Point
+    f = spot_at a b first
+
+    l : Point
+    l = spot_at a b last
+
+    has_f : IsShared tin a b t first
+    has_f = part.has_first
+
+    has_l : IsShared tin a b t last
+    has_l = part.has_last
+
+    some_first : 0 < first.of_a + first.of_b
+    some_first = has_f.some
+
+    some_last : 0 < last.of_a + last.of_b
+    some_last = has_l.some
+
+    to_clip : (r : Point) → IsMix r (whole a ∷ whole b ∷ []) → IsMix r (places tin Source (numbers_of tin t)) → IsOf clip r
+    to_clip r m i = record { between = subst (λ (p : Pt). IsMix r (whole p ∷ whole clip.b ∷ [])) (sym ea) (subst (λ (p : Pt). IsMix r (whole a ∷ whole p ∷ [])) (sym eb) m); inside = subst (λ (ps : List Point). IsMix r ps) (sym et) i }
+
+    of_between : (r : Point) → IsOf clip r → IsMix r (whole a ∷ whole b ∷ [])
+    of_between r of = subst (λ (p : Pt). IsMix r (whole a ∷ whole p ∷ [])) eb (subst (λ (p : Pt). IsMix r (whole p ∷ whole clip.b ∷ [])) ea of.between)
+
+    of_clip : (r : Point) → pos 0 <ℤ r.w → IsMix r (whole a ∷ whole b ∷ []) → IsMix r (places tin Source (numbers_of tin t)) → IsMix r (spot_at a b first ∷ spot_at a b last ∷ [])
+    of_clip r hr m i =
+        let w = between_weights (whole a) (whole b) r m in
+        let s : Spot = record { of_a = w.k; of_b = w.l } in
+        let q = spot_at a b s in
+        let hq = spot-w a b s w.some in
+        let shared : IsShared tin a b t s = record { some = w.some; inside = mix_moved r q (places tin Source (numbers_of tin t)) hr (same_sym r q w.same) i } in
+        mix_moved q r (spot_at a b first ∷ spot_at a b last ∷ []) hq w.same
+        (between_of (way a b d) (spot_at a b first) (spot_at a b last) q (on_spot first some_first) (on_spot last some_last) (on_spot s w.some)
+        (up_spot a b d first s (part.none_before s shared)) (up_spot a b d s last (part.none_after s shared)))
+      where
+        on_spot : (s : Spot) → 0 < s.of_a + s.of_b → IsOn (way a b d) (spot_at a b s)
+        on_spot s some = on_line a b d (spot_at a b s) (spot-w a b s some) (turn_on_side (whole a) (whole b) (spot_at a b s) one one (spot_mix a b s some))
+
+-- ---- the point of a segment from a point to itself
+pub some_a : 0 < at_a.of_a + at_a.of_b
+some_a = omega arith
+
+pub spot_whole : (a b : Pt) → Same (spot_at a b at_a) (whole a)
+spot_whole a b = (at_one a.x b.x, at_one a.y b.y)
+  where
+    at_one : (x y : ℤ) → (pos 1 *ℤ x +ℤ (pos 0 *ℤ y +ℤ pos 0)) *ℤ pos 1 ≡ x *ℤ (pos 1 *ℤ pos 1 +ℤ (pos 0 *ℤ pos 1 +ℤ pos 0))
+    at_one = solve 2 (λ x y. (num (pos 1) ⊗ x ⊕ (num (pos 0) ⊗ y ⊕ num (pos 0))) ⊗ num (pos 1) ≐ x ⊗ (num (pos 1) ⊗ num (pos 1) ⊕ (num (pos 0) ⊗ num (pos 1) ⊕ num (pos 0)))) tt
+
+-- a segment from a point to itself has this point alone
+pub one_point : (a b : Pt) (r : Point) → a ≡ b → IsMix r (whole a ∷ whole b ∷ []) → Same r (whole a)
+one_point a b r e m = at_twice r (whole a) one (subst (λ (p : Pt). IsMix r (whole a ∷ whole p ∷ [])) (sym e) m)
+
+point_ends : (tin : Triangulation) (a b : Pt) (t : ℕ) (clip : Clip) → clip.a ≡ a → clip.b ≡ b → corners clip.tri ≡ places tin Source (numbers_of tin t) → a ≡ b → IsInTriangle tin Source t (whole a) → AreEnds clip (spot_at a b at_a) (spot_at a b at_a)
+point_ends tin a b t clip ea eb et e inside =
+    record {
+      first_positive = hf;
+      last_positive = hf;
+      forth = λ r hr m. there r hr (same_trans r f (whole a) hf (at_twice r f hf m) (spot_whole a b));
+      back = λ r hr of. mix_moved f r (f ∷ f ∷ []) hf (same_trans r (whole a) f one (one_point a b r e (of_between r of)) (same_sym f (whole a) (spot_whole a b))) (mix_first f f);
+    }
+  where
+    f : Point
+    f = spot_at a b at_a
+
+    hf : pos 0 <ℤ (spot_at a b at_a).w
+    hf = spot-w a b at_a some_a
+
+    of_between : (r : Point) → IsOf clip r → IsMix r (whole a ∷ whole b ∷ [])
+    of_between r of = subst (λ (p : Pt). IsMix r (whole a ∷ whole p ∷ [])) eb (subst (λ (p : Pt). IsMix r (whole p ∷ whole clip.b ∷ [])) ea of.between)
+
+    there : (r : Point) → pos 0 <ℤ r.w → Same r (whole a) → IsOf clip r
+    there r hr s = record {
+      between = mix_moved (whole a) r (whole clip.a ∷ whole clip.b ∷ []) one s (subst (λ (p : Pt). IsMix (whole a) (whole p ∷ whole clip.b ∷ [])) (sym ea) (mix_first (whole a) (whole clip.b)));
+      inside = mix_moved (whole a) r (corners clip.tri) one s (subst (λ (ps : List Point). IsMix (whole a) ps) (sym et) inside);
+    }
+
+pub piece_ends : (tin : Triangulation) (piece : Piece) (clip : Clip) (part : Part) → IsClipOf tin piece clip → IsPieceOf tin piece part → AreEnds clip (first_point piece part) (last_point piece part)
+piece_ends tin piece clip part is h = go (same_or_different piece.a piece.b)
+  where
+    go : (piece.a ≡ piece.b) ⊎ AreDifferent piece.a piece.b → AreEnds clip (first_point piece part) (last_point piece part)
+    go (inl e) =
+        let p = h.of_point e in
+        subst (λ (s : Spot). AreEnds clip (spot_at piece.a piece.b s) (spot_at piece.a piece.b part.last)) (sym p.begins)
+        (subst (λ (s : Spot). AreEnds clip (spot_at piece.a piece.b at_a) (spot_at piece.a piece.b s)) (sym p.ends)
+        (point_ends tin piece.a piece.b piece.tri clip is.a_is is.b_is is.tri_is e p.has_point))
+    go (inr d) = part_ends tin piece.a piece.b piece.tri clip part.first part.last is.a_is is.b_is is.tri_is d (h.of_segment (different_not piece.a piece.b d))
+
+pub different_of : (a b : Pt) → a ≢ b → AreDifferent a b
+different_of a b n = go (same_or_different a b)
+  where
+    go : (a ≡ b) ⊎ AreDifferent a b → AreDifferent a b
+    go (inl e) = absurd (n e)
+    go (inr d) = d

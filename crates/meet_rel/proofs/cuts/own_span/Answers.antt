@@ -1,0 +1,15 @@
+use Rattle.std.proofs.Common.{◌≡◌, ◌⊎◌, inl, inr}
+use Rattle.meet_rel.proofs.Ways.{AreDifferent}
+use Rattle.meet_rel.proofs.Ending.{different_of}
+use Rattle.meet_rel.proofs.Cutting.{own_cut}
+use Rattle.meet_rel.proofs.Sliced.{own_some, common_of}
+use Rattle.meet_rel.proofs.cuts.own_span.Goals as goal
+
+pub unwrap-stretch-requires : goal.unwrap-stretch-requires
+unwrap-stretch-requires c = own_some c.args.clip.now c.slice.result c.requires.proper c.slice.ensures.common
+
+pub returns : goal.returns
+returns c =
+    let clip = c.args.clip.now in
+    own_cut clip (different_of clip.a clip.b c.requires.differ) c.unwrap-stretch.result
+    (common_of clip.a clip.b clip.tri c.slice.result c.unwrap-stretch.result c.slice.ensures.common c.unwrap-stretch.ensures)

@@ -1,0 +1,5 @@
+use Rattle.meet_rel.proofs.Keeping.{pieces_keep_relations}
+use Rattle.meet_rel.proofs.laws.pieces_keep_relations.Goals as goal
+
+pub returns : goal.returns
+returns c = pieces_keep_relations
