@@ -17,3 +17,4 @@ pub mod UnitLaws
 pub mod Saying
 pub mod TextNodes
 pub mod MemberLoops
+pub mod OneValue

@@ -6,16 +6,16 @@ use Rattle.std.proofs.lemmas.List.{drop_more, length-drop}
 use Rattle.jtext.specs.Characters.{Class, from_to, hexadecimal, IsOf, Fits, Form, classes, IsUnescaped, Char, unescaped, escaped, coded, IsEscape, IsChar, IsHexadecimal, char_text, code_point, units_of_point, meaning, digit_value, hexadecimal_value, units_of_char}
 use Rattle.jtext.specs.Units.{IsOutside}
 
-one_byte : (c : Class) (bytes : List ℕ) → Fits (c ∷ []) bytes → (a : ℕ) × (bytes ≡ a ∷ []) × IsOf c a
+pub one_byte : (c : Class) (bytes : List ℕ) → Fits (c ∷ []) bytes → (a : ℕ) × (bytes ≡ a ∷ []) × IsOf c a
 one_byte c [] fits = absurd fits
 one_byte c (a ∷ []) fits = (a, refl, fits.0)
 one_byte c (a ∷ b ∷ bytes) fits = absurd fits.1
 
-two_bytes : (c d : Class) (bytes : List ℕ) → Fits (c ∷ d ∷ []) bytes → (a b : ℕ) × (bytes ≡ a ∷ b ∷ []) × IsOf c a × IsOf d b
+pub two_bytes : (c d : Class) (bytes : List ℕ) → Fits (c ∷ d ∷ []) bytes → (a b : ℕ) × (bytes ≡ a ∷ b ∷ []) × IsOf c a × IsOf d b
 two_bytes c d [] fits = absurd fits
 two_bytes c d (a ∷ bytes) fits = let (b, rest, is) = one_byte d bytes fits.1 in (a, b, ap (λ (t : List ℕ). a ∷ t) rest, fits.0, is)
 
-three_bytes : (c d e : Class) (bytes : List ℕ) → Fits (c ∷ d ∷ e ∷ []) bytes → (x y z : ℕ) × (bytes ≡ x ∷ y ∷ z ∷ []) × IsOf c x × IsOf d y × IsOf e z
+pub three_bytes : (c d e : Class) (bytes : List ℕ) → Fits (c ∷ d ∷ e ∷ []) bytes → (x y z : ℕ) × (bytes ≡ x ∷ y ∷ z ∷ []) × IsOf c x × IsOf d y × IsOf e z
 three_bytes c d e [] fits = absurd fits
 three_bytes c d e (x ∷ bytes) fits = let (y, z, rest, is, also) = two_bytes d e bytes fits.1 in (x, y, z, ap (λ (t : List ℕ). x ∷ t) rest, fits.0, is, also)
 

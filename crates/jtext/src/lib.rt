@@ -17,4 +17,4 @@ mod word;
 
 pub use document::{Doc, Kind, Node, Nodes};
 pub use lookup::{Repeat, member, same_text};
-pub use reading::{DEEPEST, JsonFault, answers_exclude_each_other, read_json};
+pub use reading::{DEEPEST, JsonFault, answers_exclude_each_other, read_json, value_is_one};

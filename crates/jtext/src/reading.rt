@@ -1,7 +1,7 @@
 //! Reading a JSON text.
 
 ghost use Rattle.std.specs.Prelude.{◌≡◌, ℕ, ◌^◌, ◌<◌, List, length, IfOk, IsErrOf};
-ghost use Rattle.jtext.specs.Texts.{IsText, IsBad, IsDeep};
+ghost use Rattle.jtext.specs.Texts.{Whole, IsWhole, IsText, IsBad, IsDeep};
 ghost use Rattle.jtext.specs.Places.{IsReadFrom};
 ghost use Rattle.jtext.specs.States.{GoesIn};
 
@@ -98,4 +98,10 @@ pub fn answers_exclude_each_other()
     ensures bad_or_deep { (bytes : List ℕ) → (at other : ℕ) → IsBad bytes at → IsDeep bytes other → ⊥ }
     ensures text_or_bad { (bytes : List ℕ) → (at : ℕ) → IsText DEEPEST bytes → IsBad bytes at → ⊥ }
     ensures text_or_deep { (bytes : List ℕ) → (at : ℕ) → IsText DEEPEST bytes → IsDeep bytes at → ⊥ }
+{}
+
+/// A text has one value.
+pub fn value_is_one()
+    ensures { (bytes : List ℕ) → (whole other : Whole) → IsWhole DEEPEST whole bytes
+        → IsWhole DEEPEST other bytes → whole.value ≡ other.value }
 {}
