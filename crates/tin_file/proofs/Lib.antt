@@ -22,3 +22,4 @@ pub mod RowsRead
 pub mod Whole
 pub mod TopValue
 pub mod ValueFaults
+pub mod OneAnswer

@@ -6,3 +6,4 @@ pub mod Corners
 pub mod Reading
 pub mod Standing
 pub mod Gathered
+pub mod Laws

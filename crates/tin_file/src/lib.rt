@@ -6,6 +6,7 @@ mod columns;
 mod elements;
 mod faults;
 mod headings;
+mod laws;
 mod orienting;
 mod reading;
 mod spans;
@@ -15,4 +16,5 @@ mod triangles;
 mod vertices;
 
 pub use faults::{Nearest, Rows, TinFault, Top};
+pub use laws::answer_is_one;
 pub use reading::{MOST_BYTES, read_tin};
