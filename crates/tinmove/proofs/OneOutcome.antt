@@ -1,4 +1,4 @@
--- A run has one outcome, where no text is read in two ways.
+-- A run has one outcome.
 use Rattle.std.proofs.Common.{◌≡◌, ◌≢◌, ◌⊎◌, inl, inr, ℕ, ◌<◌, ◌≤◌, List, [], ◌∷◌, ◌++◌, None, Result, Ok, Err, length, codes, refl, sym, ◌∙◌, ap, subst, arith}
 use Rattle.std.specs.List.{AllByRecursion}
 use Rattle.std.proofs.lemmas.Option.{none-some, same_Some}
@@ -8,6 +8,7 @@ use Rattle.tin_base.specs.Triangulation.{Triangulation}
 use Rattle.tin_base.specs.Soundness.{IsSound}
 use Rattle.tin_check.specs.declared.faults.CheckFault.{CheckFault}
 use Rattle.tin_check.proofs.FirstFault.{unsound, one_first}
+use Rattle.tin_file.proofs.OneAnswer.{answer_is_one}
 use Rattle.tin_file.specs.declared.faults.TinFault.{TinFault}
 use Rattle.tin_file.specs.declared.faults.TinFault.TheVariants.{NoMemory as TinMemory}
 use Rattle.tinmove.specs.declared.loading.TheConstants.{MOST_BYTES}
@@ -17,13 +18,13 @@ use Rattle.tinmove.specs.declared.refusal.Refusal.{Refusal}
 use Rattle.tinmove.specs.declared.refusal.Refusal.TheVariants.{NotUnderstood, TinUnread, TinLong, Tin, Check, LayerUnread, LayerLong, LayerNotYet, Outside, TooManyPieces}
 use Rattle.tinmove.specs.Names.{EndsWith, IsLastPart, IsNameIn}
 use Rattle.tinmove.specs.Jobs.{Carriage, Job, migrates, checks, IsJob, LacksJob}
-use Rattle.tinmove.specs.Triangulations.{IsTin, LacksTin, IsUnsound}
+use Rattle.tinmove.specs.Triangulations.{plain, IsTin, LacksTin, IsUnsound}
 use Rattle.tinmove.specs.PointLines.{IsLayerText, LacksPoints, carried_text}
 use Rattle.tinmove.specs.Carrying.{IsCarried, IsFirstOutside, HasTooMany}
 use Rattle.tinmove.specs.ReportText.{report_text, sound_text}
 use Rattle.tinmove.specs.Refusals.{status_of, line_of}
 use Rattle.tinmove.specs.Outcome.{HasFile, HasLongFile, HasTin, IsTinRefused, IsLayerRefused, IsJobRefused, IsJobDone, report_of, HasOutcome, no_job, refused, done}
-use Rattle.tinmove.specs.Laws.{TextsAreReadInOneWay, OutcomeIsOne}
+use Rattle.tinmove.specs.Laws.{OutcomeIsOne}
 use Rattle.tinmove.proofs.OnePoints.{points_one, first_one, outside_many, outside_carried, many_carried, carried_one}
 
 -- the words give one job
@@ -111,55 +112,54 @@ file_end files name (Err refusal) is = absurd is
 tin_answer : (fault : TinFault) → fault ≢ TinMemory → ◌≢◌ {A = Result Triangulation TinFault} (Err fault) (Err TinMemory)
 tin_answer fault other same = let e : fault ≡ TinMemory = cc in other e
 
-module _ (one : TextsAreReadInOneWay) where
-  same_tin : (text : List ℕ) (a b : Triangulation) → IsTin text a → IsTin text b → a ≡ b
-  same_tin text a b x y = let e = one text (Ok a) (Ok b) (x.read, λ no. cc) (y.read, λ no. cc) in cc
+same_tin : (text : List ℕ) (a b : Triangulation) → IsTin text a → IsTin text b → a ≡ b
+same_tin text a b x y = let e = answer_is_one plain text (Ok a) (Ok b) x.read (λ no. cc) y.read (λ no. cc) in cc
 
-  same_fault : (text : List ℕ) (a b : TinFault) → LacksTin text a → LacksTin text b → a ≡ b
-  same_fault text a b x y = let e = one text (Err a) (Err b) (x.answers, tin_answer a x.of_text) (y.answers, tin_answer b y.of_text) in cc
+same_fault : (text : List ℕ) (a b : TinFault) → LacksTin text a → LacksTin text b → a ≡ b
+same_fault text a b x y = let e = answer_is_one plain text (Err a) (Err b) x.answers (tin_answer a x.of_text) y.answers (tin_answer b y.of_text) in cc
 
-  read_or_not : (text : List ℕ) (tin : Triangulation) (why : TinFault) → IsTin text tin → LacksTin text why → ⊥
-  read_or_not text tin why x y = let e = one text (Ok tin) (Err why) (x.read, λ no. cc) (y.answers, tin_answer why y.of_text) in cc
+read_or_not : (text : List ℕ) (tin : Triangulation) (why : TinFault) → IsTin text tin → LacksTin text why → ⊥
+read_or_not text tin why x y = let e = answer_is_one plain text (Ok tin) (Err why) x.read (λ no. cc) y.answers (tin_answer why y.of_text) in cc
 
-  unsound_or_not : (text : List ℕ) (tin : Triangulation) (why : CheckFault) → IsTin text tin → IsUnsound text why → ⊥
-  unsound_or_not text tin why x y =
-      let e = one text (Ok tin) (Ok y.tin) (x.read, λ no. cc) (y.read, λ no. cc) in
-      let same : tin ≡ y.tin = cc in
-      unsound y.tin why y.first.is_one (subst IsSound same x.sound)
+unsound_or_not : (text : List ℕ) (tin : Triangulation) (why : CheckFault) → IsTin text tin → IsUnsound text why → ⊥
+unsound_or_not text tin why x y =
+    let e = answer_is_one plain text (Ok tin) (Ok y.tin) x.read (λ no. cc) y.read (λ no. cc) in
+    let same : tin ≡ y.tin = cc in
+    unsound y.tin why y.first.is_one (subst IsSound same x.sound)
 
-  unsound_or_unread : (text : List ℕ) (why : TinFault) (fault : CheckFault) → LacksTin text why → IsUnsound text fault → ⊥
-  unsound_or_unread text why fault x y = let e = one text (Ok y.tin) (Err why) (y.read, λ no. cc) (x.answers, tin_answer why x.of_text) in cc
+unsound_or_unread : (text : List ℕ) (why : TinFault) (fault : CheckFault) → LacksTin text why → IsUnsound text fault → ⊥
+unsound_or_unread text why fault x y = let e = answer_is_one plain text (Ok y.tin) (Err why) y.read (λ no. cc) x.answers (tin_answer why x.of_text) in cc
 
-  same_check : (text : List ℕ) (a b : CheckFault) → IsUnsound text a → IsUnsound text b → a ≡ b
-  same_check text a b x y =
-      let e = one text (Ok x.tin) (Ok y.tin) (x.read, λ no. cc) (y.read, λ no. cc) in
-      let same : x.tin ≡ y.tin = cc in
-      one_first y.tin a b (rw same at x.first) y.first
+same_check : (text : List ℕ) (a b : CheckFault) → IsUnsound text a → IsUnsound text b → a ≡ b
+same_check text a b x y =
+    let e = answer_is_one plain text (Ok x.tin) (Ok y.tin) x.read (λ no. cc) y.read (λ no. cc) in
+    let same : x.tin ≡ y.tin = cc in
+    one_first y.tin a b (rw same at x.first) y.first
 
-  text_end_one : (text : List ℕ) (a b : Result Triangulation Refusal) → IsTextEnd text a → IsTextEnd text b → a ≡ b
-  text_end_one text a b (sound_text_end tin is x) (sound_text_end other also y) = is ∙ (ap Ok (same_tin text tin other x y) ∙ sym also)
-  text_end_one text a b (sound_text_end tin is x) (faulty_end why also y) = absurd (read_or_not text tin why x y)
-  text_end_one text a b (sound_text_end tin is x) (unsound_end why also y) = absurd (unsound_or_not text tin why x y)
-  text_end_one text a b (faulty_end why is x) (sound_text_end other also y) = absurd (read_or_not text other why y x)
-  text_end_one text a b (faulty_end why is x) (faulty_end other also y) = is ∙ (ap (λ f. Err (Tin f)) (same_fault text why other x y) ∙ sym also)
-  text_end_one text a b (faulty_end why is x) (unsound_end fault also y) = absurd (unsound_or_unread text why fault x y)
-  text_end_one text a b (unsound_end why is x) (sound_text_end other also y) = absurd (unsound_or_not text other why y x)
-  text_end_one text a b (unsound_end why is x) (faulty_end fault also y) = absurd (unsound_or_unread text fault why y x)
-  text_end_one text a b (unsound_end why is x) (unsound_end other also y) = is ∙ (ap (λ f. Err (Check f)) (same_check text why other x y) ∙ sym also)
+text_end_one : (text : List ℕ) (a b : Result Triangulation Refusal) → IsTextEnd text a → IsTextEnd text b → a ≡ b
+text_end_one text a b (sound_text_end tin is x) (sound_text_end other also y) = is ∙ (ap Ok (same_tin text tin other x y) ∙ sym also)
+text_end_one text a b (sound_text_end tin is x) (faulty_end why also y) = absurd (read_or_not text tin why x y)
+text_end_one text a b (sound_text_end tin is x) (unsound_end why also y) = absurd (unsound_or_not text tin why x y)
+text_end_one text a b (faulty_end why is x) (sound_text_end other also y) = absurd (read_or_not text other why y x)
+text_end_one text a b (faulty_end why is x) (faulty_end other also y) = is ∙ (ap (λ f. Err (Tin f)) (same_fault text why other x y) ∙ sym also)
+text_end_one text a b (faulty_end why is x) (unsound_end fault also y) = absurd (unsound_or_unread text why fault x y)
+text_end_one text a b (unsound_end why is x) (sound_text_end other also y) = absurd (unsound_or_not text other why y x)
+text_end_one text a b (unsound_end why is x) (faulty_end fault also y) = absurd (unsound_or_unread text fault why y x)
+text_end_one text a b (unsound_end why is x) (unsound_end other also y) = is ∙ (ap (λ f. Err (Check f)) (same_check text why other x y) ∙ sym also)
 
-  file_end_one : (files : Files) (name : List ℕ) (a b : Result Triangulation Refusal) → IsFileEnd files name a → IsFileEnd files name b → a ≡ b
-  file_end_one files name a b (absent_end is x) (absent_end also y) = is ∙ sym also
-  file_end_one files name a b (absent_end is x) (too_long_end also y) = absurd (none_long files name x y)
-  file_end_one files name a b (absent_end is x) (read_end text y end) = absurd (none_fine files name text x y)
-  file_end_one files name a b (too_long_end is x) (absent_end also y) = absurd (none_long files name y x)
-  file_end_one files name a b (too_long_end is x) (too_long_end also y) = is ∙ sym also
-  file_end_one files name a b (too_long_end is x) (read_end text y end) = absurd (long_fine files name text x y)
-  file_end_one files name a b (read_end text x end) (absent_end also y) = absurd (none_fine files name text y x)
-  file_end_one files name a b (read_end text x end) (too_long_end also y) = absurd (long_fine files name text y x)
-  file_end_one files name a b (read_end text x end) (read_end other y also) = text_end_one other a b (rw (text_one files name text other x y) at end) also
+file_end_one : (files : Files) (name : List ℕ) (a b : Result Triangulation Refusal) → IsFileEnd files name a → IsFileEnd files name b → a ≡ b
+file_end_one files name a b (absent_end is x) (absent_end also y) = is ∙ sym also
+file_end_one files name a b (absent_end is x) (too_long_end also y) = absurd (none_long files name x y)
+file_end_one files name a b (absent_end is x) (read_end text y end) = absurd (none_fine files name text x y)
+file_end_one files name a b (too_long_end is x) (absent_end also y) = absurd (none_long files name y x)
+file_end_one files name a b (too_long_end is x) (too_long_end also y) = is ∙ sym also
+file_end_one files name a b (too_long_end is x) (read_end text y end) = absurd (long_fine files name text x y)
+file_end_one files name a b (read_end text x end) (absent_end also y) = absurd (none_fine files name text y x)
+file_end_one files name a b (read_end text x end) (too_long_end also y) = absurd (long_fine files name text y x)
+file_end_one files name a b (read_end text x end) (read_end other y also) = text_end_one other a b (rw (text_one files name text other x y) at end) also
 
-  tin_end_one : (files : Files) (name : List ℕ) (a b : Result Triangulation Refusal) → IsTinEnd files name a → IsTinEnd files name b → a ≡ b
-  tin_end_one files name a b x y = file_end_one files name a b (file_end files name a x) (file_end files name b y)
+tin_end_one : (files : Files) (name : List ℕ) (a b : Result Triangulation Refusal) → IsTinEnd files name a → IsTinEnd files name b → a ≡ b
+tin_end_one files name a b x y = file_end_one files name a b (file_end files name a x) (file_end files name b y)
 
 -- how a job ends: its made files, or its refusal
 abbrev IsJobEnd : Files → Job → Result Files Refusal → Type 0
@@ -262,25 +262,24 @@ check_end : (files : Files) (name : List ℕ) (end : Result Files Refusal) → I
 check_end files name (Ok made) is = (Ok is.tin, is.ready, ap Ok is.made_is)
 check_end files name (Err refusal) is = (Err refusal, is, refl)
 
-module _ (one : TextsAreReadInOneWay) where
-  migration_end_one : (files : Files) (carriage : Carriage) (a b : Result Files Refusal) → IsMigrationEnd files carriage a → IsMigrationEnd files carriage b → a ≡ b
-  migration_end_one files carriage a b (at_tin refusal is x) (at_tin other also y) =
-      let e = tin_end_one one files carriage.tin (Err refusal) (Err other) x y in
-      let same : refusal ≡ other = cc in
-      is ∙ (ap Err same ∙ sym also)
-  migration_end_one files carriage a b (at_tin refusal is x) (at_layer tin y end) = let e = tin_end_one one files carriage.tin (Err refusal) (Ok tin) x y in cc
-  migration_end_one files carriage a b (at_layer tin x end) (at_tin refusal is y) = let e = tin_end_one one files carriage.tin (Ok tin) (Err refusal) x y in cc
-  migration_end_one files carriage a b (at_layer tin x end) (at_layer other y also) =
-      let e = tin_end_one one files carriage.tin (Ok tin) (Ok other) x y in
-      let same : tin ≡ other = cc in
-      layer_end_one files carriage other a b (sound_of files carriage.tin other y) (rw same at end) also
+migration_end_one : (files : Files) (carriage : Carriage) (a b : Result Files Refusal) → IsMigrationEnd files carriage a → IsMigrationEnd files carriage b → a ≡ b
+migration_end_one files carriage a b (at_tin refusal is x) (at_tin other also y) =
+    let e = tin_end_one files carriage.tin (Err refusal) (Err other) x y in
+    let same : refusal ≡ other = cc in
+    is ∙ (ap Err same ∙ sym also)
+migration_end_one files carriage a b (at_tin refusal is x) (at_layer tin y end) = let e = tin_end_one files carriage.tin (Err refusal) (Ok tin) x y in cc
+migration_end_one files carriage a b (at_layer tin x end) (at_tin refusal is y) = let e = tin_end_one files carriage.tin (Ok tin) (Err refusal) x y in cc
+migration_end_one files carriage a b (at_layer tin x end) (at_layer other y also) =
+    let e = tin_end_one files carriage.tin (Ok tin) (Ok other) x y in
+    let same : tin ≡ other = cc in
+    layer_end_one files carriage other a b (sound_of files carriage.tin other y) (rw same at end) also
 
-  job_end_one : (files : Files) (job : Job) (a b : Result Files Refusal) → IsJobEnd files job a → IsJobEnd files job b → a ≡ b
-  job_end_one files (migrates carriage) a b x y = migration_end_one files carriage a b (migration_end files carriage a x) (migration_end files carriage b y)
-  job_end_one files (checks name) a b x y =
-      let (tin, ready, is) = check_end files name a x in
-      let (other, also_ready, also) = check_end files name b y in
-      is ∙ (ap said_of (tin_end_one one files name tin other ready also_ready) ∙ sym also)
+job_end_one : (files : Files) (job : Job) (a b : Result Files Refusal) → IsJobEnd files job a → IsJobEnd files job b → a ≡ b
+job_end_one files (migrates carriage) a b x y = migration_end_one files carriage a b (migration_end files carriage a x) (migration_end files carriage b y)
+job_end_one files (checks name) a b x y =
+    let (tin, ready, is) = check_end files name a x in
+    let (other, also_ready, also) = check_end files name b y in
+    is ∙ (ap said_of (tin_end_one files name tin other ready also_ready) ∙ sym also)
 
 -- what an end makes
 abbrev status_at : Result Files Refusal → Status
@@ -300,16 +299,16 @@ run_end words files status made (no_job lacks is) = without_job lacks is.status_
 run_end words files status made (refused job given refusal why is) = with_job job given (Err refusal) why is.status_is is.made_is
 run_end words files status made (done job given is what) = with_job job given (Ok made) what is refl
 
-run_end_one : TextsAreReadInOneWay → (words : List (List ℕ)) (files : Files) (status other : Status) (made others : Files) → IsRunEnd words files status made → IsRunEnd words files other others
+run_end_one : (words : List (List ℕ)) (files : Files) (status other : Status) (made others : Files) → IsRunEnd words files status made → IsRunEnd words files other others
     → (status ≡ other) × (made ≡ others)
-run_end_one one words files status other made others (without_job lacks s m) (without_job lacks_too t n) = (s ∙ sym t, m ∙ sym n)
-run_end_one one words files status other made others (without_job lacks s m) (with_job job given end is t n) = absurd (lacks job given)
-run_end_one one words files status other made others (with_job job given end is s m) (without_job lacks t n) = absurd (lacks job given)
-run_end_one one words files status other made others (with_job job given end is s m) (with_job also given_too another is_too t n) =
+run_end_one words files status other made others (without_job lacks s m) (without_job lacks_too t n) = (s ∙ sym t, m ∙ sym n)
+run_end_one words files status other made others (without_job lacks s m) (with_job job given end is t n) = absurd (lacks job given)
+run_end_one words files status other made others (with_job job given end is s m) (without_job lacks t n) = absurd (lacks job given)
+run_end_one words files status other made others (with_job job given end is s m) (with_job also given_too another is_too t n) =
     let same = job_one words job also given given_too in
-    let ends = job_end_one one files also end another (subst (λ j. IsJobEnd files j end) same is) is_too in
+    let ends = job_end_one files also end another (subst (λ j. IsJobEnd files j end) same is) is_too in
     (s ∙ (ap status_at ends ∙ sym t), m ∙ (ap files_at ends ∙ sym n))
 
-pub outcome_is_one : TextsAreReadInOneWay → OutcomeIsOne
-outcome_is_one one words files status other made others x y =
-    run_end_one one words files status other made others (run_end words files status made x) (run_end words files other others y)
+pub outcome_is_one : OutcomeIsOne
+outcome_is_one words files status other made others x y =
+    run_end_one words files status other made others (run_end words files status made x) (run_end words files other others y)
