@@ -1,0 +1,85 @@
+-- The changes of pieces by rounding.
+use Rattle.std.specs.Prelude.{◌≡◌, ◌≢◌, ℕ, ◌<◌, List, [], ◌∷◌, ◌++◌, length, map, All, Option, None, Some}
+use Rattle.plane_base.specs.Plane.{whole}
+use Rattle.tin_base.specs.declared.pieces.Piece.{Piece}
+use Rattle.tin_base.specs.declared.pieces.Change.{Change}
+use Rattle.tin_base.specs.declared.relations.Rel.{Rel}
+use Rattle.tin_base.specs.Triangulation.{Triangulation}
+use Rattle.tin_base.specs.Segments.{Part}
+use Rattle.tin_base.specs.Pieces.{IsPieceOf, IsPieceInside, first_point, last_point}
+use Rattle.tin_base.specs.Relations.{HaveRelation}
+use Rattle.meet_rel.specs.Near.{AreNear}
+
+-- what the calls ask of two pieces: they are pieces of segments with ends in source triangles, and their rounded images are near each other
+pub record AreComparable (tin : Triangulation) (p q : Piece) : Type 0 where
+  pub first : IsPieceInside tin p
+  pub second : IsPieceInside tin q
+  pub near : AreNear p.ia p.ib q.ia q.ib
+
+abbrev pub AreAllComparable : Triangulation → List Piece → Type 0
+AreAllComparable tin pieces = All (λ p. All (λ q. AreComparable tin p q) pieces) pieces
+
+-- the relation of two exact pieces in the source frame
+abbrev pub HadRelation : Triangulation → Rel → Piece → Piece → Type 0
+HadRelation tin was p q = (s t : Part) → IsPieceOf tin p s → IsPieceOf tin q t → HaveRelation was (first_point p s) (last_point p s) (first_point q t) (last_point q t)
+
+-- the relation of the segments between the rounded images of the ends of two pieces
+abbrev pub HasRelation : Rel → Piece → Piece → Type 0
+HasRelation now p q = HaveRelation now (whole p.ia) (whole p.ib) (whole q.ia) (whole q.ib)
+
+-- none where the two relations are one, else both with the places of the two pieces
+abbrev pub IsChangeOf : Triangulation → Piece → Piece → Option Change → Type 0
+IsChangeOf tin p q None = (relation : Rel) × HadRelation tin relation p q × HasRelation relation p q
+IsChangeOf tin p q (Some change) = (change.first ≡ p.from) × (change.second ≡ q.from) × HadRelation tin change.was p q × HasRelation change.now p q × (change.was ≢ change.now)
+
+-- ---- all pairs
+pub record Pair : Type 0 where
+  pub first : Piece
+  pub second : Piece
+
+abbrev pub pair : Piece → Piece → Pair
+pair p q = record { first = p; second = q }
+
+-- a piece with each of a list
+abbrev pub with_each : Piece → List Piece → List Pair
+with_each p qs = map (pair p) qs
+
+-- each two pieces, the earlier first, by the first and then by the second
+abbrev pub pairs : List Piece → List Pair
+pairs [] = []
+pairs (p ∷ ps) = with_each p ps ++ pairs ps
+
+-- the change, where there is one, in front of a list
+abbrev pub put : Option Change → List Change → List Change
+put None changes = changes
+put (Some change) changes = change ∷ changes
+
+-- the changes of some pairs, in their order
+abbrev pub AreChangesOf : Triangulation → List Pair → List Change → Type 0
+AreChangesOf tin [] changes = changes ≡ []
+AreChangesOf tin (p ∷ ps) changes = (here : Option Change) × (later : List Change) × IsChangeOf tin p.first p.second here × AreChangesOf tin ps later × (changes ≡ put here later)
+
+-- the changes of all pairs
+abbrev pub AreChanges : Triangulation → List Piece → List Change → Type 0
+AreChanges tin pieces changes = AreChangesOf tin (pairs pieces) changes
+
+-- some first pairs have more changes than `most`
+pub record HaveMoreThan (tin : Triangulation) (all : List Pair) (most : ℕ) : Type 0 where
+  pub front : List Pair
+  pub rest : List Pair
+  pub changes : List Change
+  pub is_front : front ++ rest ≡ all
+  pub are_changes : AreChangesOf tin front changes
+  pub more : most < length changes
+
+abbrev pub HasMoreThan : Triangulation → List Piece → ℕ → Type 0
+HasMoreThan tin pieces most = HaveMoreThan tin (pairs pieces) most
+
+-- ---- while pairs are added to those that are done
+-- what were the changes of those done are now the changes of these too
+abbrev pub DoAdd : Triangulation → List Pair → List Change → List Change → Type 0
+DoAdd tin more before now = (done : List Pair) → AreChangesOf tin done before → AreChangesOf tin (done ++ more) now
+
+-- with these there are more changes than `most`
+abbrev pub DoPassMost : Triangulation → List Pair → List Change → ℕ → Type 0
+DoPassMost tin more before most = (done : List Pair) → AreChangesOf tin done before → HaveMoreThan tin (done ++ more) most

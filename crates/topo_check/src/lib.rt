@@ -1,0 +1,10 @@
+//! Which pieces lie to each other in another way after rounding than in the source frame: all changed pairs, in order.
+//! Every two pieces are compared.
+#![tactic(auto)]
+
+mod comparing;
+mod faults;
+mod listing;
+
+pub use faults::ChangesFault;
+pub use listing::changes;
