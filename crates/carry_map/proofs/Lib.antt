@@ -1,0 +1,8 @@
+pub mod Crossing
+pub mod Leaving
+pub mod Telling
+pub mod Gathering
+pub mod Stopping
+pub mod Pathing
+pub mod Sheeting
+pub mod Tiling

@@ -1,0 +1,230 @@
+-- A path, vertex by vertex.
+use Rattle.std.proofs.Common.{◌≡◌, ℕ, suc, ◌+◌, ◌-◌, ◌<◌, ◌≤◌, Bool, false, cond, ltb, List, [], ◌∷◌, ◌++◌, Option, Some, None, map, take, drop, length, take-append-drop, ap, ap₂, refl, sym, ◌∙◌, subst, arith}
+use Rattle.std.specs.Prelude.{IfErr, Result, Ok, Err}
+use Rattle.std.specs.Result.{IsErrAnd}
+use Rattle.std.specs.List.{range_with_len, cons_option}
+use Rattle.std.proofs.Math.Seq.{drop-cons}
+use Rattle.std.proofs.lemmas.Bool.{lt-ltb}
+use Rattle.std.proofs.lemmas.List.{length-append}
+use Rattle.std.proofs.lemmas.List.FromFn.{length-map-range_with_len, take-map-range_with_len, map-range_with_len_more, get_or-map-range_with_len}
+use Rattle.plane_base.specs.Plane.{whole}
+use Rattle.plane_base.specs.declared.shapes.Pt.{Pt}
+use Rattle.sheet_base.specs.declared.paths.PathKind.{PathKind}
+use Rattle.sheet_base.specs.declared.paths.PathKind.TheVariants.{Dot, Line, Loop}
+use Rattle.sheet_base.specs.declared.paths.PathRow.{PathRow}
+use Rattle.sheet_base.specs.Segments.{points_in, segments_of, segments_in, point_at, begin_of, end_of}
+use Rattle.sheet_base.specs.Sheets.{IsPathFrom}
+use Rattle.tin_base.specs.declared.frames.Frame.TheVariants.{Source}
+use Rattle.tin_base.specs.declared.pieces.Piece.{Piece}
+use Rattle.tin_base.specs.declared.pieces.Place.{Place}
+use Rattle.tin_base.specs.Triangulation.{Triangulation}
+use Rattle.tin_base.specs.Images.{IsInSome}
+use Rattle.tin_base.specs.Segments.{IsInside}
+use Rattle.affine_image.specs.Rounded.{IsRoundedImage}
+use Rattle.affine_image.specs.SheetSegments.{Segment, PathVertex, segment_at, vertex_at, path_vertices, segments_begun}
+use Rattle.seg_walk.proofs.Taking.{first_inside}
+use Rattle.carry_map.specs.declared.segments.Way.{Way}
+use Rattle.carry_map.specs.declared.paths.Track.{Track}
+use Rattle.carry_map.specs.declared.faults.CarryFault.{CarryFault}
+use Rattle.carry_map.specs.Carried.{IsSegmentCarried, AreCarried}
+use Rattle.carry_map.specs.Causes.{IsFirstOutside, IsCause, IsWayCause}
+use Rattle.carry_map.proofs.Gathering.{carried_none, carried_on, carried_last, carried_way, begun_more}
+use Rattle.carry_map.proofs.Stopping.{cause_of_way, cause_between}
+
+-- ---- how many segments
+pub record AreFew (segments points : ℕ) : Type 0 where
+  pub some : 0 < segments
+  pub upto : segments ≤ points
+  pub least : points ≤ segments + 1
+
+few_of : (kind : PathKind) (n : ℕ) → 0 < n → (kind ≡ Dot → n ≡ 1) → AreFew (segments_of kind n) n
+few_of Dot n h dot = let e = dot refl in record { some = omega arith; upto = omega arith; least = omega arith }
+few_of Line n h dot = record { some = omega arith; upto = omega arith; least = omega arith }
+few_of Loop n h dot = record { some = h; upto = omega arith; least = omega arith }
+
+pub few : (row : PathRow) → IsPathFrom row.first row → AreFew (segments_in row) (points_in row)
+few row path = few_of row.kind (points_in row) (some row.first row.past path.some) (λ e. one row.first row.past (path.dot e))
+  where
+    some : (m n : ℕ) → m < n → 0 < n - m
+    some m n h = omega arith
+
+    one : (m n : ℕ) → n ≡ m + 1 → n - m ≡ 1
+    one m n e = omega arith
+
+-- ---- the vertices so far
+abbrev pub first_vertices : List Pt → ℕ → PathRow → ℕ → List PathVertex
+first_vertices points path row j = map (vertex_at points path row) (range_with_len 0 j)
+
+one_vertex_more : (points : List Pt) (path : ℕ) (row : PathRow) (j : ℕ) → first_vertices points path row (j + 1) ≡ first_vertices points path row j ++ vertex_at points path row j ∷ []
+one_vertex_more points path row j = map-range_with_len_more (vertex_at points path row) 0 j j (omega arith)
+
+begins_one : (points : List Pt) (path : ℕ) (row : PathRow) (j : ℕ) → j < segments_in row → (vertex_at points path row j).segment ≡ Some (segment_at points path row j)
+begins_one points path row j h = ap (λ (b : Bool). cond b (Some (segment_at points path row j)) None) (lt-ltb j (segments_in row) h)
+
+not_below : (j n : ℕ) → n ≤ j → ltb j n ≡ false
+not_below j n h = grind arith
+
+begins_none : (points : List Pt) (path : ℕ) (row : PathRow) (j : ℕ) → segments_in row ≤ j → (vertex_at points path row j).segment ≡ None
+begins_none points path row j h = ap (λ (b : Bool). cond b (Some (segment_at points path row j)) None) (not_below j (segments_in row) h)
+
+-- ---- what stands after some vertices
+pub record IsPathCarried (tin : Triangulation) (layer : ℕ) (points : List Pt) (path : ℕ) (row : PathRow) (most : ℕ) (x x' : List Pt) (r r' : List ℕ) (p p' : List Piece) (j : ℕ) (image : Pt) : Type 0 where
+  pub carried : AreCarried tin layer (first_vertices points path row j) x x' r r' p p'
+  pub image_is : j < points_in row → IsRoundedImage tin (begin_of points row j) image
+  pub room : length p' ≤ most
+  pub count : length x' + length p ≡ length x + length p'
+  pub more : j + length p ≤ length p'
+
+first_point_is : (points : List Pt) (n : ℕ) → point_at points n ≡ point_at points (n + 0)
+first_point_is points n = ap (λ (m : ℕ). point_at points m) (omega arith)
+
+pub path_start : (tin : Triangulation) (layer : ℕ) (points : List Pt) (path : ℕ) (row : PathRow) (most : ℕ) (x : List Pt) (r : List ℕ) (p : List Piece) (image : Pt) → IsRoundedImage tin (point_at points row.first) image → length p ≤ most
+    → IsPathCarried tin layer points path row most x x r r p p 0 image
+path_start tin layer points path row most x r p image is room = record {
+  carried = carried_none tin layer x r p;
+  image_is = λ _. subst (λ (q : Pt). IsRoundedImage tin q image) (first_point_is points row.first) is;
+  room = room;
+  count = refl;
+  more = omega arith;
+}
+
+next_begins : (points : List Pt) (row : PathRow) (j : ℕ) → j + 1 < points_in row → end_of points row j ≡ begin_of points row (j + 1)
+next_begins points row j h = ap (λ (n : ℕ). point_at points n) (next (row.first + j) row.past row.first (within row.first row.past h) ∙ moved row.first)
+  where
+    within : (m n : ℕ) → j + 1 < n - m → m + j + 1 < n
+    within m n h = omega arith
+
+    moved : (m : ℕ) → m + j + 1 ≡ m + (j + 1)
+    moved m = omega arith
+
+    next : (k n m : ℕ) → k + 1 < n → cond (ltb (k + 1) n) (k + 1) m ≡ k + 1
+    next k n m h = ap (λ (b : Bool). cond b (k + 1) m) (lt-ltb (k + 1) n h)
+
+-- the way is the path's segment of this number
+pub record IsWayAt (points : List Pt) (track : Track) (j : ℕ) (way : Way) : Type 0 where
+  pub a : way.a ≡ begin_of points track.row j
+  pub b : way.b ≡ end_of points track.row j
+  pub from : way.from ≡ record { layer = track.from.layer; path = track.from.path; segment = j; piece = 0 }
+
+abbrev made : Pt → Pt → Place → Way
+made a b from = record { a = a; b = b; from = from }
+
+abbrev way_of : List Pt → Track → ℕ → Way
+way_of points track j = made (begin_of points track.row j) (end_of points track.row j) (record { layer = track.from.layer; path = track.from.path; segment = j; piece = 0 })
+
+way_is : (points : List Pt) (track : Track) (j : ℕ) (way : Way) → IsWayAt points track j way → way ≡ way_of points track j
+way_is points track j way is = ap (λ (a : Pt). made a way.b way.from) is.a ∙ ap (λ (b : Pt). made (begin_of points track.row j) b way.from) is.b ∙ ap (λ (from : Place). made (begin_of points track.row j) (end_of points track.row j) from) is.from
+
+pub path_next : (tin : Triangulation) (points : List Pt) (track : Track) (most : ℕ) (x x' y z : List Pt) (r r' s : List ℕ) (p p' q : List Piece) (j : ℕ) (image end : Pt) (way : Way)
+    → IsPathFrom track.row.first track.row → j < segments_in track.row → IsPathCarried tin track.from.layer points track.from.path track.row most x x' r r' p p' j image → IsWayAt points track j way
+    → y ≡ x' ++ image ∷ [] → s ≡ r' ++ length x' ∷ [] → IsSegmentCarried tin way.a way.b way.from y z p' q → IsInside tin way.a way.b → IsRoundedImage tin way.b end → length q ≤ most → length z + length p' + 1 ≡ length y + length q → length p' < length q
+    → IsPathCarried tin track.from.layer points track.from.path track.row most x z r s p q (j + 1) end
+path_next tin points track most x x' y z r r' s p p' q j image end way path h state is ey es carried inside is_end room count more = record {
+  carried = subst (λ (vs : List PathVertex). AreCarried tin track.from.layer vs x z r s p q) (sym (one_vertex_more points track.from.path track.row j))
+      (carried_on tin track.from.layer (first_vertices points track.from.path track.row j) (vertex_at points track.from.path track.row j ∷ []) x x' z r r' s p p' q state.carried
+      (carried_way tin track.from.layer (vertex_at points track.from.path track.row j) (segment_at points track.from.path track.row j) image x' y z r' s p' q (begins_one points track.from.path track.row j h) (state.image_is here) ey es
+      (subst (λ (w : Way). IsInside tin w.a w.b) (way_is points track j way is) inside) (subst (λ (w : Way). IsSegmentCarried tin w.a w.b w.from y z p' q) (way_is points track j way is) carried)));
+  image_is = λ further. subst (λ (point : Pt). IsRoundedImage tin point end) (is.b ∙ next_begins points track.row j further) is_end;
+  room = room;
+  count = counted (length z) (length y) (ap (λ (ps : List Pt). length ps) ey ∙ length-append x' (image ∷ [])) state.count count;
+  more = grown state.more more;
+}
+  where
+    here : j < points_in track.row
+    here = let f = few track.row path in within (segments_in track.row) (points_in track.row) h f.upto
+      where
+        within : (m n : ℕ) → j < m → m ≤ n → j < n
+        within m n h k = omega arith
+
+    counted : (m n : ℕ) → n ≡ length x' + 1 → length x' + length p ≡ length x + length p' → m + length p' + 1 ≡ n + length q → m + length p ≡ length x + length q
+    counted m n e f g = omega arith
+
+    grown : j + length p ≤ length p' → length p' < length q → j + 1 + length p ≤ length q
+    grown h k = omega arith
+
+-- ---- the end of the path
+-- each vertex begins a segment
+pub path_all : (tin : Triangulation) (layer : ℕ) (points : List Pt) (path : ℕ) (row : PathRow) (most : ℕ) (x x' : List Pt) (r r' : List ℕ) (p p' : List Piece) (j : ℕ) (image : Pt) → j ≡ points_in row → IsPathCarried tin layer points path row most x x' r r' p p' j image → AreCarried tin layer (path_vertices points path row) x x' r r' p p'
+path_all tin layer points path row most x x' r r' p p' j image e state = subst (λ (n : ℕ). AreCarried tin layer (first_vertices points path row n) x x' r r' p p') e state.carried
+
+-- all but the last do
+pub path_but_last : (tin : Triangulation) (layer : ℕ) (points : List Pt) (path : ℕ) (row : PathRow) (most : ℕ) (x x' y : List Pt) (r r' s : List ℕ) (p p' : List Piece) (j : ℕ) (image : Pt) → IsPathFrom row.first row → j ≡ segments_in row → (j ≡ points_in row → ⊥)
+    → IsPathCarried tin layer points path row most x x' r r' p p' j image → y ≡ x' ++ image ∷ [] → s ≡ r' ++ length x' ∷ [] → AreCarried tin layer (path_vertices points path row) x y r s p p'
+path_but_last tin layer points path row most x x' y r r' s p p' j image from e other state ey es =
+    subst (λ (n : ℕ). AreCarried tin layer (first_vertices points path row n) x y r s p p') last
+    (subst (λ (vs : List PathVertex). AreCarried tin layer vs x y r s p p') (sym (one_vertex_more points path row j))
+    (carried_on tin layer (first_vertices points path row j) (vertex_at points path row j ∷ []) x x' y r r' s p p' p' state.carried
+    (carried_last tin layer (vertex_at points path row j) image x' y r' s p' (begins_none points path row j (omega arith)) (state.image_is here) ey es)))
+  where
+    last : j + 1 ≡ points_in row
+    last = let f = few row from in there (segments_in row) (points_in row) e f.upto f.least other
+      where
+        there : (m n : ℕ) → j ≡ m → m ≤ n → n ≤ m + 1 → (j ≡ n → ⊥) → j + 1 ≡ n
+        there m n e h k other = grind arith
+
+    here : j < points_in row
+    here = up (points_in row) last
+      where
+        up : (n : ℕ) → j + 1 ≡ n → j < n
+        up n e = omega arith
+
+-- ---- why it is not carried
+split_at : (points : List Pt) (path : ℕ) (row : PathRow) (j : ℕ) → IsPathFrom row.first row → j < segments_in row
+    → segments_begun (path_vertices points path row) ≡ segments_begun (first_vertices points path row j) ++ ((segment_at points path row j ∷ []) ++ segments_begun (drop (suc j) (path_vertices points path row)))
+split_at points path row j from h =
+    ap segments_begun (sym (take-append-drop j (path_vertices points path row))) ∙ begun_more (take j (path_vertices points path row)) (drop j (path_vertices points path row))
+    ∙ ap₂ (λ (vs ws : List PathVertex). segments_begun vs ++ segments_begun ws) (take-map-range_with_len (vertex_at points path row) 0 (points_in row) j up)
+    (drop-cons (path_vertices points path row) j (vertex_at points path row j) (subst (λ (n : ℕ). j < n) (sym (length-map-range_with_len (vertex_at points path row) 0 (points_in row))) here)
+    ∙ ap (λ (v : PathVertex). v ∷ drop (suc j) (path_vertices points path row)) (get_or-map-range_with_len (vertex_at points path row) 0 (points_in row) j j (vertex_at points path row j) here (omega arith)))
+    ∙ ap (λ (s : Option Segment). segments_begun (first_vertices points path row j) ++ cons_option s (segments_begun (drop (suc j) (path_vertices points path row)))) (begins_one points path row j h)
+  where
+    here : j < points_in row
+    here = let f = few row from in within (segments_in row) (points_in row) h f.upto
+      where
+        within : (m n : ℕ) → j < m → m ≤ n → j < n
+        within m n h k = omega arith
+
+    up : j ≤ points_in row
+    up = below (points_in row) here
+      where
+        below : (n : ℕ) → j < n → j ≤ n
+        below n h = omega arith
+
+pub path_cause : (tin : Triangulation) (points : List Pt) (track : Track) (most : ℕ) (x x' : List Pt) (r r' : List ℕ) (p p' : List Piece) (j : ℕ) (image : Pt) (way : Way) (fault : CarryFault)
+    → IsPathFrom track.row.first track.row → j < segments_in track.row → IsPathCarried tin track.from.layer points track.from.path track.row most x x' r r' p p' j image → IsWayAt points track j way → IsWayCause tin way (length p') most fault
+    → IsCause tin track.from.layer (length p) most (segments_begun (path_vertices points track.from.path track.row)) fault
+path_cause tin points track most x x' r r' p p' j image way fault path h state is cause = go state.carried
+  where
+    go : AreCarried tin track.from.layer (first_vertices points track.from.path track.row j) x x' r r' p p' → IsCause tin track.from.layer (length p) most (segments_begun (path_vertices points track.from.path track.row)) fault
+    go carried =
+        let own = carried.own in
+        let grown : length p' ≡ length p + length own = ap (λ (ps : List Piece). length ps) carried.pieces_are ∙ length-append p own in
+        subst (λ (ss : List Segment). IsCause tin track.from.layer (length p) most ss fault) (sym (split_at points track.from.path track.row j path h))
+        (cause_between tin track.from.layer (length p) most (segments_begun (first_vertices points track.from.path track.row j)) (segment_at points track.from.path track.row j ∷ [])
+        (segments_begun (drop (suc j) (path_vertices points track.from.path track.row))) own fault carried.inside carried.of_segments
+        (subst (λ (n : ℕ). IsCause tin track.from.layer n most (segment_at points track.from.path track.row j ∷ []) fault) grown
+        (cause_of_way tin track.from.layer (length p') most (way_of points track j) fault state.room (subst (λ (w : Way). IsWayCause tin w (length p') most fault) (way_is points track j way is) cause))))
+
+-- the first point is in no triangle
+pub path_outside : (tin : Triangulation) (points : List Pt) (track : Track) (most : ℕ) (p : List Piece) → IsPathFrom track.row.first track.row → length p ≤ most → (IsInSome tin Source (whole (point_at points track.row.first)) → ⊥)
+    → IsFirstOutside tin track.from.layer (length p) most (segments_begun (path_vertices points track.from.path track.row)) track.from.path 0
+path_outside tin points track most p path room none =
+    subst (λ (ss : List Segment). IsFirstOutside tin track.from.layer (length p) most ss track.from.path 0) (sym (split_at points track.from.path track.row 0 path (let f = few track.row path in f.some)))
+    (record {
+      segment = segment_at points track.from.path track.row 0;
+      reached = record { before = []; behind = segments_begun (drop 1 (path_vertices points track.from.path track.row)); stands = refl; room = record { inside = tt; pieces = []; are = refl; room = omega (arith, room) } };
+      path_is = refl;
+      number_is = refl;
+      outside = λ inside. none (subst (λ (q : Pt). IsInSome tin Source (whole q)) (sym (first_point_is points track.row.first)) (first_inside tin (begin_of points track.row 0) (end_of points track.row 0) inside));
+    })
+
+-- ---- the exit of a `?`
+pub exits : {A : Type 0} (Q : CarryFault → Type 0) (fault : CarryFault) (r : Result A CarryFault) → IsErrAnd r (λ e. e ≡ fault) → Q fault → IfErr r Q
+exits Q fault (Ok value) h q = absurd h
+exits Q fault (Err e) h q = subst Q (sym h) q
+
+pub in_points : (row : PathRow) (j : ℕ) → IsPathFrom row.first row → j < segments_in row → j < points_in row
+in_points row j path h = let f = few row path in within (segments_in row) (points_in row) h f.upto
+  where
+    within : (m n : ℕ) → j < m → m ≤ n → j < n
+    within m n h k = omega arith

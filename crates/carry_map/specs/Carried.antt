@@ -1,0 +1,43 @@
+-- What was gathered of some vertices or of one segment: images, places of runs and pieces, each behind those that stood there before.
+use Rattle.std.specs.Prelude.{◌≡◌, ℕ, List, ◌++◌, map, take, length, ◌-◌}
+use Rattle.plane_base.specs.declared.shapes.Pt.{Pt}
+use Rattle.tin_base.specs.declared.pieces.Piece.{Piece}
+use Rattle.tin_base.specs.declared.pieces.Place.{Place}
+use Rattle.tin_base.specs.Triangulation.{Triangulation}
+use Rattle.tin_base.specs.Segments.{Part, ArePiecesOf}
+use Rattle.affine_image.specs.SheetSegments.{PathVertex, segments_begun}
+use Rattle.affine_image.specs.SheetPieces.{AreTold, ArePiecesOfAll, AreInside}
+use Rattle.affine_image.specs.SheetImages.{AreRuns, joined, begins_from}
+
+-- the second list is the first one with more behind it
+pub record Grows {X : Type 0} (before after : List X) : Type 0 where
+  pub more : List X
+  pub are : after ≡ before ++ more
+
+-- the images of a segment's pieces' last points, but of the last
+abbrev pub inner_images : List Piece → List Pt
+inner_images pieces = map (λ piece. piece.ib) (take (length pieces - 1) pieces)
+
+-- the pieces of the segment from a to b stand behind those before
+pub record AreSegmentTold (tin : Triangulation) (a b : Pt) (from : Place) (before after : List Piece) : Type 0 where
+  pub own : List Piece
+  pub are : after ≡ before ++ own
+  pub parts : List Part
+  pub cut : ArePiecesOf tin a b parts
+  pub told : AreTold tin a b from parts own
+
+-- and the images of its crossings behind the images before
+pub record IsSegmentCarried (tin : Triangulation) (a b : Pt) (from : Place) (points points' : List Pt) (pieces pieces' : List Piece) : Type 0 where
+  pub told : AreSegmentTold tin a b from pieces pieces'
+  pub crossings : points' ≡ points ++ inner_images told.own
+
+-- the runs and the pieces of some vertices stand behind those before
+pub record AreCarried (tin : Triangulation) (layer : ℕ) (vertices : List PathVertex) (points points' : List Pt) (run run' : List ℕ) (pieces pieces' : List Piece) : Type 0 where
+  pub runs : List (List Pt)
+  pub of_vertices : AreRuns tin vertices runs
+  pub points_are : points' ≡ points ++ joined runs
+  pub run_are : run' ≡ run ++ begins_from (length points) runs
+  pub own : List Piece
+  pub pieces_are : pieces' ≡ pieces ++ own
+  pub of_segments : ArePiecesOfAll tin layer (segments_begun vertices) own
+  pub inside : AreInside tin (segments_begun vertices)

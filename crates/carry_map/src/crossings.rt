@@ -1,0 +1,93 @@
+ghost use Rattle.std.specs.Prelude.{◌≡◌, ◌≢◌, ◌<◌, ℤ, pos, ◌*ℤ◌, length};
+ghost use Rattle.plane_base.specs.Plane.{whole, turn_of, along};
+ghost use Rattle.seg_walk.specs.Steps.{spot_of, IsSliceIn};
+ghost use Rattle.tin_base.specs.declared.frames.Frame.TheVariants.{Source};
+ghost use Rattle.tin_base.specs.Images.{IsInSome};
+ghost use Rattle.tin_base.specs.Limits.{IsWithinLimits};
+ghost use Rattle.tin_base.specs.Segments.{spot_at, IsInside};
+ghost use Rattle.tin_base.specs.Triangulation.{place, corner_at};
+ghost use Rattle.affine_image.specs.Rounded.{IsRoundedImageAt};
+ghost use Rattle.carry_map.specs.Sides.{corner_number, next_corner};
+
+use affine_image::{image_cut, image_of};
+use frac128::Frac;
+use plane_base::{End, Pt, edge_param};
+use seg_walk::Step;
+use tin_base::{Frame, SoundTin};
+
+/// A side of a triangle, by the numbers of the corners at its ends.
+#[derive(Clone, Copy)]
+struct Side {
+    from: u32,
+    to: u32,
+}
+
+fn side_of(tin: &SoundTin, triangle: u32, side: u8) -> Side
+    requires in_range { triangle < length tin.now.triangles }
+    requires below { side < 3 }
+    ensures from { result.from ≡ corner_number tin.now triangle side }
+    ensures to { result.to ≡ corner_number tin.now triangle (next_corner side) }
+    ensures from_in_range { result.from < length tin.now.corners }
+    ensures to_in_range { result.to < length tin.now.corners }
+{
+    let [first, second, third] = tin.triangles()[triangle as usize];
+    match side {
+        0 => Side {
+            from: first,
+            to: second,
+        },
+        1 => Side {
+            from: second,
+            to: third,
+        },
+        _ => Side {
+            from: third,
+            to: first,
+        },
+    }
+}
+
+fn source_place(tin: &SoundTin, number: u32) -> Pt
+    requires { number < length tin.now.corners }
+    ensures place { whole result ≡ place Source (corner_at tin.now number) }
+    ensures limits { IsWithinLimits tin.now }
+{
+    tin.corners()[number as usize].at(Frame::Source)
+}
+
+/// The parameter, from a side's first corner to its second, of the point at which the line through `a` and `b` meets the
+/// line of the side, in the source.
+fn side_param(tin: &SoundTin, a: Pt, b: Pt, side: Side) -> Frac
+    requires from_in_range { side.from < length tin.now.corners }
+    requires to_in_range { side.to < length tin.now.corners }
+    requires has_a { IsInSome tin.now Source (whole a) }
+    requires has_b { IsInSome tin.now Source (whole b) }
+    requires differ { turn_of (whole a) (whole b) (place Source (corner_at tin.now side.from)) ≢ turn_of (whole a) (whole b) (place Source (corner_at tin.now side.to)) }
+    ensures meets { turn_of (whole a) (whole b) (along (place Source (corner_at tin.now side.from)) (place Source (corner_at tin.now side.to)) result.num result.den) ≡ pos 0 }
+    ensures once { (n d : ℤ) → turn_of (whole a) (whole b) (along (place Source (corner_at tin.now side.from)) (place Source (corner_at tin.now side.to)) n d) ≡ pos 0 → n *ℤ result.den ≡ result.num *ℤ d }
+{
+    edge_param(
+        a,
+        b,
+        source_place(tin, side.from),
+        source_place(tin, side.to),
+    )
+}
+
+/// The image of the last point of a step: of the segment's end, or of the point on the side at which the step leaves its
+/// triangle.
+pub(crate) fn end_image(tin: &SoundTin, a: Pt, b: Pt, step: &Step) -> Pt
+    requires in_range { step.now.tri < length tin.now.triangles }
+    requires slice { IsSliceIn tin.now a b step.now.tri step.now.slice }
+    requires inside { IsInside tin.now a b }
+    requires limits { IsWithinLimits tin.now }
+    ensures { IsRoundedImageAt tin.now (spot_at a b (spot_of step.now.slice.hi)) result }
+{
+    match step.slice.leave {
+        End::Vertex => image_of(tin, step.tri, b),
+        End::Side(number) => {
+            let side = side_of(tin, step.tri, number);
+            image_cut(tin, side.from, side.to, side_param(tin, a, b, side))
+        }
+    }
+}

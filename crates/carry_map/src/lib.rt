@@ -1,0 +1,16 @@
+//! A layer through a triangulation: the images of its sheet, and the pieces into which the triangles cut its segments.
+//! Each vertex and each crossing is mapped exactly and rounded once.
+#![tactic(auto)]
+
+mod carrying;
+mod crossings;
+mod faults;
+mod limits;
+mod paths;
+mod segments;
+#[cfg(test)]
+mod tests;
+
+pub use carrying::carry;
+pub use faults::CarryFault;
+pub use limits::MOST_PIECES;

@@ -1,0 +1,148 @@
+ghost use Rattle.std.specs.Prelude.{◌≡◌, ℕ, ◌+◌, ◌*◌, ◌<◌, ◌≤◌, ◌^◌, [], ◌∷◌, ◌++◌, length, vec_len, IfSome, IfNone, IfOk, IfErr, OnOk};
+ghost use Rattle.plane_base.specs.Plane.{whole};
+ghost use Rattle.tin_base.specs.declared.frames.Frame.TheVariants.{Source};
+ghost use Rattle.tin_base.specs.Images.{IsInSome};
+ghost use Rattle.sheet_base.specs.Segments.{points_in, segments_in, next_in, begin_of, end_of, point_at};
+ghost use Rattle.sheet_base.specs.Sheets.{IsPathFrom};
+ghost use Rattle.affine_image.specs.Rounded.{IsRoundedImage};
+ghost use Rattle.affine_image.specs.SheetSegments.{path_vertices, segments_begun};
+ghost use Rattle.carry_map.specs.declared.limits.TheConstants.{MOST_PIECES};
+ghost use Rattle.carry_map.specs.Carried.{Grows, AreCarried};
+ghost use Rattle.carry_map.specs.Causes.{IsCause};
+
+use crate::CarryFault;
+use crate::segments::{Way, carry_segment};
+use affine_image::image_of;
+use plane_base::Pt;
+use sheet_base::{PathKind, PathRow};
+use std::alloc::Global;
+use tin_base::{Piece, Place};
+use tin_index::TinIndex;
+
+/// The images so far, and where the run of each point begins.
+#[derive(Drop)]
+pub(crate) struct Gathered {
+    pub(crate) points: Vec<Pt>,
+    pub(crate) run: Vec<u32>,
+}
+
+/// A path, and the place of its first piece.
+#[derive(Clone, Copy)]
+pub(crate) struct Track {
+    pub(crate) row: PathRow,
+    pub(crate) from: Place,
+}
+
+/// How many points a path has.
+fn point_count(row: PathRow) -> u32
+    requires { row.first < row.past }
+    ensures { result ≡ points_in row }
+{
+    row.past - row.first
+}
+
+/// How many segments it has.
+fn segment_count(row: PathRow) -> u32
+    requires { row.first < row.past }
+    ensures { result ≡ segments_in row }
+{
+    match row.kind {
+        PathKind::Dot => 1,
+        PathKind::Line => (point_count(row) - 1).max(1),
+        PathKind::Loop => point_count(row),
+    }
+}
+
+/// The number of the point to which the segment goes that begins at this one.
+fn next_point(row: PathRow, point: u32) -> u32
+    requires { point < row.past }
+    ensures { result ≡ next_in row point }
+{
+    if point + 1 < row.past {
+        point + 1
+    } else {
+        row.first
+    }
+}
+
+/// The image of a point, or none where no triangle has it.
+fn image_at(index: &TinIndex, p: Pt) -> Option<Pt>
+    ensures some { IfSome result (λ image. IsRoundedImage index.now p image) }
+    ensures none { IfNone result (IsInSome index.now Source (whole p) → ⊥) }
+{
+    let triangle = index.locate(p)?;
+    Some(image_of(index.tin(), triangle, p))
+}
+
+/// Begins the run of the next point with its image.
+fn begin_run(gathered: &mut Gathered, image: Pt) -> Result<(), CarryFault>
+    requires few { vec_len gathered.old.points < 2 ^ 32 }
+    ensures points { OnOk result (gathered.new.points.items ≡ gathered.old.points.items ++ image ∷ []) }
+    ensures run { OnOk result (gathered.new.run.items ≡ gathered.old.run.items ++ vec_len gathered.old.points ∷ []) }
+    ensures memory { IfErr result (λ fault. fault ≡ CarryFault.NoMemory) }
+{
+    gathered.run.push(gathered.points.len() as u32)?;
+    gathered.points.push(image)?;
+    Ok(())
+}
+
+/// The segment of this number.
+fn way_at(points: &[Pt], track: Track, number: u32) -> Way
+    requires in_path { track.row.first + number < track.row.past }
+    requires in_range { track.row.past ≤ length points.now }
+    ensures a { result.a ≡ begin_of points.now track.row number }
+    ensures b { result.b ≡ end_of points.now track.row number }
+    ensures from { result.from ≡ record { layer = track.from.layer; path = track.from.path; segment = number; piece = 0 } }
+{
+    let begin = track.row.first + number;
+    Way {
+        a: points[begin as usize],
+        b: points[next_point(track.row, begin) as usize],
+        from: Place {
+            layer: track.from.layer,
+            path: track.from.path,
+            segment: number,
+            piece: 0,
+        },
+    }
+}
+
+/// Appends the runs of the path's points, and the pieces of its segments.
+pub(crate) fn carry_path(
+    alloc: Global,
+    index: &TinIndex,
+    points: &[Pt],
+    track: Track,
+    most: u32,
+    gathered: &mut Gathered,
+    pieces: &mut Vec<Piece>,
+) -> Result<(), CarryFault>
+    requires path { IsPathFrom track.row.first track.row }
+    requires in_range { track.row.past ≤ length points.now }
+    requires room { vec_len pieces.old ≤ most }
+    requires most { most ≤ MOST_PIECES }
+    requires few { vec_len gathered.old.points ≤ 2 * vec_len pieces.old }
+    ensures carried { OnOk result (AreCarried index.now track.from.layer (path_vertices points.now track.from.path track.row) gathered.old.points.items gathered.new.points.items gathered.old.run.items gathered.new.run.items pieces.old.items pieces.new.items) }
+    ensures room { OnOk result (vec_len pieces.new ≤ most) }
+    ensures few { OnOk result (vec_len gathered.new.points ≤ 2 * vec_len pieces.new) }
+    ensures cause { IfErr result (λ fault. IsCause index.now track.from.layer (vec_len pieces.old) most (segments_begun (path_vertices points.now track.from.path track.row)) fault) }
+    ensures grows { Grows pieces.old.items pieces.new.items }
+{
+    let Some(mut image) = image_at(index, points[track.row.first as usize]) else {
+        return Err(CarryFault::Outside {
+            path: track.from.path,
+            segment: 0,
+        });
+    };
+    for number in 0..segment_count(track.row) {
+        begin_run(gathered, image)?;
+        let way = way_at(points, track, number);
+        image = carry_segment(alloc, index, way, most, image, &mut gathered.points, pieces)?;
+    }
+    if segment_count(track.row) == point_count(track.row) {
+        return Ok(());
+    }
+    // the last point of a line begins no segment
+    begin_run(gathered, image)?;
+    Ok(())
+}

@@ -1,0 +1,167 @@
+ghost use Rattle.std.specs.Prelude.{◌≡◌, ◌≢◌, ℕ, ◌+◌, ◌<◌, ◌≤◌, ◌^◌, ◌++◌, List, map, length, vec_len, IfOk, IfErr, OnOk, IsErrOf};
+ghost use Rattle.seg_walk.specs.Steps.{AreSteps};
+ghost use Rattle.tin_base.specs.Limits.{IsWithinLimits};
+ghost use Rattle.tin_base.specs.Segments.{IsInside};
+ghost use Rattle.tin_base.specs.Soundness.{IsSound};
+ghost use Rattle.affine_image.specs.Rounded.{IsRoundedImage};
+ghost use Rattle.carry_map.specs.declared.limits.TheConstants.{MOST_PIECES};
+ghost use Rattle.carry_map.specs.Carried.{Grows, AreSegmentTold, IsSegmentCarried};
+ghost use Rattle.carry_map.specs.Causes.{IsCutCause, IsWayCause};
+
+use crate::CarryFault;
+use crate::crossings::end_image;
+use plane_base::Pt;
+use seg_walk::{Step, Steps, WalkFault, cut};
+use std::alloc::Global;
+use tin_base::{Piece, Place, SoundTin};
+use tin_index::TinIndex;
+
+/// A segment, and the place of its first piece.
+#[derive(Clone, Copy)]
+pub(crate) struct Way {
+    pub(crate) a: Pt,
+    pub(crate) b: Pt,
+    pub(crate) from: Place,
+}
+
+/// Appends the pieces of a segment, whose first end has this image. Answers the image of its last end.
+fn tell_pieces(
+    tin: &SoundTin,
+    way: Way,
+    steps: &[Step],
+    image: Pt,
+    pieces: &mut Vec<Piece>,
+) -> Result<Pt, CarryFault>
+    requires limits { IsWithinLimits tin.now }
+    requires sound { IsSound tin.now }
+    requires steps { AreSteps tin.now way.a way.b steps.now }
+    requires few { length steps.now ≤ MOST_PIECES }
+    requires inside { IsInside tin.now way.a way.b }
+    requires image { IsRoundedImage tin.now way.a image }
+    requires first { way.from.piece ≡ 0 }
+    ensures told { OnOk result (AreSegmentTold tin.now way.a way.b way.from pieces.old.items pieces.new.items) }
+    ensures count { OnOk result (vec_len pieces.new ≡ vec_len pieces.old + length steps.now) }
+    ensures end { IfOk result (λ end. IsRoundedImage tin.now way.b end) }
+    ensures memory { IfErr result (λ fault. fault ≡ CarryFault.NoMemory) }
+    ensures grows { Grows pieces.old.items pieces.new.items }
+{
+    let mut start = image;
+    for (number, step) in steps.iter().enumerate() {
+        let end = end_image(tin, way.a, way.b, step);
+        let from = Place {
+            layer: way.from.layer,
+            path: way.from.path,
+            segment: way.from.segment,
+            piece: number as u32,
+        };
+        pieces.push(Piece {
+            a: way.a,
+            b: way.b,
+            tri: step.tri,
+            ia: start,
+            ib: end,
+            from,
+        })?;
+        start = end;
+    }
+    Ok(start)
+}
+
+/// Appends the images of the last points of some pieces.
+fn push_ends(pieces: &[Piece], points: &mut Vec<Pt>) -> Result<(), CarryFault>
+    ensures ok { OnOk result (points.new.items ≡ points.old.items ++ map (λ piece. piece.ib) pieces.now) }
+    ensures memory { IfErr result (λ fault. fault ≡ CarryFault.NoMemory) }
+{
+    for piece in pieces {
+        points.push(piece.ib)?;
+    }
+    Ok(())
+}
+
+/// The pieces of a segment, with the slices of their triangles.
+fn cut_way(alloc: Global, index: &TinIndex, way: Way) -> Result<Steps, CarryFault>
+    ensures steps { IfOk result (λ steps. AreSteps index.now way.a way.b steps.items) }
+    ensures inside { OnOk result (IsInside index.now way.a way.b) }
+    ensures cause { IfErr result (λ fault. IsCutCause index.now way fault) }
+{
+    match cut(alloc, index, way.a, way.b) {
+        Ok(steps) => Ok(steps),
+        Err(WalkFault::Outside) => Err(CarryFault::Outside {
+            path: way.from.path,
+            segment: way.from.segment,
+        }),
+        Err(WalkFault::NoMemory) => Err(CarryFault::NoMemory),
+    }
+}
+
+/// What the type keeps of a sound triangulation.
+pub(crate) fn known(tin: &SoundTin)
+    ensures limits { IsWithinLimits tin.now }
+    ensures sound { IsSound tin.now }
+{
+    let _ = tin.triangles();
+}
+
+/// Cuts a segment, whose first end has this image, and appends its pieces where they find room. Answers the image of its
+/// last end.
+fn tell_segment(
+    alloc: Global,
+    index: &TinIndex,
+    way: Way,
+    most: u32,
+    image: Pt,
+    pieces: &mut Vec<Piece>,
+) -> Result<Pt, CarryFault>
+    requires image { IsRoundedImage index.now way.a image }
+    requires first { way.from.piece ≡ 0 }
+    requires room { vec_len pieces.old ≤ most }
+    requires most { most ≤ MOST_PIECES }
+    ensures told { OnOk result (AreSegmentTold index.now way.a way.b way.from pieces.old.items pieces.new.items) }
+    ensures more { OnOk result (vec_len pieces.old < vec_len pieces.new) }
+    ensures room { OnOk result (vec_len pieces.new ≤ most) }
+    ensures end { IfOk result (λ end. IsRoundedImage index.now way.b end) }
+    ensures inside { OnOk result (IsInside index.now way.a way.b) }
+    ensures cause { IfErr result (λ fault. IsWayCause index.now way (vec_len pieces.old) most fault) }
+    ensures grows { Grows pieces.old.items pieces.new.items }
+{
+    let steps = cut_way(alloc, index, way)?;
+    let tin = index.tin();
+    known(tin);
+    let found = steps.as_slice();
+    if found.len() > most as usize - pieces.len() {
+        return Err(CarryFault::TooMany);
+    }
+    let end = tell_pieces(tin, way, found, image, pieces)?;
+    Ok(end)
+}
+
+/// Appends the pieces of a segment, whose first end has this image, and the images of its crossings. Answers the image of
+/// its last end.
+pub(crate) fn carry_segment(
+    alloc: Global,
+    index: &TinIndex,
+    way: Way,
+    most: u32,
+    image: Pt,
+    points: &mut Vec<Pt>,
+    pieces: &mut Vec<Piece>,
+) -> Result<Pt, CarryFault>
+    requires image { IsRoundedImage index.now way.a image }
+    requires first { way.from.piece ≡ 0 }
+    requires room { vec_len pieces.old ≤ most }
+    requires most { most ≤ MOST_PIECES }
+    ensures carried { OnOk result (IsSegmentCarried index.now way.a way.b way.from points.old.items points.new.items pieces.old.items pieces.new.items) }
+    ensures count { OnOk result (vec_len points.new + vec_len pieces.old + 1 ≡ vec_len points.old + vec_len pieces.new) }
+    ensures room { OnOk result (vec_len pieces.new ≤ most) }
+    ensures more { OnOk result (vec_len pieces.old < vec_len pieces.new) }
+    ensures end { IfOk result (λ end. IsRoundedImage index.now way.b end) }
+    ensures inside { OnOk result (IsInside index.now way.a way.b) }
+    ensures cause { IfErr result (λ fault. IsWayCause index.now way (vec_len pieces.old) most fault) }
+    ensures grows { Grows pieces.old.items pieces.new.items }
+{
+    let before = pieces.len();
+    let end = tell_segment(alloc, index, way, most, image, pieces)?;
+    let own = &pieces[before..];
+    push_ends(&own[..own.len() - 1], points)?;
+    Ok(end)
+}
