@@ -1,0 +1,68 @@
+-- A layer is read line by line.
+use Rattle.std.proofs.Common.{◌≡◌, ℕ, ◌+◌, ◌<◌, ◌^◌, ◌⊎◌, inl, inr, Bool, List, [], ◌∷◌, ◌++◌, length, refl, sym, ap, ◌∙◌, subst, append_assoc, append-nil, arith, ◌≤◌}
+use Rattle.std.specs.Prelude.{Option, Some, None, map, flat_map, sum_by, ⊤}
+use Rattle.std.specs.Borrow.{Bor}
+use Rattle.sheet_base.specs.declared.faults.LayerFault.{LayerFault}
+use Rattle.sheet_base.specs.Sheets.{Contents, IsSheet}
+use Rattle.wkt_layer.specs.Tokens.{tokens_of}
+use Rattle.wkt_layer.specs.Numbers.{place_of, lost_of}
+use Rattle.wkt_layer.specs.Lines.{IsLineOf}
+use Rattle.wkt_layer.specs.Faults.{IsLineFault}
+use Rattle.wkt_layer.specs.Layers.{AreLinesOf, IsFirstLineFault}
+use Rattle.wkt_layer.specs.Paths.{Path, kept_points, rows_from, edits_from, lost_on, sheet_of}
+use Rattle.wkt_layer.specs.Passes.{GoesOn, Held, HasRoom, RestsAt}
+use Rattle.wkt_layer.specs.declared.pass.Pass.{Pass}
+use Rattle.wkt_layer.proofs.Sheets.{whole_append, line_paths_whole, is_sheet}
+
+pub goes_start : (exact : Bool) (all : List (List ℕ)) → GoesOn exact all 0 all []
+goes_start exact all = record { onward = λ others are. are; faults = λ fault is. is; whole = tt }
+
+pub goes_next : (exact : Bool) (all : List (List ℕ)) (base next : ℕ) (line : List ℕ) (rest : List (List ℕ)) (done here : List Path) → next ≡ base + length line + 1
+    → GoesOn exact all base (line ∷ rest) done → IsLineOf exact (tokens_of base line) here → GoesOn exact all next rest (done ++ here)
+goes_next exact all base next line rest done here place on is = record {
+  onward = λ others are.
+      subst (AreLinesOf exact 0 all) (sym (append_assoc done here others))
+      (on.onward (here ++ others) (here, others, is, subst (λ n. AreLinesOf exact n rest others) place are, refl));
+  faults = λ fault later. on.faults fault (inr (here, is, subst (λ n. IsFirstLineFault exact n rest fault) place later));
+  whole = whole_append done here on.whole (line_paths_whole exact (tokens_of base line) here is);
+}
+
+pub goes_fault : (exact : Bool) (all : List (List ℕ)) (base : ℕ) (line : List ℕ) (rest : List (List ℕ)) (done : List Path) (fault : LayerFault)
+    → GoesOn exact all base (line ∷ rest) done → IsLineFault exact (tokens_of base line) (base + length line) fault → IsFirstLineFault exact 0 all fault
+goes_fault exact all base line rest done fault on is = on.faults fault (inl is)
+
+pub goes_end : (exact : Bool) (all : List (List ℕ)) (base : ℕ) (done : List Path) → GoesOn exact all base [] done → AreLinesOf exact 0 all done
+goes_end exact all base done on = subst (AreLinesOf exact 0 all) (append-nil done) (on.onward [] refl)
+
+-- what is held of whole paths is their sheet
+pub held_sheet : (pass : Pass) (done : List Path) → Held pass done []
+    → (let sheet : Contents = record { paths = pass.paths.items; points = pass.points.items; edits = pass.edits.items; inexact = pass.inexact; dropped = 0 } in sheet ≡ sheet_of done)
+held_sheet pass done held =
+    let points : pass.points.items ≡ flat_map kept_points done = held.points ∙ append-nil (flat_map kept_points done) in
+    let inexact : pass.inexact ≡ sum_by lost_on done = let e : sum_by lost_of [] ≡ 0 = refl in omega (arith, held.inexact, e) in
+    ap (λ x. let c : Contents = record { paths = x; points = pass.points.items; edits = pass.edits.items; inexact = pass.inexact; dropped = 0 } in c) held.paths
+    ∙ ap (λ x. let c : Contents = record { paths = rows_from 0 done; points = x; edits = pass.edits.items; inexact = pass.inexact; dropped = 0 } in c) points
+    ∙ ap (λ x. let c : Contents = record { paths = rows_from 0 done; points = flat_map kept_points done; edits = x; inexact = pass.inexact; dropped = 0 } in c) held.edits
+    ∙ ap (λ x. let c : Contents = record { paths = rows_from 0 done; points = flat_map kept_points done; edits = edits_from 0 done; inexact = x; dropped = 0 } in c) inexact
+
+pub held_is_sheet : (pass : Pass) (done : List Path) → Held pass done [] → (exact : Bool) (all : List (List ℕ)) (base : ℕ) → GoesOn exact all base [] done → length pass.points.items < 2 ^ 32
+    → (let sheet : Contents = record { paths = pass.paths.items; points = pass.points.items; edits = pass.edits.items; inexact = pass.inexact; dropped = 0 } in IsSheet sheet)
+held_is_sheet pass done held exact all base on few =
+    let points : pass.points.items ≡ flat_map kept_points done = held.points ∙ append-nil (flat_map kept_points done) in
+    subst IsSheet (sym (held_sheet pass done held)) (is_sheet done on.whole (subst (λ ps. length ps < 2 ^ 32) points few))
+
+-- the rest of a text, further on
+pub rests_next : (rest : Option (Bor (List ℕ))) (base size whole all : ℕ) → base + whole ≡ all → RestsAt rest size whole → RestsAt rest (base + size) all
+rests_next None base size whole all sum at = tt
+rests_next (Some rest) base size whole all sum at = omega (arith, sum, at)
+
+pub room_more : (pass : Pass) (at more : ℕ) → HasRoom pass at → at ≤ more → HasRoom pass more
+room_more pass at more room le = record {
+  points = omega (arith, room.points);
+  paths = omega (arith, room.paths);
+  first = omega (arith, room.first);
+  start = omega (arith, room.start);
+  end = omega (arith, room.end);
+  inexact = omega (arith, room.inexact);
+  inside = room.inside;
+}

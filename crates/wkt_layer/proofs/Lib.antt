@@ -1,0 +1,16 @@
+pub mod Rests
+pub mod Items
+pub mod Rings
+pub mod Taking
+pub mod Taken
+pub mod Completions
+pub mod Passing
+pub mod Comings
+pub mod InBrackets
+pub mod Naming
+pub mod Holding
+pub mod Going
+pub mod FirstLines
+pub mod Lexing
+pub mod Sheets
+pub mod Layering

@@ -1,0 +1,10 @@
+pub mod Tokens
+pub mod Numbers
+pub mod Geometries
+pub mod Paths
+pub mod Lines
+pub mod Faults
+pub mod Layers
+pub mod States
+pub mod Reached
+pub mod Passes

@@ -1,0 +1,190 @@
+-- The states of a pass over the tokens of a line. Only private functions speak of them.
+use Rattle.std.specs.Prelude.{◌≡◌, ℕ, ◌&&◌, Bool, true, false, not, nat_le, nat_lt, if◌then◌else◌, List, [], ◌∷◌, ◌++◌, length, Option, Some, None, Result, Ok, Err}
+use Rattle.std.specs.Ordering.{int_eq}
+use Rattle.mm_decimal.specs.Measured.{measured}
+use Rattle.mm_decimal.specs.declared.reading.MmRead.{MmRead}
+use Rattle.mm_decimal.specs.declared.reading.NumFault.{NumFault}
+use Rattle.plane_base.specs.declared.shapes.Pt.{Pt}
+use Rattle.sheet_base.specs.declared.faults.LayerFault.{LayerFault}
+use Rattle.sheet_base.specs.declared.faults.LayerFault.TheVariants as faults
+use Rattle.sheet_base.specs.declared.paths.PathKind.{PathKind}
+use Rattle.sheet_base.specs.declared.paths.PathKind.TheVariants.{Dot, Line, Loop}
+use Rattle.wkt_layer.specs.Tokens.{Number, Token, opening, closing, comma, word, number, stray}
+use Rattle.wkt_layer.specs.Numbers.{Point, does_fit, place_of}
+use Rattle.wkt_layer.specs.Geometries.{last_behind}
+use Rattle.wkt_layer.specs.Paths.{Path, path_of}
+use Rattle.wkt_layer.specs.declared.limits.TheConstants.{DEEPEST}
+use Rattle.wkt_layer.specs.declared.words.Kind.{Kind}
+use Rattle.wkt_layer.specs.declared.words.Kind.TheVariants as kinds
+use Rattle.wkt_layer.specs.declared.words.Word.{Word}
+use Rattle.wkt_layer.specs.declared.words.Word.TheVariants.{Tag, Empty, Height, Other}
+use Rattle.wkt_layer.specs.declared.places.Content.{Content}
+use Rattle.wkt_layer.specs.declared.places.Content.TheVariants.{Points, Items}
+use Rattle.wkt_layer.specs.declared.places.Listing.{Listing}
+use Rattle.wkt_layer.specs.declared.places.Listing.TheVariants as listings
+use Rattle.wkt_layer.specs.declared.places.Group.{Group}
+use Rattle.wkt_layer.specs.declared.places.Group.TheVariants as groups
+
+-- what may come next: an item; a content; a point in brackets behind others; its second number; what stands behind it; the second number of a point without
+-- brackets; what stands behind that one; what stands behind another item
+pub data Spot : Type 0 where
+  item : Spot
+  content : Content → Spot
+  first : Listing → List Point → Spot
+  second : Listing → List Point → Number → Spot
+  whole : Listing → List Point → Spot
+  bare_second : Number → Spot
+  bare_whole : Spot
+  behind : Spot
+
+-- what may come next, the lists that are open, the innermost first, and the paths so far
+pub record State : Type 0 where
+  pub spot : Spot
+  pub stack : List Group
+  pub paths : List Path
+
+abbrev pub state : Spot → List Group → List Path → State
+state spot stack paths = record { spot = spot; stack = stack; paths = paths }
+
+abbrev pub start : State
+start = state item [] []
+
+-- what stands behind a kind's tag
+abbrev pub content_of : Kind → Content
+content_of kinds.Point = Points listings.Dot
+content_of kinds.LineString = Points listings.List
+content_of kinds.Polygon = Items groups.Rings
+content_of kinds.MultiPoint = Items groups.Dots
+content_of kinds.MultiLineString = Items groups.Lists
+content_of kinds.MultiPolygon = Items groups.Polygons
+content_of kinds.Collection = Items groups.Geometries
+
+-- what the items of the innermost list are; the line is like an item of a collection
+abbrev pub innermost : List Group → Group
+innermost [] = groups.Geometries
+innermost (group ∷ groups) = group
+
+abbrev pub pair : Number → Number → Point
+pair x y = record { x = x; y = y }
+
+abbrev pub tag_step : List Group → List Path → Token → Option State
+tag_step stack paths (word (Tag kinds.Collection)) =
+    if nat_lt (length stack) DEEPEST then Some (state (content (Items groups.Geometries)) stack paths) else None
+tag_step stack paths (word (Tag kind)) = Some (state (content (content_of kind)) stack paths)
+tag_step stack paths token = None
+
+abbrev pub enter_step : Content → List Group → List Path → Token → Option State
+enter_step inner stack paths (word Empty) = Some (state behind stack paths)
+enter_step (Points listing) stack paths opening = Some (state (first listing []) stack paths)
+enter_step (Items group) stack paths opening = Some (state item (group ∷ stack) paths)
+enter_step inner stack paths token = None
+
+-- a number that fits leads on
+abbrev pub number_step : Bool → (Number → State) → Token → Option State
+number_step exact next (number n) = if does_fit exact (measured n.text) then Some (next n) else None
+number_step exact next token = None
+
+abbrev pub item_step : Bool → Group → List Group → List Path → Token → Option State
+item_step exact groups.Rings stack paths token = enter_step (Points listings.Ring) stack paths token
+item_step exact groups.Lists stack paths token = enter_step (Points listings.List) stack paths token
+item_step exact groups.Polygons stack paths token = enter_step (Items groups.Rings) stack paths token
+item_step exact groups.Geometries stack paths token = tag_step stack paths token
+item_step exact groups.Dots stack paths (number n) = number_step exact (λ x. state (bare_second x) stack paths) (number n)
+item_step exact groups.Dots stack paths token = enter_step (Points listings.Dot) stack paths token
+
+abbrev pub kind_of : Listing → PathKind
+kind_of listings.Dot = Dot
+kind_of listings.List = Line
+kind_of listings.Ring = Loop
+
+abbrev pub is_same : Pt → Pt → Bool
+is_same p q = int_eq p.x q.x && int_eq p.y q.y
+
+abbrev pub is_closed : List Point → Bool
+is_closed [] = true
+is_closed (one ∷ more) = nat_le 4 (length (one ∷ more)) && is_same (place_of one) (place_of (last_behind one more))
+
+abbrev pub may_end : Listing → List Point → Bool
+may_end listings.Dot points = true
+may_end listings.List points = true
+may_end listings.Ring points = is_closed points
+
+abbrev pub whole_step : Listing → List Point → List Group → List Path → Token → Option State
+whole_step listings.Dot points stack paths comma = None
+whole_step listing points stack paths comma = Some (state (first listing points) stack paths)
+whole_step listing points stack paths closing =
+    if may_end listing points then Some (state behind stack (paths ++ path_of (kind_of listing) points)) else None
+whole_step listing points stack paths token = None
+
+abbrev pub behind_step : List Group → List Path → Token → Option State
+behind_step (group ∷ outer) paths comma = Some (state item (group ∷ outer) paths)
+behind_step (group ∷ outer) paths closing = Some (state behind outer paths)
+behind_step stack paths token = None
+
+abbrev pub step_at : Bool → Spot → List Group → List Path → Token → Option State
+step_at exact item stack paths token = item_step exact (innermost stack) stack paths token
+step_at exact (content inner) stack paths token = enter_step inner stack paths token
+step_at exact (first listing points) stack paths token = number_step exact (λ x. state (second listing points x) stack paths) token
+step_at exact (second listing points x) stack paths token = number_step exact (λ y. state (whole listing (points ++ pair x y ∷ [])) stack paths) token
+step_at exact (whole listing points) stack paths token = whole_step listing points stack paths token
+step_at exact (bare_second x) stack paths token = number_step exact (λ y. state bare_whole stack (paths ++ path_of Dot (pair x y ∷ []))) token
+step_at exact bare_whole stack paths token = behind_step stack paths token
+step_at exact behind stack paths token = behind_step stack paths token
+
+abbrev pub step : Bool → State → Token → Option State
+step exact s token = step_at exact s.spot s.stack s.paths token
+
+-- an item was read
+abbrev pub IsLast : Spot → Type 0
+IsLast bare_whole = Unit {0}
+IsLast behind = Unit {0}
+IsLast spot = ⊥
+
+-- a line may end here
+pub record IsEnd (s : State) : Type 0 where
+  pub last : IsLast s.spot
+  pub closed : s.stack ≡ []
+
+abbrev pub is_geometries : Group → Bool
+is_geometries groups.Geometries = true
+is_geometries group = false
+
+-- a geometry may stand here
+abbrev pub is_geometry_spot : Spot → List Group → Bool
+is_geometry_spot item stack = is_geometries (innermost stack)
+is_geometry_spot spot stack = false
+
+-- the fault of a word that is no tag, at this place
+abbrev pub other_fault : Spot → Word → ℕ → LayerFault
+other_fault (content inner) Height at = faults.Height at
+other_fault spot w at = faults.Bad at
+
+abbrev pub word_fault : Spot → List Group → Word → ℕ → LayerFault
+word_fault spot stack (Tag kind) at = if is_geometry_spot spot stack then faults.Deep at else faults.Bad at
+word_fault spot stack w at = if is_geometry_spot spot stack then faults.Kind at else other_fault spot w at
+
+-- the fault of a number that does not fit for itself, or that is not wanted
+abbrev pub answer_fault : Bool → Result MmRead NumFault → ℕ → LayerFault
+answer_fault exact (Err fault) at = faults.Number at fault
+answer_fault exact (Ok read) at = if exact && not read.exact then faults.Inexact at else faults.Bad at
+
+abbrev pub number_fault : Bool → Spot → Result MmRead NumFault → ℕ → LayerFault
+number_fault exact (whole listing points) answer at = faults.Height at
+number_fault exact bare_whole answer at = faults.Height at
+number_fault exact spot answer at = answer_fault exact answer at
+
+abbrev pub closing_fault : Spot → ℕ → ℕ → LayerFault
+closing_fault (whole listing points) at opened = faults.Ring opened
+closing_fault spot at opened = faults.Bad at
+
+-- the fault of a token that the pass refuses, at this place; the last opening bracket stands at another
+abbrev pub fault_of : Bool → Spot → List Group → Token → ℕ → ℕ → LayerFault
+fault_of exact spot stack (word w) at opened = word_fault spot stack w at
+fault_of exact spot stack (number n) at opened = number_fault exact spot (measured n.text) at
+fault_of exact spot stack closing at opened = closing_fault spot at opened
+fault_of exact spot stack token at opened = faults.Bad at
+
+-- where the last opening bracket stands
+abbrev pub opened_by : Token → ℕ → ℕ → ℕ
+opened_by opening at before = at
+opened_by token at before = before

@@ -1,0 +1,7 @@
+//! What bounds a layer.
+
+/// So many collections may nest.
+pub const DEEPEST: usize = 64;
+
+/// What ends a line.
+pub const LINE_FEED: u8 = b'\n';

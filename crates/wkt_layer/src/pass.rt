@@ -1,0 +1,163 @@
+//! The sheet so far, while a layer is read.
+
+ghost use Rattle.plane_base.specs.declared.shapes.Pt.{Pt};
+ghost use Rattle.std.specs.Prelude.{if◌then◌else◌, ◌≡◌, ◌+◌, ◌-◌, ◌^◌, ◌<◌, ◌≤◌, [], ◌∷◌, ◌++◌, ℕ, List, length, OnOk, OnErr, Ok};
+ghost use Rattle.sheet_base.specs.declared.paths.PathKind.TheVariants.{Loop};
+ghost use Rattle.mm_decimal.specs.Measured.{measured};
+ghost use Rattle.wkt_layer.specs.Numbers.{Point, lost_in};
+ghost use Rattle.wkt_layer.specs.Paths.{Path, text_for};
+ghost use Rattle.wkt_layer.specs.Passes.{Held};
+
+use crate::stack::Stack;
+use mm_decimal::MmRead;
+use plane_base::Pt;
+use sheet_base::{Edit, PathKind, PathRow, What};
+use std::alloc::{AllocError, Global};
+
+/// What was read so far: paths with their edits, and behind their points those of the path that is not whole yet.
+#[derive(Drop)]
+pub struct Pass {
+    pub stack: Stack,
+    pub paths: Vec<PathRow>,
+    pub points: Vec<Pt>,
+    pub edits: Vec<Edit>,
+    pub inexact: u64,
+    /// The number of the next path's first point.
+    pub first: usize,
+    /// Where the first number of the path that is not whole yet begins.
+    pub start: usize,
+    /// Where the last number of that path ends.
+    pub end: usize,
+    /// Where the last opening bracket stands.
+    pub opened: usize,
+}
+
+/// 1 where the number lost digits.
+fn lost(read: MmRead) -> u64
+    ensures value { result ≡ lost_in (Ok read) }
+    ensures few { result ≤ 1 }
+{
+    if read.exact { 0 } else { 1 }
+}
+
+/// The text of a path's edit.
+fn text_for(kind: PathKind, path: u32) -> What
+    ensures { result ≡ text_for kind path }
+{
+    match kind {
+        PathKind::Dot => What::WktList { path },
+        PathKind::Line => What::WktList { path },
+        PathKind::Loop => What::WktRing { path },
+    }
+}
+
+/// The point of two numbers.
+fn point_from(x: MmRead, y: MmRead) -> Pt
+    ensures { result ≡ record { x = x.mm; y = y.mm } }
+{
+    Pt { x: x.mm, y: y.mm }
+}
+
+/// Where a path begins whose next point begins here.
+fn start_of(is_first: bool, start: usize, before: usize) -> usize
+    ensures { result ≡ (if is_first then start else before) }
+{
+    if is_first { start } else { before }
+}
+
+/// Drops the closing point of a loop.
+fn drop_closing(points: &mut Vec<Pt>, kind: PathKind)
+    ensures closing { kind ≡ Loop → (front : List Pt) → (last : Pt) → points.old.items ≡ front ++ last ∷ [] → points.new.items ≡ front }
+    ensures others { (kind ≡ Loop → ⊥) → points.new.items ≡ points.old.items }
+    ensures few { length points.new.items ≤ length points.old.items }
+{
+    match kind {
+        PathKind::Dot => (),
+        PathKind::Line => (),
+        PathKind::Loop => {
+            let _ = points.pop();
+        }
+    }
+}
+
+impl Pass {
+    pub fn new(alloc: Global) -> Pass
+        ensures stack { result.stack ≡ [] }
+        ensures held { Held result [] [] }
+        ensures start { (result.start ≡ 0) × (result.end ≡ 0) × (result.inexact ≡ 0) }
+        ensures opened { result.opened ≡ 0 }
+    {
+        Pass {
+            stack: Stack::none(alloc),
+            paths: Vec::new(alloc),
+            points: Vec::new(alloc),
+            edits: Vec::new(alloc),
+            inexact: 0,
+            first: 0,
+            start: 0,
+            end: 0,
+            opened: 0,
+        }
+    }
+
+    /// One point more of the path that is not whole yet; its numbers stand from `start` to before `end`.
+    pub fn add_point(
+        &mut self,
+        x: MmRead,
+        y: MmRead,
+        start: usize,
+        end: usize,
+    ) -> Result<(), AllocError>
+        requires { self.old.inexact < 2 ^ 62 }
+        ensures held { OnOk result ((done : List Path) → (points : List Point) → (p : Point) → Held self.old done points
+            → measured p.x.text ≡ Ok x → measured p.y.text ≡ Ok y → start ≡ p.x.start → end ≡ p.y.start + length p.y.text
+            → Held self.new done (points ++ p ∷ [])) }
+        ensures points { OnOk result (length self.new.points.items ≡ length self.old.points.items + 1) }
+        ensures paths { OnOk result (self.new.paths.items ≡ self.old.paths.items) }
+        ensures first { OnOk result (self.new.first ≡ self.old.first) }
+        ensures start { OnOk result ((bound : ℕ) → self.old.start ≤ bound → start ≤ bound → self.new.start ≤ bound) }
+        ensures end { OnOk result (self.new.end ≡ end) }
+        ensures inexact { OnOk result (self.new.inexact ≤ self.old.inexact + 2) }
+        ensures stack { OnOk result (self.new.stack ≡ self.old.stack) }
+        ensures opened { OnOk result (self.new.opened ≡ self.old.opened) }
+    {
+        self.start = start_of(self.points.len() == self.first, start, self.start);
+        self.points.push(point_from(x, y))?;
+        self.end = end;
+        self.inexact += lost(x) + lost(y);
+        Ok(())
+    }
+
+    /// The path of the points that were added last is whole. A loop is kept without its last point.
+    pub fn end_path(&mut self, kind: PathKind) -> Result<(), AllocError>
+        requires points { length self.old.points.items < 2 ^ 32 }
+        requires paths { length self.old.paths.items < 2 ^ 32 }
+        requires first { self.old.first < 2 ^ 32 }
+        requires start { self.old.start < 2 ^ 32 }
+        requires end { self.old.end < 2 ^ 32 }
+        ensures held { OnOk result ((done : List Path) → (one : Point) → (more : List Point) → Held self.old done (one ∷ more)
+            → Held self.new (done ++ record { kind = kind; first = one; more = more } ∷ []) []) }
+        ensures points { OnOk result (length self.new.points.items ≤ length self.old.points.items) }
+        ensures paths { OnOk result (length self.new.paths.items ≡ length self.old.paths.items + 1) }
+        ensures first { OnOk result (self.new.first ≡ length self.new.points.items) }
+        ensures ends { OnOk result ((self.new.start ≡ self.old.start) × (self.new.end ≡ self.old.end)) }
+        ensures inexact { OnOk result (self.new.inexact ≡ self.old.inexact) }
+        ensures stack { OnOk result (self.new.stack ≡ self.old.stack) }
+        ensures opened { OnOk result (self.new.opened ≡ self.old.opened) }
+    {
+        drop_closing(&mut self.points, kind);
+        let number = self.paths.len() as u32;
+        self.paths.push(PathRow {
+            kind,
+            first: self.first as u32,
+            past: self.points.len() as u32,
+        })?;
+        self.edits.push(Edit {
+            start: self.start as u32,
+            end: self.end as u32,
+            what: text_for(kind, number),
+        })?;
+        self.first = self.points.len();
+        Ok(())
+    }
+}

@@ -1,0 +1,479 @@
+//! One token of a line.
+
+ghost use Rattle.std.specs.Prelude.{◌≡◌, ◌<◌, ◌≤◌, ◌+◌, ◌^◌, ◌++◌, ◌∷◌, [], List, ℕ, None, Ok, Some, length, map, MatchOption, OnOk, IfOk, IsTrue, ◌↔◌, Option};
+ghost use Rattle.mm_decimal.specs.Measured.{measured};
+ghost use Rattle.wkt_layer.specs.Tokens.{Number};
+ghost use Rattle.wkt_layer.specs.Numbers.{Point, does_fit, place_of};
+ghost use Rattle.wkt_layer.specs.Paths.{Path, path_of};
+ghost use Rattle.wkt_layer.specs.States.{State, Spot, IsEnd, state, innermost, pair, kind_of, may_end, is_closed, is_same, is_geometry_spot, other_fault, word_fault, answer_fault, number_fault, closing_fault, fault_of, tag_step, enter_step, number_step, item_step, whole_step, behind_step, step};
+ghost use Rattle.wkt_layer.specs.Passes.{token_for, IsFit, IsUnfit, Shows, Held, Stands, Goes, Leads, HasRoom, BeginsBefore, LeavesRoom, SameSheet};
+ghost use Rattle.sheet_base.specs.declared.paths.PathKind.TheVariants.{Dot};
+
+use crate::limits::DEEPEST;
+use crate::pass::Pass;
+use crate::places::{Content, Group, Listing, Place};
+use crate::stack::Stack;
+use crate::tokens::{Sign, Token};
+use crate::words::{Kind, Word};
+use mm_decimal::{MmRead, NumFault, read_mm};
+use plane_base::Pt;
+use sheet_base::{LayerFault, PathKind};
+use std::alloc::AllocError;
+
+/// What was read fits: where exact numbers are wanted it is exact.
+fn does_fit(read: MmRead, exact: bool) -> bool
+    ensures { result ≡ does_fit exact (Ok read) }
+{
+    if exact { read.exact } else { true }
+}
+
+/// The token is a number that fits: it is read, and where exact numbers are wanted it is exact.
+fn number(sign: Sign, text: &[u8], exact: bool) -> Option<MmRead>
+    ensures { MatchOption result (IsUnfit exact sign text.now) (λ read. IsFit exact sign text.now read) }
+{
+    match sign {
+        Sign::Number => match read_mm(text) {
+            Ok(read) => {
+                if does_fit(read, exact) {
+                    Some(read)
+                } else {
+                    None
+                }
+            }
+            Err(_) => None,
+        },
+        _ => None,
+    }
+}
+
+/// What the items of the innermost list are.
+fn innermost(stack: &Stack) -> Group
+    ensures { result ≡ innermost stack.now }
+{
+    match stack.last() {
+        Some(group) => group,
+        None => Group::Geometries,
+    }
+}
+
+/// What stands behind a geometry's tag, where one may stand so deep.
+fn tagged(stack: &Stack, sign: Sign) -> Option<Content>
+    ensures { (paths : List Path) → (at : ℕ) → (text : List ℕ) → MatchOption result
+        (tag_step stack.now paths (token_for at text sign) ≡ None)
+        (λ inner. tag_step stack.now paths (token_for at text sign) ≡ Some (state (Spot.content inner) stack.now paths)) }
+{
+    match sign {
+        Sign::Word(word) => match word {
+            Word::Tag(kind) => match kind {
+                Kind::Point => Some(kind.content()),
+                Kind::LineString => Some(kind.content()),
+                Kind::Polygon => Some(kind.content()),
+                Kind::MultiPoint => Some(kind.content()),
+                Kind::MultiLineString => Some(kind.content()),
+                Kind::MultiPolygon => Some(kind.content()),
+                Kind::Collection => {
+                    if stack.len() < DEEPEST {
+                        Some(Content::Items(Group::Geometries))
+                    } else {
+                        None
+                    }
+                }
+            },
+            _ => None,
+        },
+        _ => None,
+    }
+}
+
+/// EMPTY, or the opening bracket of a content.
+fn enter(pass: &mut Pass, content: Content, token: Token) -> Result<Option<Place>, AllocError>
+    ensures goes { (before paths : List Path) → (text : List ℕ) → Held pass.old (before ++ paths) []
+        → Goes (enter_step content pass.old.stack paths (token_for token.start text token.sign)) (token_for token.start text token.sign) token.start before pass.old result pass.new }
+    ensures same { OnOk result (SameSheet pass.old pass.new) }
+    ensures begins { IfOk result (λ next. MatchOption next (None ≡ next) (λ place. BeginsBefore place 0)) }
+{
+    match token.sign {
+        Sign::Word(word) => match word {
+            Word::Empty => Ok(Some(Place::Behind)),
+            _ => Ok(None),
+        },
+        Sign::Opening => match content {
+            Content::Points(listing) => {
+                pass.opened = token.start;
+                Ok(Some(Place::First(listing)))
+            }
+            Content::Items(group) => {
+                pass.stack.push(group)?;
+                pass.opened = token.start;
+                Ok(Some(Place::Item))
+            }
+        },
+        _ => Ok(None),
+    }
+}
+
+/// Among dots: a point without brackets, or a dot.
+fn dot_item(
+    pass: &mut Pass,
+    token: Token,
+    text: &[u8],
+    exact: bool,
+) -> Result<Option<Place>, AllocError>
+    ensures goes { (before paths : List Path) → Held pass.old (before ++ paths) []
+        → Goes (item_step exact Group.Dots pass.old.stack paths (token_for token.start text.now token.sign)) (token_for token.start text.now token.sign) token.start before pass.old result pass.new }
+    ensures same { OnOk result (SameSheet pass.old pass.new) }
+    ensures begins { IfOk result (λ next. MatchOption next (None ≡ next) (λ place. BeginsBefore place token.start)) }
+{
+    match number(token.sign, text, exact) {
+        Some(x) => Ok(Some(Place::BareSecond(x, token.start))),
+        None => enter(pass, Content::Points(Listing::Dot), token),
+    }
+}
+
+/// An item of the innermost list, or the line's geometry.
+fn item(
+    pass: &mut Pass,
+    token: Token,
+    text: &[u8],
+    exact: bool,
+) -> Result<Option<Place>, AllocError>
+    ensures goes { (before paths : List Path) → Held pass.old (before ++ paths) []
+        → Goes (item_step exact (innermost pass.old.stack) pass.old.stack paths (token_for token.start text.now token.sign)) (token_for token.start text.now token.sign) token.start before pass.old result pass.new }
+    ensures same { OnOk result (SameSheet pass.old pass.new) }
+    ensures begins { IfOk result (λ next. MatchOption next (None ≡ next) (λ place. BeginsBefore place token.start)) }
+{
+    match innermost(&pass.stack) {
+        Group::Rings => enter(pass, Content::Points(Listing::Ring), token),
+        Group::Lists => enter(pass, Content::Points(Listing::List), token),
+        Group::Polygons => enter(pass, Content::Items(Group::Rings), token),
+        Group::Dots => dot_item(pass, token, text, exact),
+        Group::Geometries => match tagged(&pass.stack, token.sign) {
+            Some(content) => Ok(Some(Place::Content(content))),
+            None => Ok(None),
+        },
+    }
+}
+
+/// The path that points in brackets are.
+fn path_kind(listing: Listing) -> PathKind
+    ensures { result ≡ kind_of listing }
+{
+    match listing {
+        Listing::Dot => PathKind::Dot,
+        Listing::List => PathKind::Line,
+        Listing::Ring => PathKind::Loop,
+    }
+}
+
+/// Two points are one.
+fn are_same(p: Pt, q: Pt) -> bool
+    ensures { result ≡ is_same p q }
+{
+    p.x == q.x && p.y == q.y
+}
+
+/// A ring has at least four points, of which the last is the first again.
+fn is_closed(points: &[Pt]) -> bool
+    ensures { (one : Point) → (more : List Point) → points.now ≡ map place_of (one ∷ more) → result ≡ is_closed (one ∷ more) }
+{
+    if points.len() < 4 {
+        return false;
+    }
+    are_same(points[0], points[points.len() - 1])
+}
+
+/// Points in brackets may end so.
+fn may_end(pass: &Pass, listing: Listing) -> bool
+    requires { pass.now.first ≤ length pass.now.points.items }
+    ensures { (done : List Path) → (one : Point) → (more : List Point) → Held pass.now done (one ∷ more) → result ≡ may_end listing (one ∷ more) }
+{
+    match listing {
+        Listing::Dot => true,
+        Listing::List => true,
+        Listing::Ring => is_closed(&pass.points[pass.first..]),
+    }
+}
+
+/// What stands behind a point in brackets.
+fn behind_point(
+    pass: &mut Pass,
+    listing: Listing,
+    token: Token,
+) -> Result<Option<Place>, AllocError>
+    requires room { HasRoom pass.old token.start }
+    requires ends { (token.start < token.end) × (token.end < 2 ^ 32) }
+    ensures goes { (before paths : List Path) → (one : Point) → (more : List Point) → (text : List ℕ) → Held pass.old (before ++ paths) (one ∷ more)
+        → Goes (whole_step listing (one ∷ more) pass.old.stack paths (token_for token.start text token.sign)) (token_for token.start text token.sign) token.start before pass.old result pass.new }
+    ensures room { LeavesRoom result pass.new token.end }
+{
+    match token.sign {
+        Sign::Comma => match listing {
+            Listing::Dot => Ok(None),
+            Listing::List => Ok(Some(Place::First(Listing::List))),
+            Listing::Ring => Ok(Some(Place::First(Listing::Ring))),
+        },
+        Sign::Closing => {
+            if may_end(pass, listing) {
+                pass.end_path(path_kind(listing))?;
+                Ok(Some(Place::Behind))
+            } else {
+                Ok(None)
+            }
+        }
+        _ => Ok(None),
+    }
+}
+
+/// What stands behind an item.
+fn behind_item(pass: &mut Pass, token: Token) -> Option<Place>
+    ensures goes { (before paths : List Path) → (text : List ℕ) → Held pass.old (before ++ paths) []
+        → Goes (behind_step pass.old.stack paths (token_for token.start text token.sign)) (token_for token.start text token.sign) token.start before pass.old (Ok result) pass.new }
+    ensures same { SameSheet pass.old pass.new }
+    ensures begins { MatchOption result (None ≡ result) (λ place. BeginsBefore place 0) }
+{
+    match token.sign {
+        Sign::Comma => match pass.stack.last() {
+            Some(_) => Some(Place::Item),
+            None => None,
+        },
+        Sign::Closing => match pass.stack.pop() {
+            Some(_) => Some(Place::Behind),
+            None => None,
+        },
+        _ => None,
+    }
+}
+
+/// The second number of a point in brackets, of which the first one was read.
+fn second(
+    pass: &mut Pass,
+    listing: Listing,
+    first: (MmRead, usize),
+    token: Token,
+    text: &[u8],
+    exact: bool,
+) -> Result<Option<Place>, AllocError>
+    requires room { HasRoom pass.old token.start }
+    requires begins { first.1 ≤ token.start }
+    requires ends { (token.start < token.end) × (token.end < 2 ^ 32) }
+    requires size { token.end ≡ token.start + length text.now }
+    ensures goes { (before paths : List Path) → (points : List Point) → (x : Number) → Held pass.old (before ++ paths) points → measured x.text ≡ Ok first.0 → first.1 ≡ x.start
+        → Goes (number_step exact (λ y. state (Spot.whole listing (points ++ pair x y ∷ [])) pass.old.stack paths) (token_for token.start text.now token.sign)) (token_for token.start text.now token.sign) token.start before pass.old result pass.new }
+    ensures room { LeavesRoom result pass.new token.end }
+{
+    match number(token.sign, text, exact) {
+        Some(y) => {
+            pass.add_point(first.0, y, first.1, token.end)?;
+            Ok(Some(Place::Whole(listing)))
+        }
+        None => Ok(None),
+    }
+}
+
+/// The second number of a point without brackets, of which the first one was read.
+fn bare_second(
+    pass: &mut Pass,
+    first: (MmRead, usize),
+    token: Token,
+    text: &[u8],
+    exact: bool,
+) -> Result<Option<Place>, AllocError>
+    requires room { HasRoom pass.old token.start }
+    requires begins { first.1 ≤ token.start }
+    requires ends { (token.start < token.end) × (token.end < 2 ^ 32) }
+    requires size { token.end ≡ token.start + length text.now }
+    ensures goes { (before paths : List Path) → (x : Number) → Held pass.old (before ++ paths) [] → measured x.text ≡ Ok first.0 → first.1 ≡ x.start
+        → Goes (number_step exact (λ y. state Spot.bare_whole pass.old.stack (paths ++ path_of Dot (pair x y ∷ []))) (token_for token.start text.now token.sign)) (token_for token.start text.now token.sign) token.start before pass.old result pass.new }
+    ensures room { LeavesRoom result pass.new token.end }
+{
+    match number(token.sign, text, exact) {
+        Some(y) => {
+            pass.add_point(first.0, y, first.1, token.end)?;
+            pass.end_path(PathKind::Dot)?;
+            Ok(Some(Place::BareWhole))
+        }
+        None => Ok(None),
+    }
+}
+
+/// The first number of a point in brackets.
+fn first(
+    pass: &mut Pass,
+    listing: Listing,
+    token: Token,
+    text: &[u8],
+    exact: bool,
+) -> Option<Place>
+    ensures goes { (before paths : List Path) → (points : List Point) → Held pass.old (before ++ paths) points
+        → Goes (number_step exact (λ x. state (Spot.second listing points x) pass.old.stack paths) (token_for token.start text.now token.sign)) (token_for token.start text.now token.sign) token.start before pass.old (Ok result) pass.new }
+    ensures same { SameSheet pass.old pass.new }
+    ensures begins { MatchOption result (None ≡ result) (λ place. BeginsBefore place token.start) }
+{
+    let _ = &pass.opened;
+    match number(token.sign, text, exact) {
+        Some(x) => Some(Place::Second(listing, x, token.start)),
+        None => None,
+    }
+}
+
+/// What may come behind the token, where it fits.
+fn next(
+    pass: &mut Pass,
+    place: Place,
+    token: Token,
+    text: &[u8],
+    exact: bool,
+) -> Result<Option<Place>, AllocError>
+    requires room { HasRoom pass.old token.start }
+    requires begins { BeginsBefore place token.start }
+    requires ends { (token.start < token.end) × (token.end < 2 ^ 32) }
+    requires size { token.end ≡ token.start + length text.now }
+    ensures goes { (before : List Path) → (s : State) → Stands pass.old place before s
+        → Goes (step exact s (token_for token.start text.now token.sign)) (token_for token.start text.now token.sign) token.start before pass.old result pass.new }
+    ensures room { LeavesRoom result pass.new token.end }
+{
+    match place {
+        Place::Item => item(pass, token, text, exact),
+        Place::Content(content) => enter(pass, content, token),
+        Place::First(listing) => Ok(first(pass, listing, token, text, exact)),
+        Place::Second(listing, x, start) => second(pass, listing, (x, start), token, text, exact),
+        Place::Whole(listing) => behind_point(pass, listing, token),
+        Place::BareSecond(x, start) => bare_second(pass, (x, start), token, text, exact),
+        Place::BareWhole => Ok(behind_item(pass, token)),
+        Place::Behind => Ok(behind_item(pass, token)),
+    }
+}
+
+/// A geometry may stand here.
+fn is_geometry_place(stack: &Stack, place: Place) -> bool
+    ensures { (spot : Spot) → Shows place spot → result ≡ is_geometry_spot spot stack.now }
+{
+    match place {
+        Place::Item => match innermost(stack) {
+            Group::Geometries => true,
+            _ => false,
+        },
+        _ => false,
+    }
+}
+
+/// The fault of a word that is no tag, where no geometry may stand.
+fn other_fault(place: Place, word: Word, at: u64) -> LayerFault
+    ensures { (spot : Spot) → Shows place spot → result ≡ other_fault spot word at }
+{
+    match place {
+        Place::Content(_) => match word {
+            Word::Height => LayerFault::Height { at },
+            _ => LayerFault::Bad { at },
+        },
+        _ => LayerFault::Bad { at },
+    }
+}
+
+/// The fault of a word that does not fit.
+fn word_fault(stack: &Stack, place: Place, word: Word, at: u64) -> LayerFault
+    ensures { (spot : Spot) → Shows place spot → result ≡ word_fault spot stack.now word at }
+{
+    match word {
+        Word::Tag(_) => {
+            if is_geometry_place(stack, place) {
+                LayerFault::Deep { at }
+            } else {
+                LayerFault::Bad { at }
+            }
+        }
+        _ => {
+            if is_geometry_place(stack, place) {
+                LayerFault::Kind { at }
+            } else {
+                other_fault(place, word, at)
+            }
+        }
+    }
+}
+
+/// The fault of a number that was not read, or lost digits, or is not wanted.
+fn answer_fault(text: &[u8], at: u64, exact: bool) -> LayerFault
+    ensures { result ≡ answer_fault exact (measured text.now) at }
+{
+    match read_mm(text) {
+        Ok(read) => {
+            if exact && !read.exact {
+                LayerFault::Inexact { at }
+            } else {
+                LayerFault::Bad { at }
+            }
+        }
+        Err(fault) => LayerFault::Number { at, fault },
+    }
+}
+
+/// The fault of a number that does not fit.
+fn number_fault(place: Place, text: &[u8], at: u64, exact: bool) -> LayerFault
+    ensures { (spot : Spot) → Shows place spot → result ≡ number_fault exact spot (measured text.now) at }
+{
+    match place {
+        Place::Whole(_) => LayerFault::Height { at },
+        Place::BareWhole => LayerFault::Height { at },
+        _ => answer_fault(text, at, exact),
+    }
+}
+
+/// The fault of a closing bracket that does not fit.
+fn closing_fault(place: Place, at: u64, opened: u64) -> LayerFault
+    ensures { (spot : Spot) → Shows place spot → result ≡ closing_fault spot at opened }
+{
+    match place {
+        Place::Whole(_) => LayerFault::Ring { at: opened },
+        _ => LayerFault::Bad { at },
+    }
+}
+
+/// The fault of a token that does not fit.
+fn fault(pass: &Pass, place: Place, token: Token, text: &[u8], exact: bool) -> LayerFault
+    ensures { (spot : Spot) → Shows place spot
+        → result ≡ fault_of exact spot pass.now.stack (token_for token.start text.now token.sign) token.start pass.now.opened }
+{
+    let at = token.start as u64;
+    match token.sign {
+        Sign::Word(word) => word_fault(&pass.stack, place, word, at),
+        Sign::Number => number_fault(place, text, at, exact),
+        Sign::Closing => closing_fault(place, at, pass.opened as u64),
+        Sign::Opening => LayerFault::Bad { at },
+        Sign::Comma => LayerFault::Bad { at },
+        Sign::Stray => LayerFault::Bad { at },
+    }
+}
+
+/// Reads one token, and answers what may come behind it.
+pub fn step(
+    pass: &mut Pass,
+    place: Place,
+    token: Token,
+    text: &[u8],
+    exact: bool,
+) -> Result<Place, LayerFault>
+    requires room { HasRoom pass.old token.start }
+    requires begins { BeginsBefore place token.start }
+    requires ends { (token.start < token.end) × (token.end < 2 ^ 32) }
+    requires size { token.end ≡ token.start + length text.now }
+    ensures leads { (before : List Path) → (s : State) → Stands pass.old place before s
+        → Leads exact s (token_for token.start text.now token.sign) token.start before pass.old result pass.new }
+    ensures room { IfOk result (λ place. HasRoom pass.new token.end × BeginsBefore place token.end) }
+{
+    match next(pass, place, token, text, exact)? {
+        Some(place) => Ok(place),
+        None => Err(fault(pass, place, token, text, exact)),
+    }
+}
+
+/// A line may end here.
+pub fn is_end(pass: &Pass, place: Place) -> bool
+    ensures { (before : List Path) → (s : State) → Stands pass.now place before s → IsTrue result ↔ IsEnd s }
+{
+    match place {
+        Place::BareWhole => pass.stack.len() == 0,
+        Place::Behind => pass.stack.len() == 0,
+        _ => false,
+    }
+}

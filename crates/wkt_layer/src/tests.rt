@@ -1,0 +1,237 @@
+use crate::reading::read;
+use mm_decimal::NumFault;
+use plane_base::Pt;
+use sheet_base::{Edit, LayerFault, PathKind, PathRow, What};
+use std::alloc::AllocError;
+
+const ZEROS: &str = "POINT (00000000000000000000000000000000000000000000000000000000000000000 1)";
+
+/// Each line is refused, at a place that was counted by hand from the grammar.
+#[test]
+fn refuses_lines(rt: HostRuntime) {
+    for (text, fault) in [
+        ("CIRCLE (0 0)", LayerFault::Kind { at: 0 }),
+        ("EMPTY", LayerFault::Kind { at: 0 }),
+        ("Z", LayerFault::Kind { at: 0 }),
+        ("POINTZ (1 2 3)", LayerFault::Kind { at: 0 }),
+        ("SRID=4326;POINT (1 2)", LayerFault::Kind { at: 0 }),
+        ("GEOMETRYCOLLECTION (EMPTY)", LayerFault::Kind { at: 20 }),
+        ("GEOMETRYCOLLECTION (POINT (1 2), Z)", LayerFault::Kind { at: 33 }),
+        ("POINT (1 2)\n\n  \r\nCIRCLE", LayerFault::Kind { at: 17 }),
+        ("POINT Z (5 0 1)", LayerFault::Height { at: 6 }),
+        ("POINT (5 0 1)", LayerFault::Height { at: 11 }),
+        ("POINT ZM (1 2 3 4)", LayerFault::Height { at: 6 }),
+        ("POINT M (1 2 3)", LayerFault::Height { at: 6 }),
+        ("POINT z(1 2)", LayerFault::Height { at: 6 }),
+        ("LINESTRING (1 2 3 4)", LayerFault::Height { at: 16 }),
+        ("LINESTRING (1 2 3x)", LayerFault::Height { at: 16 }),
+        ("MULTIPOINT (1 2 3)", LayerFault::Height { at: 16 }),
+        ("MULTIPOINT Z (1 2)", LayerFault::Height { at: 11 }),
+        ("GEOMETRYCOLLECTION Z EMPTY", LayerFault::Height { at: 19 }),
+        ("POINT (1 2 1e)", LayerFault::Height { at: 11 }),
+        ("POLYGON ((0 0, 1 0, 0 0))", LayerFault::Ring { at: 9 }),
+        ("POLYGON ((0 0, 1 0, 1 1, 0 1))", LayerFault::Ring { at: 9 }),
+        ("POLYGON ((0 0, 1 0, 1 1, 0 0.001))", LayerFault::Ring { at: 9 }),
+        (
+            "POLYGON ((0 0, 1 0, 1 1, 0 0), (0 0, 1 0, 0 0))",
+            LayerFault::Ring { at: 31 },
+        ),
+        (
+            "MULTIPOLYGON (((0 0, 1 0, 0 1, 0 0)), ((0 0, 1 0, 0 1)))",
+            LayerFault::Ring { at: 39 },
+        ),
+    ] {
+        assert_eq!(rt; read(rt.alloc(), text.as_bytes(), false).err(), Some(fault), "at {text}");
+    }
+}
+
+#[test]
+fn refuses_numbers(rt: HostRuntime) {
+    for (text, exact, at, fault) in [
+        ("POINT (5 0-)", false, 9, NumFault::Form { at: 1 }),
+        ("5EMPTY", false, 0, NumFault::Form { at: 2 }),
+        ("POINT 5EMPTY", false, 6, NumFault::Form { at: 2 }),
+        ("POINT (5E 0)", false, 7, NumFault::Form { at: 2 }),
+        ("POINT (+ 1)", false, 7, NumFault::Form { at: 1 }),
+        ("POINT (1e100 0)", true, 7, NumFault::Range),
+        (ZEROS, true, 7, NumFault::Long),
+    ] {
+        assert_eq!(rt;
+            read(rt.alloc(), text.as_bytes(), exact).err(),
+            Some(LayerFault::Number { at, fault }),
+            "at {text}"
+        );
+    }
+    for (text, fault) in [
+        ("POINT (5 0.0004)", LayerFault::Inexact { at: 9 }),
+        ("POINT 0.0004", LayerFault::Inexact { at: 6 }),
+        ("POINT (5 0 0.0004)", LayerFault::Height { at: 11 }),
+        ("MULTIPOINT (0.0004 1)", LayerFault::Inexact { at: 12 }),
+        ("POLYGON ((0 0, 1 0, 1 1, 0 0.0004))", LayerFault::Inexact { at: 27 }),
+    ] {
+        assert_eq!(rt; read(rt.alloc(), text.as_bytes(), true).err(), Some(fault), "at {text}");
+    }
+}
+
+#[test]
+fn refuses_other_tokens(rt: HostRuntime) {
+    for (text, at) in [
+        ("POINT", 5),
+        ("POINT (5", 8),
+        ("POINT EMPTY EMPTY", 12),
+        ("POINT ()", 7),
+        ("POINT (5 0", 10),
+        ("POINT (5 0) x", 12),
+        ("POINT (5 0))", 11),
+        ("POINT (5 0)\tPOINT (5 0)", 12),
+        ("POINT POINT (1 2)", 6),
+        ("(5 0)", 0),
+        ("5 0", 0),
+        ("POINT 0.0004", 6),
+        ("POINT ZZ (1 2)", 6),
+        ("POINT (1, 2)", 8),
+        ("POINT (1 2, 3 4)", 10),
+        ("POINT (EMPTY)", 7),
+        ("POINT (E5 1)", 7),
+        ("POINT (1e5 e)", 11),
+        ("POINT [1 2]", 6),
+        ("\u{FEFF}POINT (1 2)", 0),
+        ("LINESTRING (1 2, )", 17),
+        ("LINESTRING (1 2,, 3 4)", 16),
+        ("LINESTRING ((1 2))", 12),
+        ("LINESTRING (1 2; 3 4)", 15),
+        ("LINESTRING 1 2", 11),
+        ("LINESTRING (1 2", 15),
+        ("LINESTRING (1 2,", 16),
+        ("LINESTRING EMPTY (1 2)", 17),
+        ("POLYGON (0 0, 1 0, 1 1, 0 0)", 9),
+        ("POLYGON (()", 10),
+        ("POLYGON ((0 0, 1 0, 1 1, 0 0)", 29),
+        ("POLYGON (Z", 9),
+        ("MULTIPOINT ((1 2) (3 4))", 18),
+        ("MULTIPOINT (1 2, (3 4, 5 6))", 21),
+        ("MULTIPOINT (1)", 13),
+        ("MULTIPOINT (EMPTY 1 2)", 18),
+        ("MULTIPOINT (1 2 EMPTY)", 16),
+        ("MULTILINESTRING (1 2)", 17),
+        ("MULTILINESTRING ((1 2), EMPTY, (3 4)", 36),
+        ("MULTIPOLYGON ((0 0))", 15),
+        ("GEOMETRYCOLLECTION (1 2)", 20),
+        ("GEOMETRYCOLLECTION (POINT (1 2) Z)", 32),
+        ("GEOMETRYCOLLECTION (POINT (1 2),)", 32),
+        ("GEOMETRYCOLLECTION EMPTY)", 24),
+        ("GEOMETRYCOLLECTION (GEOMETRYCOLLECTION (POINT (1 2))", 52),
+        ("POINT (1 2)\nPOINT (1", 20),
+        ("POINT (5 0\n)", 10),
+    ] {
+        assert_eq!(rt;
+            read(rt.alloc(), text.as_bytes(), false).err(),
+            Some(LayerFault::Bad { at }),
+            "at {text}"
+        );
+    }
+}
+
+/// So many collections in each other, the innermost with one point.
+fn nested(rt: HostRuntime, depth: u64) -> Result<String, AllocError> {
+    let mut text = String::new(rt.alloc());
+    for _ in 0..depth {
+        text.push_str("geometrycollection(")?;
+    }
+    text.push_str("POINT EMPTY")?;
+    for _ in 0..depth {
+        text.push(')')?;
+    }
+    Ok(text)
+}
+
+#[test]
+fn refuses_deep_collections(rt: HostRuntime) -> anyhow::Result<()> {
+    let text = nested(rt, 64)?;
+    assert_eq!(rt; read(rt.alloc(), text.as_bytes(), false).err(), None);
+    let text = nested(rt, 65)?;
+    assert_eq!(rt;
+        read(rt.alloc(), text.as_bytes(), false).err(),
+        Some(LayerFault::Deep { at: 1216 })
+    );
+    Ok(())
+}
+
+fn row(kind: PathKind, first: u32, past: u32) -> PathRow {
+    PathRow { kind, first, past }
+}
+
+fn pt(x: i64, y: i64) -> Pt {
+    Pt { x, y }
+}
+
+fn list(path: u32, start: u32, end: u32) -> Edit {
+    Edit {
+        start,
+        end,
+        what: What::WktList { path },
+    }
+}
+
+#[test]
+fn reads_lines(rt: HostRuntime) -> anyhow::Result<()> {
+    let text = "MULTIPOINT (5 0, (0 0), EMPTY)";
+    let sheet = read(rt.alloc(), text.as_bytes(), true)?;
+    assert_eq!(rt; sheet.paths(), [row(PathKind::Dot, 0, 1), row(PathKind::Dot, 1, 2)].as_slice());
+    assert_eq!(rt; sheet.points(), [pt(5000, 0), pt(0, 0)].as_slice());
+    assert_eq!(rt; sheet.edits(), [list(0, 12, 15), list(1, 18, 21)].as_slice());
+
+    let text = "LINESTRING (1 1, 1 1, 2 1)";
+    let sheet = read(rt.alloc(), text.as_bytes(), true)?;
+    assert_eq!(rt; sheet.paths(), [row(PathKind::Line, 0, 3)].as_slice());
+    assert_eq!(rt; sheet.points(), [pt(1000, 1000), pt(1000, 1000), pt(2000, 1000)].as_slice());
+    assert_eq!(rt; sheet.edits(), [list(0, 12, 25)].as_slice());
+
+    let text = "LINESTRING (10 0, 0 10)\nPOINT (6 4)";
+    let sheet = read(rt.alloc(), text.as_bytes(), true)?;
+    assert_eq!(rt; sheet.paths(), [row(PathKind::Line, 0, 2), row(PathKind::Dot, 2, 3)].as_slice());
+    assert_eq!(rt; sheet.points(), [pt(10000, 0), pt(0, 10000), pt(6000, 4000)].as_slice());
+    assert_eq!(rt; sheet.edits(), [list(0, 12, 22), list(1, 31, 34)].as_slice());
+    Ok(())
+}
+
+#[test]
+fn reads_rings_and_empty_contents(rt: HostRuntime) -> anyhow::Result<()> {
+    let text = "polygon(( 0 0,1 0 , 1 1, 0 0.0004\t))\r\n";
+    let sheet = read(rt.alloc(), text.as_bytes(), false)?;
+    assert_eq!(rt; sheet.paths(), [row(PathKind::Loop, 0, 3)].as_slice());
+    assert_eq!(rt; sheet.points(), [pt(0, 0), pt(1000, 0), pt(1000, 1000)].as_slice());
+    assert_eq!(rt;
+        sheet.edits(),
+        [Edit {
+            start: 10,
+            end: 33,
+            what: What::WktRing { path: 0 }
+        }]
+        .as_slice()
+    );
+    assert_eq!(rt; sheet.inexact(), 1);
+    assert_eq!(rt; sheet.dropped(), 0);
+
+    for text in [
+        "",
+        "\n \n\t\r\n",
+        "POLYGON (EMPTY, EMPTY)",
+        "MultiPolygon ((EMPTY), EMPTY)",
+        "MULTILINESTRING(EMPTY)",
+        "GEOMETRYCOLLECTION (POINT EMPTY, MULTIPOINT (EMPTY), GEOMETRYCOLLECTION EMPTY)",
+    ] {
+        let sheet = read(rt.alloc(), text.as_bytes(), true)?;
+        assert_eq!(rt; sheet.edits().len(), 0, "at {text}");
+    }
+    Ok(())
+}
+
+#[test]
+fn reads_all_kinds(rt: HostRuntime) -> anyhow::Result<()> {
+    let text = "GEOMETRYCOLLECTION (MULTIPOLYGON (((0 0, 1 0, 0 1, 0 0))), MULTILINESTRING ((7 8, 9 1)))";
+    let sheet = read(rt.alloc(), text.as_bytes(), true)?;
+    assert_eq!(rt; sheet.paths(), [row(PathKind::Loop, 0, 3), row(PathKind::Line, 3, 5)].as_slice());
+    assert_eq!(rt; sheet.edits()[1], list(1, 77, 85));
+    Ok(())
+}

@@ -1,0 +1,88 @@
+//! The tokens of a line.
+
+ghost use Rattle.std.specs.Prelude.{◌≡◌, ◌<◌, ◌≤◌, ◌∷◌, ℕ, List, length, slice_index, false};
+ghost use Rattle.std.specs.List.{prefix_len};
+ghost use Rattle.std.specs.Char.{is_ascii_alphabetic};
+ghost use Rattle.wkt_layer.specs.Tokens.{is_blank, is_numeric};
+ghost use Rattle.wkt_layer.specs.Passes.{IsFirstToken};
+
+use crate::words::Word;
+
+/// What a token is.
+#[derive(Clone, Copy, Debug, PartialEq, Eq)]
+pub enum Sign {
+    Opening,
+    Closing,
+    Comma,
+    Word(Word),
+    Number,
+    /// A byte that begins no token.
+    Stray,
+}
+
+/// A token: what it is, and the places of the text where it begins and behind it.
+#[derive(Clone, Copy)]
+pub struct Token {
+    pub sign: Sign,
+    pub start: usize,
+    pub end: usize,
+}
+
+/// Space, tab and carriage return.
+pub fn is_blank(byte: u8) -> bool
+    ensures { result ≡ is_blank byte }
+{
+    byte == b' ' || byte == b'\t' || byte == b'\r'
+}
+
+/// A byte of a number.
+fn is_numeric(byte: u8) -> bool
+    ensures { result ≡ is_numeric byte }
+{
+    byte.is_ascii_digit()
+        || byte == b'+'
+        || byte == b'-'
+        || byte == b'.'
+        || byte == b'e'
+        || byte == b'E'
+}
+
+/// How many bytes at the front are letters.
+fn letters(line: &[u8]) -> usize
+    ensures { result ≡ prefix_len is_ascii_alphabetic line.now }
+{
+    line.iter()
+        .take_while(|byte| byte.is_ascii_alphabetic())
+        .count()
+}
+
+/// How many bytes at the front are those of a number.
+fn numerics(line: &[u8]) -> usize
+    ensures { result ≡ prefix_len is_numeric line.now }
+{
+    line.iter().take_while(|byte| is_numeric(**byte)).count()
+}
+
+/// The token at the front of a line that begins with no blank, and its length.
+pub fn first_token(line: &[u8]) -> (Sign, usize)
+    requires some { 0 < length line.now }
+    ensures token { IsFirstToken line.now result.0 result.1 }
+    ensures some { 0 < result.1 }
+    ensures within { result.1 ≤ length line.now }
+{
+    let byte = line[0];
+    if byte.is_ascii_alphabetic() {
+        let size = letters(line);
+        (Sign::Word(Word::of(&line[..size])), size)
+    } else if is_numeric(byte) {
+        (Sign::Number, numerics(line))
+    } else if byte == b'(' {
+        (Sign::Opening, 1)
+    } else if byte == b')' {
+        (Sign::Closing, 1)
+    } else if byte == b',' {
+        (Sign::Comma, 1)
+    } else {
+        (Sign::Stray, 1)
+    }
+}
