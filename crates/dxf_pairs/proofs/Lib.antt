@@ -1,0 +1,7 @@
+mod CodeTexts
+mod Cuts
+mod LineLists
+mod PairSteps
+mod Standing
+mod Between
+mod Following

@@ -1,0 +1,5 @@
+use Rattle.dxf_pairs.proofs.Following.{follow}
+use Rattle.dxf_pairs.proofs.laws.lines_follow.Goals as goal
+
+pub returns : goal.returns
+returns c = follow

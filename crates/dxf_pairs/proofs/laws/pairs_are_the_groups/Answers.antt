@@ -1,0 +1,5 @@
+use Rattle.dxf_pairs.proofs.Standing.{the_groups}
+use Rattle.dxf_pairs.proofs.laws.pairs_are_the_groups.Goals as goal
+
+pub returns : goal.returns
+returns c = the_groups

@@ -1,0 +1,7 @@
+pub mod Lines
+pub mod Values
+pub mod Codes
+pub mod Pairs
+pub mod Groups
+pub mod Laws
+pub mod CodeLines

@@ -1,0 +1,31 @@
+//! Laws of the definitions.
+
+ghost use Rattle.dxf_pairs.specs.CodeLines.{ValuesAreBetweenBlanks, CodesAreWholeNumbers};
+ghost use Rattle.dxf_pairs.specs.Laws.{LinesFollow, PairsTile, PairsAreWithin, PairsAreTheGroups};
+
+/// The pairs of a drawing stand one behind the other without a gap, from the first byte on: each
+/// starts where the one before it ends, two lines further on. Each value lies in its pair, and each
+/// pair in the bytes.
+pub fn pairs_tile()
+    ensures tile { PairsTile }
+    ensures within { PairsAreWithin }
+{}
+
+/// The group codes of a drawing's pairs, each with the bytes of its value, are the groups that its
+/// lines are without regard to places.
+pub fn pairs_are_the_groups()
+    ensures { PairsAreTheGroups }
+{}
+
+/// A line's value is the one that stands on it between blanks, and its group code the whole number
+/// of at most `MOST_CODE` either way that stands so: an optional sign and digits.
+pub fn codes_are_whole_numbers()
+    ensures values { ValuesAreBetweenBlanks }
+    ensures codes { CodesAreWholeNumbers }
+{}
+
+/// The lines of a text that goes on behind a line feed are those up to it and those behind it, so an
+/// edit of whole lines edits the list of lines.
+pub fn lines_follow()
+    ensures { LinesFollow }
+{}

@@ -1,0 +1,20 @@
+//! The pairs of a drawing in ASCII DXF: group codes and values on alternating lines, with their
+//! places in the bytes.
+#![tactic(auto)]
+
+mod blanks;
+mod codes;
+mod faults;
+mod laws;
+mod line_ends;
+mod pairs;
+mod reading;
+#[cfg(test)]
+mod tests;
+
+pub use codes::MOST_CODE;
+pub use faults::PairFault;
+pub use laws::{codes_are_whole_numbers, lines_follow, pairs_are_the_groups, pairs_tile};
+pub use line_ends::LINE_FEED;
+pub use pairs::Pair;
+pub use reading::{BINARY, LAST_VALUE, read_pairs};
