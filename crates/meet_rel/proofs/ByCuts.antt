@@ -1,25 +1,25 @@
 -- What the parameters of two clips tell of the segments between their ends.
-use Rattle.std.proofs.Common.{◌≡◌, ◌≢◌, ◌⊎◌, inl, inr, ℤ, pos, ◌+ℤ◌, ◌-ℤ◌, ◌*ℤ◌, ◌≤ℤ◌, ◌<ℤ◌, [], ◌∷◌, sym, ◌∙◌, ap, subst, arith}
+use Rattle.std.proofs.Common.{◌≡◌, ◌⊎◌, inl, inr, ℤ, pos, ◌*ℤ◌, ◌≤ℤ◌, ◌<ℤ◌, [], ◌∷◌, sym, ◌∙◌, ap, subst, arith}
 use Rattle.std.proofs.lemmas.Int.{ints}
 use lib.Signed.{lt_z_yes}
 use Rattle.integer_ring.proofs.Order.{≤_or_>, ≤_antisymm, ≤_of_≡}
 use Rattle.frac128.specs.Fractions.{IsAtMost, IsBelow, IsSameValue}
 use Rattle.frac128.specs.declared.frac.Frac.{Frac}
-use Rattle.plane_base.specs.Plane.{Point, Same, IsMix, whole, corners, turn_of}
+use Rattle.plane_base.specs.Plane.{Point, Same, IsMix, whole, turn_of}
 use Rattle.plane_base.specs.declared.shapes.Pt.{Pt}
 use Rattle.plane_base.proofs.Turns.{turn_twice}
-use Rattle.plane_base.proofs.Mixes.{same_refl, same_sym, same_trans, mix_moved, turn_on_side}
+use Rattle.plane_base.proofs.Mixes.{same_refl, same_sym, same_trans, mix_moved}
 use Rattle.tin_base.specs.declared.relations.Rel.{Rel}
 use Rattle.tin_base.specs.declared.relations.Rel.TheVariants.{Apart, Touching, Crossing, Overlapping}
 use Rattle.tin_base.specs.Relations.{IsCommonPoint, IsAnEnd, HaveRelation}
 use Rattle.meet_rel.specs.declared.clips.Clip.{Clip}
-use Rattle.meet_rel.specs.Clips.{IsOf, AreEnds, at, IsCut, IsRelOf}
+use Rattle.meet_rel.specs.Clips.{AreEnds, at, IsCut, IsRelOf}
 use Rattle.meet_rel.specs.Signs.{AreOnOneSide}
-use Rattle.meet_rel.proofs.Scale.{Scale, IsOn, IsUpTo, IsBefore, IsLevel, level_of, level_up, level_down, same_level, level_same, before_up, not_before, between_line, between_of, after_first, before_last, mix_first}
+use Rattle.meet_rel.proofs.Scale.{level_of, level_up, level_down, same_level, level_same, between_line, between_of, after_first, before_last, mix_first}
 use Rattle.meet_rel.proofs.Spans.{AreSpans, apart, touching, overlapping}
 use Rattle.meet_rel.proofs.Ways.{AreDifferent, way, on_at, line_on, at-w, up_at, at_up, before_at}
-use Rattle.meet_rel.proofs.Replacing.{HaveSamePoints, HaveSameEnds, same_ends, replaced}
-use Rattle.meet_rel.proofs.Crossings.{AreAcross, IsOnBoth, meet_once, apart_by_first, apart_by_second}
+use Rattle.meet_rel.proofs.Replacing.{HaveSamePoints, same_ends, replaced}
+use Rattle.meet_rel.proofs.Crossings.{AreAcross, IsOnBoth, meet_once}
 use Rattle.meet_rel.proofs.Ending.{same_or_different, one_point}
 use Rattle.meet_rel.proofs.Cutting.{IsLesser, IsGreater}
 

@@ -1,6 +1,5 @@
 -- The clips of pieces in a triangulation.
-use Rattle.std.proofs.Common.{◌≡◌, ◌⊎◌, inl, inr, ℕ, ◌<◌, ℤ, pos, ◌+ℤ◌, ◌*ℤ◌, ◌<ℤ◌, List, [], ◌∷◌, length, refl, sym, subst, arith}
-use lib.Signed.{lt_z_yes}
+use Rattle.std.proofs.Common.{◌≡◌, ◌⊎◌, inl, inr, ◌<◌, ℤ, pos, ◌+ℤ◌, ◌*ℤ◌, ◌<ℤ◌, List, [], ◌∷◌, length, refl, sym, subst, arith}
 use Rattle.integer_ring.proofs.Ring.{num, ◌⊕◌, ◌⊗◌}
 use Rattle.integer_ring.proofs.Claims.{◌≐◌, solve}
 use Rattle.plane_base.specs.Plane.{Point, IsMix, whole, corners, turn_of, IsNear, IsNearAll, IsNearTri}
@@ -8,15 +7,14 @@ use Rattle.plane_base.specs.declared.shapes.Pt.{Pt}
 use Rattle.plane_base.specs.declared.shapes.Tri.{Tri}
 use Rattle.tin_base.specs.declared.frames.Frame.TheVariants.{Source}
 use Rattle.tin_base.specs.declared.pieces.Piece.{Piece}
-use Rattle.tin_base.specs.Triangulation.{Triangulation, numbers_of, places}
+use Rattle.tin_base.specs.Triangulation.{Triangulation}
 use Rattle.tin_base.specs.Images.{IsInSome}
 use Rattle.tin_base.specs.Limits.{IsWithinLimits}
 use Rattle.tin_base.specs.Segments.{Part}
-use Rattle.tin_base.specs.Pieces.{IsPieceOf, IsPiece, IsPieceInside, first_point, last_point}
+use Rattle.tin_base.specs.Pieces.{IsPieceOf, IsPieceInside, first_point, last_point}
 use Rattle.tin_base.proofs.Closeness.{near_inside}
 use Rattle.meet_rel.specs.declared.clips.Clip.{Clip}
-use Rattle.meet_rel.specs.Clips.{IsOf, AreEnds, IsProper, AreClose}
-use Rattle.meet_rel.specs.Near.{AreNear}
+use Rattle.meet_rel.specs.Clips.{IsProper, AreClose}
 use Rattle.meet_rel.proofs.Scale.{mix_first}
 use Rattle.meet_rel.proofs.Ways.{AreDifferent}
 use Rattle.meet_rel.proofs.Ending.{IsClipOf, same_or_different, different_not, piece_ends}

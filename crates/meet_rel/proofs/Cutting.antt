@@ -1,9 +1,9 @@
 -- The points of a clip are those between two parameters: on its own segment, and on a way that holds the segment.
-use Rattle.std.proofs.Common.{◌≡◌, ◌⊎◌, inl, inr, ℤ, pos, ◌*ℤ◌, ◌≤ℤ◌, ◌<ℤ◌, [], ◌∷◌, sym, subst}
+use Rattle.std.proofs.Common.{◌≡◌, ◌⊎◌, inl, inr, ℤ, pos, ◌<ℤ◌, [], ◌∷◌, sym, subst}
 use lib.Signed.{lt_z_yes}
 use Rattle.frac128.specs.Fractions.{IsAtMost}
 use Rattle.frac128.specs.declared.frac.Frac.{Frac}
-use Rattle.plane_base.specs.Plane.{Point, Same, IsMix, whole, corners, along, turn_of}
+use Rattle.plane_base.specs.Plane.{Point, IsMix, whole, corners, along}
 use Rattle.plane_base.specs.Slices.{IsParam, IsIn, IsCommon}
 use Rattle.plane_base.specs.Laws.{HasParameter}
 use Rattle.plane_base.specs.declared.shapes.Pt.{Pt}
@@ -13,13 +13,13 @@ use Rattle.plane_base.proofs.Parameters.{segments_have_parameters}
 use Rattle.meet_rel.specs.declared.clips.Clip.{Clip}
 use Rattle.meet_rel.specs.Clips.{IsOf, at, IsCut, StandsAt}
 use Rattle.meet_rel.proofs.Scale.{Scale, IsOn, IsUpTo, up_to_trans, level_up, level_down, same_level, up_or, up_to_itself, line_moved, between_on, between_of, up_from_both, up_to_both}
-use Rattle.meet_rel.proofs.Ways.{AreDifferent, way, on_at, on_along, on_line, line_on, at-w, along-w, up_along, up_at, at_up}
+use Rattle.meet_rel.proofs.Ways.{AreDifferent, way, on_at, on_along, on_line, line_on, at-w, up_along, up_at, at_up}
 
 one : pos 0 <ℤ pos 1
 one = lt_z_yes tt
 
 -- the point at a parameter from 0 to 1 is on the way
-param_between : (u v : Pt) (n d : ℤ) → IsParam n d → IsMix (along (whole u) (whole v) n d) (whole u ∷ whole v ∷ [])
+pub param_between : (u v : Pt) (n d : ℤ) → IsParam n d → IsMix (along (whole u) (whole v) n d) (whole u ∷ whole v ∷ [])
 param_between u v n d p = (segments_have_parameters (whole u) (whole v) (along (whole u) (whole v) n d)).1 (record { n = n; d = d; param = p; same = same_refl (along (whole u) (whole v) n d) })
 
 -- the parameter of a point of the clip

@@ -15,3 +15,4 @@ pub mod Picking
 pub mod Sliced
 pub mod Clipping
 pub mod Keeping
+pub mod SmallClips

@@ -1,5 +1,5 @@
 -- The first and the last of four points of one line: the way between them holds all four.
-use Rattle.std.proofs.Common.{◌≡◌, ◌⊎◌, inl, inr, ℤ, pos, negsuc, ◌+ℤ◌, ◌-ℤ◌, ◌*ℤ◌, ◌≤ℤ◌, ◌<ℤ◌, neg_ℤ, sym, ◌∙◌, ap₂, subst, refl, arith}
+use Rattle.std.proofs.Common.{◌≡◌, ◌⊎◌, inl, inr, ℤ, pos, ◌+ℤ◌, ◌-ℤ◌, ◌*ℤ◌, ◌≤ℤ◌, ◌<ℤ◌, sym, ◌∙◌, ap₂, subst, refl, arith}
 use Rattle.std.proofs.lemmas.Int.{ints}
 use Rattle.integer_ring.proofs.Ring.{num, neg, ◌⊕◌, ◌⊖◌, ◌⊗◌}
 use Rattle.integer_ring.proofs.Order.{≤_or_>}
@@ -8,9 +8,7 @@ use Rattle.integer_ring.proofs.Claims.{◌≐◌, eqn, ◌⊞◌, ◌because◌,
 use Rattle.frac128.specs.declared.frac.Frac.{Frac}
 use Rattle.plane_base.specs.Plane.{turn_of, whole, IsNear, IsNearTri}
 use Rattle.plane_base.specs.declared.shapes.Pt.{Pt}
-use Rattle.plane_base.specs.declared.shapes.Tri.{Tri}
 use Rattle.plane_base.proofs.Points.{turn, solve_at}
-use Rattle.plane_base.proofs.Turns.{turn_cycle, turn_twice}
 use Rattle.meet_rel.specs.declared.clips.Clip.{Clip}
 use Rattle.meet_rel.specs.Clips.{IsBefore, IsNotAfter, IsOneOf, AreOuter, IsWayFor, StandsAt}
 use Rattle.meet_rel.specs.Near.{AreNear}

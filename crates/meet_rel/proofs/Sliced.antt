@@ -11,7 +11,7 @@ use Rattle.plane_base.specs.declared.slicing.Stretch.{Stretch}
 use Rattle.plane_base.proofs.Mixes.{same_sym, mix_moved, mixes_mix}
 use Rattle.plane_base.proofs.Parameters.{segments_have_parameters}
 use Rattle.meet_rel.specs.declared.clips.Clip.{Clip}
-use Rattle.meet_rel.specs.Clips.{IsOf, IsProper, StandsAt}
+use Rattle.meet_rel.specs.Clips.{IsProper, StandsAt}
 
 one : pos 0 <ℤ pos 1
 one = lt_z_yes tt

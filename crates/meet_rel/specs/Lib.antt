@@ -2,3 +2,4 @@ pub mod Near
 pub mod Signs
 pub mod Laws
 pub mod Clips
+pub mod Small

@@ -1,7 +1,11 @@
-ghost use Rattle.std.specs.Prelude.{◌≤◌, unsigned_abs};
+ghost use Rattle.std.specs.Prelude.{IsTrue};
+ghost use Rattle.meet_rel.specs.Clips.{IsProper};
+ghost use Rattle.meet_rel.specs.Small.{IsSmall, IsSmallClip};
 
+use crate::clips::Clip;
+use crate::meetings::clip_rel;
 use crate::rel;
-use plane_base::Pt;
+use plane_base::{Pt, Tri, slice, turn};
 use tin_base::Rel;
 
 const NAMED: [([i16; 8], Rel); 43] = [
@@ -94,8 +98,7 @@ fn met(row: [i16; 8]) -> Rel {
 }
 
 fn at(x: i16, y: i16) -> Pt
-    ensures x { unsigned_abs result.x ≤ 32768 }
-    ensures y { unsigned_abs result.y ≤ 32768 }
+    ensures { IsSmall result }
 {
     Pt {
         x: i64::from(x),
@@ -114,5 +117,118 @@ fn named_rows(rt: HostRuntime) {
 fn drawn_rows(rt: HostRuntime) {
     for (row, want) in DRAWN {
         assert_eq!(rt; met(row), want, "at {row:?}");
+    }
+}
+
+// Three triangles: the first two are the halves of a square, and the third is beside them.
+const LOWER: [i16; 6] = [0, 0, 10, 0, 10, 10];
+
+const UPPER: [i16; 6] = [0, 0, 10, 10, 0, 10];
+
+const RIGHT: [i16; 6] = [10, 0, 20, 0, 10, 10];
+
+const PIECES: [([i16; 4], [i16; 6], [i16; 4], [i16; 6], Rel); 34] = [
+    ([10, 0, 0, 10], LOWER, [10, 0, 0, 10], UPPER, Rel::Touching),
+    (
+        [10, 0, 0, 10],
+        LOWER,
+        [10, 0, 0, 10],
+        LOWER,
+        Rel::Overlapping,
+    ),
+    ([10, 0, 1, 10], LOWER, [9, 0, 0, 10], UPPER, Rel::Apart),
+    ([10, 0, 0, 10], LOWER, [6, 4, 6, 4], LOWER, Rel::Touching),
+    ([10, 0, 0, 10], UPPER, [6, 4, 6, 4], LOWER, Rel::Apart),
+    ([10, 0, 0, 10], UPPER, [5, 5, 5, 5], LOWER, Rel::Touching),
+    ([9, 1, 1, 9], LOWER, [2, 8, 8, 2], UPPER, Rel::Touching),
+    ([8, 0, 2, 10], LOWER, [5, 5, 0, 6], UPPER, Rel::Touching),
+    ([8, 0, 2, 10], UPPER, [5, 5, 9, 4], LOWER, Rel::Touching),
+    ([8, 1, 2, 9], LOWER, [0, 0, 10, 10], LOWER, Rel::Touching),
+    ([8, 1, 2, 9], LOWER, [0, 0, 10, 10], UPPER, Rel::Touching),
+    ([8, 1, 2, 9], UPPER, [0, 0, 4, 4], UPPER, Rel::Apart),
+    (
+        [0, 0, 10, 10],
+        LOWER,
+        [0, 0, 10, 10],
+        UPPER,
+        Rel::Overlapping,
+    ),
+    ([0, 0, 4, 4], LOWER, [4, 4, 10, 10], UPPER, Rel::Touching),
+    ([0, 0, 4, 4], LOWER, [5, 5, 10, 10], UPPER, Rel::Apart),
+    ([0, 0, 4, 4], LOWER, [7, 7, 3, 3], UPPER, Rel::Overlapping),
+    (
+        [10, 0, 10, 10],
+        LOWER,
+        [10, 8, 10, 1],
+        RIGHT,
+        Rel::Overlapping,
+    ),
+    ([10, 0, 10, 4], LOWER, [10, 4, 10, 9], RIGHT, Rel::Touching),
+    ([2, 1, 18, 1], LOWER, [2, 1, 18, 1], RIGHT, Rel::Touching),
+    ([2, 1, 9, 1], LOWER, [8, 1, 18, 1], RIGHT, Rel::Apart),
+    ([2, 1, 9, 1], LOWER, [11, 1, 18, 1], RIGHT, Rel::Apart),
+    ([2, 1, 18, 1], LOWER, [12, 1, 4, 1], LOWER, Rel::Overlapping),
+    ([18, 1, 2, 1], RIGHT, [4, 1, 14, 1], RIGHT, Rel::Overlapping),
+    ([2, 1, 2, 9], LOWER, [2, 0, 2, 9], UPPER, Rel::Touching),
+    ([2, 6, 8, 2], LOWER, [2, 2, 5, 9], UPPER, Rel::Apart),
+    ([2, 6, 8, 2], UPPER, [2, 2, 5, 9], UPPER, Rel::Crossing),
+    ([1, 3, 9, 5], LOWER, [1, 6, 7, 1], LOWER, Rel::Crossing),
+    ([1, 3, 9, 5], UPPER, [1, 6, 7, 1], UPPER, Rel::Apart),
+    ([0, 5, 10, 6], UPPER, [1, 10, 4, 0], UPPER, Rel::Crossing),
+    ([0, 5, 10, 6], LOWER, [1, 10, 4, 0], LOWER, Rel::Apart),
+    ([0, 0, 10, 10], LOWER, [1, 0, 10, 9], LOWER, Rel::Apart),
+    ([3, 3, 3, 3], LOWER, [3, 3, 3, 3], UPPER, Rel::Touching),
+    ([3, 3, 3, 3], LOWER, [4, 4, 4, 4], UPPER, Rel::Apart),
+    ([10, 2, 10, 2], RIGHT, [0, 1, 20, 3], LOWER, Rel::Touching),
+];
+
+// How the parts of two segments lie to each other that two triangles have, where they have some.
+fn pieces_met(p: &Clip, q: &Clip) -> Option<Rel>
+    requires p { IsSmallClip p.now }
+    requires q { IsSmallClip q.now }
+{
+    if !is_proper(p) {
+        return None;
+    }
+    if !is_proper(q) {
+        return None;
+    }
+    Some(clip_rel(p, q))
+}
+
+fn clip(ends: [i16; 4], corners: [i16; 6]) -> Clip
+    ensures { IsSmallClip result }
+{
+    let [ax, ay, bx, by] = ends;
+    let [cx, cy, dx, dy, ex, ey] = corners;
+    Clip {
+        a: at(ax, ay),
+        b: at(bx, by),
+        tri: Tri {
+            a: at(cx, cy),
+            b: at(dx, dy),
+            c: at(ex, ey),
+        },
+    }
+}
+
+// Has the triangle a positive turn, and some point of the segment?
+fn is_proper(clip: &Clip) -> bool
+    requires { IsSmallClip clip.now }
+    ensures { IsTrue result → IsProper clip.now }
+{
+    if turn(clip.tri.a, clip.tri.b, clip.tri.c) <= 0 {
+        return false;
+    }
+    slice(clip.a, clip.b, &clip.tri).is_some()
+}
+
+#[test]
+fn piece_rows(rt: HostRuntime) {
+    for (first, in_first, second, in_second, want) in PIECES {
+        let p = clip(first, in_first);
+        let q = clip(second, in_second);
+        assert_eq!(rt; pieces_met(&p, &q), Some(want), "at {first:?} {second:?}");
+        assert_eq!(rt; pieces_met(&q, &p), Some(want), "at {second:?} {first:?}");
     }
 }

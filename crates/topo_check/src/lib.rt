@@ -4,7 +4,9 @@
 
 mod comparing;
 mod faults;
+mod laws;
 mod listing;
 
 pub use faults::ChangesFault;
+pub use laws::{changes_are_one, more_stay_more};
 pub use listing::changes;

@@ -1,5 +1,3 @@
-use Rattle.std.proofs.Common.{◌≡◌, ◌⊎◌, inl, inr}
-use Rattle.meet_rel.proofs.Ways.{AreDifferent}
 use Rattle.meet_rel.proofs.Ending.{different_of}
 use Rattle.meet_rel.proofs.Cutting.{own_cut}
 use Rattle.meet_rel.proofs.Sliced.{own_some, common_of}

@@ -1,4 +1,4 @@
-use Rattle.std.proofs.Common.{◌⊎◌, inl, inr, refl}
+use Rattle.std.proofs.Common.{inl, inr, refl}
 use Rattle.meet_rel.specs.Clips.{IsBefore}
 use Rattle.meet_rel.proofs.Told.{not_told}
 use Rattle.meet_rel.proofs.Picking.{outer_same, way_for, different_before}

@@ -1,6 +1,5 @@
-use Rattle.std.proofs.Common.{◌-ℤ◌, SFits, arith}
-use Rattle.std.proofs.lemmas.Int.{ints, to_z-of_z}
-use mir.Syntax.{w64, w128}
+use Rattle.std.proofs.Common.{arith}
+use Rattle.std.proofs.lemmas.Int.{ints}
 use Rattle.meet_rel.proofs.cuts.share_of.Goals as goal
 
 pub overflow_sub-at : goal.overflow_sub-at

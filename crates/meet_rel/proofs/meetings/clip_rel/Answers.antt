@@ -1,4 +1,4 @@
-use Rattle.std.proofs.Common.{◌≡◌, ℤ, pos, rules, SFits, sym, ◌∙◌, ap, to_z, of_z}
+use Rattle.std.proofs.Common.{◌≡◌, pos, rules, SFits, sym, ◌∙◌, ap, to_z, of_z}
 use Rattle.std.proofs.lemmas.Int.{to_z-of_z}
 use mir.Syntax.{w128}
 use Rattle.plane_base.specs.Plane.{turn_of, whole}

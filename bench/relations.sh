@@ -1,0 +1,97 @@
+#!/bin/sh
+# Finds the relation of ten million random pairs of segments of each of four kinds by rel, and prints the processor time of one.
+# It builds a program over the crates of this repository in a folder of its own, outside the gate.
+set -e
+top=$(cd "$(dirname "$0")/.." && pwd)
+work=$(mktemp -d)
+trap 'rm -rf "$work"' EXIT
+mkdir -p "$work/crates/relations_bench/src" "$work/crates/relations_bench/proofs/related"
+for name in integer_ring frac128 plane_base tin_base meet_rel; do
+    cp -r "$top/crates/$name" "$work/crates/$name"
+done
+cat > "$work/crates/relations_bench/src/main.rt" <<'END'
+//! Finds the relation of ten million random pairs of segments of each kind, and prints the nanoseconds of one.
+#![tactic(auto)]
+
+ghost use Rattle.std.specs.Prelude.{◌≤◌, unsigned_abs};
+
+use meet_rel::rel;
+use plane_base::Pt;
+use std::time::CpuClock;
+use tin_base::Rel;
+
+/// How many pairs of each kind.
+const PAIRS: u64 = 10_000_000;
+
+fn at(x: u16, y: u16) -> Pt
+    ensures x { unsigned_abs result.x ≤ 65535 }
+    ensures y { unsigned_abs result.y ≤ 65535 }
+{
+    Pt {
+        x: i64::from(x),
+        y: i64::from(y),
+    }
+}
+
+/// A next number that looks random.
+fn step(state: u64) -> u64 {
+    let mixed = state ^ (state >> 12);
+    let mixed = mixed ^ mixed.wrapping_mul(33_554_432);
+    mixed ^ (mixed >> 27)
+}
+
+fn related(numbers: [u16; 8]) -> Rel {
+    let [ax, ay, bx, by, cx, cy, dx, dy] = numbers;
+    rel(at(ax, ay), at(bx, by), at(cx, cy), at(dx, dy))
+}
+
+/// The relation of two segments whose eight numbers are taken from two states: all 16 bits, or the last three, or on one line, or short.
+fn pair_rel(kind: u8, first: u64, second: u64) -> Rel {
+    let [a, b, c, d] = parts(first);
+    let [e, f, g, h] = parts(second);
+    match kind {
+        0 => related([a, b, c, d, e, f, g, h]),
+        1 => related([a % 8, b % 8, c % 8, d % 8, e % 8, f % 8, g % 8, h % 8]),
+        2 => related([a, 7, c, 7, e, 7, g, 7]),
+        _ => related([a, b, a ^ (c % 256), b ^ (d % 256), e, f, e ^ (g % 256), f ^ (h % 256)]),
+    }
+}
+
+fn parts(state: u64) -> [u16; 4] {
+    let [a, b, c, d, e, f, g, h] = state.to_le_bytes();
+    [
+        u16::from_le_bytes([a, b]),
+        u16::from_le_bytes([c, d]),
+        u16::from_le_bytes([e, f]),
+        u16::from_le_bytes([g, h]),
+    ]
+}
+
+fn main(rt: HostRuntime) -> anyhow::Result<()> {
+    for (kind, name) in [(0, "wide"), (1, "in a small grid"), (2, "on one line"), (3, "short")] {
+        let start = rt.thread_cpu_time()?;
+        let mut state: u64 = 88_172_645_463_325_252;
+        let mut counts: [u64; 4] = [0; 4];
+        for _ in 0..PAIRS {
+            let next = step(state);
+            let relation = pair_rel(kind, state, next);
+            let place = relation as usize;
+            counts[place] = counts[place].wrapping_add(1);
+            state = step(next);
+        }
+        let nanoseconds = rt.thread_cpu_time()?.saturating_sub(start).as_nanos();
+        println!(rt; "{name}: {} ns a pair, apart touching crossing overlapping {counts:?}", nanoseconds / 10_000_000)?;
+    }
+    Ok(())
+}
+END
+sed -e 's/meet_rel\.proofs\.tests\.met/relations_bench.proofs.related/' -e 's/32768/65535/g' \
+    "$top/crates/meet_rel/proofs/tests/met/Answers.antt" > "$work/crates/relations_bench/proofs/related/Answers.antt"
+mkdir -p "$work/crates/relations_bench/specs"
+touch "$work/crates/relations_bench/proofs/Lib.antt" "$work/crates/relations_bench/specs/Lib.antt"
+{
+    grep -E '^(integer_ring|frac128|plane_base|tin_base|meet_rel):' "$top/crates.txt"
+    echo 'relations_bench: integer_ring frac128 plane_base tin_base meet_rel anyhow'
+} > "$work/crates.txt"
+cd "$work/crates/relations_bench"
+rt run

@@ -1,0 +1,5 @@
+use Rattle.topo_check.proofs.OneList.{changes_are_one}
+use Rattle.topo_check.proofs.laws.changes_are_one.Goals as goal
+
+pub returns : goal.returns
+returns c = changes_are_one
