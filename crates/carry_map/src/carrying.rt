@@ -78,13 +78,16 @@ pub fn carry(
     // where it is carried
     ensures images { IfOk result (λ images. AreImagesOf index.now sheet.now images) }
     ensures fits { IfOk result (λ images. DoFit sheet.now images) }
-    ensures pieces { OnOk result ((own : List Piece) × (pieces.new.items ≡ pieces.old.items ++ own) × ArePiecesOfSheet index.now layer sheet.now own) }
+    ensures pieces { OnOk result ((own : List Piece) × (pieces.new.items ≡ pieces.old.items ++ own) ×
+        ArePiecesOfSheet index.now layer sheet.now own) }
     ensures inside { OnOk result (IsSheetInside index.now sheet.now) }
     ensures room { OnOk result (vec_len pieces.new ≤ most) }
     // the cause of each refusal, and what stands after it
     ensures no_layer { (fault : LayerFault) → ¬ IsErrOf result (CarryFault.Layer fault) }
-    ensures outside { (path segment : ℕ) → IsErrOf result (CarryFault.Outside path segment) → IsFirstOutside index.now layer (vec_len pieces.old) most (sheet_segments sheet.now) path segment }
-    ensures too_many { IsErrOf result CarryFault.TooMany → IsFirstTooMany index.now layer (vec_len pieces.old) most (sheet_segments sheet.now) }
+    ensures outside { (path segment : ℕ) → IsErrOf result (CarryFault.Outside path segment)
+        → IsFirstOutside index.now layer (vec_len pieces.old) most (sheet_segments sheet.now) path segment }
+    ensures too_many { IsErrOf result CarryFault.TooMany
+        → IsFirstTooMany index.now layer (vec_len pieces.old) most (sheet_segments sheet.now) }
     ensures unchanged { OnErr result (pieces.new.items ≡ pieces.old.items) }
 {
     known(index.tin());

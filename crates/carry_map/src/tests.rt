@@ -1,4 +1,5 @@
-ghost use Rattle.std.specs.Prelude.{◌≤◌, IsTrue, vec_len};
+ghost use Rattle.std.specs.Prelude.{◌≡◌, IfSome, IsTrue};
+ghost use Rattle.tin_base.specs.Triangulation.{triangulation};
 ghost use Rattle.sheet_base.specs.Sheets.{IsPathFrom, AreTiled};
 
 use crate::{CarryFault, carry};
@@ -24,12 +25,18 @@ fn index_of(alloc: Global, corners: &[Place4], triangles: &[[u32; 3]]) -> Option
         };
         kept.push(corner).ok()?;
     }
-    let triangles = triangles.to_vec(alloc).ok()?;
-    if !are_within_limits(&kept, &triangles) {
-        return None;
+    let tin = tin_of(kept, triangles.to_vec(alloc).ok()?)?;
+    TinIndex::build(alloc, check_tin(alloc, tin).ok()?).ok()
+}
+
+fn tin_of(corners: Vec<Corner>, triangles: Vec<[u32; 3]>) -> Option<Tin>
+    ensures { IfSome result (λ tin. tin ≡ triangulation corners.items triangles.items 0) }
+{
+    if are_within_limits(&corners, &triangles) {
+        Some(Tin::of(corners, triangles, 0))
+    } else {
+        None
     }
-    let sound = check_tin(alloc, Tin::of(kept, triangles, 0)).ok()?;
-    TinIndex::build(alloc, sound).ok()
 }
 
 /// The square of ten metres, cut from the lower left to the upper right; one corner of its image is moved outwards.
@@ -215,19 +222,20 @@ fn is_carried(
     are_images(&images, points, run) && are_pieces(&pieces, 3, want)
 }
 
-/// Carries the paths where there may be one piece: is that refused so, with the pieces as before?
+/// Carries the paths where there may be so many pieces: is that refused so, with the pieces as before?
 fn is_refused(
     alloc: Global,
     index: &TinIndex,
     paths: &[Drawn],
-    most: u32,
+    most: u8,
     want: CarryFault,
 ) -> bool {
     let Some(sheet) = sheet_of(alloc, paths) else {
         return false;
     };
     let mut pieces = Vec::new(alloc);
-    carry(alloc, index, &sheet, 0, most, &mut pieces).err() == Some(want) && pieces.is_empty()
+    carry(alloc, index, &sheet, 0, u32::from(most), &mut pieces).err() == Some(want)
+        && pieces.is_empty()
 }
 
 #[test]
@@ -366,6 +374,7 @@ fn refuses_more_pieces_than_there_may_be(rt: HostRuntime) -> Result<(), Fail> {
     carry(alloc, &square, &sheet, 1, 6, &mut pieces)
         .ok()
         .expect(&rt, "room for six");
+    assert_eq!(rt; pieces.len(), 6);
     let want = [
         ((0, 0, 0), 0, (110_000, 100_000), (105_002, 105_002)),
         ((0, 0, 1), 1, (105_002, 105_002), (100_000, 110_000)),
