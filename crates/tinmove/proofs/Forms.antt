@@ -5,7 +5,7 @@ use Rattle.mm_decimal.specs.declared.reading.MmRead.{MmRead}
 use Rattle.tinmove.specs.declared.filled.TheConstants.{BLANK}
 use Rattle.tinmove.specs.Tokens.{IsNumberByte, AreNumberBytes, IsWorth, Stops}
 use Rattle.tinmove.specs.Filled.{IsNumberAt, IsFilled}
-use Rattle.tinmove.proofs.Cutting.{StopsAt, one_cut}
+use Rattle.jtext.proofs.OneValue.{StopsAt, one_cut}
 
 stops-at : (rest : List ℕ) → Stops rest → StopsAt IsNumberByte rest
 stops-at [] stops = tt

@@ -1,5 +1,4 @@
 pub mod Answering
-pub mod Cutting
 pub mod Forms
 pub mod Filling
 pub mod FirstLines

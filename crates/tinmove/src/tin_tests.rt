@@ -41,12 +41,47 @@ fn run_of(
     Ok((status, press))
 }
 
+/// Whether a run of these words ends so and makes a file of these bytes, or none of this name.
+fn makes(
+    alloc: Global,
+    texts: &[&str],
+    tin: &str,
+    layer: &str,
+    wanted: Status,
+    name: &str,
+    bytes: Option<&str>,
+) -> bool {
+    match run_of(alloc, texts, tin.as_bytes(), layer.as_bytes()) {
+        Ok((status, press)) => {
+            status == wanted && press.made_bytes(name) == bytes.map(|text| text.as_bytes())
+        }
+        Err(_) => false,
+    }
+}
+
+/// The same over a triangulation of these rows.
+fn makes_of_rows(
+    alloc: Global,
+    texts: &[&str],
+    vertices: &str,
+    triangles: &str,
+    layer: &str,
+    wanted: Status,
+    name: &str,
+    bytes: Option<&str>,
+) -> bool {
+    match tin_text(alloc, vertices, triangles) {
+        Ok(tin) => makes(alloc, texts, tin.as_str(), layer, wanted, name, bytes),
+        Err(_) => false,
+    }
+}
+
 const CHECK: [&str; 3] = ["check", "--tin", "t.json"];
 
 const MIGRATE: [&str; 6] = ["migrate", "--tin", "t.json", "--out", "o", "p.wkt"];
 
 #[test]
-fn checks_rows(rt: HostRuntime) -> Result<(), Fail> {
+fn checks_rows(rt: HostRuntime) {
     let alloc = rt.alloc();
     for (vertices, triangles, wanted, line) in [
         (
@@ -170,20 +205,24 @@ fn checks_rows(rt: HostRuntime) -> Result<(), Fail> {
             "triangulation: number long in row 0\n",
         ),
     ] {
-        let tin = tin_text(alloc, vertices, triangles)?;
-        let (status, press) = run_of(alloc, &CHECK, tin.as_bytes(), b"")?;
-        assert_eq!(rt; status, wanted, "at {vertices} {triangles}");
-        assert_eq!(rt;
-            press.made_bytes("-"),
-            Some(line.as_bytes()),
+        assert!(rt;
+            makes_of_rows(
+                alloc,
+                &CHECK,
+                vertices,
+                triangles,
+                "",
+                wanted,
+                "-",
+                Some(line),
+            ),
             "at {vertices} {triangles}"
         );
     }
-    Ok(())
 }
 
 #[test]
-fn checks_texts(rt: HostRuntime) -> Result<(), Fail> {
+fn checks_texts(rt: HostRuntime) {
     let alloc = rt.alloc();
     for (text, line) in [
         (r#"{"file_type":"#, "triangulation: json at 13\n"),
@@ -239,14 +278,19 @@ fn checks_texts(rt: HostRuntime) -> Result<(), Fail> {
             "triangulation: key triangles\n",
         ),
     ] {
-        for words in [CHECK.as_slice(), &MIGRATE] {
-            let (status, press) = run_of(alloc, words, text.as_bytes(), b"")?;
-            assert_eq!(rt; status, Status::Tin, "at {text}");
-            assert_eq!(rt; press.made_bytes("-"), Some(line.as_bytes()), "at {text}");
-            assert_eq!(rt; press.made_bytes("o/p.wkt"), None, "at {text}");
-        }
+        assert!(rt;
+            makes(alloc, &CHECK, text, "", Status::Tin, "-", Some(line)),
+            "at {text}"
+        );
+        assert!(rt;
+            makes(alloc, &MIGRATE, text, "", Status::Tin, "-", Some(line)),
+            "at {text}"
+        );
+        assert!(rt;
+            makes(alloc, &MIGRATE, text, "", Status::Tin, "o/p.wkt", None),
+            "at {text}"
+        );
     }
-    Ok(())
 }
 
 /// As many elements as these of a list.
@@ -266,19 +310,34 @@ fn too_many_rows_pass_a_limit(rt: HostRuntime) -> Result<(), Fail> {
     let mut triangles = String::from_str(alloc, "0")?;
     push_many(&mut triangles, ",0", 1 << 21)?;
     let many_triangles = tin_text(alloc, "", triangles.as_str())?;
-    for (tin, line) in [
-        (many_vertices, b"limit: vertices\n".as_slice()),
-        (many_triangles, b"limit: triangles\n"),
-    ] {
-        let (status, press) = run_of(alloc, &CHECK, tin.as_bytes(), b"")?;
-        assert_eq!(rt; status, Status::Limit);
-        assert_eq!(rt; press.made_bytes("-"), Some(line));
-    }
+    let wanted = Status::Limit;
+    assert!(rt;
+        makes(
+            alloc,
+            &CHECK,
+            many_vertices.as_str(),
+            "",
+            wanted,
+            "-",
+            Some("limit: vertices\n"),
+        )
+    );
+    assert!(rt;
+        makes(
+            alloc,
+            &CHECK,
+            many_triangles.as_str(),
+            "",
+            wanted,
+            "-",
+            Some("limit: triangles\n"),
+        )
+    );
     Ok(())
 }
 
 #[test]
-fn carries_through_triangulations(rt: HostRuntime) -> Result<(), Fail> {
+fn carries_through_triangulations(rt: HostRuntime) {
     let alloc = rt.alloc();
     for (vertices, triangles, layer, written) in [
         (
@@ -313,20 +372,24 @@ fn carries_through_triangulations(rt: HostRuntime) -> Result<(), Fail> {
         ),
         ("", "", "\n", "\n"),
     ] {
-        let tin = tin_text(alloc, vertices, triangles)?;
-        let (status, press) = run_of(alloc, &MIGRATE, tin.as_bytes(), layer.as_bytes())?;
-        assert_eq!(rt; status, Status::Same, "at {layer}");
-        assert_eq!(rt;
-            press.made_bytes("o/p.wkt"),
-            Some(written.as_bytes()),
+        assert!(rt;
+            makes_of_rows(
+                alloc,
+                &MIGRATE,
+                vertices,
+                triangles,
+                layer,
+                Status::Same,
+                "o/p.wkt",
+                Some(written),
+            ),
             "at {layer}"
         );
     }
-    Ok(())
 }
 
 #[test]
-fn points_outside(rt: HostRuntime) -> Result<(), Fail> {
+fn points_outside(rt: HostRuntime) {
     let alloc = rt.alloc();
     for (vertices, triangles, layer, line) in [
         ("", "", "POINT (0 0)", "outside: layer 0 path 0 segment 0\n"),
@@ -337,13 +400,27 @@ fn points_outside(rt: HostRuntime) -> Result<(), Fail> {
             "outside: layer 0 path 2 segment 0\n",
         ),
     ] {
-        let tin = tin_text(alloc, vertices, triangles)?;
-        let (status, press) = run_of(alloc, &MIGRATE, tin.as_bytes(), layer.as_bytes())?;
-        assert_eq!(rt; status, Status::Outside, "at {layer}");
-        assert_eq!(rt; press.made_bytes("-"), Some(line.as_bytes()), "at {layer}");
-        assert_eq!(rt; press.made_bytes("o/p.wkt"), None, "at {layer}");
+        let wanted = Status::Outside;
+        assert!(rt;
+            makes_of_rows(
+                alloc,
+                &MIGRATE,
+                vertices,
+                triangles,
+                layer,
+                wanted,
+                "-",
+                Some(line),
+            ),
+            "at {layer}"
+        );
+        assert!(rt;
+            makes_of_rows(
+                alloc, &MIGRATE, vertices, triangles, layer, wanted, "o/p.wkt", None,
+            ),
+            "at {layer}"
+        );
     }
-    Ok(())
 }
 
 /// The example of PROJ's manual of tinshift, with the members that its files have.
@@ -372,7 +449,7 @@ const NAMED_ROWS: &str =
     r#"{"file_type":"triangulation_file","format_version":"1.0","name":"n","license":"l","input_crs":"EPSG:1","output_crs":"EPSG:2","transformed_components":["horizontal"],"vertices_columns":["name","target_x","target_y","source_x","source_y"],"triangles_columns":["idx_vertex1","idx_vertex2","idx_vertex3"],"vertices":[["A",100,100,0,0],["B",110.002,100,10,0],["C",100,110,0,10]],"triangles":[[0,1,2]]}"#;
 
 #[test]
-fn files_of_the_kind_of_proj(rt: HostRuntime) -> Result<(), Fail> {
+fn files_of_the_kind_of_proj(rt: HostRuntime) {
     let alloc = rt.alloc();
     for (tin, layer, written) in [
         // PROJ answers 209948.3217 6697187.0009.
@@ -383,59 +460,81 @@ fn files_of_the_kind_of_proj(rt: HostRuntime) -> Result<(), Fail> {
         ),
         (NAMED_ROWS, "POINT (5 0)", "POINT (105.001 100.000)"),
     ] {
-        let (status, press) = run_of(alloc, &MIGRATE, tin.as_bytes(), layer.as_bytes())?;
-        assert_eq!(rt; status, Status::Same, "at {layer}");
-        assert_eq!(rt;
-            press.made_bytes("o/p.wkt"),
-            Some(written.as_bytes()),
+        assert!(rt;
+            makes(
+                alloc,
+                &MIGRATE,
+                tin,
+                layer,
+                Status::Same,
+                "o/p.wkt",
+                Some(written),
+            ),
             "at {layer}"
         );
-        assert_eq!(rt;
-            run_of(alloc, &CHECK, tin.as_bytes(), b"")?
-                .1
-                .made_bytes("-"),
-            Some(b"sound: corners 3 triangles 1 inexact 0\n".as_slice())
+        assert!(rt;
+            makes(
+                alloc,
+                &CHECK,
+                tin,
+                "",
+                Status::Same,
+                "-",
+                Some("sound: corners 3 triangles 1 inexact 0\n"),
+            ),
+            "at {layer}"
         );
     }
-    Ok(())
+}
+
+/// The words of a check.
+fn check_words(alloc: Global) -> Result<Vec<String>, AllocError> {
+    let mut words = Vec::new(alloc);
+    words.push(String::from_str(alloc, "check")?)?;
+    words.push(String::from_str(alloc, "--tin")?)?;
+    words.push(String::from_str(alloc, "t.json")?)?;
+    Ok(words)
 }
 
 #[test]
 fn a_check_writes_its_line_alone(rt: HostRuntime) -> Result<(), Fail> {
     let alloc = rt.alloc();
-    let tin = tin_text(alloc, SQUARE, "[0,1,2],[0,2,3]")?;
-    let mut words = Vec::new(alloc);
-    for text in CHECK {
-        words.push(String::from_str(alloc, text)?)?;
-    }
+    let words = check_words(alloc)?;
     // With writes of 4 bytes: standard output is begun by call 0, and its 39 bytes are written by ten.
     for (call, front) in [
         (0, None),
         (1, Some(b"".as_slice())),
         (3, Some(b"sound: c")),
-        (11, Some(b"sound: corners 4 triangles 2 inexact 0\n")),
+        (11, Some(b"sound: corners 3 triangles 1 inexact 0\n")),
     ] {
         let mut shelf = MemShelf::new(alloc, 4096);
-        shelf.add("t.json", tin.as_bytes())?;
+        shelf.add("t.json", KKJ.as_bytes())?;
         let mut press = MemPress::new(alloc, 4);
         press.fail_at(call)?;
         let status = run(alloc, &words, &mut shelf, &mut press);
         assert_eq!(rt; status, Status::Write, "at call {call}");
         assert_eq!(rt; press.made_bytes("-"), front, "at call {call}");
     }
-    for (call, line) in [
-        (None, b"read fault: triangulation\n".as_slice()),
-        (Some(0), b"read fault: triangulation\n"),
-    ] {
-        let mut shelf = MemShelf::new(alloc, 4096);
-        if let Some(call) = call {
-            shelf.add("t.json", tin.as_bytes())?;
-            shelf.fail_at(call)?;
-        }
-        let mut press = MemPress::new(alloc, 4096);
-        let status = run(alloc, &words, &mut shelf, &mut press);
-        assert_eq!(rt; status, Status::Read);
-        assert_eq!(rt; press.made_bytes("-"), Some(line));
-    }
+    Ok(())
+}
+
+#[test]
+fn a_check_of_a_file_that_is_not_read(rt: HostRuntime) -> Result<(), Fail> {
+    let alloc = rt.alloc();
+    let words = check_words(alloc)?;
+    let line = b"read fault: triangulation\n".as_slice();
+    let mut empty = MemShelf::new(alloc, 4096);
+    let mut press = MemPress::new(alloc, 4096);
+    assert_eq!(rt; run(alloc, &words, &mut empty, &mut press), Status::Read);
+    assert_eq!(rt; press.made_bytes("-"), Some(line));
+    let mut failing = MemShelf::new(alloc, 4096);
+    failing.add("t.json", KKJ.as_bytes())?;
+    failing.fail_at(1)?;
+    let mut other_press = MemPress::new(alloc, 4096);
+    assert_eq!(rt;
+        run(alloc, &words, &mut failing, &mut other_press),
+        Status::Read
+    );
+    assert_eq!(rt; other_press.made_bytes("-"), Some(line));
     Ok(())
 }
