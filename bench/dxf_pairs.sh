@@ -3,7 +3,7 @@
 # read_pairs, and prints megabytes a second of processor time and the peak of memory. It builds a program over the crates
 # of this repository in a folder of its own, outside the gate.
 set -e
-count=${1:-93000}
+count=${1:-101000}
 top=$(cd "$(dirname "$0")/.." && pwd)
 work=$(mktemp -d)
 trap 'rm -rf "$work"' EXIT
