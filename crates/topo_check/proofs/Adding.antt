@@ -143,10 +143,6 @@ pub read_too_many : (tin : Triangulation) (pieces : List Piece) (i most : ℕ) (
 read_too_many tin pieces i most before h a pass =
     too_many tin pieces i most before (get_or pieces i no_piece) no_piece h refl a (subst (λ (qs : List Piece). DoPassMost tin (with_each (get_or pieces i no_piece) qs) before most) (behind pieces (i + 1)) pass)
 
-pub read_done : (tin : Triangulation) (pieces : List Piece) (i most : ℕ) (before now : List Change) → i < length pieces → AreDone tin pieces i most before → DoAdd tin (with_each (get_or pieces i no_piece) (take (length pieces - (i + 1)) (drop (i + 1) pieces))) before now → length now ≤ most → AreDone tin pieces (i + 1) most now
-read_done tin pieces i most before now h a added within =
-    more_done tin pieces i most before now (get_or pieces i no_piece) no_piece h refl a (subst (λ (qs : List Piece). DoAdd tin (with_each (get_or pieces i no_piece) qs) before now) (behind pieces (i + 1)) added) within
-
 -- what `?` hands on is the fault that came
 pub handed_on : {T U E : Type 0} (r : Result T E) (came wanted : E) → IsErrAnd r (λ e. e ≡ came) → IsErrOf r wanted → IsErrOf {T = U} (Err came) wanted
 handed_on {T = T} {E = E} r came wanted h k = let e : wanted ≡ came = subst (λ (x : Result T E). IsErrAnd x (λ y. y ≡ came)) k h in ap (λ f. Err f) (sym e)

@@ -1,5 +1,5 @@
 -- Two pieces have one change or none, and so pieces have one list of changes.
-use Rattle.std.proofs.Common.{◌≡◌, ℕ, suc, ◌+◌, ◌<◌, ◌≤◌, List, [], ◌∷◌, ◌++◌, length, get_or, All, Option, None, Some, refl, sym, ◌∙◌, ap, ap₂, subst, append_assoc, length-append, arith}
+use Rattle.std.proofs.Common.{◌≡◌, ℕ, suc, ◌<◌, List, [], ◌∷◌, ◌++◌, length, All, Option, None, Some, refl, sym, ◌∙◌, ap, ap₂, subst, length-append, arith}
 use Rattle.tin_base.specs.declared.pieces.Place.{Place}
 use Rattle.tin_base.specs.declared.pieces.Piece.{Piece}
 use Rattle.tin_base.specs.declared.pieces.Change.{Change}
@@ -8,7 +8,7 @@ use Rattle.tin_base.specs.Triangulation.{Triangulation}
 use Rattle.tin_base.specs.Pieces.{IsPieceInside, first_point, last_point}
 use Rattle.plane_base.specs.Plane.{whole}
 use Rattle.meet_rel.proofs.Exclusive.{relations_are_exclusive}
-use Rattle.topo_check.specs.Changes.{AreComparable, AreAllComparable, HadRelation, HasRelation, IsChangeOf, Pair, pair, with_each, pairs, put, AreChangesOf, HaveMoreThan}
+use Rattle.topo_check.specs.Changes.{AreAllComparable, HadRelation, HasRelation, IsChangeOf, Pair, with_each, pairs, put, AreChangesOf}
 use Rattle.topo_check.specs.Laws.{ChangesAreOne, MoreStayMore}
 
 -- ---- of two pieces

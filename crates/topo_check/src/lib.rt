@@ -6,6 +6,8 @@ mod comparing;
 mod faults;
 mod laws;
 mod listing;
+#[cfg(test)]
+mod tests;
 
 pub use faults::ChangesFault;
 pub use laws::{changes_are_one, more_stay_more};

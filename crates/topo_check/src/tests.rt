@@ -1,0 +1,151 @@
+ghost use Rattle.std.specs.Prelude.{◌≡◌, pos, ◌-ℤ◌, ◌<ℤ◌, length, IsTrue, IfOk};
+ghost use Rattle.plane_base.specs.declared.shapes.TheConstants.{SPAN};
+ghost use Rattle.plane_base.specs.Plane.{whole, turn_of, IsNear, holds_of};
+ghost use Rattle.tin_base.specs.Pieces.{IsPieceInside};
+ghost use Rattle.topo_check.specs.Small.{IsSmall, IsSmallPiece};
+
+use crate::{ChangesFault, changes};
+use plane_base::{Pt, SPAN, Tri, holds, turn};
+use std::alloc::Global;
+use std::test::Fail;
+use tin_base::{Change, Corner, Frame, Piece, Place, Rel, SoundTin, Tin, are_within_limits};
+
+fn at(x: i16, y: i16) -> Pt
+    ensures { IsSmall result }
+{
+    Pt {
+        x: i64::from(x),
+        y: i64::from(y),
+    }
+}
+
+/// The triangulation of these corners, if its triangle is neither flat nor turned over. Of others it says that memory is short, which no test wants.
+fn one_triangle(alloc: Global, corners: &[Corner]) -> Result<SoundTin, ChangesFault>
+    ensures { IfOk result (λ tin. length tin.triangles ≡ 1) }
+{
+    let numbers = [[0, 1, 2]];
+    if !are_within_limits(corners, &numbers) {
+        return Err(ChangesFault::NoMemory);
+    }
+    let corners = Vec::from_slice(alloc, corners)?;
+    let triangles = Vec::from_slice(alloc, &numbers)?;
+    let tin = Tin::of(corners, triangles, 0);
+    let source = tin.tri(0, Frame::Source);
+    let target = tin.tri(0, Frame::Target);
+    if turn(source.a, source.b, source.c) <= 0 {
+        return Err(ChangesFault::NoMemory);
+    }
+    if turn(target.a, target.b, target.c) <= 0 {
+        return Err(ChangesFault::NoMemory);
+    }
+    Ok(SoundTin::of(tin))
+}
+
+/// The piece of a segment of the triangle.
+fn piece(tin: &SoundTin, a: Pt, b: Pt, ia: Pt, ib: Pt, path: u32) -> Result<Piece, ChangesFault>
+    requires one { length tin.now.triangles ≡ 1 }
+    requires ia { IsSmall ia }
+    requires ib { IsSmall ib }
+    ensures inside { IfOk result (λ piece. IsPieceInside tin.now piece) }
+    ensures small { IfOk result (λ piece. IsSmallPiece piece) }
+{
+    let tri = tin.tri(0, Frame::Source);
+    if !does_hold(&tri, a) {
+        return Err(ChangesFault::NoMemory);
+    }
+    if !does_hold(&tri, b) {
+        return Err(ChangesFault::NoMemory);
+    }
+    Ok(Piece {
+        a,
+        b,
+        tri: 0,
+        ia,
+        ib,
+        from: Place {
+            layer: 0,
+            path,
+            segment: 0,
+            piece: 0,
+        },
+    })
+}
+
+fn does_hold(t: &Tri, p: Pt) -> bool
+    requires near { IsNear t.now.a t.now.b × IsNear t.now.a t.now.c × IsNear t.now.b t.now.c }
+    requires positive { pos 0 <ℤ turn_of (whole t.now.a) (whole t.now.b) (whole t.now.c) }
+    ensures { IsTrue result → holds_of t.now p }
+{
+    if !is_near(t.a, p) {
+        return false;
+    }
+    if !is_near(t.b, p) {
+        return false;
+    }
+    if !is_near(t.c, p) {
+        return false;
+    }
+    holds(t, p)
+}
+
+fn is_near(p: Pt, q: Pt) -> bool
+    ensures { IsTrue result → IsNear p q }
+{
+    if !is_less_than_span(q.x, p.x) || !is_less_than_span(p.x, q.x) {
+        return false;
+    }
+    if !is_less_than_span(q.y, p.y) {
+        return false;
+    }
+    is_less_than_span(p.y, q.y)
+}
+
+fn is_less_than_span(from: i64, to: i64) -> bool
+    ensures { IsTrue result → ((to -ℤ from) <ℤ SPAN) }
+{
+    i128::from(to) - i128::from(from) < i128::from(SPAN)
+}
+
+fn corner(sx: i64, sy: i64, tx: i64, ty: i64) -> Corner {
+    Corner { sx, sy, tx, ty }
+}
+
+/// A line and a point of it, through a triangle whose first target numbers are three parts in ten thousand greater.
+fn found(alloc: Global, most: u32) -> Result<Vec<Change>, ChangesFault> {
+    let corners = [
+        corner(0, 0, 0, 0),
+        corner(10_000, 0, 10_003, 0),
+        corner(0, 10_000, 0, 10_000),
+    ];
+    let tin = one_triangle(alloc, &corners)?;
+    let line = piece(&tin, at(0, 0), at(4000, 4000), at(0, 0), at(4001, 4000), 0)?;
+    let dot = piece(
+        &tin,
+        at(1000, 1000),
+        at(1000, 1000),
+        at(1000, 1000),
+        at(1000, 1000),
+        1,
+    )?;
+    changes(alloc, &tin, &[line, dot], most)
+}
+
+#[test]
+fn lists_what_rounding_changed(rt: HostRuntime) -> Result<(), Fail> {
+    let place = |path: u32| Place {
+        layer: 0,
+        path,
+        segment: 0,
+        piece: 0,
+    };
+    let want = Change {
+        first: place(0),
+        second: place(1),
+        was: Rel::Touching,
+        now: Rel::Apart,
+    };
+    assert_eq!(rt; found(rt.alloc(), 1)?.as_slice(), [want].as_slice());
+    assert_eq!(rt; found(rt.alloc(), 1000)?.as_slice(), [want].as_slice());
+    assert_eq!(rt; found(rt.alloc(), 0).err(), Some(ChangesFault::TooMany));
+    Ok(())
+}
