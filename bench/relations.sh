@@ -13,7 +13,7 @@ cat > "$work/crates/relations_bench/src/main.rt" <<'END'
 //! Finds the relation of ten million random pairs of segments of each kind, and prints the nanoseconds of one.
 #![tactic(auto)]
 
-ghost use Rattle.std.specs.Prelude.{◌≤◌, unsigned_abs};
+ghost use Rattle.meet_rel.specs.Small.{IsSmall};
 
 use meet_rel::rel;
 use plane_base::Pt;
@@ -24,12 +24,11 @@ use tin_base::Rel;
 const PAIRS: u64 = 10_000_000;
 
 fn at(x: u16, y: u16) -> Pt
-    ensures x { unsigned_abs result.x ≤ 65535 }
-    ensures y { unsigned_abs result.y ≤ 65535 }
+    ensures { IsSmall result }
 {
     Pt {
-        x: i64::from(x),
-        y: i64::from(y),
+        x: i64::from(x / 2),
+        y: i64::from(y / 2),
     }
 }
 
@@ -45,13 +44,13 @@ fn related(numbers: [u16; 8]) -> Rel {
     rel(at(ax, ay), at(bx, by), at(cx, cy), at(dx, dy))
 }
 
-/// The relation of two segments whose eight numbers are taken from two states: all 16 bits, or the last three, or on one line, or short.
+/// The relation of two segments whose eight numbers are taken from two states: all bits, or the last four, or on one line, or short.
 fn pair_rel(kind: u8, first: u64, second: u64) -> Rel {
     let [a, b, c, d] = parts(first);
     let [e, f, g, h] = parts(second);
     match kind {
         0 => related([a, b, c, d, e, f, g, h]),
-        1 => related([a % 8, b % 8, c % 8, d % 8, e % 8, f % 8, g % 8, h % 8]),
+        1 => related([a % 16, b % 16, c % 16, d % 16, e % 16, f % 16, g % 16, h % 16]),
         2 => related([a, 7, c, 7, e, 7, g, 7]),
         _ => related([a, b, a ^ (c % 256), b ^ (d % 256), e, f, e ^ (g % 256), f ^ (h % 256)]),
     }
@@ -85,7 +84,7 @@ fn main(rt: HostRuntime) -> anyhow::Result<()> {
     Ok(())
 }
 END
-sed -e 's/meet_rel\.proofs\.tests\.met/relations_bench.proofs.related/' -e 's/32768/65535/g' \
+sed -e 's/meet_rel\.proofs\.tests\.met/relations_bench.proofs.related/' \
     "$top/crates/meet_rel/proofs/tests/met/Answers.antt" > "$work/crates/relations_bench/proofs/related/Answers.antt"
 mkdir -p "$work/crates/relations_bench/specs"
 touch "$work/crates/relations_bench/proofs/Lib.antt" "$work/crates/relations_bench/specs/Lib.antt"
