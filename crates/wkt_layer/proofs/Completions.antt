@@ -55,9 +55,9 @@ CanClose exact stack = (tokens : List Token) × (paths : List Path) × Closes ex
 can_close : (exact : Bool) (stack : List Group) → CanClose exact stack
 can_close exact [] = ([], [], (refl, refl))
 can_close exact (group ∷ outer) =
-    let (rest, later, closes) = can_close exact outer in
-    (
-      more_tokens group (no_items group) ++ rest, items_paths group (no_items group) ++ later,
+    let (rest, later, closes) = can_close exact outer in (
+      more_tokens group (no_items group) ++ rest,
+      items_paths group (no_items group) ++ later,
       (no_items group, rest, later, are_none exact (room (group ∷ outer)) group, refl, closes, refl),
     )
 
@@ -77,14 +77,14 @@ length_four : (p : Point) (points : List Point) → length (points ++ (p ∷ p �
 length_four p points = simp length-append refl
 
 ring_closes : (exact : Bool) (p : Point) (read : List Point) → IsPoint exact p → CanGoOn exact listings.Ring (p ∷ read)
-ring_closes exact p read is =
-    (
-      p ∷ p ∷ p ∷ p ∷ [], (is, (is, (is, (is, tt)))),
-      (
-        omega (arith, length_four p read),
-        ap place_of (ap (last_behind p) (sym (append_assoc read (p ∷ p ∷ p ∷ []) (p ∷ []))) ∙ last_at p (read ++ p ∷ p ∷ p ∷ []) p),
-      ),
-    )
+ring_closes exact p read is = (
+  p ∷ p ∷ p ∷ p ∷ [],
+  (is, (is, (is, (is, tt)))),
+  (
+    omega (arith, length_four p read),
+    ap place_of (ap (last_behind p) (sym (append_assoc read (p ∷ p ∷ p ∷ []) (p ∷ []))) ∙ last_at p (read ++ p ∷ p ∷ p ∷ []) p),
+  ),
+)
 
 can_go_on : (exact : Bool) (listing : Listing) (read : List Point) → ArePoints exact read → CanGoOn exact listing read
 can_go_on exact listings.Dot read are = ([], tt, refl)
@@ -122,9 +122,9 @@ can_enter exact (Points listing) stack =
     let (rest, later, closes) = can_close exact stack in
     (word Empty ∷ rest, later, ([], rest, later, no_points exact listing, refl, closes, refl))
 can_enter exact (Items group) stack =
-    let (rest, later, closes) = can_close exact stack in
-    (
-      items_tokens group (no_items group) ++ rest, items_paths group (no_items group) ++ later,
+    let (rest, later, closes) = can_close exact stack in (
+      items_tokens group (no_items group) ++ rest,
+      items_paths group (no_items group) ++ later,
       (no_items group, rest, later, are_none exact (room (group ∷ stack)) group, refl, closes, refl),
     )
 

@@ -242,4 +242,3 @@ last_points (first listing points) last = absurd last
 last_points (second listing points x) last = absurd last
 last_points (whole listing points) last = absurd last
 last_points (bare_second x) last = absurd last
-

@@ -35,12 +35,12 @@ placed at token = record { start = at; token = token }
 
 -- one token more
 ends_next : (front : List Placed) (opened at : ℕ) (t : Token) (tokens : List Token) → EndsIn front opened tokens → EndsIn (front ++ placed at t ∷ []) opened (tokens ++ t ∷ [])
-ends_next front opened at t tokens (before, points, split, are) =
-    (
-      before, points ++ placed at t ∷ [],
-      ap (λ x. x ++ placed at t ∷ []) split ∙ append_assoc before (placed opened opening ∷ points) (placed at t ∷ []),
-      map-append (λ (p : Placed). p.token) points (placed at t ∷ []) ∙ ap (λ x. x ++ t ∷ []) are,
-    )
+ends_next front opened at t tokens (before, points, split, are) = (
+  before,
+  points ++ placed at t ∷ [],
+  ap (λ x. x ++ placed at t ∷ []) split ∙ append_assoc before (placed opened opening ∷ points) (placed at t ∷ []),
+  map-append (λ (p : Placed). p.token) points (placed at t ∷ []) ∙ ap (λ x. x ++ t ∷ []) are,
+)
 
 joined_push : (one : Point) (more : List Point) (p : Point) → (joined_points one more ++ comma ∷ []) ++ point_tokens p ≡ joined_points one (more ++ p ∷ [])
 joined_push one [] p = refl
@@ -53,9 +53,10 @@ whole_next : (front : List Placed) (opened at : ℕ) (listing : Listing) (read :
 whole_next front opened at listing [] x y ends = (pair x y, [], refl, ends_next front opened at (number y) (number x ∷ []) ends)
 whole_next front opened at listing (one ∷ more) x y ends =
     let now : EndsIn (front ++ placed at (number y) ∷ []) opened ((read_tokens (one ∷ more) ++ number x ∷ []) ++ number y ∷ []) =
-    ends_next front opened at (number y) (read_tokens (one ∷ more) ++ number x ∷ []) ends in
-    (
-      one, more ++ pair x y ∷ [], refl,
+    ends_next front opened at (number y) (read_tokens (one ∷ more) ++ number x ∷ []) ends in (
+      one,
+      more ++ pair x y ∷ [],
+      refl,
       subst (EndsIn (front ++ placed at (number y) ∷ []) opened) (append_assoc (read_tokens (one ∷ more)) (number x ∷ []) (number y ∷ []) ∙ joined_push one more (pair x y)) now,
     )
 

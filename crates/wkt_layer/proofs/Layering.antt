@@ -10,7 +10,10 @@ use Rattle.wkt_layer.specs.Lines.{IsLineOf}
 use Rattle.wkt_layer.specs.Faults.{IsLineFault}
 use Rattle.wkt_layer.specs.Layers.{AreLinesOf, IsFirstLineFault}
 use Rattle.wkt_layer.specs.Paths.{Path, kept_points, rows_from, edits_from, lost_on, sheet_of}
-use Rattle.wkt_layer.specs.Passes.{GoesOn, Held, HasRoom, RestsAt}
+use Rattle.wkt_layer.specs.Passes.{GoesOn, Held, HasRoom, RestsAt, Ascend, path_numbers}
+use Rattle.wkt_layer.proofs.EditOrder.{ascend_before, ascend_past, ascend_append, line_ascends, edits_in_order}
+use Rattle.sheet_base.specs.Splices.{AreInOrder}
+use Rattle.std.proofs.lemmas.Grind.{flat_map-append}
 use Rattle.wkt_layer.specs.declared.pass.Pass.{Pass}
 use Rattle.wkt_layer.proofs.Sheets.{whole_append, line_paths_whole, is_sheet}
 
@@ -66,3 +69,22 @@ room_more pass at more room le = record {
   inexact = omega (arith, room.inexact);
   inside = room.inside;
 }
+
+-- the numbers so far stand one behind the other
+abbrev pub IsOrdered : List Path → ℕ → ℕ → Type 0
+IsOrdered done base size = (past : ℕ) × (past ≤ base) × (past ≤ size) × Ascend 0 (flat_map path_numbers done) past
+
+pub order_next : (exact : Bool) (base next size : ℕ) (line : List ℕ) (done here : List Path) → IsOrdered done base size → base + length line ≤ next → base + length line ≤ size
+    → IsLineOf exact (tokens_of base line) here → IsOrdered (done ++ here) next size
+order_next exact base next size line done here (past, below, inside, up) le fits is = (
+  base + length line,
+  le,
+  fits,
+  subst (λ ns. Ascend 0 ns (base + length line)) (sym (flat_map-append path_numbers done here))
+      (ascend_append 0 (flat_map path_numbers done) (flat_map path_numbers here) past (base + length line) up
+      (ascend_before base past (flat_map path_numbers here) (base + length line) below (line_ascends exact base line here is))),
+)
+
+pub sheet_order : (sheet : Contents) (done : List Path) (base size : ℕ) → sheet ≡ sheet_of done → IsOrdered done base size → AreInOrder 0 sheet.edits size
+sheet_order sheet done base size is (past, below, inside, up) =
+    subst (λ (s : Contents). AreInOrder 0 s.edits size) (sym is) (edits_in_order 0 done 0 size (ascend_past 0 (flat_map path_numbers done) past size inside up))

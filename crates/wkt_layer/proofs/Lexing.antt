@@ -239,9 +239,10 @@ pub token_reads : (exact : Bool) (base : ℕ) (line : List ℕ) (at : ℕ) (sign
     → (ahead : List Placed) × (to : State) × Stands new next before to × Reached exact base line (at + size) ahead to new.opened
 token_reads exact base line at sign size piece text before old new next is_piece is_text within black some first front s leads r =
     let (to, steps, stands, opened) = subst (λ (t : List ℕ). Leads exact s (token_for (base + at) t sign) (base + at) before old (Ok next) new) is_text leads in
-    let here : IsFirstToken (drop at line) sign size = subst (λ (p : List ℕ). IsFirstToken p sign size) is_piece first in
-    (
-      front ++ record { start = base + at; token = token_for (base + at) (take size (drop at line)) sign } ∷ [], to, stands,
+    let here : IsFirstToken (drop at line) sign size = subst (λ (p : List ℕ). IsFirstToken p sign size) is_piece first in (
+      front ++ record { start = base + at; token = token_for (base + at) (take size (drop at line)) sign } ∷ [],
+      to,
+      stands,
       subst (Reached exact base line (at + size) (front ++ record { start = base + at; token = token_for (base + at) (take size (drop at line)) sign } ∷ []) to) (sym opened)
           (reached_token exact base line at front s to old.opened sign size within black some here steps r),
     )

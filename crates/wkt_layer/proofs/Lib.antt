@@ -14,3 +14,5 @@ pub mod FirstLines
 pub mod Lexing
 pub mod Sheets
 pub mod Layering
+pub mod EditOrder
+pub mod OneSheet

@@ -77,8 +77,8 @@ content_ends : (exact : Bool) (front : List Token) (s : State) (inner : Content)
 content_ends exact front s inner runs at_content = elim (came exact front s runs) [
   | inl same ↦ let h : item ≡ content inner = sym (ap (λ (x : State). x.spot) same) ∙ at_content in cc
   | inr (before, t, split, (from, ran, steps)) ↦
-    let (which, is) = subst (λ spot. ComesFrom spot t) at_content (step_from exact from.spot from.stack from.paths t s steps) in
-    (before, which, split ∙ ap (λ x. before ++ x ∷ []) is)
+      let (which, is) = subst (λ spot. ComesFrom spot t) at_content (step_from exact from.spot from.stack from.paths t s steps) in
+      (before, which, split ∙ ap (λ x. before ++ x ∷ []) is)
 ]
 
 ends_content : (exact : Bool) (front : List Token) (s : State) → run (step exact) start front ≡ Some s → EndsInTag front → IsBehindTag s.spot
@@ -154,16 +154,16 @@ second_ends : (exact : Bool) (front : List Token) (s : State) (listing : Listing
 second_ends exact front s listing read x runs at_second = elim (came exact front s runs) [
   | inl same ↦ let h : item ≡ second listing read x = sym (ap (λ (y : State). y.spot) same) ∙ at_second in cc
   | inr (before, t, split, (from, ran, steps)) ↦
-    let is : t ≡ number x = subst (λ spot. ComesFrom spot t) at_second (step_from exact from.spot from.stack from.paths t s steps) in
-    (before, split ∙ ap (λ y. before ++ y ∷ []) is)
+      let is : t ≡ number x = subst (λ spot. ComesFrom spot t) at_second (step_from exact from.spot from.stack from.paths t s steps) in
+      (before, split ∙ ap (λ y. before ++ y ∷ []) is)
 ]
 
 bare_ends : (exact : Bool) (front : List Token) (s : State) (x : Number) → run (step exact) start front ≡ Some s → s.spot ≡ bare_second x → (before : List Token) × (front ≡ before ++ number x ∷ [])
 bare_ends exact front s x runs at_second = elim (came exact front s runs) [
   | inl same ↦ let h : item ≡ bare_second x = sym (ap (λ (y : State). y.spot) same) ∙ at_second in cc
   | inr (before, t, split, (from, ran, steps)) ↦
-    let is : t ≡ number x = subst (λ spot. ComesFrom spot t) at_second (step_from exact from.spot from.stack from.paths t s steps) in
-    (before, split ∙ ap (λ y. before ++ y ∷ []) is)
+      let is : t ≡ number x = subst (λ spot. ComesFrom spot t) at_second (step_from exact from.spot from.stack from.paths t s steps) in
+      (before, split ∙ ap (λ y. before ++ y ∷ []) is)
 ]
 
 point_split : (front before outer : List Token) (x y : Number) (t : Token) → front ≡ before ++ t ∷ [] → t ≡ number y → before ≡ outer ++ number x ∷ [] → front ≡ outer ++ point_tokens (pair x y)
@@ -174,30 +174,30 @@ whole_ends : (exact : Bool) (front : List Token) (s : State) (listing : Listing)
 whole_ends exact front s listing read runs at_whole = elim (came exact front s runs) [
   | inl same ↦ let h : item ≡ whole listing read = sym (ap (λ (y : State). y.spot) same) ∙ at_whole in cc
   | inr (before, t, split, (from, ran, steps)) ↦
-    let (y, is) = subst (λ spot. ComesFrom spot t) at_whole (step_from exact from.spot from.stack from.paths t s steps) in
-    let leads = number_leads_to exact from.spot from.stack from.paths y s (ap (λ z. step exact from z) (sym is) ∙ steps) in
-    let (l, r, x, at_second) = from_second from.spot from.stack s.stack y listing read s.spot at_whole leads in
-    let (outer, first_split) = second_ends exact before from l r x ran at_second in
-    (outer, pair x y, point_split front before outer x y t split is first_split)
+      let (y, is) = subst (λ spot. ComesFrom spot t) at_whole (step_from exact from.spot from.stack from.paths t s steps) in
+      let leads = number_leads_to exact from.spot from.stack from.paths y s (ap (λ z. step exact from z) (sym is) ∙ steps) in
+      let (l, r, x, at_second) = from_second from.spot from.stack s.stack y listing read s.spot at_whole leads in
+      let (outer, first_split) = second_ends exact before from l r x ran at_second in
+      (outer, pair x y, point_split front before outer x y t split is first_split)
 ]
 
 bare_whole_ends : (exact : Bool) (front : List Token) (s : State) → run (step exact) start front ≡ Some s → s.spot ≡ bare_whole → EndsInPoint front × (s.stack ≡ [] → ⊥)
 bare_whole_ends exact front s runs at_whole = elim (came exact front s runs) [
   | inl same ↦ let h : item ≡ bare_whole = sym (ap (λ (y : State). y.spot) same) ∙ at_whole in cc
   | inr (before, t, split, (from, ran, steps)) ↦
-    let (y, is) = subst (λ spot. ComesFrom spot t) at_whole (step_from exact from.spot from.stack from.paths t s steps) in
-    let leads = number_leads_to exact from.spot from.stack from.paths y s (ap (λ z. step exact from z) (sym is) ∙ steps) in
-    let (x, at_second, kept) = from_bare from.spot from.stack s.stack y s.spot at_whole leads in
-    let (outer, first_split) = bare_ends exact before from x ran at_second in
-    ((outer, pair x y, point_split front before outer x y t split is first_split), (λ none. bare_open exact before from x ran at_second (kept ∙ none)))
+      let (y, is) = subst (λ spot. ComesFrom spot t) at_whole (step_from exact from.spot from.stack from.paths t s steps) in
+      let leads = number_leads_to exact from.spot from.stack from.paths y s (ap (λ z. step exact from z) (sym is) ∙ steps) in
+      let (x, at_second, kept) = from_bare from.spot from.stack s.stack y s.spot at_whole leads in
+      let (outer, first_split) = bare_ends exact before from x ran at_second in
+      ((outer, pair x y, point_split front before outer x y t split is first_split), (λ none. bare_open exact before from x ran at_second (kept ∙ none)))
 ]
   where
     bare_open : (exact : Bool) (front : List Token) (s : State) (x : Number) → run (step exact) start front ≡ Some s → s.spot ≡ bare_second x → s.stack ≡ [] → ⊥
     bare_open exact front s x runs at_second none = elim (came exact front s runs) [
       | inl same ↦ let h : item ≡ bare_second x = sym (ap (λ (y : State). y.spot) same) ∙ at_second in cc
       | inr (before, t, split, (from, ran, steps)) ↦
-        let is : t ≡ number x = subst (λ spot. ComesFrom spot t) at_second (step_from exact from.spot from.stack from.paths t s steps) in
-        from_item from.spot from.stack s.stack x x s.spot at_second (number_leads_to exact from.spot from.stack from.paths x s (ap (λ z. step exact from z) (sym is) ∙ steps)) none
+          let is : t ≡ number x = subst (λ spot. ComesFrom spot t) at_second (step_from exact from.spot from.stack from.paths t s steps) in
+          from_item from.spot from.stack s.stack x x s.spot at_second (number_leads_to exact from.spot from.stack from.paths x s (ap (λ z. step exact from z) (sym is) ∙ steps)) none
     ]
 
 -- points in brackets end in a point
@@ -209,11 +209,11 @@ joined_last one (next ∷ more) =
 
 points_end_in_one : (front : List Placed) (at : ℕ) → EndsInPoints front at → EndsInPoint (tokens_in front)
 points_end_in_one front at (before, points, one, more, split, are) =
-    let (inner, p, same) = joined_last one more in
-    (
-      tokens_in before ++ opening ∷ inner, p,
+    let (inner, p, same) = joined_last one more in (
+      tokens_in before ++ opening ∷ inner,
+      p,
       ap tokens_in split ∙ map-append (λ (q : Placed). q.token) before (record { start = at; token = opening } ∷ points)
-      ∙ ap (λ x. tokens_in before ++ opening ∷ x) (are ∙ same) ∙ sym (append_assoc (tokens_in before) (opening ∷ inner) (point_tokens p)),
+          ∙ ap (λ x. tokens_in before ++ opening ∷ x) (are ∙ same) ∙ sym (append_assoc (tokens_in before) (opening ∷ inner) (point_tokens p)),
     )
 
 -- Where a geometry may stand.
@@ -400,8 +400,8 @@ named_tag : (exact : Bool) (front : List Placed) (at : ℕ) (s : State) (which :
     → IsTokenFault exact front (placed at (word (Tag which))) (if is_geometry_spot s.spot s.stack then faults.Deep at else faults.Bad at)
 named_tag exact front at s which runs refused = elim (tested (is_geometry_spot s.spot s.stack)) [
   | yes here ↦
-    let is : which ≡ kinds.Collection = deep_tag exact s.spot s.stack s.paths which here refused in
-    rw (here, is) (refl, record { speaks = geometry_place exact (tokens_in front) s runs here; first = first_deep exact front })
+      let is : which ≡ kinds.Collection = deep_tag exact s.spot s.stack s.paths which here refused in
+      rw (here, is) (refl, record { speaks = geometry_place exact (tokens_in front) s runs here; first = first_deep exact front })
   | no here ↦ rw here (refl, none_tag exact front which (no_geometry_place exact (tokens_in front) s runs here))
 ]
 
@@ -475,14 +475,13 @@ named_other exact front at Empty behind stack paths is runs here =
     (refl, none_word exact front Empty tt (no_geometry_place exact (tokens_in front) (state behind stack paths) runs here) (λ h. h))
 named_other exact front at Height item stack paths is runs here =
     (refl, none_word exact front Height tt (no_geometry_place exact (tokens_in front) (state item stack paths) runs here) (λ h. ends_content exact (tokens_in front) (state item stack paths) runs h))
-named_other exact front at Height (content inner) stack paths is runs here =
-    (
-      refl,
-      record {
-        speaks = content_ends exact (tokens_in front) (state (content inner) stack paths) inner runs refl;
-        first = first_height_word exact front (no_geometry_place exact (tokens_in front) (state (content inner) stack paths) runs here);
-      },
-    )
+named_other exact front at Height (content inner) stack paths is runs here = (
+  refl,
+  record {
+    speaks = content_ends exact (tokens_in front) (state (content inner) stack paths) inner runs refl;
+    first = first_height_word exact front (no_geometry_place exact (tokens_in front) (state (content inner) stack paths) runs here);
+  },
+)
 named_other exact front at Height (first listing points) stack paths is runs here =
     (refl, none_word exact front Height tt (no_geometry_place exact (tokens_in front) (state (first listing points) stack paths) runs here) (λ h. ends_content exact (tokens_in front) (state (first listing points) stack paths) runs h))
 named_other exact front at Height (second listing points x) stack paths is runs here =
@@ -517,10 +516,10 @@ named_no_tag : (exact : Bool) (front : List Placed) (at : ℕ) (w : Word) (spot 
     → IsTokenFault exact front (placed at (word w)) (if is_geometry_spot spot stack then faults.Kind at else other_fault spot w at)
 named_no_tag exact front at w spot stack paths is runs = elim (tested (is_geometry_spot spot stack)) [
   | yes here ↦
-    rw here (
-      refl,
-      record { speaks = speaks_kind exact front w is (geometry_place exact (tokens_in front) (state spot stack paths) runs here); first = first_kind exact front (word w) },
-    )
+      rw here (
+        refl,
+        record { speaks = speaks_kind exact front w is (geometry_place exact (tokens_in front) (state spot stack paths) runs here); first = first_kind exact front (word w) },
+      )
   | no here ↦ rw here (named_other exact front at w spot stack paths is runs here)
 ]
 
@@ -571,13 +570,16 @@ named_answer : (exact : Bool) (front : List Placed) (at : ℕ) (n : Number) (ans
 named_answer exact front at n (Err fault) is no_point = (refl, record { speaks = (fault, is); first = first_unread exact front n no_point }, is)
 named_answer exact front at n (Ok read) is no_point = elim (tested (exact && not read.exact)) [
   | yes both ↦
-    let parts = and_parts exact (not read.exact) both in
-    rw both (refl, record { speaks = (parts.0, (read, is, not_true read.exact parts.1)); first = first_inexact exact front n no_point (λ (fault, e). let h : Ok read ≡ Err fault = sym is ∙ e in cc) })
+      let parts = and_parts exact (not read.exact) both in
+      rw both (refl, record { speaks = (parts.0, (read, is, not_true read.exact parts.1)); first = first_inexact exact front n no_point (λ (fault, e). let h : Ok read ≡ Err fault = sym is ∙ e in cc) })
   | no one ↦
-    rw one (refl, none_number exact front n no_point (λ (fault, e). let h : Ok read ≡ Err fault = sym is ∙ e in cc)
-    (λ (wanted, (other, e, lost)).
-    let same : read ≡ other = let h : Ok read ≡ Ok other = sym is ∙ e in cc in
-    both_false exact read.exact one wanted (ap (λ (r : MmRead). r.exact) same ∙ lost)))
+      rw one (
+        refl,
+        none_number exact front n no_point (λ (fault, e). let h : Ok read ≡ Err fault = sym is ∙ e in cc)
+            (λ (wanted, (other, e, lost)).
+            let same : read ≡ other = let h : Ok read ≡ Ok other = sym is ∙ e in cc in
+            both_false exact read.exact one wanted (ap (λ (r : MmRead). r.exact) same ∙ lost)),
+      )
 ]
   where
     not_true : (b : Bool) → not b ≡ true → b ≡ false

@@ -154,11 +154,18 @@ start_follows exact one is = (geometry_paths one, (one, [], [], is, sym (append-
 
 follows_start : (exact : Bool) (tokens : List Token) (all : List Path) → Follows exact start tokens all
     → (one : Geometry) × IsGeometry exact DEEPEST one × (tokens ≡ geometry_tokens one) × (all ≡ geometry_paths one)
-follows_start exact tokens all (later, (one, rest, close, is, same, (no_rest, no_paths), paths), all_are) =
-    (
-      one, is, same ∙ ap (λ x. geometry_tokens one ++ x) no_rest ∙ append-nil (geometry_tokens one),
-      all_are ∙ paths ∙ ap (λ x. geometry_paths one ++ x) no_paths ∙ append-nil (geometry_paths one),
-    )
+follows_start exact tokens all (later, (one, rest, close, is, same, (no_rest, no_paths), paths), all_are) = (
+  one,
+  is,
+  same ∙ ap (λ x. geometry_tokens one ++ x) no_rest ∙ append-nil (geometry_tokens one),
+  all_are ∙ paths ∙ ap (λ x. geometry_paths one ++ x) no_paths ∙ append-nil (geometry_paths one),
+)
+
+-- a geometry's tokens lead to its paths
+pub line_paths : (exact : Bool) (one : Geometry) → IsGeometry exact DEEPEST one → (last : State) × (run (step exact) start (geometry_tokens one) ≡ Some last) × (last.paths ≡ geometry_paths one)
+line_paths exact one is =
+    let (last, runs, end, paths) = runs_out exact start (geometry_tokens one) (geometry_paths one) (start_follows exact one is) in
+    (last, runs, paths)
 
 -- a line is read to its end
 pub line_read : (exact : Bool) (tokens : List Token) → IsLine exact tokens → (last : State) × (run (step exact) start tokens ≡ Some last) × IsEnd last

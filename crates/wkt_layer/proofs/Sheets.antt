@@ -87,8 +87,7 @@ tiled : (first past : ℕ) (paths : List Path) → AreWhole paths → past ≡ f
 tiled first past [] are end = omega (arith, end)
 tiled first past (path ∷ paths) are end =
     let some = kept_some path.kind path.first path.more are.0 in
-    let size = length-append (kept_points path) (flat_map kept_points paths) in
-    (
+    let size = length-append (kept_points path) (flat_map kept_points paths) in (
       record { begins = refl; some = omega (arith, some); dot = λ is. let one = kept_dot path.kind path.first path.more are.0 is in omega (arith, one) },
       tiled (first + length (kept_points path)) past paths are.1 (omega (arith, end, size)),
     )

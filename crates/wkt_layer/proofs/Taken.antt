@@ -50,42 +50,52 @@ number_taken exact make stray next e = cc
 empty_before : (exact : Bool) (inner : Content) (stack : List Group) (paths : List Path) (ts : List Token) (all : List Path)
     → Follows exact (state behind stack paths) ts all → (later : List Path) × Enters exact inner stack (word Empty ∷ ts) later × (all ≡ paths ++ later)
 empty_before exact (Points listing) stack paths ts all (close, closes, same) = (close, ([], ts, close, no_points exact listing, refl, closes, refl), same)
-empty_before exact (Items group) stack paths ts all (close, closes, same) =
-    (
-      close,
-      (
-        no_items group, ts, close, are_none exact (room (group ∷ stack)) group, ap (λ x. x ++ ts) (sym (tokens_none group)), closes,
-        ap (λ x. x ++ close) (sym (paths_none group)),
-      ),
-      same,
-    )
+empty_before exact (Items group) stack paths ts all (close, closes, same) = (
+  close,
+  (
+    no_items group,
+    ts,
+    close,
+    are_none exact (room (group ∷ stack)) group,
+    ap (λ x. x ++ ts) (sym (tokens_none group)),
+    closes,
+    ap (λ x. x ++ close) (sym (paths_none group)),
+  ),
+  same,
+)
 
 -- an opening bracket
 opening_before : (exact : Bool) (inner : Content) (stack : List Group) (paths : List Path) (next : State) (ts : List Token) (all : List Path)
     → enter_step inner stack paths opening ≡ Some next → Follows exact next ts all → (later : List Path) × Enters exact inner stack (opening ∷ ts) later × (all ≡ paths ++ later)
 opening_before exact (Points listing) stack paths next ts all e follows =
     let here = subst (λ s. Follows exact s ts all) (sym (same_Some (state (first listing []) stack paths) next e)) follows in
-    let (later, (p, tokens, is, same, (more, rest, close, are, on, tokens_are, closes, paths_are)), all_are) = here in
-    (
+    let (later, (p, tokens, is, same, (more, rest, close, are, on, tokens_are, closes, paths_are)), all_are) = here in (
       later,
       (
-        p ∷ more, rest, close, points_whole exact listing p more is are on,
-        ap (λ x. opening ∷ x) (same ∙ ap (λ x. point_tokens p ++ x) tokens_are), closes, paths_are,
+        p ∷ more,
+        rest,
+        close,
+        points_whole exact listing p more is are on,
+        ap (λ x. opening ∷ x) (same ∙ ap (λ x. point_tokens p ++ x) tokens_are),
+        closes,
+        paths_are,
       ),
       all_are,
     )
 opening_before exact (Items group) stack paths next ts all e follows =
     let here = subst (λ s. Follows exact s ts all) (sym (same_Some (state item (group ∷ stack) paths) next e)) follows in
-    let (later, (one, tokens, rest_paths, is, same, (more, rest, close, are, tokens_are, closes, more_paths), paths_are), all_are) = here in
-    (
+    let (later, (one, tokens, rest_paths, is, same, (more, rest, close, are, tokens_are, closes, more_paths), paths_are), all_are) = here in (
       later,
       (
-        one_more group one more, rest, close, are_some exact (room (group ∷ stack)) group one more is are,
+        one_more group one more,
+        rest,
+        close,
+        are_some exact (room (group ∷ stack)) group one more is are,
         ap (λ x. opening ∷ x) (same ∙ ap (λ x. item_tokens group one ++ x) tokens_are ∙ sym (append_assoc (item_tokens group one) (more_tokens group more) rest))
-        ∙ ap (λ x. x ++ rest) (sym (tokens_some group one more)),
+            ∙ ap (λ x. x ++ rest) (sym (tokens_some group one more)),
         closes,
         paths_are ∙ ap (λ x. item_paths group one ++ x) more_paths ∙ sym (append_assoc (item_paths group one) (items_paths group more) close)
-        ∙ ap (λ x. x ++ close) (sym (paths_some group one more)),
+            ∙ ap (λ x. x ++ close) (sym (paths_some group one more)),
       ),
       all_are,
     )
@@ -151,11 +161,16 @@ kind_before exact kinds.Collection stack paths next ts all e follows =
     let taken = if_some (nat_lt (length stack) DEEPEST) (state (content (Items groups.Geometries)) stack paths) next e in
     let (later, (items, rest, close, is, same, closes, paths_are), all_are) = subst (λ s. Follows exact s ts all) taken.1 follows in
     let less : length stack < DEEPEST = ltb-true (length stack) DEEPEST taken.0 in
-    let left : suc (room (groups.Geometries ∷ stack)) ≡ room stack = omega arith in
-    (
+    let left : suc (room (groups.Geometries ∷ stack)) ≡ room stack = omega arith in (
       later,
       (
-        collection items, rest, close, subst (λ d. IsGeometry exact d (collection items)) left is, ap (λ x. word (Tag kinds.Collection) ∷ x) same, closes, paths_are,
+        collection items,
+        rest,
+        close,
+        subst (λ d. IsGeometry exact d (collection items)) left is,
+        ap (λ x. word (Tag kinds.Collection) ∷ x) same,
+        closes,
+        paths_are,
       ),
       all_are,
     )
@@ -202,31 +217,37 @@ item_before exact groups.Dots stack paths stray next ts all e follows = dot_befo
 -- behind an item
 comma_before : (exact : Bool) (group : Group) (outer : List Group) (paths : List Path) (ts : List Token) (all : List Path)
     → Follows exact (state item (group ∷ outer) paths) ts all → (later : List Path) × Closes exact (group ∷ outer) (comma ∷ ts) later × (all ≡ paths ++ later)
-comma_before exact group outer paths ts all (later, (one, tokens, rest_paths, is, same, (more, rest, close, are, tokens_are, closes, more_paths), paths_are), all_are) =
-    (
-      later,
-      (
-        one_more group one more, rest, close, are_some exact (room (group ∷ outer)) group one more is are,
-        ap (λ x. comma ∷ x) (same ∙ ap (λ x. item_tokens group one ++ x) tokens_are ∙ sym (append_assoc (item_tokens group one) (more_tokens group more) rest))
+comma_before exact group outer paths ts all (later, (one, tokens, rest_paths, is, same, (more, rest, close, are, tokens_are, closes, more_paths), paths_are), all_are) = (
+  later,
+  (
+    one_more group one more,
+    rest,
+    close,
+    are_some exact (room (group ∷ outer)) group one more is are,
+    ap (λ x. comma ∷ x) (same ∙ ap (λ x. item_tokens group one ++ x) tokens_are ∙ sym (append_assoc (item_tokens group one) (more_tokens group more) rest))
         ∙ ap (λ x. x ++ rest) (sym (more_some group one more)),
-        closes,
-        paths_are ∙ ap (λ x. item_paths group one ++ x) more_paths ∙ sym (append_assoc (item_paths group one) (items_paths group more) close)
+    closes,
+    paths_are ∙ ap (λ x. item_paths group one ++ x) more_paths ∙ sym (append_assoc (item_paths group one) (items_paths group more) close)
         ∙ ap (λ x. x ++ close) (sym (paths_some group one more)),
-      ),
-      all_are,
-    )
+  ),
+  all_are,
+)
 
 closing_before : (exact : Bool) (group : Group) (outer : List Group) (paths : List Path) (ts : List Token) (all : List Path)
     → Follows exact (state behind outer paths) ts all → (later : List Path) × Closes exact (group ∷ outer) (closing ∷ ts) later × (all ≡ paths ++ later)
-closing_before exact group outer paths ts all (close, closes, same) =
-    (
-      close,
-      (
-        no_items group, ts, close, are_none exact (room (group ∷ outer)) group, ap (λ x. x ++ ts) (sym (more_none group)), closes,
-        ap (λ x. x ++ close) (sym (paths_none group)),
-      ),
-      same,
-    )
+closing_before exact group outer paths ts all (close, closes, same) = (
+  close,
+  (
+    no_items group,
+    ts,
+    close,
+    are_none exact (room (group ∷ outer)) group,
+    ap (λ x. x ++ ts) (sym (more_none group)),
+    closes,
+    ap (λ x. x ++ close) (sym (paths_none group)),
+  ),
+  same,
+)
 
 behind_before : (exact : Bool) (stack : List Group) (paths : List Path) (t : Token) (next : State) (ts : List Token) (all : List Path)
     → behind_step stack paths t ≡ Some next → Follows exact next ts all → (later : List Path) × Closes exact stack (t ∷ ts) later × (all ≡ paths ++ later)
@@ -243,15 +264,20 @@ behind_before exact (group ∷ outer) paths stray next ts all e follows = cc
 -- behind a point in brackets
 next_before : (exact : Bool) (listing : Listing) (read : List Point) (stack : List Group) (paths : List Path) (ts : List Token) (all : List Path) → (listing ≡ listings.Dot → ⊥)
     → Follows exact (state (first listing read) stack paths) ts all → (later : List Path) × ClosesPoints exact listing read stack (comma ∷ ts) later × (all ≡ paths ++ later)
-next_before exact listing read stack paths ts all no_dot (later, (p, tokens, is, same, (more, rest, close, are, on, tokens_are, closes, paths_are)), all_are) =
-    (
-      later,
-      (
-        p ∷ more, rest, close, (is, are), on_before listing read p more no_dot on, ap (λ x. comma ∷ x) (same ∙ ap (λ x. point_tokens p ++ x) tokens_are), closes,
-        paths_are ∙ ap (λ x. path_of (kind_of listing) x ++ close) (append_assoc read (p ∷ []) more),
-      ),
-      all_are,
-    )
+next_before exact listing read stack paths ts all no_dot (later, (p, tokens, is, same, (more, rest, close, are, on, tokens_are, closes, paths_are)), all_are) = (
+  later,
+  (
+    p ∷ more,
+    rest,
+    close,
+    (is, are),
+    on_before listing read p more no_dot on,
+    ap (λ x. comma ∷ x) (same ∙ ap (λ x. point_tokens p ++ x) tokens_are),
+    closes,
+    paths_are ∙ ap (λ x. path_of (kind_of listing) x ++ close) (append_assoc read (p ∷ []) more),
+  ),
+  all_are,
+)
 
 may_on : (listing : Listing) (read : List Point) → may_end listing read ≡ true → GoOn listing read []
 may_on listings.Dot read may = refl
@@ -263,8 +289,7 @@ end_before : (exact : Bool) (listing : Listing) (read : List Point) (stack : Lis
     → (later : List Path) × ClosesPoints exact listing read stack (closing ∷ ts) later × (all ≡ paths ++ later)
 end_before exact listing read stack paths next ts all e follows =
     let taken = if_some (may_end listing read) (state behind stack (paths ++ path_of (kind_of listing) read)) next e in
-    let (close, closes, same) = subst (λ s. Follows exact s ts all) taken.1 follows in
-    (
+    let (close, closes, same) = subst (λ s. Follows exact s ts all) taken.1 follows in (
       path_of (kind_of listing) read ++ close,
       ([], ts, close, tt, may_on listing read taken.0, refl, closes, ap (λ x. path_of (kind_of listing) x ++ close) (sym (append-nil read))),
       same ∙ append_assoc paths (path_of (kind_of listing) read) close,

@@ -46,7 +46,8 @@ enter_points : (exact : Bool) (listing : Listing) (stack : List Group) (paths : 
     → Enters exact (Points listing) stack (t ∷ ts) later → Leads exact (enter_step (Points listing) stack paths t) ts (paths ++ later)
 enter_points exact listing stack paths t ts later ([], rest, close, is, same, closes, all) =
     rw (head t (word Empty) ts rest same) (
-      state behind stack paths, refl,
+      state behind stack paths,
+      refl,
       (close, subst (λ tokens. Closes exact stack tokens close) (sym (tail t (word Empty) ts rest same)) closes, ap (λ more. paths ++ more) all),
     )
 enter_points exact listing stack paths t ts later (p ∷ more, rest, close, is, same, closes, all) =
@@ -54,7 +55,8 @@ enter_points exact listing stack paths t ts later (p ∷ more, rest, close, is, 
     let inner : List Token = point_tokens p ++ behind_item point_tokens more ++ rest in
     let tokens : ts ≡ point_tokens p ++ (behind_item point_tokens more ++ rest) = tail t opening ts (point_tokens p ++ (behind_item point_tokens more ++ rest)) same in
     rw (head t opening ts (point_tokens p ++ (behind_item point_tokens more ++ rest)) same) (
-      state (first listing []) stack paths, refl,
+      state (first listing []) stack paths,
+      refl,
       (later, (p, behind_item point_tokens more ++ rest, parts.0, tokens, (more, rest, close, parts.1, parts.2, refl, closes, all)), refl),
     )
 
@@ -62,17 +64,19 @@ enter_points exact listing stack paths t ts later (p ∷ more, rest, close, is, 
 items_follow : (exact : Bool) (group : Group) (stack : List Group) (paths : List Path) (one : ItemOf group) (more : ItemsOf group) (ts rest : List Token) (later close : List Path)
     → IsItem exact (room (group ∷ stack)) group one → AreItems exact (room (group ∷ stack)) group more → ts ≡ (item_tokens group one ++ more_tokens group more) ++ rest
     → Closes exact stack rest close → later ≡ (item_paths group one ++ items_paths group more) ++ close → Follows exact (state item (group ∷ stack) paths) ts (paths ++ later)
-items_follow exact group stack paths one more ts rest later close is are same closes all =
-    (
-      later,
-      (
-        one, more_tokens group more ++ rest, items_paths group more ++ close, is,
-        same ∙ append_assoc (item_tokens group one) (more_tokens group more) rest,
-        (more, rest, close, are, refl, closes, refl),
-        all ∙ append_assoc (item_paths group one) (items_paths group more) close,
-      ),
-      refl,
-    )
+items_follow exact group stack paths one more ts rest later close is are same closes all = (
+  later,
+  (
+    one,
+    more_tokens group more ++ rest,
+    items_paths group more ++ close,
+    is,
+    same ∙ append_assoc (item_tokens group one) (more_tokens group more) rest,
+    (more, rest, close, are, refl, closes, refl),
+    all ∙ append_assoc (item_paths group one) (items_paths group more) close,
+  ),
+  refl,
+)
 
 -- EMPTY or the opening bracket of items
 enter_items : (exact : Bool) (group : Group) (stack : List Group) (paths : List Path) (t : Token) (ts : List Token) (later : List Path)
@@ -80,23 +84,25 @@ enter_items : (exact : Bool) (group : Group) (stack : List Group) (paths : List 
 enter_items exact group stack paths t ts later (items, rest, close, are, same, closes, all) =
     elim (split_items group items) [
       | inl none ↦
-        let tokens : t ∷ ts ≡ word Empty ∷ rest = same ∙ ap (λ x. items_tokens group x ++ rest) none ∙ ap (λ x. x ++ rest) (tokens_none group) in
-        let kept : later ≡ close = all ∙ ap (λ x. items_paths group x ++ close) none ∙ ap (λ x. x ++ close) (paths_none group) in
-        rw (head t (word Empty) ts rest tokens) (
-          state behind stack paths, refl,
-          (close, subst (λ x. Closes exact stack x close) (sym (tail t (word Empty) ts rest tokens)) closes, ap (λ x. paths ++ x) kept),
-        )
+          let tokens : t ∷ ts ≡ word Empty ∷ rest = same ∙ ap (λ x. items_tokens group x ++ rest) none ∙ ap (λ x. x ++ rest) (tokens_none group) in
+          let kept : later ≡ close = all ∙ ap (λ x. items_paths group x ++ close) none ∙ ap (λ x. x ++ close) (paths_none group) in
+          rw (head t (word Empty) ts rest tokens) (
+            state behind stack paths,
+            refl,
+            (close, subst (λ x. Closes exact stack x close) (sym (tail t (word Empty) ts rest tokens)) closes, ap (λ x. paths ++ x) kept),
+          )
       | inr (one, more, some) ↦
-        let tokens : t ∷ ts ≡ opening ∷ ((item_tokens group one ++ more_tokens group more) ++ rest) =
-        same ∙ ap (λ x. items_tokens group x ++ rest) some ∙ ap (λ x. x ++ rest) (tokens_some group one more) in
-        let kept : later ≡ (item_paths group one ++ items_paths group more) ++ close =
-        all ∙ ap (λ x. items_paths group x ++ close) some ∙ ap (λ x. x ++ close) (paths_some group one more) in
-        let parts = are_parts exact (room (group ∷ stack)) group one more (subst (λ x. AreItems exact (room (group ∷ stack)) group x) some are) in
-        rw (head t opening ts ((item_tokens group one ++ more_tokens group more) ++ rest) tokens) (
-          state item (group ∷ stack) paths, refl,
-          items_follow exact group stack paths one more ts rest later close parts.0 parts.1
-              (tail t opening ts ((item_tokens group one ++ more_tokens group more) ++ rest) tokens) closes kept,
-        )
+          let tokens : t ∷ ts ≡ opening ∷ ((item_tokens group one ++ more_tokens group more) ++ rest) =
+          same ∙ ap (λ x. items_tokens group x ++ rest) some ∙ ap (λ x. x ++ rest) (tokens_some group one more) in
+          let kept : later ≡ (item_paths group one ++ items_paths group more) ++ close =
+          all ∙ ap (λ x. items_paths group x ++ close) some ∙ ap (λ x. x ++ close) (paths_some group one more) in
+          let parts = are_parts exact (room (group ∷ stack)) group one more (subst (λ x. AreItems exact (room (group ∷ stack)) group x) some are) in
+          rw (head t opening ts ((item_tokens group one ++ more_tokens group more) ++ rest) tokens) (
+            state item (group ∷ stack) paths,
+            refl,
+            items_follow exact group stack paths one more ts rest later close parts.0 parts.1
+                (tail t opening ts ((item_tokens group one ++ more_tokens group more) ++ rest) tokens) closes kept,
+          )
     ]
 
 enter_leads : (exact : Bool) (inner : Content) (stack : List Group) (paths : List Path) (t : Token) (ts : List Token) (later : List Path)
@@ -110,7 +116,8 @@ tag_leads : (exact : Bool) (inner : Content) (kind : Kind) (stack : List Group) 
     → Leads exact (tag_step stack paths t) ts (paths ++ later)
 tag_leads exact inner kind stack paths t ts rest later steps same enters =
     rw (head t (word (Tag kind)) ts rest same) (
-      state (content inner) stack paths, steps,
+      state (content inner) stack paths,
+      steps,
       (later, subst (λ x. Enters exact inner stack x later) (sym (tail t (word (Tag kind)) ts rest same)) enters, refl),
     )
 
@@ -169,7 +176,8 @@ item_leads exact groups.Dots (dot points) stack paths t ts rest later close is s
     dot_leads exact stack paths t ts (paths ++ later) (enter_points exact listings.Dot stack paths t ts later (points, rest, close, is, same, closes, all))
 item_leads exact groups.Dots (bare p) stack paths t ts rest later close is same closes all =
     rw (head t (number p.x) ts (number p.y ∷ rest) same, is.0) (
-      state (bare_second p.x) stack paths, refl,
+      state (bare_second p.x) stack paths,
+      refl,
       (later, (p.y, rest, close, is.1, tail t (number p.x) ts (number p.y ∷ rest) same, closes, all), refl),
     )
 
@@ -179,23 +187,25 @@ behind_leads exact [] paths t ts later (same, all) = cc
 behind_leads exact (group ∷ outer) paths t ts later (items, rest, close, are, same, closes, all) =
     elim (split_items group items) [
       | inl none ↦
-        let tokens : t ∷ ts ≡ closing ∷ rest = same ∙ ap (λ x. more_tokens group x ++ rest) none ∙ ap (λ x. x ++ rest) (more_none group) in
-        let kept : later ≡ close = all ∙ ap (λ x. items_paths group x ++ close) none ∙ ap (λ x. x ++ close) (paths_none group) in
-        rw (head t closing ts rest tokens) (
-          state behind outer paths, refl,
-          (close, subst (λ x. Closes exact outer x close) (sym (tail t closing ts rest tokens)) closes, ap (λ x. paths ++ x) kept),
-        )
+          let tokens : t ∷ ts ≡ closing ∷ rest = same ∙ ap (λ x. more_tokens group x ++ rest) none ∙ ap (λ x. x ++ rest) (more_none group) in
+          let kept : later ≡ close = all ∙ ap (λ x. items_paths group x ++ close) none ∙ ap (λ x. x ++ close) (paths_none group) in
+          rw (head t closing ts rest tokens) (
+            state behind outer paths,
+            refl,
+            (close, subst (λ x. Closes exact outer x close) (sym (tail t closing ts rest tokens)) closes, ap (λ x. paths ++ x) kept),
+          )
       | inr (one, more, some) ↦
-        let tokens : t ∷ ts ≡ comma ∷ ((item_tokens group one ++ more_tokens group more) ++ rest) =
-        same ∙ ap (λ x. more_tokens group x ++ rest) some ∙ ap (λ x. x ++ rest) (more_some group one more) in
-        let kept : later ≡ (item_paths group one ++ items_paths group more) ++ close =
-        all ∙ ap (λ x. items_paths group x ++ close) some ∙ ap (λ x. x ++ close) (paths_some group one more) in
-        let parts = are_parts exact (room (group ∷ outer)) group one more (subst (λ x. AreItems exact (room (group ∷ outer)) group x) some are) in
-        rw (head t comma ts ((item_tokens group one ++ more_tokens group more) ++ rest) tokens) (
-          state item (group ∷ outer) paths, refl,
-          items_follow exact group outer paths one more ts rest later close parts.0 parts.1
-              (tail t comma ts ((item_tokens group one ++ more_tokens group more) ++ rest) tokens) closes kept,
-        )
+          let tokens : t ∷ ts ≡ comma ∷ ((item_tokens group one ++ more_tokens group more) ++ rest) =
+          same ∙ ap (λ x. more_tokens group x ++ rest) some ∙ ap (λ x. x ++ rest) (more_some group one more) in
+          let kept : later ≡ (item_paths group one ++ items_paths group more) ++ close =
+          all ∙ ap (λ x. items_paths group x ++ close) some ∙ ap (λ x. x ++ close) (paths_some group one more) in
+          let parts = are_parts exact (room (group ∷ outer)) group one more (subst (λ x. AreItems exact (room (group ∷ outer)) group x) some are) in
+          rw (head t comma ts ((item_tokens group one ++ more_tokens group more) ++ rest) tokens) (
+            state item (group ∷ outer) paths,
+            refl,
+            items_follow exact group outer paths one more ts rest later close parts.0 parts.1
+                (tail t comma ts ((item_tokens group one ++ more_tokens group more) ++ rest) tokens) closes kept,
+          )
     ]
 
 -- the brackets of points close
@@ -227,11 +237,15 @@ whole_leads exact listing read stack paths t ts later ([], rest, close, are, on,
 whole_leads exact listing read stack paths t ts later (p ∷ more, rest, close, are, on, same, closes, all) =
     let tokens : t ∷ ts ≡ comma ∷ (point_tokens p ++ (behind_item point_tokens more ++ rest)) = same in
     rw (head t comma ts (point_tokens p ++ (behind_item point_tokens more ++ rest)) tokens, points_next listing read p more stack paths on) (
-      state (first listing read) stack paths, refl,
+      state (first listing read) stack paths,
+      refl,
       (
         later,
         (
-          p, behind_item point_tokens more ++ rest, are.0, tail t comma ts (point_tokens p ++ (behind_item point_tokens more ++ rest)) tokens,
+          p,
+          behind_item point_tokens more ++ rest,
+          are.0,
+          tail t comma ts (point_tokens p ++ (behind_item point_tokens more ++ rest)) tokens,
           (more, rest, close, are.1, on_next listing read p more on, refl, closes, all ∙ ap (λ x. path_of (kind_of listing) x ++ close) (sym (append_assoc read (p ∷ []) more))),
         ),
         refl,
@@ -252,9 +266,9 @@ token_leads exact (second listing read x) stack paths t ts later (y, rest, is, s
     (later, subst (λ tokens. ClosesPoints exact listing (read ++ pair x y ∷ []) stack tokens later) (sym (tail t (number y) ts rest same)) closes, refl)
 token_leads exact (whole listing read) stack paths t ts later closes = whole_leads exact listing read stack paths t ts later closes
 token_leads exact (bare_second x) stack paths t ts later (y, rest, close, is, same, closes, all) =
-    number_leads exact (λ y. state bare_whole stack (paths ++ path_of Dot (pair x y ∷ []))) y t ts (paths ++ later) (head t (number y) ts rest same) is
-    (
-      close, subst (λ tokens. Closes exact stack tokens close) (sym (tail t (number y) ts rest same)) closes,
+    number_leads exact (λ y. state bare_whole stack (paths ++ path_of Dot (pair x y ∷ []))) y t ts (paths ++ later) (head t (number y) ts rest same) is (
+      close,
+      subst (λ tokens. Closes exact stack tokens close) (sym (tail t (number y) ts rest same)) closes,
       ap (λ more. paths ++ more) all ∙ sym (append_assoc paths (path_of Dot (pair x y ∷ [])) close),
     )
 token_leads exact bare_whole stack paths t ts later closes = behind_leads exact stack paths t ts later closes

@@ -5,6 +5,7 @@ pub mod Paths
 pub mod Lines
 pub mod Faults
 pub mod Layers
+pub mod Texts
 pub mod States
 pub mod Reached
 pub mod Passes

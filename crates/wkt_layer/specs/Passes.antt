@@ -172,3 +172,14 @@ pub record GoesOn (exact : Bool) (all : List (List ℕ)) (base : ℕ) (rest : Li
 abbrev pub RestsAt : Option (Bor (List ℕ)) → ℕ → ℕ → Type 0
 RestsAt None base size = ⊤
 RestsAt (Some rest) base size = base + length rest.now ≡ size
+
+-- the numbers stand one behind the other, between these places
+abbrev pub Ascend : ℕ → List Number → ℕ → Type 0
+Ascend from [] past = from ≤ past
+Ascend from (n ∷ numbers) past = (from ≤ n.start) × Ascend (n.start + length n.text) numbers past
+
+abbrev pub point_numbers : Point → List Number
+point_numbers p = p.x ∷ p.y ∷ []
+
+abbrev pub path_numbers : Path → List Number
+path_numbers path = flat_map point_numbers (path.first ∷ path.more)

@@ -28,4 +28,3 @@ pub record Reached (exact : Bool) (base : ℕ) (line : List ℕ) (at : ℕ) (fro
   pub lexed : tokens_of base line ≡ front ++ tokens_of (base + at) (drop at line)
   pub ran : run (step exact) start (tokens_in front) ≡ Some s
   pub inside : IsIn front opened s.spot
-

@@ -1,6 +1,8 @@
 //! Layers of well-known text (OGC 06-103r4, seven plane kinds), one geometry a line.
 #![tactic(auto)]
 
+mod laws;
+mod layer;
 mod limits;
 mod pass;
 mod places;
@@ -9,5 +11,9 @@ mod stack;
 mod steps;
 #[cfg(test)]
 mod tests;
+mod texts;
 mod tokens;
 mod words;
+
+pub use laws::sheet_is_one;
+pub use layer::Wkt;

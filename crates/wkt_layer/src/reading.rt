@@ -2,6 +2,7 @@
 
 ghost use Rattle.std.specs.Prelude.{◌≡◌, ◌≢◌, ◌+◌, ◌*◌, ◌^◌, ◌<◌, ◌≤◌, ◌++◌, ◌∷◌, [], ℕ, List, length, OnOk, IfOk, IsErrOf, IsTrue, true, false, slice_index};
 ghost use Rattle.std.specs.List.{list_all};
+ghost use Rattle.sheet_base.specs.Splices.{AreInOrder};
 ghost use Rattle.sheet_base.specs.declared.faults.LayerFault.{LayerFault};
 ghost use Rattle.sheet_base.specs.declared.faults.LayerFault.TheVariants.{NoMemory};
 ghost use Rattle.wkt_layer.specs.Tokens.{is_blank, tokens_of, Placed};
@@ -72,12 +73,7 @@ fn read_token(
 }
 
 /// Reads the geometry of a line that begins at this place of the text.
-fn read_geometry(
-    pass: &mut Pass,
-    line: &[u8],
-    base: usize,
-    exact: bool,
-) -> Result<(), LayerFault>
+fn read_geometry(pass: &mut Pass, line: &[u8], base: usize, exact: bool) -> Result<(), LayerFault>
     requires small { base + length line.now < 2 ^ 32 }
     requires room { HasRoom pass.old base }
     requires some { list_all is_blank line.now ≡ false }
@@ -125,6 +121,7 @@ fn read_line(pass: &mut Pass, line: &[u8], base: usize, exact: bool) -> Result<(
 pub fn read(alloc: Global, bytes: &[u8], exact: bool) -> Result<Sheet, LayerFault>
     requires { length bytes.now ≤ 2 ^ 26 }
     ensures ok { IfOk result (λ sheet. IsReadAs exact bytes.now sheet) }
+    ensures edits { IfOk result (λ sheet. AreInOrder 0 sheet.edits (length bytes.now)) }
     ensures refused { (fault : LayerFault) → IsErrOf result fault → fault ≢ NoMemory → IsRefusedBy exact bytes.now fault }
 {
     let mut pass = Pass::new(alloc);

@@ -297,13 +297,7 @@ fn bare_second(
 }
 
 /// The first number of a point in brackets.
-fn first(
-    pass: &mut Pass,
-    listing: Listing,
-    token: Token,
-    text: &[u8],
-    exact: bool,
-) -> Option<Place>
+fn first(pass: &mut Pass, listing: Listing, token: Token, text: &[u8], exact: bool) -> Option<Place>
     ensures goes { (before paths : List Path) → (points : List Point) → Held pass.old (before ++ paths) points
         → Goes (number_step exact (λ x. state (Spot.second listing points x) pass.old.stack paths) (token_for token.start text.now token.sign)) (token_for token.start text.now token.sign) token.start before pass.old (Ok result) pass.new }
     ensures same { SameSheet pass.old pass.new }

@@ -1,10 +1,29 @@
-use crate::reading::read;
+use crate::Wkt;
+use crate::texts::Texts;
 use mm_decimal::NumFault;
 use plane_base::Pt;
-use sheet_base::{Edit, LayerFault, PathKind, PathRow, What};
-use std::alloc::AllocError;
+use sheet_base::{
+    Edit, How, Images, Layer, LayerFault, Listed, PathKind, PathRow, Sheet, What, splice,
+};
+use std::alloc::{AllocError, Global};
 
 const ZEROS: &str = "POINT (00000000000000000000000000000000000000000000000000000000000000000 1)";
+
+fn how(exact: bool) -> How {
+    How {
+        exact,
+        drop_other: false,
+        inside_only: false,
+    }
+}
+
+/// The text has at most 64 kilobytes.
+fn read(alloc: Global, text: &[u8], exact: bool) -> Result<Sheet, LayerFault> {
+    if text.len() > 65536 {
+        return Err(LayerFault::NoMemory);
+    }
+    Wkt::read(alloc, text, how(exact))
+}
 
 /// Each line is refused, at a place that was counted by hand from the grammar.
 #[test]
@@ -16,7 +35,10 @@ fn refuses_lines(rt: HostRuntime) {
         ("POINTZ (1 2 3)", LayerFault::Kind { at: 0 }),
         ("SRID=4326;POINT (1 2)", LayerFault::Kind { at: 0 }),
         ("GEOMETRYCOLLECTION (EMPTY)", LayerFault::Kind { at: 20 }),
-        ("GEOMETRYCOLLECTION (POINT (1 2), Z)", LayerFault::Kind { at: 33 }),
+        (
+            "GEOMETRYCOLLECTION (POINT (1 2), Z)",
+            LayerFault::Kind { at: 33 },
+        ),
         ("POINT (1 2)\n\n  \r\nCIRCLE", LayerFault::Kind { at: 17 }),
         ("POINT Z (5 0 1)", LayerFault::Height { at: 6 }),
         ("POINT (5 0 1)", LayerFault::Height { at: 11 }),
@@ -31,7 +53,10 @@ fn refuses_lines(rt: HostRuntime) {
         ("POINT (1 2 1e)", LayerFault::Height { at: 11 }),
         ("POLYGON ((0 0, 1 0, 0 0))", LayerFault::Ring { at: 9 }),
         ("POLYGON ((0 0, 1 0, 1 1, 0 1))", LayerFault::Ring { at: 9 }),
-        ("POLYGON ((0 0, 1 0, 1 1, 0 0.001))", LayerFault::Ring { at: 9 }),
+        (
+            "POLYGON ((0 0, 1 0, 1 1, 0 0.001))",
+            LayerFault::Ring { at: 9 },
+        ),
         (
             "POLYGON ((0 0, 1 0, 1 1, 0 0), (0 0, 1 0, 0 0))",
             LayerFault::Ring { at: 31 },
@@ -41,7 +66,11 @@ fn refuses_lines(rt: HostRuntime) {
             LayerFault::Ring { at: 39 },
         ),
     ] {
-        assert_eq!(rt; read(rt.alloc(), text.as_bytes(), false).err(), Some(fault), "at {text}");
+        assert_eq!(rt;
+            read(rt.alloc(), text.as_bytes(), false).err(),
+            Some(fault),
+            "at {text}"
+        );
     }
 }
 
@@ -67,9 +96,16 @@ fn refuses_numbers(rt: HostRuntime) {
         ("POINT 0.0004", LayerFault::Inexact { at: 6 }),
         ("POINT (5 0 0.0004)", LayerFault::Height { at: 11 }),
         ("MULTIPOINT (0.0004 1)", LayerFault::Inexact { at: 12 }),
-        ("POLYGON ((0 0, 1 0, 1 1, 0 0.0004))", LayerFault::Inexact { at: 27 }),
+        (
+            "POLYGON ((0 0, 1 0, 1 1, 0 0.0004))",
+            LayerFault::Inexact { at: 27 },
+        ),
     ] {
-        assert_eq!(rt; read(rt.alloc(), text.as_bytes(), true).err(), Some(fault), "at {text}");
+        assert_eq!(rt;
+            read(rt.alloc(), text.as_bytes(), true).err(),
+            Some(fault),
+            "at {text}"
+        );
     }
 }
 
@@ -177,21 +213,39 @@ fn list(path: u32, start: u32, end: u32) -> Edit {
 fn reads_lines(rt: HostRuntime) -> anyhow::Result<()> {
     let text = "MULTIPOINT (5 0, (0 0), EMPTY)";
     let sheet = read(rt.alloc(), text.as_bytes(), true)?;
-    assert_eq!(rt; sheet.paths(), [row(PathKind::Dot, 0, 1), row(PathKind::Dot, 1, 2)].as_slice());
+    assert_eq!(rt;
+        sheet.paths(),
+        [row(PathKind::Dot, 0, 1), row(PathKind::Dot, 1, 2)].as_slice()
+    );
     assert_eq!(rt; sheet.points(), [pt(5000, 0), pt(0, 0)].as_slice());
-    assert_eq!(rt; sheet.edits(), [list(0, 12, 15), list(1, 18, 21)].as_slice());
+    assert_eq!(rt;
+        sheet.edits(),
+        [list(0, 12, 15), list(1, 18, 21)].as_slice()
+    );
 
     let text = "LINESTRING (1 1, 1 1, 2 1)";
     let sheet = read(rt.alloc(), text.as_bytes(), true)?;
     assert_eq!(rt; sheet.paths(), [row(PathKind::Line, 0, 3)].as_slice());
-    assert_eq!(rt; sheet.points(), [pt(1000, 1000), pt(1000, 1000), pt(2000, 1000)].as_slice());
+    assert_eq!(rt;
+        sheet.points(),
+        [pt(1000, 1000), pt(1000, 1000), pt(2000, 1000)].as_slice()
+    );
     assert_eq!(rt; sheet.edits(), [list(0, 12, 25)].as_slice());
 
     let text = "LINESTRING (10 0, 0 10)\nPOINT (6 4)";
     let sheet = read(rt.alloc(), text.as_bytes(), true)?;
-    assert_eq!(rt; sheet.paths(), [row(PathKind::Line, 0, 2), row(PathKind::Dot, 2, 3)].as_slice());
-    assert_eq!(rt; sheet.points(), [pt(10000, 0), pt(0, 10000), pt(6000, 4000)].as_slice());
-    assert_eq!(rt; sheet.edits(), [list(0, 12, 22), list(1, 31, 34)].as_slice());
+    assert_eq!(rt;
+        sheet.paths(),
+        [row(PathKind::Line, 0, 2), row(PathKind::Dot, 2, 3)].as_slice()
+    );
+    assert_eq!(rt;
+        sheet.points(),
+        [pt(10000, 0), pt(0, 10000), pt(6000, 4000)].as_slice()
+    );
+    assert_eq!(rt;
+        sheet.edits(),
+        [list(0, 12, 22), list(1, 31, 34)].as_slice()
+    );
     Ok(())
 }
 
@@ -200,7 +254,10 @@ fn reads_rings_and_empty_contents(rt: HostRuntime) -> anyhow::Result<()> {
     let text = "polygon(( 0 0,1 0 , 1 1, 0 0.0004\t))\r\n";
     let sheet = read(rt.alloc(), text.as_bytes(), false)?;
     assert_eq!(rt; sheet.paths(), [row(PathKind::Loop, 0, 3)].as_slice());
-    assert_eq!(rt; sheet.points(), [pt(0, 0), pt(1000, 0), pt(1000, 1000)].as_slice());
+    assert_eq!(rt;
+        sheet.points(),
+        [pt(0, 0), pt(1000, 0), pt(1000, 1000)].as_slice()
+    );
     assert_eq!(rt;
         sheet.edits(),
         [Edit {
@@ -229,9 +286,63 @@ fn reads_rings_and_empty_contents(rt: HostRuntime) -> anyhow::Result<()> {
 
 #[test]
 fn reads_all_kinds(rt: HostRuntime) -> anyhow::Result<()> {
-    let text = "GEOMETRYCOLLECTION (MULTIPOLYGON (((0 0, 1 0, 0 1, 0 0))), MULTILINESTRING ((7 8, 9 1)))";
+    let text =
+        "GEOMETRYCOLLECTION (MULTIPOLYGON (((0 0, 1 0, 0 1, 0 0))), MULTILINESTRING ((7 8, 9 1)))";
     let sheet = read(rt.alloc(), text.as_bytes(), true)?;
-    assert_eq!(rt; sheet.paths(), [row(PathKind::Loop, 0, 3), row(PathKind::Line, 3, 5)].as_slice());
+    assert_eq!(rt;
+        sheet.paths(),
+        [row(PathKind::Loop, 0, 3), row(PathKind::Line, 3, 5)].as_slice()
+    );
     assert_eq!(rt; sheet.edits()[1], list(1, 77, 85));
+    Ok(())
+}
+
+/// The text with these images, whose runs begin at these places.
+fn moved(alloc: Global, text: &str, points: &[Pt], run: &[u32]) -> anyhow::Result<String> {
+    let bytes = text.as_bytes();
+    if bytes.len() > 65536 {
+        return Ok(String::new(alloc));
+    }
+    let sheet = Wkt::read(alloc, bytes, how(true))?;
+    let mut images = Vec::new(alloc);
+    images.extend_from_slice(points)?;
+    let mut begins = Vec::new(alloc);
+    begins.extend_from_slice(run)?;
+    let images = Images::of(Listed::of(images), Listed::of(begins));
+    let texts = Texts {
+        sheet: &sheet,
+        images: &images,
+    };
+    let out = splice(alloc, bytes, sheet.edits(), &texts)?;
+    Ok(String::from_utf8(out)?)
+}
+
+#[test]
+fn puts_images(rt: HostRuntime) -> anyhow::Result<()> {
+    let line = [pt(110000, 100000), pt(105002, 105002), pt(100000, 110000)];
+    assert_eq!(rt;
+        moved(rt.alloc(), "LINESTRING (10 0, 0 10)", &line, &[0, 2])?.as_str(),
+        "LINESTRING (110.000 100.000, 105.002 105.002, 100.000 110.000)"
+    );
+    let dots = [pt(105001, 100000), pt(100000, 100000)];
+    assert_eq!(rt;
+        moved(rt.alloc(), "MULTIPOINT (5 0, (0 0), EMPTY)", &dots, &[0, 1])?.as_str(),
+        "MULTIPOINT (105.001 100.000, (100.000 100.000), EMPTY)"
+    );
+    assert_eq!(rt;
+        moved(rt.alloc(), "Point(5 0)", &[pt(105001, 100000)], &[0])?.as_str(),
+        "Point(105.001 100.000)"
+    );
+    let ring = [pt(0, 0), pt(500, -5), pt(1000, 0), pt(1000, 1000)];
+    assert_eq!(rt;
+        moved(
+            rt.alloc(),
+            "\t\nPOLYGON (( 0 0,1 0,1 1,0 0 ) )\n",
+            &ring,
+            &[0, 2, 3]
+        )?
+        .as_str(),
+        "\t\nPOLYGON (( 0.000 0.000, 0.500 -0.005, 1.000 0.000, 1.000 1.000, 0.000 0.000 ) )\n"
+    );
     Ok(())
 }

@@ -12,10 +12,11 @@ loop-at-init c = record {
   room = let e : c.args.base ≡ c.args.base + 0 = omega arith in subst (HasRoom c.args.pass.now) e c.requires.room;
   begins = tt;
   reached = λ before held none. (
-      [], start,
-      record { stack = none; held = subst (λ done. Held c.args.pass.now done []) (sym (append-nil before)) held; shows = tt },
-      reached_start c.args.exact c.args.base c.args.line.now c.args.pass.now.opened,
-    );
+    [],
+    start,
+    record { stack = none; held = subst (λ done. Held c.args.pass.now done []) (sym (append-nil before)) held; shows = tt },
+    reached_start c.args.exact c.args.base c.args.line.now c.args.pass.now.opened,
+  );
 }
 
 pub returns-then-is_end-clause-reads : goal.returns-then-is_end-clause-reads

@@ -5,8 +5,8 @@ use Rattle.wkt_layer.proofs.reading.read_line.Goals as goal
 
 pub returns-then-are_blank-clause-reads : goal.returns-then-are_blank-clause-reads
 returns-then-are_blank-clause-reads c = λ before held none. (
-    [],
-    blank_line c.args.exact c.args.base c.args.line.now (sym c.are_blank.ensures ∙ c.if-are_blank.true),
-    subst (λ done. Held c.args.pass.now done []) (sym (append-nil before)) held,
-    none,
-  )
+  [],
+  blank_line c.args.exact c.args.base c.args.line.now (sym c.are_blank.ensures ∙ c.if-are_blank.true),
+  subst (λ done. Held c.args.pass.now done []) (sym (append-nil before)) held,
+  none,
+)

@@ -8,19 +8,19 @@ use Rattle.wkt_layer.proofs.steps.behind_point.Goals as goal
 
 pub returns-in-List-clause-goes : goal.returns-in-List-clause-goes
 returns-in-List-clause-goes c = λ before paths one more text held. (
-    state (first listings.List (one ∷ more)) c.args.pass.now.stack paths,
-    comma_goes c.args.listing (one ∷ more) c.args.pass.now.stack paths c.args.token.start text c.args.token.sign listings.List c.in-Comma.is c.in-List.is (λ e. cc),
-    record { stack = refl; held = held; shows = refl },
-    opened_comma c.args.token.start c.args.pass.now.opened text c.args.token.sign c.in-Comma.is,
-  )
+  state (first listings.List (one ∷ more)) c.args.pass.now.stack paths,
+  comma_goes c.args.listing (one ∷ more) c.args.pass.now.stack paths c.args.token.start text c.args.token.sign listings.List c.in-Comma.is c.in-List.is (λ e. cc),
+  record { stack = refl; held = held; shows = refl },
+  opened_comma c.args.token.start c.args.pass.now.opened text c.args.token.sign c.in-Comma.is,
+)
 
 pub returns-in-Ring-clause-goes : goal.returns-in-Ring-clause-goes
 returns-in-Ring-clause-goes c = λ before paths one more text held. (
-    state (first listings.Ring (one ∷ more)) c.args.pass.now.stack paths,
-    comma_goes c.args.listing (one ∷ more) c.args.pass.now.stack paths c.args.token.start text c.args.token.sign listings.Ring c.in-Comma.is c.in-Ring.is (λ e. cc),
-    record { stack = refl; held = held; shows = refl },
-    opened_comma c.args.token.start c.args.pass.now.opened text c.args.token.sign c.in-Comma.is,
-  )
+  state (first listings.Ring (one ∷ more)) c.args.pass.now.stack paths,
+  comma_goes c.args.listing (one ∷ more) c.args.pass.now.stack paths c.args.token.start text c.args.token.sign listings.Ring c.in-Comma.is c.in-Ring.is (λ e. cc),
+  record { stack = refl; held = held; shows = refl },
+  opened_comma c.args.token.start c.args.pass.now.opened text c.args.token.sign c.in-Comma.is,
+)
 
 pub returns-in_ok-end_path-in-Closing-clause-goes : goal.returns-in_ok-end_path-in-Closing-clause-goes
 returns-in_ok-end_path-in-Closing-clause-goes c = λ before paths one more text held.

@@ -1,0 +1,46 @@
+ghost use Rattle.std.specs.Prelude.{◌≡◌, ◌≢◌, ◌≤◌, ◌^◌, List, ℕ, length, IfOk, IsErrOf};
+ghost use Rattle.sheet_base.specs.declared.edits.Edit.{Edit};
+ghost use Rattle.sheet_base.specs.declared.faults.LayerFault.{LayerFault};
+ghost use Rattle.sheet_base.specs.declared.faults.LayerFault.TheVariants.{NoMemory};
+ghost use Rattle.sheet_base.specs.declared.flags.How.{How};
+ghost use Rattle.sheet_base.specs.Sheets.{Contents};
+ghost use Rattle.sheet_base.specs.Fitting.{Runs, DoFit};
+ghost use Rattle.sheet_base.specs.Splices.{AreInOrder, spliced, DoKeep};
+
+use crate::{How, Images, LayerFault, Sheet};
+use std::alloc::{AllocError, Global};
+
+/// A format of layers.
+pub trait Layer {
+    /// The bytes are a layer of this sheet.
+    ghost reads: { How → List ℕ → Contents → Type 0 };
+
+    /// The bytes are no layer, and this is their first fault.
+    ghost refuses: { How → List ℕ → LayerFault → Type 0 };
+
+    /// The text that takes the place of an edit's bytes.
+    ghost text: { List ℕ → How → Contents → Runs → Edit → List ℕ };
+
+    /// The sheet of a layer, with its edits in order and apart from each other; or the layer's first
+    /// fault, but for want of memory.
+    fn read(alloc: Global, bytes: &[u8], how: How) -> Result<Sheet, LayerFault>
+        requires { length bytes.now ≤ 2 ^ 26 }
+        ensures sheet { IfOk result (λ sheet. reads how bytes.now sheet) }
+        ensures edits { IfOk result (λ sheet. AreInOrder 0 sheet.edits (length bytes.now)) }
+        ensures refused { (fault : LayerFault) → IsErrOf result fault → fault ≢ NoMemory → refuses how bytes.now fault };
+
+    /// The layer's bytes with the images in place of its points: each edit's bytes are replaced by
+    /// its text, and all other bytes are kept.
+    fn render(
+        alloc: Global,
+        bytes: &[u8],
+        how: How,
+        sheet: &Sheet,
+        images: &Images,
+    ) -> Result<Vec<u8>, AllocError>
+        requires small { length bytes.now ≤ 2 ^ 26 }
+        requires sheet { reads how bytes.now sheet.now }
+        requires fits { DoFit sheet.now images.now }
+        ensures spliced { IfOk result (λ out. out.items ≡ spliced bytes.now (text bytes.now how sheet.now images.now) sheet.now.edits) }
+        ensures rest { IfOk result (λ out. DoKeep bytes.now 0 sheet.now.edits out.items) };
+}

@@ -1,0 +1,10 @@
+ghost use Rattle.std.specs.Prelude.{◌≡◌, ℕ, List, Bool};
+ghost use Rattle.sheet_base.specs.Sheets.{Contents};
+ghost use Rattle.sheet_base.specs.declared.faults.LayerFault.{LayerFault};
+ghost use Rattle.wkt_layer.specs.Layers.{IsReadAs, IsRefusedBy};
+
+/// A layer is read as one sheet, and none that is read is refused.
+pub fn sheet_is_one()
+    ensures one { (exact : Bool) → (bytes : List ℕ) → (sheet other : Contents) → IsReadAs exact bytes sheet → IsReadAs exact bytes other → sheet ≡ other }
+    ensures apart { (exact : Bool) → (bytes : List ℕ) → (sheet : Contents) → (fault : LayerFault) → IsReadAs exact bytes sheet → IsRefusedBy exact bytes fault → ⊥ }
+{}
