@@ -5,4 +5,5 @@ pub mod Gathering
 pub mod Stopping
 pub mod Pathing
 pub mod Sheeting
+pub mod Counting
 pub mod Tiling

@@ -1,3 +1,4 @@
 pub mod Sides
 pub mod Carried
 pub mod Causes
+pub mod Layers

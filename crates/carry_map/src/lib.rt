@@ -5,6 +5,7 @@
 mod carrying;
 mod crossings;
 mod faults;
+mod layers;
 mod limits;
 mod paths;
 mod segments;
@@ -13,4 +14,5 @@ mod tests;
 
 pub use carrying::carry;
 pub use faults::CarryFault;
+pub use layers::{Carried, carry_layer};
 pub use limits::MOST_PIECES;

@@ -1,0 +1,10 @@
+use Rattle.std.proofs.Common.{◌≡◌, length, ap, List, arith}
+use Rattle.sheet_base.specs.declared.paths.PathRow.{PathRow}
+use Rattle.carry_map.proofs.Sheeting.{few_paths}
+use Rattle.carry_map.proofs.layers.path_count.Goals as goal
+
+pub overflow_cast-result : goal.overflow_cast-result
+overflow_cast-result c =
+    let few = few_paths c.args.sheet.now c.paths.ensures.sheet in
+    let rows : length c.paths.result.now ≡ length c.args.sheet.now.paths = ap (λ (rs : List PathRow). length rs) c.paths.ensures.paths in
+    omega arith

@@ -1,0 +1,63 @@
+-- What it is that a whole layer is carried, and that it is not: read, carried and rendered.
+use Rattle.std.specs.Prelude.{◌≡◌, ℕ, nat_lt, Bool, false, List, ◌++◌, length}
+use Rattle.sheet_base.specs.declared.edits.Edit.{Edit}
+use Rattle.sheet_base.specs.declared.paths.PathKind.{PathKind}
+use Rattle.sheet_base.specs.declared.paths.PathKind.TheVariants.{Dot, Line, Loop}
+use Rattle.sheet_base.specs.declared.paths.PathRow.{PathRow}
+use Rattle.sheet_base.specs.Segments.{points_in}
+use Rattle.sheet_base.specs.Sheets.{Contents}
+use Rattle.sheet_base.specs.Fitting.{Runs, DoFit}
+use Rattle.sheet_base.specs.Splices.{AreInOrder, spliced}
+use Rattle.tin_base.specs.declared.pieces.Piece.{Piece}
+use Rattle.tin_base.specs.Triangulation.{Triangulation}
+use Rattle.affine_image.specs.SheetSegments.{sheet_segments}
+use Rattle.affine_image.specs.SheetPieces.{ArePiecesOfSheet, IsSheetInside}
+use Rattle.affine_image.specs.SheetImages.{AreImagesOf}
+use Rattle.carry_map.specs.declared.layers.Carried.{Carried}
+use Rattle.carry_map.specs.Causes.{IsFirstOutside, IsFirstTooMany}
+
+-- ---- how many segments
+-- the last point of a path begins no segment where it is a line of two points or more
+abbrev pub ends_open_of : PathKind → ℕ → Bool
+ends_open_of Dot count = false
+ends_open_of Line count = nat_lt 1 count
+ends_open_of Loop count = false
+
+abbrev pub ends_open : PathRow → Bool
+ends_open row = ends_open_of row.kind (points_in row)
+
+-- ---- a layer
+-- it is read as some sheet, and this is so of the sheet
+abbrev pub IsReadWith : (Contents → Type 0) → (Contents → Type 0) → Type 0
+IsReadWith reads IsSo = (sheet : Contents) × reads sheet × IsSo sheet
+
+-- A layer of these bytes, which a format reads as sheets and whose texts for a sheet's edits are given, is carried.
+pub record IsLayerCarried (tin : Triangulation) (bytes : List ℕ) (reads : Contents → Type 0) (text : Contents → Runs → Edit → List ℕ) (layer : ℕ) (before after : List Piece) (carried : Carried) : Type 0 where
+  -- its sheet
+  pub sheet : Contents
+  pub read : reads sheet
+  pub inside : IsSheetInside tin sheet
+  pub edits : AreInOrder 0 sheet.edits (length bytes)
+  -- its images, and the bytes with their texts
+  pub images : Runs
+  pub are_images : AreImagesOf tin sheet images
+  pub fit : DoFit sheet images
+  pub text_is : carried.text ≡ spliced bytes (text sheet images) sheet.edits
+  -- its pieces, behind those that stood there before
+  pub own : List Piece
+  pub are_pieces : ArePiecesOfSheet tin layer sheet own
+  pub stand : after ≡ before ++ own
+  -- its numbers
+  pub paths : carried.paths ≡ length sheet.paths
+  pub segments : carried.segments ≡ length (sheet_segments sheet)
+  pub pieces : carried.pieces ≡ length own
+  pub inexact : carried.inexact ≡ sheet.inexact
+  pub dropped : carried.dropped ≡ sheet.dropped
+
+-- it is read as a sheet whose first segment that is not carried is outside, and is the one of these numbers
+abbrev pub IsLayerOutside : Triangulation → (Contents → Type 0) → ℕ → ℕ → ℕ → ℕ → ℕ → Type 0
+IsLayerOutside tin reads layer old most path number = IsReadWith reads (λ sheet. IsFirstOutside tin layer old most (sheet_segments sheet) path number)
+
+-- it is read as a sheet whose first segment that is not carried is inside, but with its pieces there are more than `most`
+abbrev pub IsLayerTooMany : Triangulation → (Contents → Type 0) → ℕ → ℕ → ℕ → Type 0
+IsLayerTooMany tin reads layer old most = IsReadWith reads (λ sheet. IsFirstTooMany tin layer old most (sheet_segments sheet))

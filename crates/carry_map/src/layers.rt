@@ -1,0 +1,113 @@
+ghost use Rattle.std.specs.Prelude.{◌≡◌, ◌≢◌, ℕ, ◌+◌, ◌≤◌, ◌^◌, length, vec_len, count_by, IfOk, OnOk, OnErr, IsErrOf};
+ghost use Rattle.sheet_base.specs.declared.faults.LayerFault.{LayerFault};
+ghost use Rattle.sheet_base.specs.declared.faults.LayerFault.TheVariants.{NoMemory};
+ghost use Rattle.affine_image.specs.SheetSegments.{sheet_segments};
+ghost use Rattle.carry_map.specs.declared.limits.TheConstants.{MOST_PIECES};
+ghost use Rattle.carry_map.specs.Layers.{ends_open, IsLayerCarried, IsLayerOutside, IsLayerTooMany};
+
+use crate::{CarryFault, carry};
+use sheet_base::{How, Layer, LayerFault, Listed, PathKind, PathRow, Sheet};
+use std::alloc::{AllocError, Global};
+use tin_base::Piece;
+use tin_index::TinIndex;
+
+/// A layer that was carried: its bytes with the images in place of its points, and how many paths, segments and pieces
+/// it has, numbers that lost digits, and entities that are left out.
+#[derive(Debug, Drop)]
+pub struct Carried {
+    pub text: Listed<u8>,
+    pub paths: u32,
+    pub segments: u32,
+    pub pieces: u32,
+    pub inexact: u64,
+    pub dropped: u64,
+}
+
+/// Does the path's last point begin no segment? So it is with a line of two points or more.
+fn is_open(row: PathRow) -> bool
+    ensures { result ≡ ends_open row }
+{
+    match row.kind {
+        PathKind::Line => row.past.saturating_sub(row.first) > 1,
+        PathKind::Dot | PathKind::Loop => false,
+    }
+}
+
+fn open_count(rows: &[PathRow]) -> usize
+    ensures { result ≡ count_by ends_open rows.now }
+{
+    rows.iter().filter(|row| is_open(**row)).count()
+}
+
+/// How many segments a sheet has: one for each of its points, but for those at the ends of lines.
+fn segment_total(sheet: &Sheet) -> u32
+    ensures { result ≡ length (sheet_segments sheet.now) }
+{
+    (sheet.points().len() - open_count(sheet.paths())) as u32
+}
+
+/// How many paths.
+fn path_count(sheet: &Sheet) -> u32
+    ensures { result ≡ length sheet.now.paths }
+{
+    sheet.paths().len() as u32
+}
+
+/// Why a layer that is not read is not carried.
+fn unread(fault: LayerFault) -> CarryFault
+    ensures layer { fault ≢ NoMemory → result ≡ CarryFault.Layer fault }
+    ensures memory { fault ≡ NoMemory → result ≡ CarryFault.NoMemory }
+{
+    match fault {
+        LayerFault::NoMemory => CarryFault::NoMemory,
+        fault => CarryFault::Layer(fault),
+    }
+}
+
+/// Reads a layer, carries it and writes its bytes with the images in place of its points. Its pieces are appended in
+/// order; `layer` is its number, and with its pieces there are to be at most `most`. A layer that the format refuses is
+/// `Layer`, with its first fault; else each segment must be inside, and the pieces must find room, as `carry` asks.
+/// After a refusal the pieces are as before.
+pub fn carry_layer<L: Layer>(
+    alloc: Global,
+    index: &TinIndex,
+    bytes: &[u8],
+    how: How,
+    layer: u32,
+    most: u32,
+    pieces: &mut Vec<Piece>,
+) -> Result<Carried, CarryFault>
+    requires small { length bytes.now ≤ 2 ^ 26 }
+    requires room { vec_len pieces.old ≤ most }
+    requires most { most ≤ MOST_PIECES }
+    // where it is carried
+    ensures carried { IfOk result (λ carried. IsLayerCarried index.now bytes.now (L.reads how bytes.now)
+        (L.text bytes.now how) layer pieces.old.items pieces.new.items carried) }
+    ensures room { OnOk result (vec_len pieces.new ≤ most) }
+    // the cause of each refusal, and what stands after it
+    ensures layer { (fault : LayerFault) → IsErrOf result (CarryFault.Layer fault) → L.refuses how bytes.now fault }
+    ensures memory { ¬ IsErrOf result (CarryFault.Layer NoMemory) }
+    ensures outside { (path segment : ℕ) → IsErrOf result (CarryFault.Outside path segment)
+        → IsLayerOutside index.now (L.reads how bytes.now) layer (vec_len pieces.old) most path segment }
+    ensures too_many { IsErrOf result CarryFault.TooMany
+        → IsLayerTooMany index.now (L.reads how bytes.now) layer (vec_len pieces.old) most }
+    ensures unchanged { OnErr result (pieces.new.items ≡ pieces.old.items) }
+{
+    let sheet = L::read(alloc, bytes, how).map_err(unread)?;
+    let before = pieces.len();
+    let images = carry(alloc, index, &sheet, layer, most, pieces)?;
+    match L::render(alloc, bytes, how, &sheet, &images) {
+        Ok(text) => Ok(Carried {
+            text: Listed::of(text),
+            paths: path_count(&sheet),
+            segments: segment_total(&sheet),
+            pieces: (pieces.len() - before) as u32,
+            inexact: sheet.inexact(),
+            dropped: sheet.dropped(),
+        }),
+        Err(AllocError) => {
+            pieces.truncate(before);
+            Err(CarryFault::NoMemory)
+        }
+    }
+}
