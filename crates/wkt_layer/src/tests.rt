@@ -293,7 +293,12 @@ fn reads_all_kinds(rt: HostRuntime) -> anyhow::Result<()> {
         sheet.paths(),
         [row(PathKind::Loop, 0, 3), row(PathKind::Line, 3, 5)].as_slice()
     );
-    assert_eq!(rt; sheet.edits()[1], list(1, 77, 85));
+    let ring = Edit {
+        start: 36,
+        end: 54,
+        what: What::WktRing { path: 0 },
+    };
+    assert_eq!(rt; sheet.edits(), [ring, list(1, 77, 85)].as_slice());
     Ok(())
 }
 
