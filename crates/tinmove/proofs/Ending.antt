@@ -4,6 +4,8 @@ use Rattle.std.proofs.Math.Seq.{take-length}
 use Rattle.shelf_io.specs.Files.{Files}
 use Rattle.mm_decimal.specs.declared.reading.NumFault.{NumFault}
 use Rattle.mm_decimal.specs.declared.reading.NumFault.TheVariants.{Form, Long, Range}
+use Rattle.sheet_base.specs.declared.faults.LayerFault.{LayerFault}
+use Rattle.sheet_base.specs.declared.faults.LayerFault.TheVariants as layers
 use Rattle.tin_base.specs.declared.frames.Frame.TheVariants.{Source, Target}
 use Rattle.tin_check.specs.declared.faults.CheckFault.{CheckFault}
 use Rattle.tin_check.specs.declared.faults.CheckFault.TheVariants.{Flat, TurnsOver, Meets, NoMemory as CheckMemory}
@@ -15,15 +17,15 @@ use Rattle.tinmove.specs.declared.preparing.LayerFile.{LayerFile}
 use Rattle.tinmove.specs.declared.status.Status.{Status}
 use Rattle.tinmove.specs.declared.status.Status.TheVariants.{Same, Write, Memory}
 use Rattle.tinmove.specs.declared.refusal.Refusal.{Refusal}
-use Rattle.tinmove.specs.declared.refusal.Refusal.TheVariants.{NotUnderstood, TinUnread, TinLong, Tin, Check, LayerUnread, LayerLong, LayerNotYet, Outside, TooManyPieces, NoMemory}
+use Rattle.tinmove.specs.declared.refusal.Refusal.TheVariants.{NotUnderstood, TinUnread, TinLong, Tin, Check, LayerUnread, LayerLong, Layer, Outside, TooManyPieces, NoMemory}
 use Rattle.tinmove.specs.Jobs.{Job, migrates, checks, IsJob, LacksJob, IsCheck}
 use Rattle.tinmove.specs.Names.{HasSlash}
-use Rattle.tinmove.specs.Lines.{tin_line, check_line, number_line}
+use Rattle.tinmove.specs.Lines.{tin_line, check_line, number_line, layer_line, layer_number_line}
 use Rattle.tinmove.specs.Outcome.{IsJobDone, no_job, refused, done}
-use Rattle.tinmove.specs.Refusals.{status_of, line_of, status_of_tin, status_of_check}
+use Rattle.tinmove.specs.Refusals.{status_of, line_of, status_of_tin, status_of_check, status_of_layer}
 use Rattle.tinmove.specs.Prepared.{files_with, HasFormWith}
 use Rattle.tinmove.specs.Ends.{IsFrontOf, Makes, by_outcome, after_read_fault, out_of_memory, made_whole, after_write_fault, EndsTold, Stands, all_written, sound_alone, line_alone, front_of_files, front_of_sound, front_of_line, MayRefuse, by_the_files, unread, no_room, TellsBytes, MayEnd, IsEndOfCheck}
-use Rattle.tinmove.proofs.Faults.{of_text, of_check, not_write}
+use Rattle.tinmove.proofs.Faults.{of_text, of_check, of_layer, not_write, layer_not_write}
 
 -- the file that a refusal makes
 abbrev pub line_file : Refusal → Files
@@ -53,8 +55,8 @@ never-write (Tin fault) = not_write _ (of_text fault)
 never-write (Check fault) = not_write _ (of_check fault)
 never-write LayerUnread = λ e. cc
 never-write LayerLong = λ e. cc
-never-write LayerNotYet = λ e. cc
-never-write (Outside path) = λ e. cc
+never-write (Layer fault) = layer_not_write _ (of_layer fault)
+never-write (Outside path segment) = λ e. cc
 never-write TooManyPieces = λ e. cc
 never-write NoMemory = λ e. cc
 
@@ -95,6 +97,31 @@ check-memory (TurnsOver triangle) is = cc
 check-memory (Meets first second frame) is = cc
 check-memory CheckMemory is = refl
 
+layer-memory : (fault : LayerFault) → status_of_layer fault ≡ Memory → layer_line fault ≡ line_of NoMemory
+layer-memory (layers.Bad at) is = cc
+layer-memory (layers.Deep at) is = cc
+layer-memory (layers.Repeat at) is = cc
+layer-memory (layers.Shape at) is = cc
+layer-memory (layers.Kind at) is = cc
+layer-memory (layers.Height at) is = cc
+layer-memory (layers.Inexact at) is = cc
+layer-memory (layers.Ring at) is = cc
+layer-memory (layers.Number at fault) is = cc
+layer-memory layers.Binary is = cc
+layer-memory layers.NoEof is = cc
+layer-memory (layers.Code line) is = cc
+layer-memory (layers.Odd line) is = cc
+layer-memory (layers.Entity line) is = cc
+layer-memory (layers.Extrusion line) is = cc
+layer-memory (layers.Flags line) is = cc
+layer-memory (layers.Count line) is = cc
+layer-memory (layers.Bulge line) is = cc
+layer-memory (layers.Width line) is = cc
+layer-memory (layers.Slope line) is = cc
+layer-memory (layers.Attribs line) is = cc
+layer-memory (layers.Seed line) is = cc
+layer-memory layers.NoMemory is = refl
+
 -- want of memory has one line, wherever it came
 memory-line : (refusal : Refusal) → status_of refusal ≡ Memory → line_of refusal ≡ line_of NoMemory
 memory-line NotUnderstood is = cc
@@ -104,8 +131,8 @@ memory-line (Tin fault) is = text-memory fault is
 memory-line (Check fault) is = check-memory fault is
 memory-line LayerUnread is = cc
 memory-line LayerLong is = cc
-memory-line LayerNotYet is = cc
-memory-line (Outside path) is = cc
+memory-line (Layer fault) is = layer-memory fault is
+memory-line (Outside path segment) is = cc
 memory-line TooManyPieces is = cc
 memory-line NoMemory is = refl
 
@@ -237,6 +264,40 @@ check-none (TurnsOver triangle) = t-line _ refl
 check-none (Meets first second frame) = t-line _ refl
 check-none CheckMemory = at-first _ 110 refl (λ e. omega (arith, e))
 
+-- the lines of a layer have an a behind an l
+a-line : (line : List ℕ) → get_or line 1 0 ≡ 97 → TellsNone line
+a-line line is = at-second line 97 is (λ e. omega (arith, e))
+
+layer-number-none : (at : ℕ) (fault : NumFault) → TellsNone (layer_number_line at fault)
+layer-number-none at (Form place) = a-line _ refl
+layer-number-none at Long = a-line _ refl
+layer-number-none at Range = a-line _ refl
+
+layer-none : (fault : LayerFault) → TellsNone (layer_line fault)
+layer-none (layers.Bad at) = a-line _ refl
+layer-none (layers.Deep at) = a-line _ refl
+layer-none (layers.Repeat at) = a-line _ refl
+layer-none (layers.Shape at) = a-line _ refl
+layer-none (layers.Kind at) = a-line _ refl
+layer-none (layers.Height at) = a-line _ refl
+layer-none (layers.Inexact at) = a-line _ refl
+layer-none (layers.Ring at) = a-line _ refl
+layer-none (layers.Number at fault) = layer-number-none at fault
+layer-none layers.Binary = a-line _ refl
+layer-none layers.NoEof = a-line _ refl
+layer-none (layers.Code line) = a-line _ refl
+layer-none (layers.Odd line) = a-line _ refl
+layer-none (layers.Entity line) = a-line _ refl
+layer-none (layers.Extrusion line) = a-line _ refl
+layer-none (layers.Flags line) = a-line _ refl
+layer-none (layers.Count line) = a-line _ refl
+layer-none (layers.Bulge line) = a-line _ refl
+layer-none (layers.Width line) = a-line _ refl
+layer-none (layers.Slope line) = a-line _ refl
+layer-none (layers.Attribs line) = a-line _ refl
+layer-none (layers.Seed line) = a-line _ refl
+layer-none layers.NoMemory = at-first _ 110 refl (λ e. omega (arith, e))
+
 -- a front of a line that does not tell of bytes does not
 front-none : (line : List ℕ) (made : Files) → TellsNone line → IsFrontOf made ((codes "-", line) ∷ []) → TellsBytes made → ⊥
 front-none line made none front (inl is) =
@@ -255,8 +316,8 @@ tells_long TinUnread passed made front tells tin layer = absurd (front-none _ ma
 tells_long (Tin fault) passed made front tells tin layer = absurd (front-none _ made (text-none fault) front tells)
 tells_long (Check fault) passed made front tells tin layer = absurd (front-none _ made (check-none fault) front tells)
 tells_long LayerUnread passed made front tells tin layer = absurd (front-none _ made (at-first _ 114 refl (λ e. omega (arith, e))) front tells)
-tells_long LayerNotYet passed made front tells tin layer = absurd (front-none _ made (at-second _ 97 refl (λ e. omega (arith, e))) front tells)
-tells_long (Outside path) passed made front tells tin layer = absurd (front-none _ made (at-first _ 111 refl (λ e. omega (arith, e))) front tells)
+tells_long (Layer fault) passed made front tells tin layer = absurd (front-none _ made (layer-none fault) front tells)
+tells_long (Outside path segment) passed made front tells tin layer = absurd (front-none _ made (at-first _ 111 refl (λ e. omega (arith, e))) front tells)
 tells_long TooManyPieces passed made front tells tin layer = absurd (front-none _ made (at-eighth _ 112 refl (λ e. omega (arith, e))) front tells)
 tells_long NoMemory passed made front tells tin layer = absurd (front-none _ made (at-first _ 110 refl (λ e. omega (arith, e))) front tells)
 
@@ -309,5 +370,5 @@ limit_done None said result (Some made) press_rose passed (tin, is_said) printed
 limit_done (Some file) said result (Some made) press_rose passed form printed = λ tells.
     elim printed.status [
       | inl is ↦ let same = printed.all (λ write. let e = sym is ∙ write in cc) in absurd (two-files _ _ made same tells)
-      | inr is ↦ absurd (named-file (string_bytes file.name) file.bytes.items said made form (printed.front is) tells)
+      | inr is ↦ absurd (named-file (string_bytes file.name) file.text said made form (printed.front is) tells)
     ]

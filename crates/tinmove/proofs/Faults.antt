@@ -1,12 +1,14 @@
--- The statuses of the faults of a triangulation.
+-- The statuses of the faults of a triangulation and of a layer.
 use Rattle.std.proofs.Common.{◌≡◌, ◌≢◌, ◌⊎◌, inl, inr, refl}
+use Rattle.sheet_base.specs.declared.faults.LayerFault.{LayerFault}
+use Rattle.sheet_base.specs.declared.faults.LayerFault.TheVariants as layers
 use Rattle.tin_check.specs.declared.faults.CheckFault.{CheckFault}
 use Rattle.tin_check.specs.declared.faults.CheckFault.TheVariants.{Flat, TurnsOver, Meets, NoMemory as CheckMemory}
 use Rattle.tin_file.specs.declared.faults.TinFault.{TinFault}
 use Rattle.tin_file.specs.declared.faults.TinFault.TheVariants.{Json, Deep, Key, Version, Fallback, NoHorizontal, TooMany, Row, Number, Inexact, Index, Span, NoMemory}
 use Rattle.tinmove.specs.declared.status.Status.{Status}
-use Rattle.tinmove.specs.declared.status.Status.TheVariants.{Tin as TinStatus, Write, Memory, Limit}
-use Rattle.tinmove.specs.Refusals.{status_of_tin, status_of_check}
+use Rattle.tinmove.specs.declared.status.Status.TheVariants.{Tin as TinStatus, Layer as LayerStatus, Write, Memory, Limit}
+use Rattle.tinmove.specs.Refusals.{status_of_tin, status_of_check, status_of_layer}
 
 -- the statuses of a triangulation that is refused
 pub data IsOfTin (status : Status) : Type 0 where
@@ -55,3 +57,37 @@ want_or_fault (Inexact row) = inr (λ e. cc)
 want_or_fault (Index triangle) = inr (λ e. cc)
 want_or_fault (Span frame axis) = inr (λ e. cc)
 want_or_fault NoMemory = inl refl
+
+-- the statuses of a layer that is not read
+pub data IsOfLayer (status : Status) : Type 0 where
+  unread : status ≡ LayerStatus → IsOfLayer status
+  without_room : status ≡ Memory → IsOfLayer status
+
+pub of_layer : (fault : LayerFault) → IsOfLayer (status_of_layer fault)
+of_layer (layers.Bad at) = unread refl
+of_layer (layers.Deep at) = unread refl
+of_layer (layers.Repeat at) = unread refl
+of_layer (layers.Shape at) = unread refl
+of_layer (layers.Kind at) = unread refl
+of_layer (layers.Height at) = unread refl
+of_layer (layers.Inexact at) = unread refl
+of_layer (layers.Ring at) = unread refl
+of_layer (layers.Number at fault) = unread refl
+of_layer layers.Binary = unread refl
+of_layer layers.NoEof = unread refl
+of_layer (layers.Code line) = unread refl
+of_layer (layers.Odd line) = unread refl
+of_layer (layers.Entity line) = unread refl
+of_layer (layers.Extrusion line) = unread refl
+of_layer (layers.Flags line) = unread refl
+of_layer (layers.Count line) = unread refl
+of_layer (layers.Bulge line) = unread refl
+of_layer (layers.Width line) = unread refl
+of_layer (layers.Slope line) = unread refl
+of_layer (layers.Attribs line) = unread refl
+of_layer (layers.Seed line) = unread refl
+of_layer layers.NoMemory = without_room refl
+
+pub layer_not_write : (status : Status) → IsOfLayer status → status ≢ Write
+layer_not_write status (unread is) = rw is (λ e. cc)
+layer_not_write status (without_room is) = rw is (λ e. cc)

@@ -1,9 +1,10 @@
 -- A run has one outcome.
-use Rattle.std.proofs.Common.{◌≡◌, ◌≢◌, ◌⊎◌, inl, inr, ℕ, ◌<◌, ◌≤◌, List, [], ◌∷◌, ◌++◌, None, Result, Ok, Err, length, codes, refl, sym, ◌∙◌, ap, subst, arith}
+use Rattle.std.proofs.Common.{◌≡◌, ◌≢◌, ◌⊎◌, inl, inr, ℕ, ◌<◌, ◌≤◌, List, [], ◌∷◌, ◌++◌, None, Result, Ok, Err, false, length, codes, refl, sym, ◌∙◌, ap, subst, arith}
 use Rattle.std.specs.List.{AllByRecursion}
 use Rattle.std.proofs.lemmas.Option.{none-some, same_Some}
 use Rattle.shelf_io.specs.Files.{Files, bytes_of}
-use Rattle.plane_base.specs.declared.shapes.Pt.{Pt}
+use Rattle.carry_map.specs.declared.layers.Carried.{Carried}
+use Rattle.sheet_base.specs.declared.faults.LayerFault.{LayerFault}
 use Rattle.tin_base.specs.Triangulation.{Triangulation}
 use Rattle.tin_base.specs.Soundness.{IsSound}
 use Rattle.tin_check.specs.declared.faults.CheckFault.{CheckFault}
@@ -15,17 +16,17 @@ use Rattle.tinmove.specs.declared.loading.TheConstants.{MOST_BYTES}
 use Rattle.tinmove.specs.declared.status.Status.{Status}
 use Rattle.tinmove.specs.declared.status.Status.TheVariants.{Same}
 use Rattle.tinmove.specs.declared.refusal.Refusal.{Refusal}
-use Rattle.tinmove.specs.declared.refusal.Refusal.TheVariants.{NotUnderstood, TinUnread, TinLong, Tin, Check, LayerUnread, LayerLong, LayerNotYet, Outside, TooManyPieces}
+use Rattle.tinmove.specs.declared.refusal.Refusal.TheVariants.{NotUnderstood, TinUnread, TinLong, Tin, Check, LayerUnread, LayerLong, Layer, Outside, TooManyPieces}
 use Rattle.tinmove.specs.Names.{EndsWith, IsLastPart, IsNameIn}
 use Rattle.tinmove.specs.Jobs.{Carriage, Job, migrates, checks, IsJob, LacksJob}
 use Rattle.tinmove.specs.Triangulations.{plain, IsTin, LacksTin, IsUnsound}
-use Rattle.tinmove.specs.PointLines.{IsLayerText, LacksPoints, carried_text}
-use Rattle.tinmove.specs.Carrying.{IsCarried, IsFirstOutside, HasTooMany}
+use Rattle.tinmove.specs.Carrying.{LacksLayerText, IsCarried, IsOutside, HasTooMany}
 use Rattle.tinmove.specs.ReportText.{report_text, sound_text}
 use Rattle.tinmove.specs.Refusals.{status_of, line_of}
 use Rattle.tinmove.specs.Outcome.{HasFile, HasLongFile, HasTin, IsTinRefused, IsLayerRefused, IsJobRefused, IsJobDone, report_of, HasOutcome, no_job, refused, done}
 use Rattle.tinmove.specs.Laws.{OutcomeIsOne}
-use Rattle.tinmove.proofs.OnePoints.{points_one, first_one, outside_many, outside_carried, many_carried, carried_one}
+use Rattle.tinmove.proofs.OneFault.{fault_one}
+use Rattle.tinmove.proofs.OneCarried.{lacks_outside, lacks_many, lacks_carried, outside_one, outside_many, outside_carried, many_carried, carried_one}
 
 -- the words give one job
 job_one : (words : List (List ℕ)) (job other : Job) → IsJob words job → IsJob words other → job ≡ other
@@ -167,55 +168,50 @@ IsJobEnd files job (Ok made) = IsJobDone files job made
 IsJobEnd files job (Err refusal) = IsJobRefused files job refusal
 
 -- how the carrying of a layer ends
-abbrev made_of : Carriage → Triangulation → List ℕ → List Pt → ℕ → List Pt → List ℕ → Files
-made_of carriage tin bytes points inexact images name = (name, carried_text bytes images) ∷ (codes "-", report_text (report_of carriage tin points inexact)) ∷ []
-
-data IsPointsEnd (carriage : Carriage) (tin : Triangulation) (bytes : List ℕ) (points : List Pt) (inexact : ℕ) (end : Result Files Refusal) : Type 0 where
-  outside_end : (path : ℕ) → end ≡ Err (Outside path) → IsFirstOutside tin points path → IsPointsEnd carriage tin bytes points inexact end
-  many_end : end ≡ Err TooManyPieces → HasTooMany tin points → IsPointsEnd carriage tin bytes points inexact end
-  carried_end : (images : List Pt) (name : List ℕ) → end ≡ Ok (made_of carriage tin bytes points inexact images name) → IsCarried tin points images → IsNameIn carriage.out carriage.layer name
-      → IsPointsEnd carriage tin bytes points inexact end
+abbrev made_of : Carriage → Triangulation → Carried → List ℕ → Files
+made_of carriage tin carried name = (name, carried.text) ∷ (codes "-", report_text (report_of carriage tin carried)) ∷ []
 
 data IsLayerTextEnd (carriage : Carriage) (tin : Triangulation) (bytes : List ℕ) (end : Result Files Refusal) : Type 0 where
-  other_text : end ≡ Err LayerNotYet → LacksPoints bytes → IsLayerTextEnd carriage tin bytes end
-  points_text : (points : List Pt) (inexact : ℕ) → IsLayerText bytes points inexact → IsPointsEnd carriage tin bytes points inexact end → IsLayerTextEnd carriage tin bytes end
+  faulty_layer : (why : LayerFault) → end ≡ Err (Layer why) → LacksLayerText bytes why → IsLayerTextEnd carriage tin bytes end
+  outside_end : (path segment : ℕ) → end ≡ Err (Outside path segment) → IsOutside tin bytes path segment → IsLayerTextEnd carriage tin bytes end
+  many_end : end ≡ Err TooManyPieces → HasTooMany tin bytes → IsLayerTextEnd carriage tin bytes end
+  carried_end : (carried : Carried) (name : List ℕ) → end ≡ Ok (made_of carriage tin carried name) → IsCarried tin bytes carried → IsNameIn carriage.out carriage.layer name
+      → IsLayerTextEnd carriage tin bytes end
 
 data IsLayerEnd (files : Files) (carriage : Carriage) (tin : Triangulation) (end : Result Files Refusal) : Type 0 where
   unread_layer : end ≡ Err LayerUnread → bytes_of files carriage.layer ≡ None → IsLayerEnd files carriage tin end
   long_layer : end ≡ Err LayerLong → HasLongFile files carriage.layer → IsLayerEnd files carriage tin end
   read_layer : (bytes : List ℕ) → HasFile files carriage.layer bytes → IsLayerTextEnd carriage tin bytes end → IsLayerEnd files carriage tin end
 
-same_made : (carriage : Carriage) (tin : Triangulation) → IsSound tin → (bytes : List ℕ) (points : List Pt) (inexact : ℕ) (images others : List Pt) (name called : List ℕ)
-    → IsCarried tin points images → IsCarried tin points others → IsNameIn carriage.out carriage.layer name → IsNameIn carriage.out carriage.layer called
-    → ◌≡◌ {A = Result Files Refusal} (Ok (made_of carriage tin bytes points inexact images name)) (Ok (made_of carriage tin bytes points inexact others called))
-same_made carriage tin sound bytes points inexact images others name called x y p q =
-    ap (λ pictures. Ok (made_of carriage tin bytes points inexact pictures name)) (carried_one tin points images others sound x y)
-    ∙ ap (λ given. Ok (made_of carriage tin bytes points inexact others given)) (name_one carriage.out carriage.layer name called p q)
+same_made : (carriage : Carriage) (tin : Triangulation) → IsSound tin → (bytes : List ℕ) (carried other : Carried) (name called : List ℕ)
+    → IsCarried tin bytes carried → IsCarried tin bytes other → IsNameIn carriage.out carriage.layer name → IsNameIn carriage.out carriage.layer called
+    → ◌≡◌ {A = Result Files Refusal} (Ok (made_of carriage tin carried name)) (Ok (made_of carriage tin other called))
+same_made carriage tin sound bytes carried other name called x y p q =
+    ap (λ (c : Carried). Ok (made_of carriage tin c name)) (carried_one tin bytes carried other sound x y)
+    ∙ ap (λ given. Ok (made_of carriage tin other given)) (name_one carriage.out carriage.layer name called p q)
 
-points_end_one : (carriage : Carriage) (tin : Triangulation) (bytes : List ℕ) (points : List Pt) (inexact : ℕ) (a b : Result Files Refusal) → IsSound tin
-    → IsPointsEnd carriage tin bytes points inexact a → IsPointsEnd carriage tin bytes points inexact b → a ≡ b
-points_end_one carriage tin bytes points inexact a b sound (outside_end path is x) (outside_end other also y) = is ∙ (ap (λ k. Err (Outside k)) (first_one tin points path other x y) ∙ sym also)
-points_end_one carriage tin bytes points inexact a b sound (outside_end path is x) (many_end also y) = absurd (outside_many tin points path x y)
-points_end_one carriage tin bytes points inexact a b sound (outside_end path is x) (carried_end images name also y named) = absurd (outside_carried tin points images path x y)
-points_end_one carriage tin bytes points inexact a b sound (many_end is x) (outside_end path also y) = absurd (outside_many tin points path y x)
-points_end_one carriage tin bytes points inexact a b sound (many_end is x) (many_end also y) = is ∙ sym also
-points_end_one carriage tin bytes points inexact a b sound (many_end is x) (carried_end images name also y named) = absurd (many_carried tin points images x y)
-points_end_one carriage tin bytes points inexact a b sound (carried_end images name is x named) (outside_end path also y) = absurd (outside_carried tin points images path y x)
-points_end_one carriage tin bytes points inexact a b sound (carried_end images name is x named) (many_end also y) = absurd (many_carried tin points images y x)
-points_end_one carriage tin bytes points inexact a b sound (carried_end images name is x named) (carried_end others called also y named_too) =
-    is ∙ (same_made carriage tin sound bytes points inexact images others name called x y named named_too ∙ sym also)
-
-with_points : (carriage : Carriage) (tin : Triangulation) (bytes : List ℕ) (points others : List Pt) (m n : ℕ) (end : Result Files Refusal) → (points ≡ others) × (m ≡ n)
-    → IsPointsEnd carriage tin bytes points m end → IsPointsEnd carriage tin bytes others n end
-with_points carriage tin bytes points others m n end same is =
-    subst (λ k. IsPointsEnd carriage tin bytes others k end) same.1 (subst (λ ps. IsPointsEnd carriage tin bytes ps m end) same.0 is)
+same_outside : (path segment way count : ℕ) → (path ≡ way) × (segment ≡ count) → ◌≡◌ {A = Result Files Refusal} (Err (Outside path segment)) (Err (Outside way count))
+same_outside path segment way count same = ap (λ k. Err (Outside k segment)) same.0 ∙ ap (λ k. Err (Outside way k)) same.1
 
 layer_text_end_one : (carriage : Carriage) (tin : Triangulation) (bytes : List ℕ) (a b : Result Files Refusal) → IsSound tin → IsLayerTextEnd carriage tin bytes a → IsLayerTextEnd carriage tin bytes b → a ≡ b
-layer_text_end_one carriage tin bytes a b sound (other_text is lacks) (other_text also lacks_too) = is ∙ sym also
-layer_text_end_one carriage tin bytes a b sound (other_text is lacks) (points_text points inexact text end) = absurd (lacks points inexact text)
-layer_text_end_one carriage tin bytes a b sound (points_text points inexact text end) (other_text also lacks) = absurd (lacks points inexact text)
-layer_text_end_one carriage tin bytes a b sound (points_text points m text end) (points_text others n text_too also) =
-    points_end_one carriage tin bytes others n a b sound (with_points carriage tin bytes points others m n a (points_one bytes points others m n text text_too) end) also
+layer_text_end_one carriage tin bytes a b sound (faulty_layer why is x) (faulty_layer other also y) = is ∙ (ap (λ f. Err (Layer f)) (fault_one false bytes why other x y) ∙ sym also)
+layer_text_end_one carriage tin bytes a b sound (faulty_layer why is x) (outside_end path segment also y) = absurd (lacks_outside tin bytes why path segment x y)
+layer_text_end_one carriage tin bytes a b sound (faulty_layer why is x) (many_end also y) = absurd (lacks_many tin bytes why x y)
+layer_text_end_one carriage tin bytes a b sound (faulty_layer why is x) (carried_end carried name also y named) = absurd (lacks_carried tin bytes why carried x y)
+layer_text_end_one carriage tin bytes a b sound (outside_end path segment is x) (faulty_layer why also y) = absurd (lacks_outside tin bytes why path segment y x)
+layer_text_end_one carriage tin bytes a b sound (outside_end path segment is x) (outside_end way count also y) =
+    is ∙ (same_outside path segment way count (outside_one tin bytes path segment way count x y) ∙ sym also)
+layer_text_end_one carriage tin bytes a b sound (outside_end path segment is x) (many_end also y) = absurd (outside_many tin bytes path segment x y)
+layer_text_end_one carriage tin bytes a b sound (outside_end path segment is x) (carried_end carried name also y named) = absurd (outside_carried tin bytes path segment carried x y)
+layer_text_end_one carriage tin bytes a b sound (many_end is x) (faulty_layer why also y) = absurd (lacks_many tin bytes why y x)
+layer_text_end_one carriage tin bytes a b sound (many_end is x) (outside_end path segment also y) = absurd (outside_many tin bytes path segment y x)
+layer_text_end_one carriage tin bytes a b sound (many_end is x) (many_end also y) = is ∙ sym also
+layer_text_end_one carriage tin bytes a b sound (many_end is x) (carried_end carried name also y named) = absurd (many_carried tin bytes carried x y)
+layer_text_end_one carriage tin bytes a b sound (carried_end carried name is x named) (faulty_layer why also y) = absurd (lacks_carried tin bytes why carried y x)
+layer_text_end_one carriage tin bytes a b sound (carried_end carried name is x named) (outside_end path segment also y) = absurd (outside_carried tin bytes path segment carried y x)
+layer_text_end_one carriage tin bytes a b sound (carried_end carried name is x named) (many_end also y) = absurd (many_carried tin bytes carried y x)
+layer_text_end_one carriage tin bytes a b sound (carried_end carried name is x named) (carried_end other called also y named_too) =
+    is ∙ (same_made carriage tin sound bytes carried other name called x y named named_too ∙ sym also)
 
 layer_end_one : (files : Files) (carriage : Carriage) (tin : Triangulation) (a b : Result Files Refusal) → IsSound tin → IsLayerEnd files carriage tin a → IsLayerEnd files carriage tin b → a ≡ b
 layer_end_one files carriage tin a b sound (unread_layer is x) (unread_layer also y) = is ∙ sym also
@@ -237,16 +233,14 @@ data IsMigrationEnd (files : Files) (carriage : Carriage) (end : Result Files Re
 layer_refused : (files : Files) (carriage : Carriage) (refusal : Refusal) → IsLayerRefused files carriage refusal → IsMigrationEnd files carriage (Err refusal)
 layer_refused files carriage LayerUnread (tin, ready, none) = at_layer tin ready (unread_layer refl none)
 layer_refused files carriage LayerLong (tin, ready, long) = at_layer tin ready (long_layer refl long)
-layer_refused files carriage LayerNotYet (tin, bytes, ready, file, lacks) = at_layer tin ready (read_layer bytes file (other_text refl lacks))
-layer_refused files carriage (Outside path) (tin, bytes, points, inexact, layer, outside) =
-    at_layer tin layer.ready (read_layer bytes layer.file (points_text points inexact layer.text (outside_end path refl outside)))
-layer_refused files carriage TooManyPieces (tin, bytes, points, inexact, layer, many) =
-    at_layer tin layer.ready (read_layer bytes layer.file (points_text points inexact layer.text (many_end refl many)))
+layer_refused files carriage (Layer why) (tin, bytes, layer, lacks) = at_layer tin layer.ready (read_layer bytes layer.file (faulty_layer why refl lacks))
+layer_refused files carriage (Outside path segment) (tin, bytes, layer, outside) = at_layer tin layer.ready (read_layer bytes layer.file (outside_end path segment refl outside))
+layer_refused files carriage TooManyPieces (tin, bytes, layer, many) = at_layer tin layer.ready (read_layer bytes layer.file (many_end refl many))
 layer_refused files carriage refusal is = absurd is
 
 migration_end : (files : Files) (carriage : Carriage) (end : Result Files Refusal) → IsJobEnd files (migrates carriage) end → IsMigrationEnd files carriage end
 migration_end files carriage (Ok made) is =
-    at_layer is.tin is.layer.ready (read_layer is.bytes is.layer.file (points_text is.points is.inexact is.layer.text (carried_end is.images is.name (ap Ok is.made_is) is.carried is.named)))
+    let layer = is.layer in at_layer is.tin layer.ready (read_layer is.bytes layer.file (carried_end is.carried is.name (ap Ok is.made_is) is.is_carried is.named))
 migration_end files carriage (Err refusal) (inl is) = at_tin refusal refl is
 migration_end files carriage (Err refusal) (inr is) = layer_refused files carriage refusal is
 

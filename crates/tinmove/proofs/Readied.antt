@@ -6,7 +6,7 @@ use Rattle.tin_base.specs.Triangulation.{Triangulation}
 use Rattle.tin_check.specs.declared.faults.CheckFault.TheVariants.{Flat, TurnsOver, Meets, NoMemory as CheckMemory}
 use Rattle.tinmove.specs.declared.status.Status.TheVariants.{Memory}
 use Rattle.tinmove.specs.declared.refusal.Refusal.{Refusal}
-use Rattle.tinmove.specs.declared.refusal.Refusal.TheVariants.{TinUnread, Tin, Check, LayerNotYet, Outside, TooManyPieces, NoMemory}
+use Rattle.tinmove.specs.declared.refusal.Refusal.TheVariants.{TinUnread, Tin, Check, Layer, Outside, TooManyPieces, NoMemory}
 use Rattle.tinmove.specs.declared.preparing.Written.{Written}
 use Rattle.tinmove.specs.Names.{IsNameIn, HasSlash}
 use Rattle.tinmove.specs.Jobs.{Carriage, migrates, checks}
@@ -67,11 +67,9 @@ migration_refused (Some files) carriage rose passed refusal why =
 pub layer_refused : (told : Option Files) (carriage : Carriage) (tin : Triangulation) (bytes : List ℕ) (rose : Type 0) (refusal : Refusal) → IfSome told (λ files. HasTin files carriage.tin tin)
     → IfSome told (λ files. HasFile files carriage.layer bytes) → IsNotCarried tin bytes refusal → IfSome told (λ files. MayRefuse files (migrates carriage) rose refusal)
 layer_refused None carriage tin bytes rose refusal ready file why = tt
-layer_refused (Some files) carriage tin bytes rose LayerNotYet ready file why = by_the_files (inr (tin, bytes, ready, file, why))
-layer_refused (Some files) carriage tin bytes rose (Outside path) ready file (points, inexact, text, outside) =
-    by_the_files (inr (tin, bytes, points, inexact, record { ready = ready; file = file; text = text }, outside))
-layer_refused (Some files) carriage tin bytes rose TooManyPieces ready file (points, inexact, text, many) =
-    by_the_files (inr (tin, bytes, points, inexact, record { ready = ready; file = file; text = text }, many))
+layer_refused (Some files) carriage tin bytes rose (Layer unread_so) ready file why = by_the_files (inr (tin, bytes, record { ready = ready; file = file }, why))
+layer_refused (Some files) carriage tin bytes rose (Outside path segment) ready file why = by_the_files (inr (tin, bytes, record { ready = ready; file = file }, why))
+layer_refused (Some files) carriage tin bytes rose TooManyPieces ready file why = by_the_files (inr (tin, bytes, record { ready = ready; file = file }, why))
 layer_refused (Some files) carriage tin bytes rose NoMemory ready file why = no_room refl
 layer_refused (Some files) carriage tin bytes rose refusal ready file why = absurd why
 
@@ -79,15 +77,13 @@ layer_refused (Some files) carriage tin bytes rose refusal ready file why = absu
 pub job_migrated : (told : Option Files) (carriage : Carriage) (tin : Triangulation) (bytes : List ℕ) (written : Written) → IfSome told (λ files. HasTin files carriage.tin tin)
     → IfSome told (λ files. HasFile files carriage.layer bytes) → IsCarriedOff carriage tin bytes written → IfSome told (λ files. IsJobDone files (migrates carriage) (files_of written))
 job_migrated None carriage tin bytes written ready file carried = tt
-job_migrated (Some files) carriage tin bytes written ready file (points, inexact, images, layer, there, text, carried, named, same, said) = record {
+job_migrated (Some files) carriage tin bytes written ready file (carried, layer, there, is, named, same, said) = record {
   tin = tin;
   bytes = bytes;
-  points = points;
-  inexact = inexact;
-  images = images;
-  name = string_bytes layer.name;
-  layer = record { ready = ready; file = file; text = text };
   carried = carried;
+  name = string_bytes layer.name;
+  layer = record { ready = ready; file = file };
+  is_carried = is;
   named = named;
   made_is = rw (there, same, said) refl;
 }
@@ -96,4 +92,4 @@ slash_in : (folder layer name : List ℕ) → IsNameIn folder layer name → Has
 slash_in folder layer name (part, last, is) = rw is (Contains-append_left (folder ++ 47 ∷ []) part 47 (Contains-append_right folder (47 ∷ []) 47 (0, lit< tt, refl)))
 
 pub carried_form : (carriage : Carriage) (tin : Triangulation) (bytes : List ℕ) (written : Written) → IsCarriedOff carriage tin bytes written → HasForm written
-carried_form carriage tin bytes written (points, inexact, images, layer, there, text, carried, named, same, said) = rw there (slash_in carriage.out carriage.layer (string_bytes layer.name) named)
+carried_form carriage tin bytes written (carried, layer, there, is, named, same, said) = rw there (slash_in carriage.out carriage.layer (string_bytes layer.name) named)

@@ -1,36 +1,33 @@
--- The images of a layer's points, and the first point that has none.
-use Rattle.std.specs.Prelude.{◌≡◌, ℕ, ◌+◌, ◌<◌, ◌≤◌, List, [], ◌∷◌, length, take, slice_get, IsSomeAnd}
-use Rattle.std.specs.List.{AllByRecursion}
-use Rattle.plane_base.specs.Plane.{whole}
-use Rattle.plane_base.specs.declared.shapes.Pt.{Pt}
-use Rattle.affine_image.specs.Rounded.{IsRoundedImage}
+-- What becomes of a layer of well-known text: it is read, or has a first fault; then it is carried, or its first segment that is not is outside or passes the limit.
+use Rattle.std.specs.Prelude.{ℕ, ◌≤◌, List, [], length, false}
+use Rattle.sheet_base.specs.Sheets.{Contents}
+use Rattle.sheet_base.specs.declared.faults.LayerFault.{LayerFault}
+use Rattle.tin_base.specs.declared.pieces.Piece.{Piece}
 use Rattle.tin_base.specs.Triangulation.{Triangulation}
-use Rattle.tin_base.specs.declared.frames.Frame.TheVariants.{Source}
-use Rattle.tin_base.specs.Images.{IsInSome}
-use Rattle.tinmove.specs.declared.carrying.TheConstants.{MOST_PIECES}
+use Rattle.carry_map.specs.Layers.{IsLayerCarried, IsLayerOutside, IsLayerTooMany}
+use Rattle.carry_map.specs.declared.layers.Carried.{Carried}
+use Rattle.carry_map.specs.declared.limits.TheConstants.{MOST_PIECES}
+use Rattle.wkt_layer.specs.Layers.{IsReadAs, IsRefusedBy}
+use Rattle.wkt_layer.specs.Texts.{edit_text}
 
--- some source triangle has the point
-abbrev pub IsInside : Triangulation → Pt → Type 0
-IsInside tin p = IsInSome tin Source (whole p)
+-- the text is read as a layer of this sheet; lost digits are counted
+abbrev pub IsLayerText : List ℕ → Contents → Type 0
+IsLayerText text sheet = IsReadAs false text sheet
 
--- the rounded images of points, in order
-abbrev pub AreImages : Triangulation → List Pt → List Pt → Type 0
-AreImages tin [] images = images ≡ []
-AreImages tin (point ∷ points) [] = ⊥
-AreImages tin (point ∷ points) (image ∷ images) = IsRoundedImage tin point image × AreImages tin points images
+-- the text is no layer, and this is its first fault
+abbrev pub LacksLayerText : List ℕ → LayerFault → Type 0
+LacksLayerText text fault = IsRefusedBy false text fault
 
--- the point of this number is the first that is not inside, and the pieces before it are not too many
-pub record IsFirstOutside (tin : Triangulation) (points : List Pt) (path : ℕ) : Type 0 where
-  pub few : path ≤ MOST_PIECES
-  pub before : AllByRecursion (IsInside tin) (take path points)
-  pub outside : IsSomeAnd (slice_get points path) (λ point. IsInside tin point → ⊥)
+-- the layer, the only one of its run, is carried, and its pieces are not too many
+pub record IsCarried (tin : Triangulation) (text : List ℕ) (carried : Carried) : Type 0 where
+  pub pieces : List Piece
+  pub layer : IsLayerCarried tin text (IsLayerText text) edit_text 0 [] pieces carried
+  pub few : length pieces ≤ MOST_PIECES
 
--- the pieces are too many, and up to the first that is one too many all points are inside
-pub record HasTooMany (tin : Triangulation) (points : List Pt) : Type 0 where
-  pub many : MOST_PIECES < length points
-  pub before : AllByRecursion (IsInside tin) (take (MOST_PIECES + 1) points)
+-- its first segment that is not carried is outside: the one of this number, of the path of that number
+abbrev pub IsOutside : Triangulation → List ℕ → ℕ → ℕ → Type 0
+IsOutside tin text path segment = IsLayerOutside tin (IsLayerText text) 0 0 MOST_PIECES path segment
 
--- all points are inside, and their pieces, one for each, are not too many
-pub record IsCarried (tin : Triangulation) (points images : List Pt) : Type 0 where
-  pub few : length points ≤ MOST_PIECES
-  pub each : AreImages tin points images
+-- its first segment that is not carried is inside, but with its pieces there are too many
+abbrev pub HasTooMany : Triangulation → List ℕ → Type 0
+HasTooMany tin text = IsLayerTooMany tin (IsLayerText text) 0 0 MOST_PIECES

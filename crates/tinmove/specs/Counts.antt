@@ -9,6 +9,9 @@ report_of_counts counts = record {
   tin_inexact = counts.tin_inexact;
   tin_name = counts.tin_name.now;
   paths = counts.paths;
+  segments = counts.segments;
+  pieces = counts.pieces;
   layer_inexact = counts.layer_inexact;
+  dropped = counts.dropped;
   layer_name = counts.layer_name.now;
 }

@@ -1,10 +1,7 @@
-pub mod Tokens
-pub mod Filled
 pub mod Names
 pub mod Jobs
 pub mod Wanted
 pub mod Triangulations
-pub mod PointLines
 pub mod Carrying
 pub mod ReportText
 pub mod Counts

@@ -1,7 +1,9 @@
--- The lines that say why a triangulation is refused. Places are bytes, rows and triangles are counted from 0.
+-- The lines that say why a triangulation or a layer is refused. Places are bytes, rows and triangles are counted from 0, lines from 1.
 use Rattle.std.specs.Prelude.{ℕ, List, ◌++◌, codes, decimal}
 use Rattle.mm_decimal.specs.declared.reading.NumFault.{NumFault}
 use Rattle.mm_decimal.specs.declared.reading.NumFault.TheVariants.{Form, Long, Range}
+use Rattle.sheet_base.specs.declared.faults.LayerFault.{LayerFault}
+use Rattle.sheet_base.specs.declared.faults.LayerFault.TheVariants as layers
 use Rattle.tin_base.specs.declared.frames.Axis.{Axis}
 use Rattle.tin_base.specs.declared.frames.Axis.TheVariants.{X, Y}
 use Rattle.tin_base.specs.declared.frames.Frame.{Frame}
@@ -68,3 +70,42 @@ check_line (Flat triangle frame) = codes "triangulation: flat " ++ decimal trian
 check_line (TurnsOver triangle) = codes "triangulation: turns over " ++ decimal triangle ++ codes "\n"
 check_line (Meets first second frame) = codes "triangulation: meets " ++ decimal first ++ codes " " ++ decimal second ++ frame_end frame
 check_line CheckMemory = codes "no memory\n"
+
+-- a number text of the layer
+abbrev pub layer_number_line : ℕ → NumFault → List ℕ
+layer_number_line at (Form place) = codes "layer 0: number form at " ++ decimal at ++ codes " place " ++ decimal place ++ codes "\n"
+layer_number_line at Long = codes "layer 0: number long at " ++ decimal at ++ codes "\n"
+layer_number_line at Range = codes "layer 0: number range at " ++ decimal at ++ codes "\n"
+
+-- a fault with a word of its own, at a place of the layer's bytes, or at one of its lines
+abbrev pub at_place : List ℕ → ℕ → List ℕ
+at_place word at = codes "layer 0: " ++ word ++ codes " at " ++ decimal at ++ codes "\n"
+
+abbrev pub at_line : List ℕ → ℕ → List ℕ
+at_line word line = codes "layer 0: " ++ word ++ codes " at line " ++ decimal line ++ codes "\n"
+
+-- a layer that is not read; the layer's number is 0
+abbrev pub layer_line : LayerFault → List ℕ
+layer_line (layers.Bad at) = at_place (codes "bad") at
+layer_line (layers.Deep at) = at_place (codes "deep") at
+layer_line (layers.Repeat at) = at_place (codes "repeat") at
+layer_line (layers.Shape at) = at_place (codes "shape") at
+layer_line (layers.Kind at) = at_place (codes "kind") at
+layer_line (layers.Height at) = at_place (codes "height") at
+layer_line (layers.Inexact at) = at_place (codes "inexact") at
+layer_line (layers.Ring at) = at_place (codes "ring") at
+layer_line (layers.Number at fault) = layer_number_line at fault
+layer_line layers.Binary = codes "layer 0: binary\n"
+layer_line layers.NoEof = codes "layer 0: no eof\n"
+layer_line (layers.Code line) = at_line (codes "code") line
+layer_line (layers.Odd line) = at_line (codes "odd") line
+layer_line (layers.Entity line) = at_line (codes "entity") line
+layer_line (layers.Extrusion line) = at_line (codes "extrusion") line
+layer_line (layers.Flags line) = at_line (codes "flags") line
+layer_line (layers.Count line) = at_line (codes "count") line
+layer_line (layers.Bulge line) = at_line (codes "bulge") line
+layer_line (layers.Width line) = at_line (codes "width") line
+layer_line (layers.Slope line) = at_line (codes "slope") line
+layer_line (layers.Attribs line) = at_line (codes "attribs") line
+layer_line (layers.Seed line) = at_line (codes "seed") line
+layer_line layers.NoMemory = codes "no memory\n"

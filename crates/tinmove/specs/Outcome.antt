@@ -1,18 +1,17 @@
 -- What a run makes, as a relation of the words, the shelf's files, the status and the made files.
 use Rattle.std.specs.Prelude.{◌≡◌, ◌⊎◌, ℕ, ◌<◌, ◌≤◌, List, [], ◌∷◌, codes, length, None, Some}
 use Rattle.shelf_io.specs.Files.{Files, bytes_of}
-use Rattle.plane_base.specs.declared.shapes.Pt.{Pt}
+use Rattle.carry_map.specs.declared.layers.Carried.{Carried}
 use Rattle.tin_base.specs.Triangulation.{Triangulation}
 use Rattle.tinmove.specs.declared.loading.TheConstants.{MOST_BYTES}
 use Rattle.tinmove.specs.declared.status.Status.{Status}
 use Rattle.tinmove.specs.declared.status.Status.TheVariants.{Same}
 use Rattle.tinmove.specs.declared.refusal.Refusal.{Refusal}
-use Rattle.tinmove.specs.declared.refusal.Refusal.TheVariants.{NotUnderstood, TinUnread, TinLong, Tin, Check, LayerUnread, LayerLong, LayerNotYet, Outside, TooManyPieces}
+use Rattle.tinmove.specs.declared.refusal.Refusal.TheVariants.{NotUnderstood, TinUnread, TinLong, Tin, Check, LayerUnread, LayerLong, Layer, Outside, TooManyPieces}
 use Rattle.tinmove.specs.Names.{IsNameIn}
 use Rattle.tinmove.specs.Jobs.{Carriage, Job, migrates, checks, IsJob, LacksJob}
 use Rattle.tinmove.specs.Triangulations.{IsTin, LacksTin, IsUnsound}
-use Rattle.tinmove.specs.PointLines.{IsLayerText, LacksPoints, carried_text}
-use Rattle.tinmove.specs.Carrying.{IsCarried, IsFirstOutside, HasTooMany}
+use Rattle.tinmove.specs.Carrying.{LacksLayerText, IsCarried, IsOutside, HasTooMany}
 use Rattle.tinmove.specs.ReportText.{Report, report_text, sound_text}
 use Rattle.tinmove.specs.Refusals.{status_of, line_of}
 
@@ -37,23 +36,19 @@ IsTinRefused files name (Tin fault) = (text : List ℕ) × HasFile files name te
 IsTinRefused files name (Check fault) = (text : List ℕ) × HasFile files name text × IsUnsound text fault
 IsTinRefused files name refusal = ⊥
 
--- the triangulation is read and sound, and the layer is read too
-pub record HasLayer (files : Files) (carriage : Carriage) (tin : Triangulation) (bytes : List ℕ) (points : List Pt) (inexact : ℕ) : Type 0 where
+-- the triangulation is read and sound, and the layer's file has these bytes
+pub record HasLayer (files : Files) (carriage : Carriage) (tin : Triangulation) (bytes : List ℕ) : Type 0 where
   pub ready : HasTin files carriage.tin tin
   pub file : HasFile files carriage.layer bytes
-  pub text : IsLayerText bytes points inexact
 
 -- The triangulation is read and sound, and the layer is not carried: one row for each refusal, in the order in which they are tried.
 -- A row speaks of what was accepted before it.
 abbrev pub IsLayerRefused : Files → Carriage → Refusal → Type 0
 IsLayerRefused files carriage LayerUnread = (tin : Triangulation) × HasTin files carriage.tin tin × (bytes_of files carriage.layer ≡ None)
 IsLayerRefused files carriage LayerLong = (tin : Triangulation) × HasTin files carriage.tin tin × HasLongFile files carriage.layer
-IsLayerRefused files carriage LayerNotYet =
-    (tin : Triangulation) × (bytes : List ℕ) × HasTin files carriage.tin tin × HasFile files carriage.layer bytes × LacksPoints bytes
-IsLayerRefused files carriage (Outside path) =
-    (tin : Triangulation) × (bytes : List ℕ) × (points : List Pt) × (inexact : ℕ) × HasLayer files carriage tin bytes points inexact × IsFirstOutside tin points path
-IsLayerRefused files carriage TooManyPieces =
-    (tin : Triangulation) × (bytes : List ℕ) × (points : List Pt) × (inexact : ℕ) × HasLayer files carriage tin bytes points inexact × HasTooMany tin points
+IsLayerRefused files carriage (Layer fault) = (tin : Triangulation) × (bytes : List ℕ) × HasLayer files carriage tin bytes × LacksLayerText bytes fault
+IsLayerRefused files carriage (Outside path segment) = (tin : Triangulation) × (bytes : List ℕ) × HasLayer files carriage tin bytes × IsOutside tin bytes path segment
+IsLayerRefused files carriage TooManyPieces = (tin : Triangulation) × (bytes : List ℕ) × HasLayer files carriage tin bytes × HasTooMany tin bytes
 IsLayerRefused files carriage refusal = ⊥
 
 -- the files refuse the job so
@@ -62,14 +57,17 @@ IsJobRefused files (migrates carriage) refusal = IsTinRefused files carriage.tin
 IsJobRefused files (checks name) refusal = IsTinRefused files name refusal
 
 -- what the report of a carried layer says
-abbrev pub report_of : Carriage → Triangulation → List Pt → ℕ → Report
-report_of carriage tin points inexact = record {
+abbrev pub report_of : Carriage → Triangulation → Carried → Report
+report_of carriage tin carried = record {
   corners = length tin.corners;
   triangles = length tin.triangles;
   tin_inexact = tin.inexact;
   tin_name = carriage.tin;
-  paths = length points;
-  layer_inexact = inexact;
+  paths = carried.paths;
+  segments = carried.segments;
+  pieces = carried.pieces;
+  layer_inexact = carried.inexact;
+  dropped = carried.dropped;
   layer_name = carriage.layer;
 }
 
@@ -77,14 +75,12 @@ report_of carriage tin points inexact = record {
 pub record IsMigrated (files : Files) (carriage : Carriage) (made : Files) : Type 0 where
   pub tin : Triangulation
   pub bytes : List ℕ
-  pub points : List Pt
-  pub inexact : ℕ
-  pub images : List Pt
+  pub carried : Carried
   pub name : List ℕ
-  pub layer : HasLayer files carriage tin bytes points inexact
-  pub carried : IsCarried tin points images
+  pub layer : HasLayer files carriage tin bytes
+  pub is_carried : IsCarried tin bytes carried
   pub named : IsNameIn carriage.out carriage.layer name
-  pub made_is : made ≡ (name, carried_text bytes images) ∷ (codes "-", report_text (report_of carriage tin points inexact)) ∷ []
+  pub made_is : made ≡ (name, carried.text) ∷ (codes "-", report_text (report_of carriage tin carried)) ∷ []
 
 -- the triangulation is sound, and its line says so
 pub record IsChecked (files : Files) (name : List ℕ) (made : Files) : Type 0 where

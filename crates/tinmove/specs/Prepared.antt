@@ -2,26 +2,25 @@
 use Rattle.std.specs.Prelude.{◌≡◌, ℕ, List, [], ◌∷◌, codes, string_bytes, Option, None, Some, IfSome, Err}
 use Rattle.shelf_io.specs.Files.{Files}
 use Rattle.shelf_io.specs.Load.{LacksName}
-use Rattle.plane_base.specs.declared.shapes.Pt.{Pt}
+use Rattle.carry_map.specs.declared.layers.Carried.{Carried}
 use Rattle.tin_base.specs.Triangulation.{Triangulation}
 use Rattle.tin_check.specs.Faults.{IsCause}
 use Rattle.tin_file.specs.Reading.{Answers}
 use Rattle.tinmove.specs.declared.refusal.Refusal.{Refusal}
-use Rattle.tinmove.specs.declared.refusal.Refusal.TheVariants.{TinUnread, TinLong, Tin, Check, LayerNotYet, Outside, TooManyPieces, NoMemory}
+use Rattle.tinmove.specs.declared.refusal.Refusal.TheVariants.{TinUnread, TinLong, Tin, Check, Layer, Outside, TooManyPieces, NoMemory}
 use Rattle.tinmove.specs.declared.preparing.LayerFile.{LayerFile}
 use Rattle.tinmove.specs.declared.preparing.Written.{Written}
 use Rattle.tinmove.specs.Names.{IsNameIn, HasSlash}
 use Rattle.tinmove.specs.Jobs.{Carriage}
 use Rattle.tinmove.specs.Triangulations.{IsRead, plain}
-use Rattle.tinmove.specs.PointLines.{IsLayerText, LacksPoints, carried_text}
-use Rattle.tinmove.specs.Carrying.{IsCarried, IsFirstOutside, HasTooMany}
+use Rattle.tinmove.specs.Carrying.{LacksLayerText, IsCarried, IsOutside, HasTooMany}
 use Rattle.tinmove.specs.ReportText.{report_text, sound_text}
 use Rattle.tinmove.specs.Outcome.{HasFile, HasLongFile, report_of}
 
 -- a layer's file and then what is said, or what is said alone
 abbrev pub files_with : Option LayerFile → List ℕ → Files
 files_with None said = (codes "-", said) ∷ []
-files_with (Some file) said = (string_bytes file.name, file.bytes.items) ∷ (codes "-", said) ∷ []
+files_with (Some file) said = (string_bytes file.name, file.text) ∷ (codes "-", said) ∷ []
 
 abbrev pub files_of : Written → Files
 files_of written = files_with written.layer (string_bytes written.said)
@@ -44,16 +43,15 @@ IsTextRefused text refusal = ⊥
 -- a layer is carried through a triangulation: what is written is what a run makes
 abbrev pub IsCarriedOff : Carriage → Triangulation → List ℕ → Written → Type 0
 IsCarriedOff carriage tin bytes written =
-    (points : List Pt) × (inexact : ℕ) × (images : List Pt) × (file : LayerFile) × (written.layer ≡ Some file)
-    × IsLayerText bytes points inexact × IsCarried tin points images
-    × IsNameIn carriage.out carriage.layer (string_bytes file.name) × (file.bytes.items ≡ carried_text bytes images)
-    × (string_bytes written.said ≡ report_text (report_of carriage tin points inexact))
+    (carried : Carried) × (file : LayerFile) × (written.layer ≡ Some file) × IsCarried tin bytes carried
+    × IsNameIn carriage.out carriage.layer (string_bytes file.name) × (file.text ≡ carried.text)
+    × (string_bytes written.said ≡ report_text (report_of carriage tin carried))
 
 -- the layer of a text is not carried, or memory ran out
 abbrev pub IsNotCarried : Triangulation → List ℕ → Refusal → Type 0
-IsNotCarried tin bytes LayerNotYet = LacksPoints bytes
-IsNotCarried tin bytes (Outside path) = (points : List Pt) × (inexact : ℕ) × IsLayerText bytes points inexact × IsFirstOutside tin points path
-IsNotCarried tin bytes TooManyPieces = (points : List Pt) × (inexact : ℕ) × IsLayerText bytes points inexact × HasTooMany tin points
+IsNotCarried tin bytes (Layer fault) = LacksLayerText bytes fault
+IsNotCarried tin bytes (Outside path segment) = IsOutside tin bytes path segment
+IsNotCarried tin bytes TooManyPieces = HasTooMany tin bytes
 IsNotCarried tin bytes NoMemory = Unit {0}
 IsNotCarried tin bytes refusal = ⊥
 

@@ -1,25 +1,29 @@
 -- What a refusal prints, and the status with which it ends.
 use Rattle.std.specs.Prelude.{ℕ, List, ◌++◌, codes, decimal}
+use Rattle.carry_map.specs.declared.faults.CarryFault.{CarryFault}
+use Rattle.carry_map.specs.declared.faults.CarryFault.TheVariants.{Layer as Unread, Outside as CarryOutside, TooMany, NoMemory as CarryMemory}
+use Rattle.sheet_base.specs.declared.faults.LayerFault.{LayerFault}
+use Rattle.sheet_base.specs.declared.faults.LayerFault.TheVariants.{NoMemory as LayerMemory}
 use Rattle.tin_check.specs.declared.faults.CheckFault.{CheckFault}
 use Rattle.tin_check.specs.declared.faults.CheckFault.TheVariants.{NoMemory as CheckMemory}
 use Rattle.tin_file.specs.declared.faults.TinFault.{TinFault}
-use Rattle.tin_file.specs.declared.faults.TinFault.TheVariants.{TooMany, NoMemory as TinMemory}
+use Rattle.tin_file.specs.declared.faults.TinFault.TheVariants.{TooMany as TooManyRows, NoMemory as TinMemory}
 use Rattle.tinmove.specs.declared.status.Status.{Status}
-use Rattle.tinmove.specs.declared.status.Status.TheVariants.{Words, Tin as TinStatus, Layer, Outside as OutsideStatus, Read, Memory, Limit}
+use Rattle.tinmove.specs.declared.status.Status.TheVariants.{Words, Tin as TinStatus, Layer as LayerStatus, Outside as OutsideStatus, Read, Memory, Limit}
 use Rattle.tinmove.specs.declared.refusal.Refusal.{Refusal}
-use Rattle.tinmove.specs.declared.refusal.Refusal.TheVariants.{NotUnderstood, TinUnread, TinLong, Tin, Check, LayerUnread, LayerLong, LayerNotYet, Outside, TooManyPieces, NoMemory}
-use Rattle.tinmove.specs.declared.points.LayerFault.{LayerFault}
-use Rattle.tinmove.specs.declared.points.LayerFault.TheVariants.{NotYet, NoMemory as LayerMemory}
-use Rattle.tinmove.specs.Lines.{tin_line, check_line}
+use Rattle.tinmove.specs.declared.refusal.Refusal.TheVariants.{NotUnderstood, TinUnread, TinLong, Tin, Check, LayerUnread, LayerLong, Layer, Outside, TooManyPieces, NoMemory}
+use Rattle.tinmove.specs.Lines.{tin_line, check_line, layer_line}
 
--- the refusal of a layer that is not read
-abbrev pub of_layer : LayerFault → Refusal
-of_layer NotYet = LayerNotYet
-of_layer LayerMemory = NoMemory
+-- the refusal of a layer that is not carried
+abbrev pub of_carrying : CarryFault → Refusal
+of_carrying (Unread fault) = Layer fault
+of_carrying (CarryOutside path segment) = Outside path segment
+of_carrying TooMany = TooManyPieces
+of_carrying CarryMemory = NoMemory
 
 -- too many rows pass a limit; want of memory says nothing of the text
 abbrev pub status_of_tin : TinFault → Status
-status_of_tin (TooMany list) = Limit
+status_of_tin (TooManyRows list) = Limit
 status_of_tin TinMemory = Memory
 status_of_tin fault = TinStatus
 
@@ -27,6 +31,11 @@ status_of_tin fault = TinStatus
 abbrev pub status_of_check : CheckFault → Status
 status_of_check CheckMemory = Memory
 status_of_check fault = TinStatus
+
+-- want of memory says nothing of the layer
+abbrev pub status_of_layer : LayerFault → Status
+status_of_layer LayerMemory = Memory
+status_of_layer fault = LayerStatus
 
 abbrev pub status_of : Refusal → Status
 status_of NotUnderstood = Words
@@ -36,8 +45,8 @@ status_of (Tin fault) = status_of_tin fault
 status_of (Check fault) = status_of_check fault
 status_of LayerUnread = Read
 status_of LayerLong = Limit
-status_of LayerNotYet = Layer
-status_of (Outside path) = OutsideStatus
+status_of (Layer fault) = status_of_layer fault
+status_of (Outside path segment) = OutsideStatus
 status_of TooManyPieces = Limit
 status_of NoMemory = Memory
 
@@ -49,7 +58,7 @@ line_of (Tin fault) = tin_line fault
 line_of (Check fault) = check_line fault
 line_of LayerUnread = codes "read fault: layer 0\n"
 line_of LayerLong = codes "limit: bytes of layers\n"
-line_of LayerNotYet = codes "layer 0: not yet\n"
-line_of (Outside path) = codes "outside: layer 0 path " ++ decimal path ++ codes " segment 0\n"
+line_of (Layer fault) = layer_line fault
+line_of (Outside path segment) = codes "outside: layer 0 path " ++ decimal path ++ codes " segment " ++ decimal segment ++ codes "\n"
 line_of TooManyPieces = codes "limit: pieces\n"
 line_of NoMemory = codes "no memory\n"

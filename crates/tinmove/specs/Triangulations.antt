@@ -9,7 +9,7 @@ use Rattle.tin_file.specs.Reading.{IsReading, Answers}
 use Rattle.tin_file.specs.declared.faults.TinFault.{TinFault}
 use Rattle.tin_file.specs.declared.faults.TinFault.TheVariants.{NoMemory}
 
--- lost digits are counted, and no fallback is accepted
+-- lost digits are counted, nothing is left out, and no fallback is accepted
 abbrev pub plain : How
 plain = record { exact = false; drop_other = false; inside_only = false }
 

@@ -1,12 +1,15 @@
-//! The lines that say why a triangulation is refused, built without taking memory.
+//! The lines that say why a triangulation or a layer is refused, built without taking memory.
 
 ghost use Rattle.std.specs.Prelude.{◌≡◌, ◌≤◌, ◌+◌, ◌++◌, length, codes, decimal};
 ghost use Rattle.tin_file.specs.Keys.{key_of};
-ghost use Rattle.tinmove.specs.Lines.{tin_line as tin_line_of, check_line as check_line_of, number_line as number_line_of, rows_end as rows_end_of, frame_end as frame_end_of};
+ghost use Rattle.tinmove.specs.Lines.{tin_line as tin_line_of, check_line as check_line_of, number_line as number_line_of, rows_end as rows_end_of, frame_end as frame_end_of, layer_line as layer_line_of, layer_number_line as layer_number_line_of, at_place, at_line};
+ghost use Rattle.tinmove.specs.Refusals.{line_of};
+ghost use Rattle.tinmove.specs.declared.refusal.Refusal.TheVariants.{Outside};
 
 use arrayvec::ArrayString;
 use itoa::Buffer;
 use mm_decimal::NumFault;
+use sheet_base::LayerFault;
 use tin_base::{Axis, Frame};
 use tin_check::CheckFault;
 use tin_file::{Nearest, Rows, TinFault, Top};
@@ -190,4 +193,91 @@ pub fn check_line(fault: CheckFault) -> Line
         ),
         CheckFault::NoMemory => said("no memory\n"),
     }
+}
+
+/// The line of a fault of the layer with this word, at a place of its bytes.
+fn place_line(word: &str, at: u64) -> Line
+    requires { length word.now ≤ 9 }
+    ensures { result.bytes ≡ at_place word.now at }
+{
+    let mut digits = Buffer::new();
+    let mut line = Line::new();
+    line.push_str("layer 0: ");
+    line.push_str(word);
+    line.push_str(" at ");
+    line.push_str(digits.format(at));
+    line.push_str("\n");
+    line
+}
+
+/// The same at a line of a drawing.
+fn drawing_line(word: &str, number: u64) -> Line
+    requires { length word.now ≤ 9 }
+    ensures { result.bytes ≡ at_line word.now number }
+{
+    let mut digits = Buffer::new();
+    let mut line = Line::new();
+    line.push_str("layer 0: ");
+    line.push_str(word);
+    line.push_str(" at line ");
+    line.push_str(digits.format(number));
+    line.push_str("\n");
+    line
+}
+
+/// The line of a number text of the layer.
+fn layer_number_line(at: u64, fault: NumFault) -> Line
+    ensures { result.bytes ≡ layer_number_line_of at fault }
+{
+    match fault {
+        NumFault::Form { at: place } => {
+            said_numbers("layer 0: number form at ", at, " place ", place, "\n")
+        }
+        NumFault::Long => said_number("layer 0: number long at ", at, "\n"),
+        NumFault::Range => said_number("layer 0: number range at ", at, "\n"),
+    }
+}
+
+/// The line of a layer that is not read.
+pub fn layer_line(fault: LayerFault) -> Line
+    ensures { result.bytes ≡ layer_line_of fault }
+{
+    match fault {
+        LayerFault::Bad { at } => place_line("bad", at),
+        LayerFault::Deep { at } => place_line("deep", at),
+        LayerFault::Repeat { at } => place_line("repeat", at),
+        LayerFault::Shape { at } => place_line("shape", at),
+        LayerFault::Kind { at } => place_line("kind", at),
+        LayerFault::Height { at } => place_line("height", at),
+        LayerFault::Inexact { at } => place_line("inexact", at),
+        LayerFault::Ring { at } => place_line("ring", at),
+        LayerFault::Number { at, fault } => layer_number_line(at, fault),
+        LayerFault::Binary => said("layer 0: binary\n"),
+        LayerFault::NoEof => said("layer 0: no eof\n"),
+        LayerFault::Code { line } => drawing_line("code", line),
+        LayerFault::Odd { line } => drawing_line("odd", line),
+        LayerFault::Entity { line } => drawing_line("entity", line),
+        LayerFault::Extrusion { line } => drawing_line("extrusion", line),
+        LayerFault::Flags { line } => drawing_line("flags", line),
+        LayerFault::Count { line } => drawing_line("count", line),
+        LayerFault::Bulge { line } => drawing_line("bulge", line),
+        LayerFault::Width { line } => drawing_line("width", line),
+        LayerFault::Slope { line } => drawing_line("slope", line),
+        LayerFault::Attribs { line } => drawing_line("attribs", line),
+        LayerFault::Seed { line } => drawing_line("seed", line),
+        LayerFault::NoMemory => said("no memory\n"),
+    }
+}
+
+/// The line of a segment that is outside.
+pub fn outside_line(path: u32, segment: u32) -> Line
+    ensures { result.bytes ≡ line_of (Outside path segment) }
+{
+    said_numbers(
+        "outside: layer 0 path ",
+        u64::from(path),
+        " segment ",
+        u64::from(segment),
+        "\n",
+    )
 }

@@ -2,12 +2,11 @@
 //! `run` is the whole program, over the words, the shelf and the press that it is handed.
 #![tactic(auto)]
 
-mod carrying;
-mod filled;
 mod laws;
+#[cfg(test)]
+mod layer_tests;
 mod lines;
 mod loading;
-mod points;
 mod preparing;
 mod publishing;
 mod refusal;

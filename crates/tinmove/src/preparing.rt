@@ -1,6 +1,6 @@
 //! What a job writes.
 
-ghost use Rattle.std.specs.Prelude.{◌≡◌, ◌≢◌, ◌+◌, ◌≤◌, IfOk, IfErr, IfSome, OnOk, string_bytes};
+ghost use Rattle.std.specs.Prelude.{◌≡◌, ◌≢◌, ◌+◌, ◌≤◌, IfOk, IfErr, IfSome, OnOk, length, string_bytes};
 ghost use Rattle.shelf_io.specs.Count.{Rose, counted};
 ghost use Rattle.tinmove.specs.declared.loading.TheConstants.{MOST_BYTES};
 ghost use Rattle.tinmove.specs.declared.status.Status.TheVariants.{Read as ReadStatus};
@@ -8,25 +8,30 @@ ghost use Rattle.tinmove.specs.Names.{IsLastPart, IsNameIn};
 ghost use Rattle.tinmove.specs.Jobs.{migrates, checks};
 ghost use Rattle.tinmove.specs.Wanted.{carriage_of, job_of};
 ghost use Rattle.tinmove.specs.Refusals.{status_of};
-ghost use Rattle.tinmove.specs.Outcome.{IsJobDone};
+ghost use Rattle.tinmove.specs.Carrying.{IsCarried};
+ghost use Rattle.tinmove.specs.Counts.{report_of_counts};
+ghost use Rattle.tinmove.specs.Outcome.{IsJobDone, report_of};
 ghost use Rattle.tinmove.specs.Ends.{MayRefuse, HasCauses};
 ghost use Rattle.tinmove.specs.Prepared.{files_of, HasForm, IsCarriedOff, IsNotCarried};
 
-use crate::carrying::{CarryFault, carry};
 use crate::loading::{loaded, loaded_index, loaded_tin};
-use crate::points::{read_points, render};
 use crate::refusal::Refusal;
 use crate::report::{Counts, sound_line, write_report};
+use crate::triangulations::plainly;
 use crate::words::{Migration, Wanted};
+use carry_map::{Carried, MOST_PIECES, carry_layer};
+use sheet_base::Listed;
 use shelf_io::Shelf;
 use std::alloc::{AllocError, Global};
+use tin_base::SoundTin;
 use tin_index::TinIndex;
+use wkt_layer::Wkt;
 
 /// A layer's file that is to be written.
 #[derive(Drop)]
 pub struct LayerFile {
     pub name: String,
-    pub bytes: Vec<u8>,
+    pub text: Listed<u8>,
 }
 
 /// What a run writes: the layer's file, where there is one, and then what is said on standard output.
@@ -55,6 +60,38 @@ fn written_name(alloc: Global, out: &str, layer: &str) -> Result<String, AllocEr
     Ok(name)
 }
 
+/// What the report says of a layer that was carried.
+fn counts_of<'a>(migration: Migration<'a>, tin: &SoundTin, carried: &Carried) -> Counts<'a>
+    ensures { report_of_counts result ≡ report_of (carriage_of migration.entry) tin.now carried.now }
+{
+    Counts {
+        corners: tin.corners().len(),
+        triangles: tin.triangles().len(),
+        tin_inexact: tin.inexact(),
+        tin_name: migration.tin,
+        paths: carried.paths,
+        segments: carried.segments,
+        pieces: carried.pieces,
+        layer_inexact: carried.inexact,
+        dropped: carried.dropped,
+        layer_name: migration.layer,
+    }
+}
+
+/// A layer carried through a triangulation. It is the only one of its run.
+fn carried_layer(alloc: Global, index: &TinIndex, bytes: &[u8]) -> Result<Carried, Refusal>
+    requires { length bytes.now ≤ MOST_BYTES }
+    ensures ok { IfOk result (λ carried. IsCarried index.now bytes.now carried) }
+    ensures refused { IfErr result (λ refusal. IsNotCarried index.now bytes.now refusal) }
+{
+    let mut pieces = Vec::new(alloc);
+    let how = plainly();
+    match carry_layer::<Wkt>(alloc, index, bytes, how, 0, MOST_PIECES, &mut pieces) {
+        Ok(carried) => Ok(carried),
+        Err(fault) => Err(Refusal::from(fault)),
+    }
+}
+
 /// What is written of a layer that is carried through a triangulation.
 fn carried(
     alloc: Global,
@@ -62,33 +99,22 @@ fn carried(
     index: &TinIndex,
     bytes: &[u8],
 ) -> Result<Written, Refusal>
+    requires { length bytes.now ≤ MOST_BYTES }
     ensures ok { IfOk result (λ written. IsCarriedOff (carriage_of migration.entry) index.now bytes.now written) }
     ensures refused { IfErr result (λ refusal. IsNotCarried index.now bytes.now refusal) }
 {
-    let read = read_points(alloc, bytes)?;
-    let images = match carry(alloc, index, &read.points) {
-        Ok(images) => images,
-        Err(CarryFault::Outside { path }) => return Err(Refusal::Outside { path }),
-        Err(CarryFault::TooMany) => return Err(Refusal::TooManyPieces),
-        Err(CarryFault::NoMemory) => return Err(Refusal::NoMemory),
+    let carried = match carried_layer(alloc, index, bytes) {
+        Ok(carried) => carried,
+        Err(refusal) => return Err(refusal),
     };
-    let tin = index.tin();
-    let counts = Counts {
-        corners: tin.corners().len(),
-        triangles: tin.triangles().len(),
-        tin_inexact: tin.inexact(),
-        tin_name: migration.tin,
-        paths: read.points.len(),
-        layer_inexact: read.inexact,
-        layer_name: migration.layer,
-    };
+    let said = write_report(alloc, counts_of(migration, index.tin(), &carried))?;
     let file = LayerFile {
         name: written_name(alloc, migration.out, migration.layer)?,
-        bytes: render(alloc, bytes, &images)?,
+        text: carried.text,
     };
     Ok(Written {
         layer: Some(file),
-        said: write_report(alloc, counts)?,
+        said,
     })
 }
 

@@ -7,7 +7,7 @@ ghost use Rattle.tinmove.specs.Refusals.{line_of, status_of};
 ghost use Rattle.tinmove.specs.Ends.{IsFrontOf};
 ghost use Rattle.tinmove.specs.Prepared.{files_of, HasForm};
 
-use crate::preparing::{LayerFile, Written};
+use crate::preparing::Written;
 use crate::refusal::Refusal;
 use crate::status::Status;
 use shelf_io::{Press, print};
@@ -29,18 +29,18 @@ fn say<P: Press>(press: &mut P, said: &str, status: Status) -> Status
     }
 }
 
-/// Writes a layer's file and then a text to standard output.
-fn publish_layer<P: Press>(press: &mut P, file: &LayerFile, said: &str) -> Status
+/// Writes the layer's file of this name and then a text to standard output.
+fn publish_layer<P: Press>(press: &mut P, name: &str, text: &[u8], said: &str) -> Status
     requires free { P.at_hand press.old ≡ false }
     requires empty { IfSome (P.made press.old) (λ made. made ≡ []) }
-    requires slash { HasSlash (string_bytes file.now.name) }
+    requires slash { HasSlash name.now }
     ensures status { (result ≡ Status.Same) ⊎ (result ≡ Status.Write) }
-    ensures whole { result ≡ Status.Same → IfSome (P.made press.new) (λ made. made ≡ (string_bytes file.now.name, file.now.bytes.items) ∷ (codes "-", said.now) ∷ []) }
-    ensures front { result ≡ Status.Write → IfSome (P.made press.new) (λ made. IsFrontOf made ((string_bytes file.now.name, file.now.bytes.items) ∷ (codes "-", said.now) ∷ [])) }
+    ensures whole { result ≡ Status.Same → IfSome (P.made press.new) (λ made. made ≡ (name.now, text.now) ∷ (codes "-", said.now) ∷ []) }
+    ensures front { result ≡ Status.Write → IfSome (P.made press.new) (λ made. IsFrontOf made ((name.now, text.now) ∷ (codes "-", said.now) ∷ [])) }
     ensures rose { result ≡ Status.Write → Rose (P.faults press.old) (P.faults press.new) }
     ensures same { result ≢ Status.Write → P.faults press.new ≡ P.faults press.old }
 {
-    if print(press, file.name.as_str(), &file.bytes).is_err() {
+    if print(press, name, text).is_err() {
         return Status::Write;
     }
     if print(press, "-", said.as_bytes()).is_err() {
@@ -61,7 +61,12 @@ pub fn publish<P: Press>(press: &mut P, written: &Written) -> Status
     ensures same { result ≢ Status.Write → P.faults press.new ≡ P.faults press.old }
 {
     match &written.layer {
-        Some(file) => publish_layer(press, file, written.said.as_str()),
+        Some(file) => publish_layer(
+            press,
+            file.name.as_str(),
+            file.text.items(),
+            written.said.as_str(),
+        ),
         None => say(press, written.said.as_str(), Status::Same),
     }
 }

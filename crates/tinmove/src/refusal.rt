@@ -1,12 +1,13 @@
 //! Why a run is refused, and the one line that says so.
 
 ghost use Rattle.std.specs.Prelude.{◌≡◌};
-ghost use Rattle.tinmove.specs.Refusals.{line_of, status_of, status_of_tin, status_of_check, of_layer};
+ghost use Rattle.tinmove.specs.Refusals.{line_of, status_of, status_of_tin, status_of_check, status_of_layer, of_carrying};
 ghost use Rattle.tinmove.specs.declared.refusal.Refusal.TheVariants.{Tin, Check, NoMemory};
 
-use crate::lines::{Line, check_line, said, said_number, tin_line};
-use crate::points::LayerFault;
+use crate::lines::{Line, check_line, layer_line, outside_line, said, tin_line};
 use crate::status::Status;
+use carry_map::CarryFault;
+use sheet_base::LayerFault;
 use std::alloc::AllocError;
 use tin_check::CheckFault;
 use tin_file::TinFault;
@@ -28,10 +29,11 @@ pub enum Refusal {
     LayerUnread,
     /// The layer's file has too many bytes.
     LayerLong,
-    /// The layer's file has a form that is not read yet.
-    LayerNotYet,
-    /// The first path, counted from 0, that is not in the source triangles.
-    Outside { path: u32 },
+    /// The layer is not read.
+    Layer(LayerFault),
+    /// This segment is the first that is not wholly in the source triangles: its path, and its
+    /// number in the path, each counted from 0.
+    Outside { path: u32, segment: u32 },
     /// The layer has too many pieces.
     TooManyPieces,
     /// Memory ran out.
@@ -62,13 +64,15 @@ impl From<CheckFault> for Refusal {
     }
 }
 
-impl From<LayerFault> for Refusal {
-    ghost from_gives = { λ fault refusal. refusal ≡ of_layer fault };
+impl From<CarryFault> for Refusal {
+    ghost from_gives = { λ fault refusal. refusal ≡ of_carrying fault };
 
-    fn from(fault: LayerFault) -> Self {
+    fn from(fault: CarryFault) -> Self {
         match fault {
-            LayerFault::NotYet => Refusal::LayerNotYet,
-            LayerFault::NoMemory => Refusal::NoMemory,
+            CarryFault::Layer(fault) => Refusal::Layer(fault),
+            CarryFault::Outside { path, segment } => Refusal::Outside { path, segment },
+            CarryFault::TooMany => Refusal::TooManyPieces,
+            CarryFault::NoMemory => Refusal::NoMemory,
         }
     }
 }
@@ -94,6 +98,16 @@ fn check_status(fault: CheckFault) -> Status
     }
 }
 
+/// The status of a layer that is not read.
+fn layer_status(fault: LayerFault) -> Status
+    ensures { result ≡ status_of_layer fault }
+{
+    match fault {
+        LayerFault::NoMemory => Status::Memory,
+        _ => Status::Layer,
+    }
+}
+
 impl Refusal {
     /// The status with which the run ends.
     pub fn status(self) -> Status
@@ -105,7 +119,7 @@ impl Refusal {
             Refusal::TinLong | Refusal::LayerLong | Refusal::TooManyPieces => Status::Limit,
             Refusal::Tin(fault) => tin_status(fault),
             Refusal::Check(fault) => check_status(fault),
-            Refusal::LayerNotYet => Status::Layer,
+            Refusal::Layer(fault) => layer_status(fault),
             Refusal::Outside { .. } => Status::Outside,
             Refusal::NoMemory => Status::Memory,
         }
@@ -123,10 +137,8 @@ impl Refusal {
             Refusal::Check(fault) => check_line(fault),
             Refusal::LayerUnread => said("read fault: layer 0\n"),
             Refusal::LayerLong => said("limit: bytes of layers\n"),
-            Refusal::LayerNotYet => said("layer 0: not yet\n"),
-            Refusal::Outside { path } => {
-                said_number("outside: layer 0 path ", u64::from(path), " segment 0\n")
-            }
+            Refusal::Layer(fault) => layer_line(fault),
+            Refusal::Outside { path, segment } => outside_line(path, segment),
             Refusal::TooManyPieces => said("limit: pieces\n"),
             Refusal::NoMemory => said("no memory\n"),
         }

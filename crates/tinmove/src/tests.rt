@@ -116,20 +116,16 @@ fn refusals_print_their_line(rt: HostRuntime) -> Result<(), Fail> {
             Status::Outside,
             b"outside: layer 0 path 0 segment 0\n",
         ),
-        (TIN, b"POINT(5 0)", Status::Layer, b"layer 0: not yet\n"),
-        (TIN, b"POINT (5 0) ", Status::Layer, b"layer 0: not yet\n"),
-        (TIN, b"POINT (5 0-)", Status::Layer, b"layer 0: not yet\n"),
-        (TIN, b"POINT (5 .)", Status::Layer, b"layer 0: not yet\n"),
-        (TIN, b"POINT (5 )", Status::Layer, b"layer 0: not yet\n"),
-        (TIN, b"POINT (e5 0)", Status::Layer, b"layer 0: not yet\n"),
-        (TIN, b"POINT (5 0x)", Status::Layer, b"layer 0: not yet\n"),
+        (TIN, b"POINT (5 0)x", Status::Layer, b"layer 0: bad at 11\n"),
         (
             TIN,
-            b"POINT (5 1e100)",
+            b"POINT (5 .)",
             Status::Layer,
-            b"layer 0: not yet\n",
+            b"layer 0: number form at 9 place 1\n",
         ),
-        (TIN, b"POINT (5 0 1)", Status::Layer, b"layer 0: not yet\n"),
+        (TIN, b"POINT (5 )", Status::Layer, b"layer 0: bad at 9\n"),
+        (TIN, b"POINT (e5 0)", Status::Layer, b"layer 0: bad at 7\n"),
+        (TIN, b"POINT (5 0x)", Status::Layer, b"layer 0: bad at 10\n"),
     ] {
         let mut shelf = MemShelf::new(alloc, 4096);
         shelf.add("t.json", tin)?;

@@ -11,8 +11,8 @@ use tin_base::SoundTin;
 use tin_check::check_tin;
 use tin_file::{MOST_BYTES, read_tin};
 
-/// Lost digits are counted, and no fallback is accepted.
-fn plainly() -> How
+/// Lost digits are counted, nothing is left out, and no fallback is accepted.
+pub fn plainly() -> How
     ensures { result ≡ plain }
 {
     How {
