@@ -8,3 +8,4 @@ pub mod OneFault
 pub mod OneCut
 pub mod OneCarried
 pub mod OneOutcome
+pub mod Comparable

@@ -12,6 +12,8 @@ mod publishing;
 mod refusal;
 mod report;
 mod run;
+#[cfg(test)]
+mod square_tests;
 mod status;
 #[cfg(test)]
 mod tests;

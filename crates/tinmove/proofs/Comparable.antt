@@ -1,0 +1,69 @@
+-- The pieces of a layer that is inside may be compared.
+use Rattle.std.proofs.Common.{◌≡◌, ℕ, ◌<◌, All, List, [], ◌∷◌, length, sym, subst, slice_index_or, arith}
+use Rattle.std.proofs.lemmas.List.Elements.{All-append, All-cons}
+use Rattle.std.proofs.lemmas.Int.{ints}
+use Rattle.plane_base.specs.Plane.{whole, IsNear}
+use Rattle.plane_base.specs.declared.shapes.Pt.{Pt}
+use Rattle.sheet_base.specs.Sheets.{Contents}
+use Rattle.tin_base.specs.declared.frames.Frame.TheVariants.{Source}
+use Rattle.tin_base.specs.declared.pieces.Piece.{Piece}
+use Rattle.tin_base.specs.declared.pieces.Place.{Place}
+use Rattle.tin_base.specs.Triangulation.{Triangulation}
+use Rattle.tin_base.specs.Images.{IsInSome}
+use Rattle.tin_base.specs.Limits.{IsWithinLimits}
+use Rattle.tin_base.specs.Segments.{Part, IsInside}
+use Rattle.tin_base.specs.Pieces.{first_point, last_point}
+use Rattle.affine_image.specs.SheetSegments.{Segment}
+use Rattle.affine_image.specs.SheetPieces.{next_place, AreTold, ArePiecesOfSegment, ArePiecesOfAll, ArePiecesOfSheet, AreInside, IsSheetInside, IsImagedPiece}
+use Rattle.affine_image.proofs.Bearing.{sheet_pieces_are_pieces}
+use Rattle.affine_image.proofs.Reach.{rounded_images_are_near}
+use Rattle.meet_rel.proofs.Scale.{mix_first, mix_last}
+use Rattle.topo_check.specs.Changes.{AreComparable, AreAllComparable}
+
+-- both ends of the piece's segment are in source triangles
+record AreEndsInside (tin : Triangulation) (piece : Piece) : Type 0 where
+  pub begins : IsInSome tin Source (whole piece.a)
+  pub ends : IsInSome tin Source (whole piece.b)
+
+no_pieces : (tin : Triangulation) → All (AreEndsInside tin) []
+no_pieces tin k d h = absurd (omega arith)
+
+told_inside : (tin : Triangulation) (a b : Pt) (from : Place) (parts : List Part) (pieces : List Piece) → IsInSome tin Source (whole a) → IsInSome tin Source (whole b) → AreTold tin a b from parts pieces → All (AreEndsInside tin) pieces
+told_inside tin a b from [] [] ha hb told = no_pieces tin
+told_inside tin a b from [] (piece ∷ pieces) ha hb told = absurd told
+told_inside tin a b from (part ∷ parts) [] ha hb told = absurd told
+told_inside tin a b from (part ∷ parts) (piece ∷ pieces) ha hb told =
+    All-cons (AreEndsInside tin) piece pieces
+    (record { begins = subst (λ (p : Pt). IsInSome tin Source (whole p)) (sym told.0.begins) ha; ends = subst (λ (p : Pt). IsInSome tin Source (whole p)) (sym told.0.ends) hb })
+    (told_inside tin a b (next_place from) parts pieces ha hb told.1)
+
+all_inside : (tin : Triangulation) (layer : ℕ) (segments : List Segment) (pieces : List Piece) → AreInside tin segments → ArePiecesOfAll tin layer segments pieces → All (AreEndsInside tin) pieces
+all_inside tin layer [] pieces inside e = subst (λ (ps : List Piece). All (AreEndsInside tin) ps) (sym e) (no_pieces tin)
+all_inside tin layer (segment ∷ segments) pieces inside h =
+    subst (λ (ps : List Piece). All (AreEndsInside tin) ps) (sym h.2)
+    (All-append (AreEndsInside tin) h.0 h.1 (of_segment h.3 inside.0) (all_inside tin layer segments h.1 inside.1 h.4))
+  where
+    of_segment : {own : List Piece} → ArePiecesOfSegment tin layer segment own → IsInside tin segment.a segment.b → All (AreEndsInside tin) own
+    of_segment {own = own} are way =
+        told_inside tin segment.a segment.b _ are.parts own (way (whole segment.a) (omega (arith, ints)) (mix_first (whole segment.a) (whole segment.b))) (way (whole segment.b) (omega (arith, ints)) (mix_last (whole segment.a) (whole segment.b))) are.told
+
+compared : (tin : Triangulation) (p q : Piece) → IsWithinLimits tin → IsImagedPiece tin p → IsImagedPiece tin q → AreEndsInside tin p → AreEndsInside tin q → AreComparable tin p q
+compared tin p q limits of_p of_q ends_p ends_q = record {
+  first = record { is_piece = (of_p.part, of_p.is_part); begins = ends_p.begins; ends = ends_p.ends };
+  second = record { is_piece = (of_q.part, of_q.is_part); begins = ends_q.begins; ends = ends_q.ends };
+  near =
+      let pa = of_p.first_image in let pb = of_p.last_image in let qa = of_q.first_image in let qb = of_q.last_image in
+      let ab : IsNear p.ia p.ib = rounded_images_are_near tin _ _ p.ia p.ib limits pa pb in
+      let ac : IsNear p.ia q.ia = rounded_images_are_near tin _ _ p.ia q.ia limits pa qa in
+      let ad : IsNear p.ia q.ib = rounded_images_are_near tin _ _ p.ia q.ib limits pa qb in
+      let bc : IsNear p.ib q.ia = rounded_images_are_near tin _ _ p.ib q.ia limits pb qa in
+      let bd : IsNear p.ib q.ib = rounded_images_are_near tin _ _ p.ib q.ib limits pb qb in
+      let cd : IsNear q.ia q.ib = rounded_images_are_near tin _ _ q.ia q.ib limits qa qb in
+      ((ab, ac, bc), (ab, ad, bd), cd);
+}
+
+pub pieces_are_comparable : (tin : Triangulation) (layer : ℕ) (sheet : Contents) (pieces : List Piece) → IsWithinLimits tin → IsSheetInside tin sheet → ArePiecesOfSheet tin layer sheet pieces → AreAllComparable tin pieces
+pieces_are_comparable tin layer sheet pieces limits inside are i d h j e k =
+    let imaged : All (IsImagedPiece tin) pieces = sheet_pieces_are_pieces tin layer sheet pieces are in
+    let ends : All (AreEndsInside tin) pieces = all_inside tin layer _ pieces inside are in
+    compared tin (slice_index_or pieces i d) (slice_index_or pieces j e) limits (imaged i d h) (imaged j e k) (ends i d h) (ends j e k)
