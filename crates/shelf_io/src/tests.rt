@@ -163,3 +163,11 @@ fn real_files_are_written(rt: HostRuntime) -> Result<(), Fail> {
     assert_eq!(rt; folder, Err(PrintFault::Failed));
     Ok(())
 }
+
+#[test]
+fn a_name_is_its_word(rt: HostRuntime) -> Result<(), Fail> {
+    let name = Name::of(rt.alloc(), "o/Zürich.wkt")?;
+    assert_eq!(rt; name.text(), "o/Zürich.wkt");
+    assert_eq!(rt; name.bytes().len(), 13);
+    Ok(())
+}
