@@ -3,3 +3,4 @@ pub mod Segments
 pub mod Fitting
 pub mod Kept
 pub mod Splices
+pub mod ReadBack

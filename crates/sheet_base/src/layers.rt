@@ -6,6 +6,7 @@ ghost use Rattle.sheet_base.specs.declared.flags.How.{How};
 ghost use Rattle.sheet_base.specs.Sheets.{Contents};
 ghost use Rattle.sheet_base.specs.Fitting.{Runs, DoFit};
 ghost use Rattle.sheet_base.specs.Splices.{AreInOrder, spliced, DoKeep};
+ghost use Rattle.sheet_base.specs.ReadBack.{IsReadBack};
 
 use crate::{How, Images, LayerFault, Sheet};
 use std::alloc::{AllocError, Global};
@@ -21,6 +22,9 @@ pub trait Layer {
     /// The text that takes the place of an edit's bytes.
     ghost text: { List ℕ → How → Contents → Runs → Edit → List ℕ };
 
+    /// What is written of the bytes' sheet with these images can be read back. A format may except some.
+    ghost reads_back: { How → List ℕ → Contents → Runs → Type 0 };
+
     /// The sheet of a layer, with its edits in order and apart from each other; or the layer's first
     /// fault, but for want of memory.
     fn read(alloc: Global, bytes: &[u8], how: How) -> Result<Sheet, LayerFault>
@@ -30,7 +34,8 @@ pub trait Layer {
         ensures refused { (fault : LayerFault) → IsErrOf result fault → fault ≢ NoMemory → refuses how bytes.now fault };
 
     /// The layer's bytes with the images in place of its points: each edit's bytes are replaced by
-    /// its text, and all other bytes are kept.
+    /// its text, and all other bytes are kept. It is a layer again, unless the format excepts it, and its
+    /// segments in order are those from image to image.
     fn render(
         alloc: Global,
         bytes: &[u8],
@@ -42,5 +47,6 @@ pub trait Layer {
         requires sheet { reads how bytes.now sheet.now }
         requires fits { DoFit sheet.now images.now }
         ensures spliced { IfOk result (λ out. out.items ≡ spliced bytes.now (text bytes.now how sheet.now images.now) sheet.now.edits) }
-        ensures rest { IfOk result (λ out. DoKeep bytes.now 0 sheet.now.edits out.items) };
+        ensures rest { IfOk result (λ out. DoKeep bytes.now 0 sheet.now.edits out.items) }
+        ensures back { IfOk result (λ out. reads_back how bytes.now sheet.now images.now → IsReadBack (reads how) sheet.now images.now out.items) };
 }

@@ -52,7 +52,7 @@ ascend_append from [] ys mid past first second = ascend_before mid from ys past 
 ascend_append from (x ∷ xs) ys mid past first second = (first.0, ascend_append (x.start + length x.text) xs ys mid past first.1 second)
 
 -- Tokens.
-token_size : (byte : ℕ) (bytes : List ℕ) → (1 ≤ token_length byte bytes) × (token_length byte bytes ≤ suc (length bytes))
+pub token_size : (byte : ℕ) (bytes : List ℕ) → (1 ≤ token_length byte bytes) × (token_length byte bytes ≤ suc (length bytes))
 token_size byte bytes = by_letter (is_ascii_alphabetic byte) refl (is_numeric byte) refl
   where
     by_letter : (a : Bool) → is_ascii_alphabetic byte ≡ a → (b : Bool) → is_numeric byte ≡ b → (1 ≤ token_length byte bytes) × (token_length byte bytes ≤ suc (length bytes))
@@ -60,7 +60,7 @@ token_size byte bytes = by_letter (is_ascii_alphabetic byte) refl (is_numeric by
     by_letter false e true f = let le = prefix_len-le-length is_numeric bytes in rw (e, f) (omega arith, omega (arith, le))
     by_letter false e false f = rw (e, f) (omega arith, omega arith)
 
-number_token : (at byte : ℕ) (text : List ℕ) (n : Number) → token_of at byte text ≡ number n → (n.start ≡ at) × (n.text ≡ text)
+pub number_token : (at byte : ℕ) (text : List ℕ) (n : Number) → token_of at byte text ≡ number n → (n.start ≡ at) × (n.text ≡ text)
 number_token at byte text n = by_tests (is_ascii_alphabetic byte) (is_numeric byte) (byte == 40) (byte == 41) (byte == 44)
   where
     by_tests : (a b c d e : Bool) → (if a then word (word_of text) else if b then number (record { start = at; text = text }) else if c then opening else if d then closing else if e then comma else stray) ≡ number n
@@ -191,7 +191,7 @@ width [] = 0
 width (line ∷ []) = length line
 width (line ∷ next ∷ more) = length line + 1 + width (next ∷ more)
 
-split_some : (p : ℕ → Bool) (bytes : List ℕ) → (line : List ℕ) × (more : List (List ℕ)) × (slice_split p bytes ≡ line ∷ more)
+pub split_some : (p : ℕ → Bool) (bytes : List ℕ) → (line : List ℕ) × (more : List (List ℕ)) × (slice_split p bytes ≡ line ∷ more)
 split_some p [] = ([], [], refl)
 split_some p (byte ∷ bytes) = at (p byte) refl (split_some p bytes)
   where

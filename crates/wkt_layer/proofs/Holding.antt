@@ -19,7 +19,7 @@ use Rattle.wkt_layer.specs.Passes.{Held, AreFrom}
 use Rattle.wkt_layer.specs.declared.pass.Pass.{Pass}
 
 -- the row of a path whose first point has this number
-abbrev row_at : Path → ℕ → PathRow
+abbrev pub row_at : Path → ℕ → PathRow
 row_at path first = record { kind = path.kind; first = first; past = first + length (kept_points path) }
 
 -- rows and edits of one path more

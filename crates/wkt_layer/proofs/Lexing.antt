@@ -29,18 +29,18 @@ use Rattle.wkt_layer.specs.Reached.{IsIn, Reached}
 use Rattle.wkt_layer.proofs.Naming.{named}
 
 -- bytes of a token that are passed over
-passed : (count at : ℕ) (bytes : List ℕ) → tokens_behind count at bytes ≡ tokens_of (at + count) (drop count bytes)
+pub passed : (count at : ℕ) (bytes : List ℕ) → tokens_behind count at bytes ≡ tokens_of (at + count) (drop count bytes)
 passed zero at [] = refl
 passed zero at (byte ∷ bytes) = let e : at ≡ at + 0 = omega arith in ap (λ n. tokens_of n (byte ∷ bytes)) e
 passed (suc count) at [] = refl
 passed (suc count) at (byte ∷ bytes) = let e : at + 1 + count ≡ at + suc count = omega arith in passed count (at + 1) bytes ∙ ap (λ n. tokens_of n (drop count bytes)) e
 
 -- a blank
-blank_first : (at byte : ℕ) (bytes : List ℕ) → is_blank byte ≡ true → tokens_of at (byte ∷ bytes) ≡ tokens_of (at + 1) bytes
+pub blank_first : (at byte : ℕ) (bytes : List ℕ) → is_blank byte ≡ true → tokens_of at (byte ∷ bytes) ≡ tokens_of (at + 1) bytes
 blank_first at byte bytes is = rw is refl
 
 -- a token
-black_first : (at byte : ℕ) (bytes : List ℕ) → is_blank byte ≡ false
+pub black_first : (at byte : ℕ) (bytes : List ℕ) → is_blank byte ≡ false
     → tokens_of at (byte ∷ bytes) ≡ record { start = at; token = token_of at byte (take (token_length byte bytes) (byte ∷ bytes)) } ∷ tokens_behind (token_length byte bytes - 1) (at + 1) bytes
 black_first at byte bytes is = rw is refl
 
@@ -63,9 +63,9 @@ token_first at bytes byte more sign size split black some first =
     subst (λ (xs : List ℕ). tokens_of at xs ≡ record { start = at; token = token_for at (take size xs) sign } ∷ tokens_of (at + size) (drop size xs)) (sym split)
     (token_first_at at byte more sign size black some here)
 
-drop_twice : (at size : ℕ) (xs : List ℕ) → drop size (drop at xs) ≡ drop (at + size) xs
+pub drop_twice : {A : Type 0} (at size : ℕ) (xs : List A) → drop size (drop at xs) ≡ drop (at + size) xs
 drop_twice zero size xs = let e : size ≡ 0 + size = omega arith in ap (λ n. drop n xs) e
-drop_twice (suc at) size [] = let n : length {A = ℕ} [] ≤ suc at + size = omega arith in let m : length {A = ℕ} [] ≤ size = omega arith in drop_all size [] m ∙ sym (drop_all (suc at + size) [] n)
+drop_twice {A} (suc at) size [] = let n : length {A = A} [] ≤ suc at + size = omega arith in let m : length {A = A} [] ≤ size = omega arith in drop_all size [] m ∙ sym (drop_all (suc at + size) [] n)
 drop_twice (suc at) size (x ∷ xs) = let e : suc (at + size) ≡ suc at + size = omega arith in drop_twice at size xs ∙ ap (λ n. drop n (x ∷ xs)) e
 
 left_at : (line : List ℕ) (at : ℕ) → at < length line → drop at line ≡ get_or line at 0 ∷ drop (at + 1) line
@@ -112,11 +112,11 @@ some_fault : (exact : Bool) (line : List Placed) (end : ℕ) (fault : LayerFault
 some_fault exact [] end fault some is = absurd (some refl)
 some_fault exact (one ∷ more) end fault some is = is
 
-take_front : {A : Type 0} (front back : List A) → take (length front) (front ++ back) ≡ front
+pub take_front : {A : Type 0} (front back : List A) → take (length front) (front ++ back) ≡ front
 take_front [] back = refl
 take_front (x ∷ front) back = ap (λ xs. x ∷ xs) (take_front front back)
 
-drop_front : {A : Type 0} (front back : List A) → drop (length front) (front ++ back) ≡ back
+pub drop_front : {A : Type 0} (front back : List A) → drop (length front) (front ++ back) ≡ back
 drop_front [] back = refl
 drop_front (x ∷ front) back = drop_front front back
 

@@ -16,3 +16,12 @@ pub mod Sheets
 pub mod Layering
 pub mod EditOrder
 pub mod OneSheet
+pub mod TokenCuts
+pub mod ImageTexts
+pub mod Swaps
+pub mod Turns
+pub mod PointTurns
+pub mod GeometryTurns
+pub mod LineTurns
+pub mod SheetTurns
+pub mod ReadingBack

@@ -18,6 +18,8 @@ impl Layer for Wkt {
 
     ghost text = { λ bytes how sheet images. edit_text sheet images };
 
+    ghost reads_back = { λ how bytes sheet images. Unit {0} };
+
     fn read(alloc: Global, bytes: &[u8], how: How) -> Result<Sheet, LayerFault> {
         read(alloc, bytes, how.exact)
     }

@@ -1,10 +1,13 @@
-use Rattle.std.proofs.Common.{◌≡◌, ℕ, List, length, sym, subst, Ok, Err}
+use Rattle.std.proofs.Common.{◌≡◌, ℕ, List, length, ap, sym, ◌∙◌, subst, Ok, Err}
 use Rattle.std.specs.Prelude.{IfOk, Result}
 use Rattle.sheet_base.specs.declared.edits.Edit.{Edit}
 use Rattle.sheet_base.specs.Splices.{AreInOrder, spliced, DoKeep}
 use Rattle.sheet_base.proofs.Splicing.{splices_keep}
+use Rattle.sheet_base.specs.ReadBack.{IsReadBack}
+use Rattle.wkt_layer.specs.Layers.{IsReadAs}
 use Rattle.wkt_layer.specs.Texts.{edit_text}
 use Rattle.wkt_layer.proofs.EditOrder.{read_in_order}
+use Rattle.wkt_layer.proofs.ReadingBack.{reads_back}
 use Rattle.wkt_layer.proofs.layer.WktLayer.render.Goals as goal
 
 pub splice-requires : goal.splice-requires
@@ -22,3 +25,11 @@ returns-clause-rest c =
     (λ out is. subst (λ (edits : List Edit). DoKeep c.args.bytes.now 0 edits out.items) c.edits.ensures
     (subst (DoKeep c.args.bytes.now 0 c.edits.result.now) (sym is) (splices_keep c.args.bytes.now (edit_text c.args.sheet.now c.args.images.now) c.edits.result.now)))
     c.splice.ensures
+
+pub returns-clause-back : goal.returns-clause-back
+returns-clause-back c =
+    if_ok_more c.splice.result (λ out. out.items ≡ spliced c.args.bytes.now (edit_text c.args.sheet.now c.args.images.now) c.edits.result.now)
+    (λ out. Unit {0} → IsReadBack (IsReadAs c.args.how.exact) c.args.sheet.now c.args.images.now out.items)
+    (λ out is _. subst (IsReadBack (IsReadAs c.args.how.exact) c.args.sheet.now c.args.images.now)
+    (sym (is ∙ ap (spliced c.args.bytes.now (edit_text c.args.sheet.now c.args.images.now)) c.edits.ensures))
+    (reads_back c.args.how.exact c.args.bytes.now c.args.sheet.now c.args.images.now c.requires.sheet c.requires.fits)) c.splice.ensures
