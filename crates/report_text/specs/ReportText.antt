@@ -1,0 +1,90 @@
+-- The text of a report: its lines, each ended by a line feed. Numbers stand in digits without leading zeros.
+use Rattle.std.specs.Prelude.{ℕ, ◌+◌, Bool, true, false, List, [], ◌∷◌, ◌++◌, length, map, codes, decimal}
+use Rattle.std.specs.List.{concat, flat_map}
+use Rattle.tin_base.specs.declared.pieces.Change.{Change}
+use Rattle.tin_base.specs.declared.pieces.Place.{Place}
+use Rattle.tin_base.specs.declared.relations.Rel.{Rel}
+use Rattle.tin_base.specs.declared.relations.Rel.TheVariants.{Apart, Touching, Crossing, Overlapping}
+use Rattle.report_text.specs.declared.lines.TheConstants.{LINE_FEED}
+use Rattle.report_text.specs.declared.rows.LayerRow.{LayerRow}
+use Rattle.report_text.specs.Reports.{Contents}
+
+-- a word, and a number in digits behind it
+abbrev pub field : List ℕ → ℕ → List ℕ
+field word number = word ++ decimal number
+
+unfoldable pub title : List ℕ
+title = codes "tinmove report 1"
+
+-- how many corners and triangles the triangulation has, and how many of its numbers lost digits
+abbrev pub tin_counts : Contents → List ℕ
+tin_counts report = concat (
+    field (codes "triangulation corners ") report.corners ∷ field (codes " triangles ") report.triangles ∷ field (codes " inexact ") report.inexact ∷ [])
+
+-- the line of the triangulation
+unfoldable pub tin_line : Contents → List ℕ
+tin_line report = concat (tin_counts report ∷ codes " name " ∷ report.name ∷ [])
+
+-- how many paths, segments and pieces a layer has
+abbrev pub sizes : LayerRow → List ℕ
+sizes row = concat (field (codes " paths ") row.paths ∷ field (codes " segments ") row.segments ∷ field (codes " pieces ") row.pieces ∷ [])
+
+-- how many of its numbers lost digits, and how many of its entities are left out
+abbrev pub losses : LayerRow → List ℕ
+losses row = concat (field (codes " inexact ") row.inexact ∷ field (codes " dropped ") row.dropped ∷ [])
+
+-- the line of the layer of this number
+unfoldable pub layer_line : ℕ → LayerRow → List ℕ
+layer_line number row = concat (field (codes "layer ") number ∷ sizes row ∷ losses row ∷ codes " name " ∷ row.name ∷ [])
+
+-- the line behind that of a drawing, whose stated extents are not changed
+unfoldable pub extents_line : ℕ → List ℕ
+extents_line number = field (codes "extents ") number ++ codes " as they were"
+
+abbrev pub extents_lines : ℕ → Bool → List (List ℕ)
+extents_lines number true = extents_line number ∷ []
+extents_lines number false = []
+
+-- the lines of layers, of which the first has this number
+abbrev pub layer_lines : ℕ → List LayerRow → List (List ℕ)
+layer_lines number [] = []
+layer_lines number (row ∷ rows) = layer_line number row ∷ (extents_lines number row.drawing ++ layer_lines (number + 1) rows)
+
+-- where a piece comes from: its layer, path, segment and piece
+abbrev pub place_text : Place → List ℕ
+place_text place = concat (
+    decimal place.layer ∷ field (codes "/") place.path ∷ field (codes "/") place.segment ∷ field (codes "/") place.piece ∷ [])
+
+abbrev pub relation_word : Rel → List ℕ
+relation_word Apart = codes "apart"
+relation_word Touching = codes "touching"
+relation_word Crossing = codes "crossing"
+relation_word Overlapping = codes "overlapping"
+
+-- the line of a change: both places, the relation in the source and the one after rounding
+unfoldable pub change_line : Change → List ℕ
+change_line change = concat (
+    codes "change " ∷ place_text change.first ∷ codes " " ∷ place_text change.second
+    ∷ codes " " ∷ relation_word change.was ∷ codes " " ∷ relation_word change.now ∷ [])
+
+-- the line of so many changes
+unfoldable pub count_line : ℕ → List ℕ
+count_line count = field (codes "changes ") count
+
+-- the line of the number of changes, and those of the changes
+abbrev pub change_lines : List Change → List (List ℕ)
+change_lines changes = count_line (length changes) ∷ map change_line changes
+
+unfoldable pub end_line : List ℕ
+end_line = codes "end"
+
+-- all lines of a report
+abbrev pub report_lines : Contents → List (List ℕ)
+report_lines report = title ∷ tin_line report ∷ (layer_lines 0 report.layers ++ (change_lines report.changes ++ (end_line ∷ [])))
+
+-- lines, each with its line feed
+abbrev pub text_of_lines : List (List ℕ) → List ℕ
+text_of_lines lines = flat_map (λ line. line ++ LINE_FEED ∷ []) lines
+
+abbrev pub report_text : Contents → List ℕ
+report_text report = text_of_lines (report_lines report)

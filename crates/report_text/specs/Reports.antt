@@ -1,0 +1,59 @@
+-- What a report holds, and what it keeps.
+use Rattle.std.specs.Prelude.{◌≢◌, ℕ, ◌<◌, ◌≤◌, ◌^◌, List, length, IsUtf8}
+use Rattle.std.specs.List.{AllByRecursion}
+use Rattle.tin_base.specs.declared.pieces.Place.{Place}
+use Rattle.tin_base.specs.declared.pieces.Change.{Change}
+use Rattle.report_text.specs.declared.rows.LayerRow.{LayerRow}
+
+-- the numbers and the name of a triangulation, the layers that were carried through it, and the changes among their pieces
+pub record Contents : Type 0 where
+  pub corners : ℕ
+  pub triangles : ℕ
+  pub inexact : ℕ
+  pub name : List ℕ
+  pub layers : List LayerRow
+  pub changes : List Change
+
+-- no byte is below 32
+abbrev pub IsPrintable : List ℕ → Type 0
+IsPrintable name = AllByRecursion (λ byte. 32 ≤ byte) name
+
+-- the relation is another one after rounding
+abbrev pub IsChanged : Change → Type 0
+IsChanged change = change.was ≢ change.now
+
+-- what each report keeps
+pub record IsReport (report : Contents) : Type 0 where
+  pub name : IsPrintable report.name
+  pub layers : AllByRecursion (λ row. IsPrintable row.name) report.layers
+  pub changes : AllByRecursion IsChanged report.changes
+
+-- the numbers of a layer fit their fields, and its name is text
+pub record IsLayerHeld (row : LayerRow) : Type 0 where
+  pub paths : row.paths < 2 ^ 32
+  pub segments : row.segments < 2 ^ 32
+  pub pieces : row.pieces < 2 ^ 32
+  pub inexact : row.inexact < 2 ^ 64
+  pub dropped : row.dropped < 2 ^ 64
+  pub name : IsUtf8 row.name
+
+-- the numbers of a place fit their fields
+pub record IsPlaceHeld (place : Place) : Type 0 where
+  pub layer : place.layer < 2 ^ 32
+  pub path : place.path < 2 ^ 32
+  pub segment : place.segment < 2 ^ 32
+  pub piece : place.piece < 2 ^ 32
+
+abbrev pub IsChangeHeld : Change → Type 0
+IsChangeHeld change = IsPlaceHeld change.first × IsPlaceHeld change.second
+
+-- the numbers of a report fit their fields, names are text, and both lists are counted in 64 bits
+pub record IsHeld (report : Contents) : Type 0 where
+  pub corners : report.corners < 2 ^ 32
+  pub triangles : report.triangles < 2 ^ 32
+  pub inexact : report.inexact < 2 ^ 64
+  pub name : IsUtf8 report.name
+  pub layers : AllByRecursion IsLayerHeld report.layers
+  pub changes : AllByRecursion IsChangeHeld report.changes
+  pub layer_count : length report.layers < 2 ^ 64
+  pub change_count : length report.changes < 2 ^ 64

@@ -1,0 +1,102 @@
+ghost use Rattle.std.specs.Prelude.{◌≡◌};
+ghost use Rattle.report_text.specs.Reports.{Contents, IsReport};
+
+use crate::LayerRow;
+use sheet_base::Listed;
+use shelf_io::Name;
+use std::marker::Model;
+use tin_base::Change;
+
+/// The report of a run: the numbers and the name of the triangulation, the layers that were carried, in order, and the
+/// changes among their pieces, in order. No name has a byte below 32, and in each change the two relations differ.
+#[derive(Debug, Drop)]
+pub struct Report {
+    corners: u32,
+    triangles: u32,
+    inexact: u64,
+    name: Name,
+    layers: Listed<LayerRow>,
+    changes: Listed<Change>,
+}
+
+impl Model for Report {
+    ghost use Rattle.report_text.specs.Reports.{Contents};
+
+    ghost Value = { Contents };
+
+    ghost use Rattle.report_text.specs.Kept.{seen, IsKept};
+
+    ghost view = { seen };
+
+    ghost invariant = { IsKept };
+}
+
+impl Report {
+    /// A report of a triangulation with so many corners and triangles, of whose numbers `inexact` lost digits.
+    /// It takes no memory.
+    pub fn of(
+        corners: u32,
+        triangles: u32,
+        inexact: u64,
+        name: Name,
+        layers: Listed<LayerRow>,
+        changes: Listed<Change>,
+    ) -> Self
+        requires { IsReport (record { corners = corners; triangles = triangles; inexact = inexact; name = name; layers = layers; changes = changes }) }
+        ensures { result ≡ record { corners = corners; triangles = triangles; inexact = inexact; name = name; layers = layers; changes = changes } }
+    {
+        Report {
+            corners,
+            triangles,
+            inexact,
+            name,
+            layers,
+            changes,
+        }
+    }
+
+    /// How many corners the triangulation has.
+    pub fn corners(&self) -> u32
+        ensures { result ≡ self.now.corners }
+    {
+        self.corners
+    }
+
+    /// How many triangles it has.
+    pub fn triangles(&self) -> u32
+        ensures { result ≡ self.now.triangles }
+    {
+        self.triangles
+    }
+
+    /// How many of its numbers lost digits past the thousandth.
+    pub fn inexact(&self) -> u64
+        ensures { result ≡ self.now.inexact }
+    {
+        self.inexact
+    }
+
+    /// The name of the triangulation's file.
+    pub fn name(&self) -> &Name
+        ensures name { result.now ≡ self.now.name }
+        ensures report { IsReport self.now }
+    {
+        &self.name
+    }
+
+    /// The layers, in order.
+    pub fn layers(&self) -> &[LayerRow]
+        ensures layers { result.now ≡ self.now.layers }
+        ensures report { IsReport self.now }
+    {
+        self.layers.items()
+    }
+
+    /// The changes, in order.
+    pub fn changes(&self) -> &[Change]
+        ensures changes { result.now ≡ self.now.changes }
+        ensures report { IsReport self.now }
+    {
+        self.changes.items()
+    }
+}
