@@ -37,7 +37,7 @@ begin_at n (run ∷ runs) (suc k) h =
     moved m {l = l} e = omega arith
 
 -- ---- as many runs as vertices, as many places as runs
-run_count : (tin : Triangulation) (vs : List PathVertex) (runs : List (List Pt)) → AreRuns tin vs runs → length runs ≡ length vs
+pub run_count : (tin : Triangulation) (vs : List PathVertex) (runs : List (List Pt)) → AreRuns tin vs runs → length runs ≡ length vs
 run_count tin [] [] h = refl
 run_count tin [] (run ∷ runs) h = absurd h
 run_count tin (v ∷ vs) [] h = absurd h
@@ -207,7 +207,7 @@ some_run : (tin : Triangulation) (v : PathVertex) (run : List Pt) → IsRun tin 
 some_run tin v [] h = absurd h
 some_run tin v (image ∷ images) h = omega arith
 
-alone_run : (tin : Triangulation) (points : List Pt) (path : ℕ) (row : PathRow) (run : List Pt) → IsPathFrom row.first row → (row.kind ≢ Loop) ⊎ (points_in row ≡ 1) → IsRun tin (vertex_at points path row (points_in row - 1)) run → length run ≡ 1
+pub alone_run : (tin : Triangulation) (points : List Pt) (path : ℕ) (row : PathRow) (run : List Pt) → IsPathFrom row.first row → (row.kind ≢ Loop) ⊎ (points_in row ≡ 1) → IsRun tin (vertex_at points path row (points_in row - 1)) run → length run ≡ 1
 alone_run tin points path row [] from which h = absurd h
 alone_run tin points path row (image ∷ images) from which h = ap (λ (xs : List Pt). suc (length xs)) (last_crossings tin points path row images from which h.1)
 
@@ -228,7 +228,7 @@ pub record AreJoined (images : Runs) (runs : List (List Pt)) : Type 0 where
   pub points : images.points ≡ joined runs
   pub run : images.run ≡ begins_from 0 runs
 
-begin_is : (images : Runs) (runs : List (List Pt)) (k : ℕ) → AreJoined images runs → k ≤ length runs → run_begin images k ≡ length (joined (take k runs))
+pub begin_is : (images : Runs) (runs : List (List Pt)) (k : ℕ) → AreJoined images runs → k ≤ length runs → run_begin images k ≡ length (joined (take k runs))
 begin_is images runs k are h =
     ap (λ (ns : List ℕ). get_or ns k (length images.points)) are.run ∙ ap (λ (ps : List Pt). get_or (begins_from 0 runs) k (length ps)) are.points
     ∙ ap (λ (d : ℕ). get_or (begins_from 0 runs) k d) (zeroed (length (joined runs))) ∙ begin_at 0 runs k h ∙ sym (zeroed (length (joined (take k runs))))

@@ -28,7 +28,7 @@ same_or a b = go (int_same_or a.x b.x) (int_same_or a.y b.y)
     go (inr x) y = inr (λ e. x (ap (λ (p : Pt). p.x) e))
 
 -- ---- the points of spots
-one : pos 0 <ℤ pos 1
+pub one : pos 0 <ℤ pos 1
 one = lt_z_yes tt
 
 pub spot-w : (a b : Pt) (s : Spot) → 0 < s.of_a + s.of_b → pos 0 <ℤ (spot_at a b s).w

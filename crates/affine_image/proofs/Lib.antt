@@ -10,3 +10,5 @@ pub mod Joining
 pub mod Told
 pub mod Fitting
 pub mod Bearing
+pub mod OneCut
+pub mod Segmenting

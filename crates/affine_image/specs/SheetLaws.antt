@@ -1,7 +1,8 @@
 -- The laws of the pieces and images of a sheet.
-use Rattle.std.specs.Prelude.{◌≡◌, ℕ, ◌+◌, ◌<◌, ◌^◌, List, All, length, slice_get, Some}
+use Rattle.std.specs.Prelude.{◌≡◌, ℕ, ◌+◌, ◌<◌, ◌^◌, List, All, length, map, slice_get, Some}
 use Rattle.sheet_base.specs.Sheets.{Contents, IsSheet}
 use Rattle.sheet_base.specs.Fitting.{Runs, DoFit}
+use Rattle.sheet_base.specs.ReadBack.{Ends, ends_of, imaged}
 use Rattle.tin_base.specs.declared.pieces.Piece.{Piece}
 use Rattle.tin_base.specs.Triangulation.{Triangulation}
 use Rattle.tin_base.specs.Limits.{IsWithinLimits}
@@ -9,7 +10,7 @@ use Rattle.tin_base.specs.Soundness.{IsSound}
 use Rattle.tin_base.specs.Segments.{IsInside}
 use Rattle.affine_image.specs.Rounded.{IsRoundedImage}
 use Rattle.affine_image.specs.SheetSegments.{Segment}
-use Rattle.affine_image.specs.SheetPieces.{ArePiecesOfSegment, ArePiecesOfSheet, IsImagedPiece}
+use Rattle.affine_image.specs.SheetPieces.{ArePiecesOfSegment, ArePiecesOfSheet, IsSheetInside, IsImagedPiece}
 use Rattle.affine_image.specs.SheetImages.{AreImagesOf}
 
 -- the images of the pieces of a segment are joined: the first begins at the image of a, each at the end of the one before it, and the last ends at the image of b
@@ -31,3 +32,13 @@ SheetPiecesArePieces = (tin : Triangulation) (layer : ℕ) (sheet : Contents) (p
 -- the images of a sheet fit it, where they are few enough to be counted in 32 bits
 abbrev pub ImagesFit : Type 0
 ImagesFit = (tin : Triangulation) (sheet : Contents) (images : Runs) → IsWithinLimits tin → IsSheet sheet → AreImagesOf tin sheet images → length images.points < 2 ^ 32 → DoFit sheet images
+
+-- the rounded images of the ends of some pieces, from the first point's to the last one's
+abbrev pub image_ends : List Piece → List Ends
+image_ends pieces = map (λ (piece : Piece). record { from = piece.ia; to = piece.ib }) pieces
+
+-- Of each sound triangulation: where all segments of a sheet are inside, its paths with their images in place of their points have the segments between the images of its pieces' ends, in order
+abbrev pub ImageSegmentsArePieces : Type 0
+ImageSegmentsArePieces =
+    (tin : Triangulation) (layer : ℕ) (sheet : Contents) (images : Runs) (pieces : List Piece) → IsSound tin → IsSheet sheet → IsSheetInside tin sheet → AreImagesOf tin sheet images → ArePiecesOfSheet tin layer sheet pieces
+    → ends_of images.points (map (imaged images) sheet.paths) ≡ image_ends pieces

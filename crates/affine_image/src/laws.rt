@@ -1,5 +1,5 @@
 ghost use Rattle.affine_image.specs.Laws.{RoundedImagesAgree, CutsAreImages, RoundedImagesAreInReach, RoundedImagesAreNear};
-ghost use Rattle.affine_image.specs.SheetLaws.{PieceImagesAreJoined, SheetPiecesArePieces, ImagesFit};
+ghost use Rattle.affine_image.specs.SheetLaws.{PieceImagesAreJoined, SheetPiecesArePieces, ImagesFit, ImageSegmentsArePieces};
 
 /// A law: the rounded image of a place is one, whichever triangle gives it.
 pub fn rounded_images_agree()
@@ -36,4 +36,10 @@ pub fn sheet_pieces_are_pieces()
 /// A law: the images of a sheet fit it, where there are fewer than 2^32.
 pub fn images_fit()
     ensures { ImagesFit }
+{}
+
+/// A law: where all segments of a sheet are inside a sound triangulation, its paths with their images in place of their points have as
+/// segments those between the rounded images of the ends of its pieces, in order.
+pub fn image_segments_are_pieces()
+    ensures { ImageSegmentsArePieces }
 {}

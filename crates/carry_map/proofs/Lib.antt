@@ -7,3 +7,4 @@ pub mod Pathing
 pub mod Sheeting
 pub mod Counting
 pub mod Tiling
+pub mod Backing

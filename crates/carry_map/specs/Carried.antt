@@ -1,6 +1,9 @@
 -- What was gathered of some vertices or of one segment: images, places of runs and pieces, each behind those that stood there before.
 use Rattle.std.specs.Prelude.{◌≡◌, ℕ, List, ◌++◌, map, take, length, ◌-◌}
 use Rattle.plane_base.specs.declared.shapes.Pt.{Pt}
+use Rattle.sheet_base.specs.Sheets.{Contents}
+use Rattle.sheet_base.specs.Fitting.{Runs}
+use Rattle.sheet_base.specs.ReadBack.{ends_of, imaged}
 use Rattle.tin_base.specs.declared.pieces.Piece.{Piece}
 use Rattle.tin_base.specs.declared.pieces.Place.{Place}
 use Rattle.tin_base.specs.Triangulation.{Triangulation}
@@ -8,6 +11,7 @@ use Rattle.tin_base.specs.Segments.{Part, ArePiecesOf}
 use Rattle.affine_image.specs.SheetSegments.{PathVertex, segments_begun}
 use Rattle.affine_image.specs.SheetPieces.{AreTold, ArePiecesOfAll, AreInside}
 use Rattle.affine_image.specs.SheetImages.{AreRuns, joined, begins_from}
+use Rattle.affine_image.specs.SheetLaws.{image_ends}
 
 -- the second list is the first one with more behind it
 pub record Grows {X : Type 0} (before after : List X) : Type 0 where
@@ -17,6 +21,10 @@ pub record Grows {X : Type 0} (before after : List X) : Type 0 where
 -- the images of a segment's pieces' last points, but of the last
 abbrev pub inner_images : List Piece → List Pt
 inner_images pieces = map (λ piece. piece.ib) (take (length pieces - 1) pieces)
+
+-- the sheet's paths with the images in place of their points have the segments between the images of these pieces' ends
+abbrev pub AreSegmentsOf : Contents → Runs → List Piece → Type 0
+AreSegmentsOf sheet images pieces = ends_of images.points (map (imaged images) sheet.paths) ≡ image_ends pieces
 
 -- the pieces of the segment from a to b stand behind those before
 pub record AreSegmentTold (tin : Triangulation) (a b : Pt) (from : Place) (before after : List Piece) : Type 0 where

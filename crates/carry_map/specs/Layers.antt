@@ -8,11 +8,13 @@ use Rattle.sheet_base.specs.Segments.{points_in}
 use Rattle.sheet_base.specs.Sheets.{Contents}
 use Rattle.sheet_base.specs.Fitting.{Runs, DoFit}
 use Rattle.sheet_base.specs.Splices.{AreInOrder, spliced}
+use Rattle.sheet_base.specs.ReadBack.{ends_of}
 use Rattle.tin_base.specs.declared.pieces.Piece.{Piece}
 use Rattle.tin_base.specs.Triangulation.{Triangulation}
 use Rattle.affine_image.specs.SheetSegments.{sheet_segments}
 use Rattle.affine_image.specs.SheetPieces.{ArePiecesOfSheet, IsSheetInside}
 use Rattle.affine_image.specs.SheetImages.{AreImagesOf}
+use Rattle.affine_image.specs.SheetLaws.{image_ends}
 use Rattle.carry_map.specs.declared.layers.Carried.{Carried}
 use Rattle.carry_map.specs.Causes.{IsFirstOutside, IsFirstTooMany}
 
@@ -61,3 +63,18 @@ IsLayerOutside tin reads layer old most path number = IsReadWith reads (λ sheet
 -- it is read as a sheet whose first segment that is not carried is inside, but with its pieces there are more than `most`
 abbrev pub IsLayerTooMany : Triangulation → (Contents → Type 0) → ℕ → ℕ → ℕ → Type 0
 IsLayerTooMany tin reads layer old most = IsReadWith reads (λ sheet. IsFirstTooMany tin layer old most (sheet_segments sheet))
+
+-- ---- reading it back
+-- the text is read as some sheet, whose segments in order are those between the images of these pieces' ends
+pub record IsReadAsPieces (reads : List ℕ → Contents → Type 0) (text : List ℕ) (pieces : List Piece) : Type 0 where
+  pub sheet : Contents
+  pub is_read : reads text sheet
+  pub segments : ends_of sheet.points sheet.paths ≡ image_ends pieces
+
+-- The bytes are read as a sheet, and have images; unless the format excepts what is written of these, the text is read as the pieces.
+pub record IsBackAsPieces (tin : Triangulation) (bytes : List ℕ) (reads : List ℕ → Contents → Type 0) (reads_back : Contents → Runs → Type 0) (text : List ℕ) (pieces : List Piece) : Type 0 where
+  pub sheet : Contents
+  pub read : reads bytes sheet
+  pub images : Runs
+  pub are_images : AreImagesOf tin sheet images
+  pub back : reads_back sheet images → IsReadAsPieces reads text pieces

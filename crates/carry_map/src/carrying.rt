@@ -1,4 +1,4 @@
-ghost use Rattle.std.specs.Prelude.{◌≡◌, ℕ, ◌*◌, ◌≤◌, [], ◌++◌, List, length, vec_len, IfOk, IfErr, OnOk, OnErr, IsErrOf};
+ghost use Rattle.std.specs.Prelude.{◌≡◌, ℕ, ◌*◌, ◌≤◌, [], ◌++◌, List, length, drop, vec_len, IfOk, IfErr, OnOk, OnErr, IsErrOf};
 ghost use Rattle.tin_base.specs.declared.pieces.Piece.{Piece};
 ghost use Rattle.sheet_base.specs.declared.faults.LayerFault.{LayerFault};
 ghost use Rattle.sheet_base.specs.Fitting.{DoFit};
@@ -7,7 +7,7 @@ ghost use Rattle.affine_image.specs.SheetSegments.{sheet_vertices, sheet_segment
 ghost use Rattle.affine_image.specs.SheetPieces.{ArePiecesOfSheet, IsSheetInside};
 ghost use Rattle.affine_image.specs.SheetImages.{AreImagesOf};
 ghost use Rattle.carry_map.specs.declared.limits.TheConstants.{MOST_PIECES};
-ghost use Rattle.carry_map.specs.Carried.{Grows, AreCarried};
+ghost use Rattle.carry_map.specs.Carried.{Grows, AreCarried, AreSegmentsOf};
 ghost use Rattle.carry_map.specs.Causes.{IsFirstOutside, IsFirstTooMany, IsCause};
 
 use crate::CarryFault;
@@ -64,7 +64,8 @@ fn sheet_known(sheet: &Sheet)
 /// Carries a layer: the images of its sheet, and its pieces, which are appended in order. `layer` is its number, and
 /// with its pieces there are to be at most `most`. Each segment must be inside: all its points in source triangles.
 /// At the first segment that is not, or whose pieces find no room, the answer is `Outside` or `TooMany`; a segment that
-/// is outside is `Outside`. After a refusal the pieces are as before.
+/// is outside is `Outside`. The paths with the images in place of their points have as segments, in order, those between
+/// the images of the ends of the appended pieces. After a refusal the pieces are as before.
 pub fn carry(
     alloc: Global,
     index: &TinIndex,
@@ -81,6 +82,7 @@ pub fn carry(
     ensures pieces { OnOk result ((own : List Piece) × (pieces.new.items ≡ pieces.old.items ++ own) ×
         ArePiecesOfSheet index.now layer sheet.now own) }
     ensures inside { OnOk result (IsSheetInside index.now sheet.now) }
+    ensures segments { IfOk result (λ images. AreSegmentsOf sheet.now images (drop (vec_len pieces.old) pieces.new.items)) }
     ensures room { OnOk result (vec_len pieces.new ≤ most) }
     // the cause of each refusal, and what stands after it
     ensures no_layer { (fault : LayerFault) → ¬ IsErrOf result (CarryFault.Layer fault) }

@@ -1,9 +1,9 @@
-ghost use Rattle.std.specs.Prelude.{◌≡◌, ◌≢◌, ℕ, ◌+◌, ◌≤◌, ◌^◌, length, vec_len, count_by, IfOk, OnOk, OnErr, IsErrOf};
+ghost use Rattle.std.specs.Prelude.{◌≡◌, ◌≢◌, ℕ, ◌+◌, ◌≤◌, ◌^◌, length, drop, vec_len, count_by, IfOk, OnOk, OnErr, IsErrOf};
 ghost use Rattle.sheet_base.specs.declared.faults.LayerFault.{LayerFault};
 ghost use Rattle.sheet_base.specs.declared.faults.LayerFault.TheVariants.{NoMemory};
 ghost use Rattle.affine_image.specs.SheetSegments.{sheet_segments};
 ghost use Rattle.carry_map.specs.declared.limits.TheConstants.{MOST_PIECES};
-ghost use Rattle.carry_map.specs.Layers.{ends_open, IsLayerCarried, IsLayerOutside, IsLayerTooMany};
+ghost use Rattle.carry_map.specs.Layers.{ends_open, IsLayerCarried, IsLayerOutside, IsLayerTooMany, IsBackAsPieces};
 
 use crate::{CarryFault, carry};
 use sheet_base::{How, Layer, LayerFault, Listed, PathKind, PathRow, Sheet};
@@ -67,7 +67,8 @@ fn unread(fault: LayerFault) -> CarryFault
 /// Reads a layer, carries it and writes its bytes with the images in place of its points. Its pieces are appended in
 /// order; `layer` is its number, and with its pieces there are to be at most `most`. A layer that the format refuses is
 /// `Layer`, with its first fault; else each segment must be inside, and the pieces must find room, as `carry` asks.
-/// After a refusal the pieces are as before.
+/// Unless the format excepts what is written, the text is a layer again, and its segments in order are those between the
+/// images of the ends of the appended pieces. After a refusal the pieces are as before.
 pub fn carry_layer<L: Layer>(
     alloc: Global,
     index: &TinIndex,
@@ -84,6 +85,9 @@ pub fn carry_layer<L: Layer>(
     ensures carried { IfOk result (λ carried. IsLayerCarried index.now bytes.now (L.reads how bytes.now)
         (L.text bytes.now how) layer pieces.old.items pieces.new.items carried) }
     ensures room { OnOk result (vec_len pieces.new ≤ most) }
+    // what the written text is read as
+    ensures back { IfOk result (λ carried. IsBackAsPieces index.now bytes.now (L.reads how) (L.reads_back how bytes.now)
+        carried.text (drop (vec_len pieces.old) pieces.new.items)) }
     // the cause of each refusal, and what stands after it
     ensures layer { (fault : LayerFault) → IsErrOf result (CarryFault.Layer fault) → L.refuses how bytes.now fault }
     ensures memory { ¬ IsErrOf result (CarryFault.Layer NoMemory) }

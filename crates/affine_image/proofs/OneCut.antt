@@ -1,0 +1,168 @@
+-- A segment is cut into pieces in one way: two lists of its pieces have one length, and their parts end at the same spots.
+use Rattle.std.proofs.Common.{◌≡◌, ◌≢◌, ◌⊎◌, inl, inr, ℕ, zero, suc, ◌*◌, ◌<◌, ◌≤◌, List, [], ◌∷◌, length, refl, sym, ◌∙◌, ap, ap₂, subst, arith}
+use Rattle.plane_base.specs.declared.shapes.Pt.{Pt}
+use Rattle.tin_base.specs.Triangulation.{Triangulation}
+use Rattle.tin_base.specs.Soundness.{IsSound}
+use Rattle.tin_base.specs.Segments.{Spot, spot_at, at_a, IsNotAfter, IsSameSpot, Part, part_at, ArePieces, ArePiecesAt, ArePiecesOf}
+use Rattle.tin_base.proofs.Ends.{IsSpot, no_later_trans, not_both, no_later}
+use Rattle.affine_image.specs.Rounded.{IsRoundedImageAt}
+use Rattle.affine_image.specs.SheetImages.{AreEndsOfAllButLast}
+use Rattle.affine_image.proofs.Joining.{same_or, spot-w, same_of_spots}
+use Rattle.affine_image.proofs.Moving.{rounded_moved}
+use Rattle.affine_image.proofs.Rounding.{rounded_images_agree}
+
+-- ---- the order of spots
+same_up : (m n : ℕ) → m ≡ n → m ≤ n
+same_up m n e = omega arith
+
+up_to_same : (s t : Spot) → IsSameSpot s t → IsNotAfter s t
+up_to_same s t e = same_up (s.of_b * t.of_a) (t.of_b * s.of_a) e
+
+not_sooner : (s t : Spot) → s ≡ t → IsNotAfter s t
+not_sooner s t e = rw e (same_up (t.of_b * t.of_a) (t.of_b * t.of_a) refl)
+
+-- ---- the parts of one list among those of another
+-- the j-th of others begins and ends where the i-th does
+record IsAlike (parts others : List Part) (i j : ℕ) : Type 0 where
+  first : IsSameSpot (part_at others j).first (part_at parts i).first
+  last : IsSameSpot (part_at others j).last (part_at parts i).last
+
+record HasAlike (parts others : List Part) (i : ℕ) : Type 0 where
+  index : ℕ
+  within : index < length others
+  alike : IsAlike parts others i index
+
+has_alike : (tin : Triangulation) (a b : Pt) (parts others : List Part) (i : ℕ) → ArePieces tin a b parts → ArePieces tin a b others → i < length parts → HasAlike parts others i
+has_alike tin a b parts others i p q h =
+    let (j, within, first, last) = q.every (part_at parts i).triangle (part_at parts i).first (part_at parts i).last (p.part i h) in
+    record { index = j; within = within; alike = record { first = first; last = last } }
+
+first_some : (tin : Triangulation) (a b : Pt) (parts : List Part) (i : ℕ) → ArePieces tin a b parts → i < length parts → IsSpot (part_at parts i).first
+first_some tin a b parts i p h = let part = p.part i h in let has = part.has_first in has.some
+
+less_or : (m n : ℕ) → (m < n) ⊎ ((m ≡ n) ⊎ (n < m))
+less_or m n = grind arith
+
+-- a later part is alike to a later one
+later : (tin : Triangulation) (a b : Pt) (parts others : List Part) (i i' j j' : ℕ) → ArePieces tin a b parts → ArePieces tin a b others → i < i' → i' < length parts
+    → j < length others → j' < length others → IsSameSpot (part_at others j).first (part_at parts i).first → IsSameSpot (part_at others j').first (part_at parts i').first → j < j'
+later tin a b parts others i i' j j' p q less within near near' same same' = go (less_or j j')
+  where
+    clash : IsNotAfter (part_at others j').first (part_at others j).first → j < j'
+    clash up =
+        let back : IsNotAfter (part_at parts i').first (part_at others j').first = up_to_same (part_at parts i').first (part_at others j').first (sym same') in
+        let on : IsNotAfter (part_at parts i').first (part_at others j).first =
+        no_later_trans (part_at parts i').first (part_at others j').first (part_at others j).first (first_some tin a b others j' q near') back up in
+        let all : IsNotAfter (part_at parts i').first (part_at parts i).first =
+        no_later_trans (part_at parts i').first (part_at others j).first (part_at parts i).first (first_some tin a b others j q near) on
+        (up_to_same (part_at others j).first (part_at parts i).first same) in
+        absurd (not_both (part_at parts i).first (part_at parts i').first (p.in_order i i' less within) all)
+
+    go : (j < j') ⊎ ((j ≡ j') ⊎ (j' < j)) → j < j'
+    go (inl h) = h
+    go (inr (inl e)) = clash (not_sooner (part_at others j').first (part_at others j).first (ap (λ (k : ℕ). (part_at others k).first) (sym e)))
+    go (inr (inr h)) = clash (no_later (part_at others j').first (part_at others j).first (q.in_order j' j h near))
+
+-- so no part is alike to one of a lesser number
+at_least : (tin : Triangulation) (a b : Pt) (parts others : List Part) (i j : ℕ) → ArePieces tin a b parts → ArePieces tin a b others → i < length parts → j < length others
+    → IsSameSpot (part_at others j).first (part_at parts i).first → i ≤ j
+at_least tin a b parts others zero j p q h near same = omega arith
+at_least tin a b parts others (suc i) j p q h near same =
+    let h' : i < length parts = omega (arith, h) in
+    let before = has_alike tin a b parts others i p q h' in
+    let below : i ≤ before.index = let alike = before.alike in at_least tin a b parts others i before.index p q h' before.within alike.first in
+    let step : before.index < j = let alike = before.alike in later tin a b parts others i (suc i) before.index j p q (omega arith) h before.within near alike.first same in
+    omega (arith, below, step)
+
+record IsAt (parts others : List Part) (i : ℕ) : Type 0 where
+  within : i < length others
+  last : IsSameSpot (part_at others i).last (part_at parts i).last
+
+at_each : (tin : Triangulation) (a b : Pt) (parts others : List Part) (i : ℕ) → ArePieces tin a b parts → ArePieces tin a b others → i < length parts → IsAt parts others i
+at_each tin a b parts others i p q h =
+    let there = has_alike tin a b parts others i p q h in
+    let alike = there.alike in
+    let up = at_least tin a b parts others i there.index p q h there.within alike.first in
+    let down = at_least tin a b others parts there.index i q p there.within h (sym alike.first) in
+    let same : there.index ≡ i = omega (arith, up, down) in
+    record { within = subst (λ (k : ℕ). k < length others) same there.within; last = subst (λ (k : ℕ). IsSameSpot (part_at others k).last (part_at parts i).last) same alike.last }
+
+up_to : (m n : ℕ) → ((i : ℕ) → i < m → i < n) → m ≤ n
+up_to zero n each = omega arith
+up_to (suc m) n each = let last = each m (omega arith) in omega (arith, last)
+
+-- ---- part by part
+abbrev pub AreAlike : List Part → List Part → Type 0
+AreAlike [] [] = Unit {0}
+AreAlike [] (other ∷ others) = ⊥
+AreAlike (part ∷ parts) [] = ⊥
+AreAlike (part ∷ parts) (other ∷ others) = IsSpot part.last × IsSpot other.last × IsSameSpot part.last other.last × AreAlike parts others
+
+all_alike : (parts others : List Part) → length parts ≡ length others → ((i : ℕ) → i < length parts → IsSpot (part_at parts i).last) → ((i : ℕ) → i < length others → IsSpot (part_at others i).last)
+    → ((i : ℕ) → i < length parts → IsSameSpot (part_at others i).last (part_at parts i).last) → AreAlike parts others
+all_alike [] [] count some some' same = tt
+all_alike [] (other ∷ others) count some some' same = absurd (omega (arith, count))
+all_alike (part ∷ parts) [] count some some' same = absurd (omega (arith, count))
+all_alike (part ∷ parts) (other ∷ others) count some some' same = (
+  some 0 (omega arith),
+  some' 0 (omega arith),
+  sym (same 0 (omega arith)),
+  all_alike parts others (omega (arith, count)) (λ i h. some (suc i) (omega (arith, h))) (λ i h. some' (suc i) (omega (arith, h))) (λ i h. same (suc i) (omega (arith, h))),
+)
+
+last_some : (tin : Triangulation) (a b : Pt) (parts : List Part) → ArePieces tin a b parts → (i : ℕ) → i < length parts → IsSpot (part_at parts i).last
+last_some tin a b parts p i h = let part = p.part i h in let has = part.has_last in has.some
+
+pieces_alike : (tin : Triangulation) (a b : Pt) (parts others : List Part) → ArePieces tin a b parts → ArePieces tin a b others → AreAlike parts others
+pieces_alike tin a b parts others p q =
+    let up : length parts ≤ length others = up_to (length parts) (length others) (λ i h. let at = at_each tin a b parts others i p q h in at.within) in
+    let down : length others ≤ length parts = up_to (length others) (length parts) (λ i h. let at = at_each tin a b others parts i q p h in at.within) in
+    all_alike parts others (omega (arith, up, down)) (last_some tin a b parts p) (last_some tin a b others q) (λ i h. let at = at_each tin a b parts others i p q h in at.last)
+
+one_alike : (part other : Part) → part.last ≡ at_a → other.last ≡ at_a → AreAlike (part ∷ []) (other ∷ [])
+one_alike part other is too =
+    (subst (λ (s : Spot). IsSpot s) (sym is) (omega arith), subst (λ (s : Spot). IsSpot s) (sym too) (omega arith), rw (is, too) refl, tt)
+
+point_alike : (tin : Triangulation) (a : Pt) (parts others : List Part) → ArePiecesAt tin a parts → ArePiecesAt tin a others → AreAlike parts others
+point_alike tin a [] [] p q = tt
+point_alike tin a [] (other ∷ []) p (within, has, least, first, last) = absurd (p (other.triangle, within, has))
+point_alike tin a [] (other ∷ next ∷ others) p q = absurd q
+point_alike tin a (part ∷ []) [] (within, has, least, first, last) q = absurd (q (part.triangle, within, has))
+point_alike tin a (part ∷ []) (other ∷ []) (within, has, least, first, last) (within', has', least', first', last') = one_alike part other last last'
+point_alike tin a (part ∷ []) (other ∷ next ∷ others) p q = absurd q
+point_alike tin a (part ∷ next ∷ parts) others p q = absurd p
+
+-- the pieces of one segment, twice
+pub cut_alike : (tin : Triangulation) (a b : Pt) (parts others : List Part) → ArePiecesOf tin a b parts → ArePiecesOf tin a b others → AreAlike parts others
+cut_alike tin a b parts others p q = go (same_or a b)
+  where
+    go : (a ≡ b) ⊎ (a ≢ b) → AreAlike parts others
+    go (inl e) = point_alike tin a parts others (p.0 e) (q.0 e)
+    go (inr n) = pieces_alike tin a b parts others (p.1 n) (q.1 n)
+
+pub alike_length : (parts others : List Part) → AreAlike parts others → length parts ≡ length others
+alike_length [] [] is = refl
+alike_length [] (other ∷ others) is = absurd is
+alike_length (part ∷ parts) [] is = absurd is
+alike_length (part ∷ parts) (other ∷ others) is = let e = alike_length parts others is.3 in omega (arith, e)
+
+-- ---- the images of the ends
+end_one : (tin : Triangulation) (a b : Pt) (s t : Spot) (image picture : Pt) → IsSound tin → IsSpot s → IsSpot t → IsSameSpot s t → IsRoundedImageAt tin (spot_at a b s) image → IsRoundedImageAt tin (spot_at a b t) picture
+    → image ≡ picture
+end_one tin a b s t image picture sound some some' same i j =
+    rounded_images_agree tin (spot_at a b s) image picture sound (spot-w a b s some) i
+    (rounded_moved tin (spot_at a b t) (spot_at a b s) picture (spot-w a b t some') (same_of_spots a b s t same) j)
+
+pub ends_one : (tin : Triangulation) (a b : Pt) (parts others : List Part) (images pictures : List Pt) → IsSound tin → AreAlike parts others → AreEndsOfAllButLast tin a b parts images
+    → AreEndsOfAllButLast tin a b others pictures → images ≡ pictures
+ends_one tin a b [] [] images pictures sound alike x y = x ∙ sym y
+ends_one tin a b [] (other ∷ others) images pictures sound alike x y = absurd alike
+ends_one tin a b (part ∷ parts) [] images pictures sound alike x y = absurd alike
+ends_one tin a b (part ∷ []) (other ∷ []) images pictures sound alike x y = x ∙ sym y
+ends_one tin a b (part ∷ []) (other ∷ next ∷ others) images pictures sound alike x y = absurd alike.3
+ends_one tin a b (part ∷ next ∷ parts) (other ∷ []) images pictures sound alike x y = absurd alike.3
+ends_one tin a b (part ∷ next ∷ parts) (other ∷ then ∷ others) [] pictures sound alike x y = absurd x
+ends_one tin a b (part ∷ next ∷ parts) (other ∷ then ∷ others) (image ∷ images) [] sound alike x y = absurd y
+ends_one tin a b (part ∷ next ∷ parts) (other ∷ then ∷ others) (image ∷ images) (picture ∷ pictures) sound alike x y =
+    ap₂ (λ (p : Pt) (ps : List Pt). p ∷ ps) (end_one tin a b part.last other.last image picture sound alike.0 alike.1 alike.2 x.0 y.0)
+    (ends_one tin a b (next ∷ parts) (then ∷ others) images pictures sound alike.3 x.1 y.1)

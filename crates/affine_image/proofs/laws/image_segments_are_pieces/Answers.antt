@@ -1,0 +1,5 @@
+use Rattle.affine_image.proofs.Segmenting.{image_segments_are_pieces}
+use Rattle.affine_image.proofs.laws.image_segments_are_pieces.Goals as goal
+
+pub returns : goal.returns
+returns c = image_segments_are_pieces
