@@ -1,5 +1,5 @@
 -- The pieces of a layer that is inside may be compared.
-use Rattle.std.proofs.Common.{◌≡◌, ℕ, ◌<◌, All, List, [], ◌∷◌, length, sym, subst, slice_index_or, arith}
+use Rattle.std.proofs.Common.{ℕ, All, List, [], ◌∷◌, sym, subst, slice_index_or, arith}
 use Rattle.std.proofs.lemmas.List.Elements.{All-append, All-cons}
 use Rattle.std.proofs.lemmas.Int.{ints}
 use Rattle.plane_base.specs.Plane.{whole, IsNear}
@@ -12,13 +12,15 @@ use Rattle.tin_base.specs.Triangulation.{Triangulation}
 use Rattle.tin_base.specs.Images.{IsInSome}
 use Rattle.tin_base.specs.Limits.{IsWithinLimits}
 use Rattle.tin_base.specs.Segments.{Part, IsInside}
-use Rattle.tin_base.specs.Pieces.{first_point, last_point}
+use Rattle.tin_base.specs.Pieces.{IsPieceInside}
 use Rattle.affine_image.specs.SheetSegments.{Segment}
 use Rattle.affine_image.specs.SheetPieces.{next_place, AreTold, ArePiecesOfSegment, ArePiecesOfAll, ArePiecesOfSheet, AreInside, IsSheetInside, IsImagedPiece}
 use Rattle.affine_image.proofs.Bearing.{sheet_pieces_are_pieces}
 use Rattle.affine_image.proofs.Reach.{rounded_images_are_near}
 use Rattle.meet_rel.proofs.Scale.{mix_first, mix_last}
-use Rattle.topo_check.specs.Changes.{AreComparable, AreAllComparable}
+use Rattle.topo_check.specs.Changes.{AreComparable, AreAllComparable, AreAllInside}
+use Rattle.carry_map.specs.declared.layers.Carried.{Carried}
+use Rattle.tinmove.specs.Carrying.{IsCarried}
 
 -- both ends of the piece's segment are in source triangles
 record AreEndsInside (tin : Triangulation) (piece : Piece) : Type 0 where
@@ -47,10 +49,19 @@ all_inside tin layer (segment ∷ segments) pieces inside h =
     of_segment {own = own} are way =
         told_inside tin segment.a segment.b _ are.parts own (way (whole segment.a) (omega (arith, ints)) (mix_first (whole segment.a) (whole segment.b))) (way (whole segment.b) (omega (arith, ints)) (mix_last (whole segment.a) (whole segment.b))) are.told
 
-compared : (tin : Triangulation) (p q : Piece) → IsWithinLimits tin → IsImagedPiece tin p → IsImagedPiece tin q → AreEndsInside tin p → AreEndsInside tin q → AreComparable tin p q
-compared tin p q limits of_p of_q ends_p ends_q = record {
-  first = record { is_piece = (of_p.part, of_p.is_part); begins = ends_p.begins; ends = ends_p.ends };
-  second = record { is_piece = (of_q.part, of_q.is_part); begins = ends_q.begins; ends = ends_q.ends };
+-- so each piece of a sheet that is inside is one of a segment with ends in source triangles
+pub pieces_are_inside : (tin : Triangulation) (layer : ℕ) (sheet : Contents) (pieces : List Piece) → IsSheetInside tin sheet → ArePiecesOfSheet tin layer sheet pieces → AreAllInside tin pieces
+pieces_are_inside tin layer sheet pieces inside are i d h =
+    let imaged : All (IsImagedPiece tin) pieces = sheet_pieces_are_pieces tin layer sheet pieces are in
+    let ends : All (AreEndsInside tin) pieces = all_inside tin layer _ pieces inside are in
+    let one = imaged i d h in
+    let both = ends i d h in
+    record { is_piece = (one.part, one.is_part); begins = both.begins; ends = both.ends }
+
+compared : (tin : Triangulation) (p q : Piece) → IsWithinLimits tin → IsImagedPiece tin p → IsImagedPiece tin q → IsPieceInside tin p → IsPieceInside tin q → AreComparable tin p q
+compared tin p q limits of_p of_q inside_p inside_q = record {
+  first = inside_p;
+  second = inside_q;
   near =
       let pa = of_p.first_image in let pb = of_p.last_image in let qa = of_q.first_image in let qb = of_q.last_image in
       let ab : IsNear p.ia p.ib = rounded_images_are_near tin _ _ p.ia p.ib limits pa pb in
@@ -65,5 +76,16 @@ compared tin p q limits of_p of_q ends_p ends_q = record {
 pub pieces_are_comparable : (tin : Triangulation) (layer : ℕ) (sheet : Contents) (pieces : List Piece) → IsWithinLimits tin → IsSheetInside tin sheet → ArePiecesOfSheet tin layer sheet pieces → AreAllComparable tin pieces
 pieces_are_comparable tin layer sheet pieces limits inside are i d h j e k =
     let imaged : All (IsImagedPiece tin) pieces = sheet_pieces_are_pieces tin layer sheet pieces are in
-    let ends : All (AreEndsInside tin) pieces = all_inside tin layer _ pieces inside are in
-    compared tin (slice_index_or pieces i d) (slice_index_or pieces j e) limits (imaged i d h) (imaged j e k) (ends i d h) (ends j e k)
+    let within : AreAllInside tin pieces = pieces_are_inside tin layer sheet pieces inside are in
+    compared tin (slice_index_or pieces i d) (slice_index_or pieces j e) limits (imaged i d h) (imaged j e k) (within i d h) (within j e k)
+
+-- the pieces of a layer that is carried
+pub carried_are_inside : (tin : Triangulation) (text : List ℕ) (pieces : List Piece) (carried : Carried) → IsCarried tin text pieces carried → AreAllInside tin pieces
+carried_are_inside tin text pieces carried is =
+    let layer = is.layer in
+    subst (λ (ps : List Piece). AreAllInside tin ps) (sym layer.stand) (pieces_are_inside tin 0 layer.sheet layer.own layer.inside layer.are_pieces)
+
+pub carried_are_comparable : (tin : Triangulation) (text : List ℕ) (pieces : List Piece) (carried : Carried) → IsWithinLimits tin → IsCarried tin text pieces carried → AreAllComparable tin pieces
+carried_are_comparable tin text pieces carried limits is =
+    let layer = is.layer in
+    subst (λ (ps : List Piece). AreAllComparable tin ps) (sym layer.stand) (pieces_are_comparable tin 0 layer.sheet layer.own limits layer.inside layer.are_pieces)

@@ -1,5 +1,5 @@
 -- How a run ends, from what its last call says.
-use Rattle.std.proofs.Common.{◌≡◌, ◌≢◌, ◌⊎◌, inl, inr, ℕ, zero, suc, List, [], ◌∷◌, length, take, get_or, codes, Option, None, Some, IfSome, string_bytes, refl, sym, ◌∙◌, ap, subst, arith}
+use Rattle.std.proofs.Common.{◌≡◌, ◌≢◌, ◌⊎◌, inl, inr, ℕ, zero, suc, List, [], ◌∷◌, length, take, get_or, codes, Bool, true, false, Option, None, Some, IfSome, string_bytes, refl, sym, ◌∙◌, ap, subst, arith}
 use Rattle.std.proofs.Math.Seq.{take-length}
 use Rattle.shelf_io.specs.Files.{Files}
 use Rattle.mm_decimal.specs.declared.reading.NumFault.{NumFault}
@@ -15,11 +15,12 @@ use Rattle.tin_file.specs.declared.faults.TinFault.{TinFault}
 use Rattle.tin_file.specs.declared.faults.TinFault.TheVariants.{Json, Deep, Key, Version, Fallback, NoHorizontal, TooMany, Row, Number, Inexact, Index, Span, NoMemory as TinMemory}
 use Rattle.tinmove.specs.declared.preparing.LayerFile.{LayerFile}
 use Rattle.tinmove.specs.declared.status.Status.{Status}
-use Rattle.tinmove.specs.declared.status.Status.TheVariants.{Same, Write, Memory}
+use Rattle.tinmove.specs.declared.status.Status.TheVariants.{Write, Memory}
 use Rattle.tinmove.specs.declared.refusal.Refusal.{Refusal}
-use Rattle.tinmove.specs.declared.refusal.Refusal.TheVariants.{NotUnderstood, TinUnread, TinLong, Tin, Check, LayerUnread, LayerLong, Layer, Outside, TooManyPieces, NoMemory}
+use Rattle.tinmove.specs.declared.refusal.Refusal.TheVariants.{NotUnderstood, TinUnread, TinLong, Tin, Check, LayerUnread, LayerLong, Layer, Outside, TooManyPieces, TooManyChanges, NoMemory}
 use Rattle.tinmove.specs.Jobs.{Job, migrates, checks, IsJob, LacksJob, IsCheck}
 use Rattle.tinmove.specs.Names.{HasSlash}
+use Rattle.tinmove.specs.RunChanges.{end_of}
 use Rattle.tinmove.specs.Lines.{tin_line, check_line, number_line, layer_line, layer_number_line}
 use Rattle.tinmove.specs.Outcome.{IsJobDone, no_job, refused, done}
 use Rattle.tinmove.specs.Refusals.{status_of, line_of, status_of_tin, status_of_check, status_of_layer}
@@ -38,14 +39,9 @@ pub record HasPrinted (whole : Files) (wanted result : Status) (made : Option Fi
   pub front : result ≡ Write → IfSome made (λ files. IsFrontOf files whole)
   pub rose : result ≡ Write → press_rose
 
-pub printed_of : (whole : Files) (wanted result : Status) (made : Option Files) (press_rose : Type 0) → (result ≡ wanted) ⊎ (result ≡ Write) → (result ≡ wanted → IfSome made (λ files. files ≡ whole))
-    → (result ≡ Write → IfSome made (λ files. IsFrontOf files whole)) → (result ≡ Write → press_rose) → HasPrinted whole wanted result made press_rose
-printed_of whole wanted result made press_rose status all front rose = record {
-  status = status;
-  all = λ other. elim status [ inl is ↦ all is | inr is ↦ absurd (other is) ];
-  front = front;
-  rose = rose;
-}
+pub never-write-end : (changed : Bool) → end_of changed ≢ Write
+never-write-end true = λ e. cc
+never-write-end false = λ e. cc
 
 pub never-write : (refusal : Refusal) → status_of refusal ≢ Write
 never-write NotUnderstood = λ e. cc
@@ -58,6 +54,7 @@ never-write LayerLong = λ e. cc
 never-write (Layer fault) = layer_not_write _ (of_layer fault)
 never-write (Outside path segment) = λ e. cc
 never-write TooManyPieces = λ e. cc
+never-write TooManyChanges = λ e. cc
 never-write NoMemory = λ e. cc
 
 -- the run ends as was wanted, or after a write fault
@@ -134,6 +131,7 @@ memory-line LayerLong is = cc
 memory-line (Layer fault) is = layer-memory fault is
 memory-line (Outside path segment) is = cc
 memory-line TooManyPieces is = cc
+memory-line TooManyChanges is = cc
 memory-line NoMemory is = refl
 
 -- a job's refusal is what a run may make
@@ -146,8 +144,8 @@ makes_refusal words files shelf_rose job refusal given (no_room is) = out_of_mem
 pub makes_no_job : (words : List (List ℕ)) (files : Files) (shelf_rose : Type 0) → LacksJob words → Makes words files shelf_rose (status_of NotUnderstood) (line_file NotUnderstood)
 makes_no_job words files shelf_rose lacks = by_outcome (no_job lacks (record { status_is = refl; made_is = refl }))
 
-pub makes_files : (words : List (List ℕ)) (files : Files) (shelf_rose : Type 0) (job : Job) (made : Files) → IsJob words job → IsJobDone files job made → Makes words files shelf_rose Same made
-makes_files words files shelf_rose job made given is = by_outcome (done job given refl is)
+pub makes_files : (words : List (List ℕ)) (files : Files) (shelf_rose : Type 0) (job : Job) (status : Status) (made : Files) → IsJob words job → IsJobDone files job status made → Makes words files shelf_rose status made
+makes_files words files shelf_rose job status made given is = by_outcome (done job given is)
 
 -- a fact of the files that a shelf tells follows from another
 pub told : {P Q : Files → Type 0} (files : Option Files) → ((f : Files) → P f → Q f) → IfSome files P → IfSome files Q
@@ -168,18 +166,20 @@ stands_refused refusal result (Some made) press_rose printed =
     ]
 
 -- what stands after a success
-pub stands_done : (layer : Option LayerFile) (said : List ℕ) (result : Status) (made : Option Files) (press_rose : Type 0) → HasFormWith layer said → HasPrinted (files_with layer said) Same result made press_rose
-    → IfSome made (Stands result)
-stands_done layer said result None press_rose form printed = tt
-stands_done None said result (Some made) press_rose (tin, is_said) printed =
+pub stands_done : (layer : Option LayerFile) (said : List ℕ) (changed : Bool) (result : Status) (made : Option Files) (press_rose : Type 0) → HasFormWith layer said changed
+    → HasPrinted (files_with layer said) (end_of changed) result made press_rose → IfSome made (Stands result)
+stands_done layer said changed result None press_rose form printed = tt
+stands_done None said changed result (Some made) press_rose (tin, is_said, unchanged) printed =
     elim printed.status [
-      | inl is ↦ sound_alone is tin (printed.all (λ write. let e = sym is ∙ write in cc) ∙ ap (λ text. (codes "-", text) ∷ []) is_said)
+      | inl is ↦ sound_alone (is ∙ ap end_of unchanged) tin (printed.all (λ write. never-write-end changed (sym is ∙ write)) ∙ ap (λ text. (codes "-", text) ∷ []) is_said)
       | inr is ↦ front_of_sound is tin (subst (λ text. IsFrontOf made ((codes "-", text) ∷ [])) is_said (printed.front is))
     ]
-stands_done (Some file) said result (Some made) press_rose form printed =
+stands_done (Some file) said changed result (Some made) press_rose (slash, (report, is_said, by_report)) printed =
     elim printed.status [
-      | inl is ↦ all_written is _ _ _ (printed.all (λ write. let e = sym is ∙ write in cc))
-      | inr is ↦ front_of_files is _ _ _ (printed.front is)
+      | inl is ↦
+          all_written (string_bytes file.name) file.text report (is ∙ ap end_of by_report)
+          (printed.all (λ write. never-write-end changed (sym is ∙ write)) ∙ ap (λ text. (string_bytes file.name, file.text) ∷ (codes "-", text) ∷ []) is_said)
+      | inr is ↦ front_of_files is (string_bytes file.name) file.text report (subst (λ text. IsFrontOf made ((string_bytes file.name, file.text) ∷ (codes "-", text) ∷ [])) is_said (printed.front is))
     ]
 
 byte_of_take : (line : List ℕ) (count k : ℕ) → (get_or (take count line) k 0 ≡ get_or line k 0) ⊎ (get_or (take count line) k 0 ≡ 0)
@@ -318,6 +318,7 @@ tells_long (Check fault) passed made front tells tin layer = absurd (front-none 
 tells_long LayerUnread passed made front tells tin layer = absurd (front-none _ made (at-first _ 114 refl (λ e. omega (arith, e))) front tells)
 tells_long (Layer fault) passed made front tells tin layer = absurd (front-none _ made (layer-none fault) front tells)
 tells_long (Outside path segment) passed made front tells tin layer = absurd (front-none _ made (at-first _ 111 refl (λ e. omega (arith, e))) front tells)
+tells_long TooManyChanges passed made front tells tin layer = absurd (front-none _ made (at-eighth _ 99 refl (λ e. omega (arith, e))) front tells)
 tells_long TooManyPieces passed made front tells tin layer = absurd (front-none _ made (at-eighth _ 112 refl (λ e. omega (arith, e))) front tells)
 tells_long NoMemory passed made front tells tin layer = absurd (front-none _ made (at-first _ 110 refl (λ e. omega (arith, e))) front tells)
 
@@ -362,13 +363,13 @@ two-files file next made same (inl is) = let e = sym same ∙ is in cc
 two-files file next made same (inr is) = let e = sym same ∙ is in cc
 
 -- what is printed of a success tells of no bytes
-pub limit_done : (layer : Option LayerFile) (said : List ℕ) (result : Status) (made : Option Files) (press_rose passed : Type 0) → HasFormWith layer said → HasPrinted (files_with layer said) Same result made press_rose
-    → IfSome made (λ files. TellsBytes files → passed)
-limit_done layer said result None press_rose passed form printed = tt
-limit_done None said result (Some made) press_rose passed (tin, is_said) printed = λ tells.
-    absurd (front-none said made (rw is_said (at-first _ 115 refl (λ e. omega (arith, e)))) (front-of said Same result made press_rose (λ no. cc) printed) tells)
-limit_done (Some file) said result (Some made) press_rose passed form printed = λ tells.
+pub limit_done : (layer : Option LayerFile) (said : List ℕ) (changed : Bool) (result : Status) (made : Option Files) (press_rose passed : Type 0) → HasFormWith layer said changed
+    → HasPrinted (files_with layer said) (end_of changed) result made press_rose → IfSome made (λ files. TellsBytes files → passed)
+limit_done layer said changed result None press_rose passed form printed = tt
+limit_done None said changed result (Some made) press_rose passed (tin, is_said, unchanged) printed = λ tells.
+    absurd (front-none said made (rw is_said (at-first _ 115 refl (λ e. omega (arith, e)))) (front-of said (end_of changed) result made press_rose (never-write-end changed) printed) tells)
+limit_done (Some file) said changed result (Some made) press_rose passed (slash, (report, is_said, by_report)) printed = λ tells.
     elim printed.status [
-      | inl is ↦ let same = printed.all (λ write. let e = sym is ∙ write in cc) in absurd (two-files _ _ made same tells)
-      | inr is ↦ absurd (named-file (string_bytes file.name) file.text said made form (printed.front is) tells)
+      | inl is ↦ let same = printed.all (λ write. never-write-end changed (sym is ∙ write)) in absurd (two-files _ _ made same tells)
+      | inr is ↦ absurd (named-file (string_bytes file.name) file.text said made slash (printed.front is) tells)
     ]

@@ -6,6 +6,9 @@ pub mod Fronts
 pub mod Ending
 pub mod OneFault
 pub mod OneCut
+pub mod OnePieces
 pub mod OneCarried
-pub mod OneOutcome
 pub mod Comparable
+pub mod OneOutcome
+pub mod Keeping
+pub mod KeptRuns

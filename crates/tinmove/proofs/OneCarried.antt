@@ -23,6 +23,7 @@ use Rattle.wkt_layer.specs.Texts.{edit_text}
 use Rattle.wkt_layer.proofs.OneSheet.{sheet_one, sheet_apart}
 use Rattle.tinmove.specs.Carrying.{IsLayerText, LacksLayerText, IsCarried, IsOutside, HasTooMany}
 use Rattle.tinmove.proofs.OneCut.{cut_alike, alike_length, ends_one}
+use Rattle.tinmove.proofs.OnePieces.{pieces_one}
 
 -- ---- how many pieces segments have
 abbrev HasSize : Triangulation → Segment → ℕ → Type 0
@@ -151,8 +152,8 @@ lacks_outside tin text fault path number lacks (sheet, reads, is) = sheet_apart 
 pub lacks_many : (tin : Triangulation) (text : List ℕ) (fault : LayerFault) → LacksLayerText text fault → HasTooMany tin text → ⊥
 lacks_many tin text fault lacks (sheet, reads, is) = sheet_apart false text sheet fault reads lacks
 
-pub lacks_carried : (tin : Triangulation) (text : List ℕ) (fault : LayerFault) (carried : Carried) → LacksLayerText text fault → IsCarried tin text carried → ⊥
-lacks_carried tin text fault carried lacks is = let layer = is.layer in sheet_apart false text layer.sheet fault layer.read lacks
+pub lacks_carried : (tin : Triangulation) (text : List ℕ) (fault : LayerFault) (pieces : List Piece) (carried : Carried) → LacksLayerText text fault → IsCarried tin text pieces carried → ⊥
+lacks_carried tin text fault pieces carried lacks is = let layer = is.layer in sheet_apart false text layer.sheet fault layer.read lacks
 
 pub outside_one : (tin : Triangulation) (text : List ℕ) (path number way count : ℕ) → IsOutside tin text path number → IsOutside tin text way count → (path ≡ way) × (number ≡ count)
 outside_one tin text path number way count (sheet, reads, is) (other, reads_too, too) = go (rw (same_sheet text sheet other reads reads_too) at is) too
@@ -181,8 +182,8 @@ outside_many tin text path number (sheet, reads, is) (other, reads_too, too) = g
         (total_of tin 0 p.before room.pieces room.are) (total_of tin 0 q.before room'.pieces room'.are) (y.parts, y.cut, refl) x.outside y.inside
         (bare (length room.pieces) MOST_PIECES room.room) (bare_many MOST_PIECES (length room'.pieces) (length y.parts) y.full) (sym p.stands ∙ q.stands)
 
-pub outside_carried : (tin : Triangulation) (text : List ℕ) (path number : ℕ) (carried : Carried) → IsOutside tin text path number → IsCarried tin text carried → ⊥
-outside_carried tin text path number carried (sheet, reads, is) done =
+pub outside_carried : (tin : Triangulation) (text : List ℕ) (path number : ℕ) (pieces : List Piece) (carried : Carried) → IsOutside tin text path number → IsCarried tin text pieces carried → ⊥
+outside_carried tin text path number pieces carried (sheet, reads, is) done =
     let layer = done.layer in
     go (sheet_segments layer.sheet) (rw (same_sheet text sheet layer.sheet reads layer.read) at is) layer.inside
   where
@@ -194,8 +195,8 @@ outside_carried tin text path number carried (sheet, reads, is) done =
 too_few : (n m k t : ℕ) → n < 0 + m + k → m + k ≤ t → t ≤ n → ⊥
 too_few n m k t g h i = absurd (omega arith)
 
-pub many_carried : (tin : Triangulation) (text : List ℕ) (carried : Carried) → HasTooMany tin text → IsCarried tin text carried → ⊥
-many_carried tin text carried (sheet, reads, is) done =
+pub many_carried : (tin : Triangulation) (text : List ℕ) (pieces : List Piece) (carried : Carried) → HasTooMany tin text → IsCarried tin text pieces carried → ⊥
+many_carried tin text pieces carried (sheet, reads, is) done =
     let layer = done.layer in
     go (sheet_segments layer.sheet) layer.own (rw (same_sheet text sheet layer.sheet reads layer.read) at is) layer.are_pieces (subst (λ (ps : List Piece). length ps ≤ MOST_PIECES) layer.stand done.few)
   where
@@ -230,11 +231,12 @@ six c d text paths segments pieces inexact dropped =
     ∙ (ap (λ n. six_of d.text d.paths d.segments d.pieces n c.dropped) inexact
     ∙ ap (λ n. six_of d.text d.paths d.segments d.pieces d.inexact n) dropped))))
 
-is_carried_of : (tin : Triangulation) (text : List ℕ) (carried : Carried) (is : IsCarried tin text carried) → (let layer = is.layer in carried ≡ carried_of text layer.sheet layer.images (length layer.own))
-is_carried_of tin text carried is = let layer = is.layer in six carried _ layer.text_is layer.paths layer.segments layer.pieces layer.inexact layer.dropped
+is_carried_of : (tin : Triangulation) (text : List ℕ) (pieces : List Piece) (carried : Carried) (is : IsCarried tin text pieces carried)
+    → (let layer = is.layer in carried ≡ carried_of text layer.sheet layer.images (length layer.own))
+is_carried_of tin text pieces carried is = let layer = is.layer in six carried _ layer.text_is layer.paths layer.segments layer.pieces layer.inexact layer.dropped
 
-pub carried_one : (tin : Triangulation) (text : List ℕ) (carried other : Carried) → IsSound tin → IsCarried tin text carried → IsCarried tin text other → carried ≡ other
-carried_one tin text carried other sound is too =
+pub carried_one : (tin : Triangulation) (text : List ℕ) (pieces others : List Piece) (carried other : Carried) → IsSound tin → IsCarried tin text pieces carried → IsCarried tin text others other → carried ≡ other
+carried_one tin text pieces others carried other sound is too =
     let x = is.layer in let y = too.layer in
     let sheets : x.sheet ≡ y.sheet = same_sheet text x.sheet y.sheet x.read y.read in
     let images : x.images ≡ y.images = images_one tin y.sheet x.images y.images sound (subst (λ (s : Contents). AreImagesOf tin s x.images) sheets x.are_images) y.are_images in
@@ -242,7 +244,14 @@ carried_one tin text carried other sound is too =
     total_one tin (sheet_segments y.sheet) (length x.own) (length y.own)
     (subst (λ (s : Contents). HaveTotal tin (sheet_segments s) (length x.own)) sheets (total_of tin 0 (sheet_segments x.sheet) x.own x.are_pieces))
     (total_of tin 0 (sheet_segments y.sheet) y.own y.are_pieces) in
-    is_carried_of tin text carried is
+    is_carried_of tin text pieces carried is
     ∙ (ap (λ (s : Contents). carried_of text s x.images (length x.own)) sheets
     ∙ (ap (λ (r : Runs). carried_of text y.sheet r (length x.own)) images
-    ∙ (ap (λ (n : ℕ). carried_of text y.sheet y.images n) totals ∙ sym (is_carried_of tin text other too))))
+    ∙ (ap (λ (n : ℕ). carried_of text y.sheet y.images n) totals ∙ sym (is_carried_of tin text others other too))))
+
+-- and into the same pieces
+pub carried_pieces_one : (tin : Triangulation) (text : List ℕ) (pieces others : List Piece) (carried other : Carried) → IsSound tin → IsCarried tin text pieces carried → IsCarried tin text others other → pieces ≡ others
+carried_pieces_one tin text pieces others carried other sound is too =
+    let x = is.layer in let y = too.layer in
+    let sheets : x.sheet ≡ y.sheet = same_sheet text x.sheet y.sheet x.read y.read in
+    x.stand ∙ (pieces_one tin 0 (sheet_segments y.sheet) x.own y.own sound (subst (λ (s : Contents). ArePiecesOfAll tin 0 (sheet_segments s) x.own) sheets x.are_pieces) y.are_pieces ∙ sym y.stand)

@@ -1,5 +1,5 @@
 -- A run has one outcome.
-use Rattle.std.proofs.Common.{◌≡◌, ◌≢◌, ◌⊎◌, inl, inr, ℕ, ◌<◌, ◌≤◌, List, [], ◌∷◌, ◌++◌, None, Result, Ok, Err, false, length, codes, refl, sym, ◌∙◌, ap, subst, arith}
+use Rattle.std.proofs.Common.{◌≡◌, ◌≢◌, ◌⊎◌, inl, inr, ℕ, ◌<◌, ◌≤◌, List, [], ◌∷◌, ◌++◌, None, Result, Ok, Err, false, length, codes, refl, sym, ◌∙◌, ap, ap₂, subst, arith}
 use Rattle.std.specs.List.{AllByRecursion}
 use Rattle.std.proofs.lemmas.Option.{none-some, same_Some}
 use Rattle.shelf_io.specs.Files.{Files, bytes_of}
@@ -12,24 +12,32 @@ use Rattle.tin_check.proofs.FirstFault.{unsound, one_first}
 use Rattle.tin_file.proofs.OneAnswer.{answer_is_one}
 use Rattle.tin_file.specs.declared.faults.TinFault.{TinFault}
 use Rattle.tin_file.specs.declared.faults.TinFault.TheVariants.{NoMemory as TinMemory}
+use Rattle.tin_base.specs.declared.pieces.Change.{Change}
+use Rattle.tin_base.specs.declared.pieces.Piece.{Piece}
+use Rattle.topo_check.specs.Changes.{AreAllInside, HasMoreThan}
+use Rattle.topo_check.proofs.OneList.{changes_are_one, more_stay_more}
+use Rattle.tinmove.specs.declared.listing.TheConstants.{MOST_CHANGES}
 use Rattle.tinmove.specs.declared.loading.TheConstants.{MOST_BYTES}
 use Rattle.tinmove.specs.declared.status.Status.{Status}
 use Rattle.tinmove.specs.declared.status.Status.TheVariants.{Same}
 use Rattle.tinmove.specs.declared.refusal.Refusal.{Refusal}
-use Rattle.tinmove.specs.declared.refusal.Refusal.TheVariants.{NotUnderstood, TinUnread, TinLong, Tin, Check, LayerUnread, LayerLong, Layer, Outside, TooManyPieces}
+use Rattle.tinmove.specs.declared.refusal.Refusal.TheVariants.{NotUnderstood, TinUnread, TinLong, Tin, Check, LayerUnread, LayerLong, Layer, Outside, TooManyPieces, TooManyChanges}
 use Rattle.tinmove.specs.Names.{EndsWith, IsLastPart, IsNameIn}
 use Rattle.tinmove.specs.Jobs.{Carriage, Job, migrates, checks, IsJob, LacksJob}
 use Rattle.tinmove.specs.Triangulations.{plain, IsTin, LacksTin, IsUnsound}
 use Rattle.tinmove.specs.Carrying.{LacksLayerText, IsCarried, IsOutside, HasTooMany}
-use Rattle.tinmove.specs.ReportText.{report_text, sound_text}
+use Rattle.tinmove.specs.RunChanges.{AreListed, end_with}
+use Rattle.report_text.specs.ReportText.{report_text}
+use Rattle.tinmove.specs.SoundLine.{sound_text}
 use Rattle.tinmove.specs.Refusals.{status_of, line_of}
-use Rattle.tinmove.specs.Outcome.{HasFile, HasLongFile, HasTin, IsTinRefused, IsLayerRefused, IsJobRefused, IsJobDone, report_of, HasOutcome, no_job, refused, done}
+use Rattle.tinmove.specs.Outcome.{HasFile, HasLongFile, HasTin, IsTinRefused, IsLayerRefused, IsJobRefused, IsJobDone, row_of, report_of, HasOutcome, no_job, refused, done}
 use Rattle.tinmove.specs.Laws.{OutcomeIsOne}
 use Rattle.tinmove.proofs.OneFault.{fault_one}
-use Rattle.tinmove.proofs.OneCarried.{lacks_outside, lacks_many, lacks_carried, outside_one, outside_many, outside_carried, many_carried, carried_one}
+use Rattle.tinmove.proofs.OneCarried.{lacks_outside, lacks_many, lacks_carried, outside_one, outside_many, outside_carried, many_carried, carried_one, carried_pieces_one}
+use Rattle.tinmove.proofs.Comparable.{carried_are_inside}
 
 -- the words give one job
-job_one : (words : List (List ℕ)) (job other : Job) → IsJob words job → IsJob words other → job ≡ other
+pub job_one : (words : List (List ℕ)) (job other : Job) → IsJob words job → IsJob words other → job ≡ other
 job_one words (migrates a) (migrates b) x y =
     let same = sym x.spelled ∙ y.spelled in
     let tin : a.tin ≡ b.tin = cc in
@@ -162,58 +170,91 @@ file_end_one files name a b (read_end text x end) (read_end other y also) = text
 tin_end_one : (files : Files) (name : List ℕ) (a b : Result Triangulation Refusal) → IsTinEnd files name a → IsTinEnd files name b → a ≡ b
 tin_end_one files name a b x y = file_end_one files name a b (file_end files name a x) (file_end files name b y)
 
--- how a job ends: its made files, or its refusal
-abbrev IsJobEnd : Files → Job → Result Files Refusal → Type 0
-IsJobEnd files job (Ok made) = IsJobDone files job made
+-- how a job ends: with a status and its made files, or with its refusal
+abbrev End : Type 0
+End = Result (Status × Files) Refusal
+
+abbrev IsJobEnd : Files → Job → End → Type 0
+IsJobEnd files job (Ok end) = IsJobDone files job end.0 end.1
 IsJobEnd files job (Err refusal) = IsJobRefused files job refusal
 
--- how the carrying of a layer ends
-abbrev made_of : Carriage → Triangulation → Carried → List ℕ → Files
-made_of carriage tin carried name = (name, carried.text) ∷ (codes "-", report_text (report_of carriage tin carried)) ∷ []
+-- how the listing of the changes of a layer that was carried ends
+abbrev made_of : Carriage → Triangulation → Carried → List Change → List ℕ → Status × Files
+made_of carriage tin carried changes name = (
+  end_with changes,
+  (name, carried.text) ∷ (codes "-", report_text (report_of carriage.tin tin (row_of carriage.layer carried ∷ []) changes)) ∷ [],
+)
 
-data IsLayerTextEnd (carriage : Carriage) (tin : Triangulation) (bytes : List ℕ) (end : Result Files Refusal) : Type 0 where
+data IsListingEnd (carriage : Carriage) (tin : Triangulation) (pieces : List Piece) (carried : Carried) (end : End) : Type 0 where
+  unlisted_end : end ≡ Err TooManyChanges → HasMoreThan tin pieces MOST_CHANGES → IsListingEnd carriage tin pieces carried end
+  listed_end : (changes : List Change) (name : List ℕ) → end ≡ Ok (made_of carriage tin carried changes name) → AreListed tin pieces changes → IsNameIn carriage.out carriage.layer name
+      → IsListingEnd carriage tin pieces carried end
+
+-- how the carrying of a layer ends
+data IsLayerTextEnd (carriage : Carriage) (tin : Triangulation) (bytes : List ℕ) (end : End) : Type 0 where
   faulty_layer : (why : LayerFault) → end ≡ Err (Layer why) → LacksLayerText bytes why → IsLayerTextEnd carriage tin bytes end
   outside_end : (path segment : ℕ) → end ≡ Err (Outside path segment) → IsOutside tin bytes path segment → IsLayerTextEnd carriage tin bytes end
   many_end : end ≡ Err TooManyPieces → HasTooMany tin bytes → IsLayerTextEnd carriage tin bytes end
-  carried_end : (carried : Carried) (name : List ℕ) → end ≡ Ok (made_of carriage tin carried name) → IsCarried tin bytes carried → IsNameIn carriage.out carriage.layer name
-      → IsLayerTextEnd carriage tin bytes end
+  carried_end : (pieces : List Piece) (carried : Carried) → IsCarried tin bytes pieces carried → IsListingEnd carriage tin pieces carried end → IsLayerTextEnd carriage tin bytes end
 
-data IsLayerEnd (files : Files) (carriage : Carriage) (tin : Triangulation) (end : Result Files Refusal) : Type 0 where
+data IsLayerEnd (files : Files) (carriage : Carriage) (tin : Triangulation) (end : End) : Type 0 where
   unread_layer : end ≡ Err LayerUnread → bytes_of files carriage.layer ≡ None → IsLayerEnd files carriage tin end
   long_layer : end ≡ Err LayerLong → HasLongFile files carriage.layer → IsLayerEnd files carriage tin end
   read_layer : (bytes : List ℕ) → HasFile files carriage.layer bytes → IsLayerTextEnd carriage tin bytes end → IsLayerEnd files carriage tin end
 
-same_made : (carriage : Carriage) (tin : Triangulation) → IsSound tin → (bytes : List ℕ) (carried other : Carried) (name called : List ℕ)
-    → IsCarried tin bytes carried → IsCarried tin bytes other → IsNameIn carriage.out carriage.layer name → IsNameIn carriage.out carriage.layer called
-    → ◌≡◌ {A = Result Files Refusal} (Ok (made_of carriage tin carried name)) (Ok (made_of carriage tin other called))
-same_made carriage tin sound bytes carried other name called x y p q =
-    ap (λ (c : Carried). Ok (made_of carriage tin c name)) (carried_one tin bytes carried other sound x y)
-    ∙ ap (λ given. Ok (made_of carriage tin other given)) (name_one carriage.out carriage.layer name called p q)
+-- changes are too many, or a list of them is not too long
+over_or_not : (n m : ℕ) → m < n → n ≤ m → ⊥
+over_or_not n m h k = omega (arith, h, k)
 
-same_outside : (path segment way count : ℕ) → (path ≡ way) × (segment ≡ count) → ◌≡◌ {A = Result Files Refusal} (Err (Outside path segment)) (Err (Outside way count))
+more_or_listed : (tin : Triangulation) (pieces : List Piece) (changes : List Change) → AreAllInside tin pieces → HasMoreThan tin pieces MOST_CHANGES → AreListed tin pieces changes → ⊥
+more_or_listed tin pieces changes inside more listed = over_or_not (length changes) MOST_CHANGES (more_stay_more tin pieces MOST_CHANGES inside more changes listed.are_changes) listed.few
+
+same_made : (carriage : Carriage) (tin : Triangulation) (carried : Carried) (changes others : List Change) (name called : List ℕ) → changes ≡ others → name ≡ called
+    → ◌≡◌ {A = End} (Ok (made_of carriage tin carried changes name)) (Ok (made_of carriage tin carried others called))
+same_made carriage tin carried changes others name called is too =
+    ap (λ (cs : List Change). Ok (made_of carriage tin carried cs name)) is ∙ ap (λ given. Ok (made_of carriage tin carried others given)) too
+
+listing_end_one : (carriage : Carriage) (tin : Triangulation) (pieces : List Piece) (carried : Carried) (a b : End) → AreAllInside tin pieces → IsListingEnd carriage tin pieces carried a → IsListingEnd carriage tin pieces carried b
+    → a ≡ b
+listing_end_one carriage tin pieces carried a b inside (unlisted_end is x) (unlisted_end also y) = is ∙ sym also
+listing_end_one carriage tin pieces carried a b inside (unlisted_end is x) (listed_end changes name also y named) = absurd (more_or_listed tin pieces changes inside x y)
+listing_end_one carriage tin pieces carried a b inside (listed_end changes name is x named) (unlisted_end also y) = absurd (more_or_listed tin pieces changes inside y x)
+listing_end_one carriage tin pieces carried a b inside (listed_end changes name is x named) (listed_end others called also y named_too) =
+    is
+    ∙ (same_made carriage tin carried changes others name called (changes_are_one tin pieces inside changes others x.are_changes y.are_changes)
+    (name_one carriage.out carriage.layer name called named named_too) ∙ sym also)
+
+carried_end_one : (carriage : Carriage) (tin : Triangulation) (bytes : List ℕ) (pieces others : List Piece) (carried other : Carried) (a b : End) → IsSound tin → IsCarried tin bytes pieces carried → IsCarried tin bytes others other
+    → IsListingEnd carriage tin pieces carried a → IsListingEnd carriage tin others other b → a ≡ b
+carried_end_one carriage tin bytes pieces others carried other a b sound x y end also =
+    listing_end_one carriage tin others other a b (carried_are_inside tin bytes others other y)
+    (subst (λ (c : Carried). IsListingEnd carriage tin others c a) (carried_one tin bytes pieces others carried other sound x y)
+    (subst (λ (ps : List Piece). IsListingEnd carriage tin ps carried a) (carried_pieces_one tin bytes pieces others carried other sound x y) end)) also
+
+same_outside : (path segment way count : ℕ) → (path ≡ way) × (segment ≡ count) → ◌≡◌ {A = End} (Err (Outside path segment)) (Err (Outside way count))
 same_outside path segment way count same = ap (λ k. Err (Outside k segment)) same.0 ∙ ap (λ k. Err (Outside way k)) same.1
 
-layer_text_end_one : (carriage : Carriage) (tin : Triangulation) (bytes : List ℕ) (a b : Result Files Refusal) → IsSound tin → IsLayerTextEnd carriage tin bytes a → IsLayerTextEnd carriage tin bytes b → a ≡ b
+layer_text_end_one : (carriage : Carriage) (tin : Triangulation) (bytes : List ℕ) (a b : End) → IsSound tin → IsLayerTextEnd carriage tin bytes a → IsLayerTextEnd carriage tin bytes b → a ≡ b
 layer_text_end_one carriage tin bytes a b sound (faulty_layer why is x) (faulty_layer other also y) = is ∙ (ap (λ f. Err (Layer f)) (fault_one false bytes why other x y) ∙ sym also)
 layer_text_end_one carriage tin bytes a b sound (faulty_layer why is x) (outside_end path segment also y) = absurd (lacks_outside tin bytes why path segment x y)
 layer_text_end_one carriage tin bytes a b sound (faulty_layer why is x) (many_end also y) = absurd (lacks_many tin bytes why x y)
-layer_text_end_one carriage tin bytes a b sound (faulty_layer why is x) (carried_end carried name also y named) = absurd (lacks_carried tin bytes why carried x y)
+layer_text_end_one carriage tin bytes a b sound (faulty_layer why is x) (carried_end pieces carried y also) = absurd (lacks_carried tin bytes why pieces carried x y)
 layer_text_end_one carriage tin bytes a b sound (outside_end path segment is x) (faulty_layer why also y) = absurd (lacks_outside tin bytes why path segment y x)
 layer_text_end_one carriage tin bytes a b sound (outside_end path segment is x) (outside_end way count also y) =
     is ∙ (same_outside path segment way count (outside_one tin bytes path segment way count x y) ∙ sym also)
 layer_text_end_one carriage tin bytes a b sound (outside_end path segment is x) (many_end also y) = absurd (outside_many tin bytes path segment x y)
-layer_text_end_one carriage tin bytes a b sound (outside_end path segment is x) (carried_end carried name also y named) = absurd (outside_carried tin bytes path segment carried x y)
+layer_text_end_one carriage tin bytes a b sound (outside_end path segment is x) (carried_end pieces carried y also) = absurd (outside_carried tin bytes path segment pieces carried x y)
 layer_text_end_one carriage tin bytes a b sound (many_end is x) (faulty_layer why also y) = absurd (lacks_many tin bytes why y x)
 layer_text_end_one carriage tin bytes a b sound (many_end is x) (outside_end path segment also y) = absurd (outside_many tin bytes path segment y x)
 layer_text_end_one carriage tin bytes a b sound (many_end is x) (many_end also y) = is ∙ sym also
-layer_text_end_one carriage tin bytes a b sound (many_end is x) (carried_end carried name also y named) = absurd (many_carried tin bytes carried x y)
-layer_text_end_one carriage tin bytes a b sound (carried_end carried name is x named) (faulty_layer why also y) = absurd (lacks_carried tin bytes why carried y x)
-layer_text_end_one carriage tin bytes a b sound (carried_end carried name is x named) (outside_end path segment also y) = absurd (outside_carried tin bytes path segment carried y x)
-layer_text_end_one carriage tin bytes a b sound (carried_end carried name is x named) (many_end also y) = absurd (many_carried tin bytes carried y x)
-layer_text_end_one carriage tin bytes a b sound (carried_end carried name is x named) (carried_end other called also y named_too) =
-    is ∙ (same_made carriage tin sound bytes carried other name called x y named named_too ∙ sym also)
+layer_text_end_one carriage tin bytes a b sound (many_end is x) (carried_end pieces carried y also) = absurd (many_carried tin bytes pieces carried x y)
+layer_text_end_one carriage tin bytes a b sound (carried_end pieces carried x end) (faulty_layer why also y) = absurd (lacks_carried tin bytes why pieces carried y x)
+layer_text_end_one carriage tin bytes a b sound (carried_end pieces carried x end) (outside_end path segment also y) = absurd (outside_carried tin bytes path segment pieces carried y x)
+layer_text_end_one carriage tin bytes a b sound (carried_end pieces carried x end) (many_end also y) = absurd (many_carried tin bytes pieces carried y x)
+layer_text_end_one carriage tin bytes a b sound (carried_end pieces carried x end) (carried_end others other y also) =
+    carried_end_one carriage tin bytes pieces others carried other a b sound x y end also
 
-layer_end_one : (files : Files) (carriage : Carriage) (tin : Triangulation) (a b : Result Files Refusal) → IsSound tin → IsLayerEnd files carriage tin a → IsLayerEnd files carriage tin b → a ≡ b
+layer_end_one : (files : Files) (carriage : Carriage) (tin : Triangulation) (a b : End) → IsSound tin → IsLayerEnd files carriage tin a → IsLayerEnd files carriage tin b → a ≡ b
 layer_end_one files carriage tin a b sound (unread_layer is x) (unread_layer also y) = is ∙ sym also
 layer_end_one files carriage tin a b sound (unread_layer is x) (long_layer also y) = absurd (none_long files carriage.layer x y)
 layer_end_one files carriage tin a b sound (unread_layer is x) (read_layer bytes y end) = absurd (none_fine files carriage.layer bytes x y)
@@ -226,7 +267,7 @@ layer_end_one files carriage tin a b sound (read_layer bytes x end) (read_layer 
     layer_text_end_one carriage tin other a b sound (subst (λ text. IsLayerTextEnd carriage tin text a) (text_one files carriage.layer bytes other x y) end) also
 
 -- a migration ends before its layer, or at it
-data IsMigrationEnd (files : Files) (carriage : Carriage) (end : Result Files Refusal) : Type 0 where
+data IsMigrationEnd (files : Files) (carriage : Carriage) (end : End) : Type 0 where
   at_tin : (refusal : Refusal) → end ≡ Err refusal → IsTinEnd files carriage.tin (Err refusal) → IsMigrationEnd files carriage end
   at_layer : (tin : Triangulation) → IsTinEnd files carriage.tin (Ok tin) → IsLayerEnd files carriage tin end → IsMigrationEnd files carriage end
 
@@ -236,11 +277,17 @@ layer_refused files carriage LayerLong (tin, ready, long) = at_layer tin ready (
 layer_refused files carriage (Layer why) (tin, bytes, layer, lacks) = at_layer tin layer.ready (read_layer bytes layer.file (faulty_layer why refl lacks))
 layer_refused files carriage (Outside path segment) (tin, bytes, layer, outside) = at_layer tin layer.ready (read_layer bytes layer.file (outside_end path segment refl outside))
 layer_refused files carriage TooManyPieces (tin, bytes, layer, many) = at_layer tin layer.ready (read_layer bytes layer.file (many_end refl many))
+layer_refused files carriage TooManyChanges (tin, bytes, layer, (pieces, carried, is, more)) = at_layer tin layer.ready (read_layer bytes layer.file (carried_end pieces carried is (unlisted_end refl more)))
 layer_refused files carriage refusal is = absurd is
 
-migration_end : (files : Files) (carriage : Carriage) (end : Result Files Refusal) → IsJobEnd files (migrates carriage) end → IsMigrationEnd files carriage end
-migration_end files carriage (Ok made) is =
-    let layer = is.layer in at_layer is.tin layer.ready (read_layer is.bytes layer.file (carried_end is.carried is.name (ap Ok is.made_is) is.is_carried is.named))
+pair_of : (status other : Status) (made others : Files) → status ≡ other → made ≡ others → ◌≡◌ {A = Status × Files} (status, made) (other, others)
+pair_of status other made others is too = ap₂ (λ (s : Status) (m : Files). (s, m)) is too
+
+migration_end : (files : Files) (carriage : Carriage) (end : End) → IsJobEnd files (migrates carriage) end → IsMigrationEnd files carriage end
+migration_end files carriage (Ok (status, made)) is =
+    let layer = is.layer in
+    at_layer is.tin layer.ready
+    (read_layer is.bytes layer.file (carried_end is.pieces is.carried is.is_carried (listed_end is.changes is.name (ap Ok (pair_of status _ made _ is.status_is is.made_is)) is.are_listed is.named)))
 migration_end files carriage (Err refusal) (inl is) = at_tin refusal refl is
 migration_end files carriage (Err refusal) (inr is) = layer_refused files carriage refusal is
 
@@ -248,15 +295,15 @@ sound_of : (files : Files) (name : List ℕ) (tin : Triangulation) → HasTin fi
 sound_of files name tin (text, file, is) = is.sound
 
 -- how a check ends, by how its triangulation does
-abbrev said_of : Result Triangulation Refusal → Result Files Refusal
-said_of (Ok tin) = Ok ((codes "-", sound_text tin) ∷ [])
+abbrev said_of : Result Triangulation Refusal → End
+said_of (Ok tin) = Ok (Same, (codes "-", sound_text tin) ∷ [])
 said_of (Err refusal) = Err refusal
 
-check_end : (files : Files) (name : List ℕ) (end : Result Files Refusal) → IsJobEnd files (checks name) end → (tin : Result Triangulation Refusal) × IsTinEnd files name tin × (end ≡ said_of tin)
-check_end files name (Ok made) is = (Ok is.tin, is.ready, ap Ok is.made_is)
+check_end : (files : Files) (name : List ℕ) (end : End) → IsJobEnd files (checks name) end → (tin : Result Triangulation Refusal) × IsTinEnd files name tin × (end ≡ said_of tin)
+check_end files name (Ok (status, made)) is = (Ok is.tin, is.ready, ap Ok (pair_of status Same made _ is.status_is is.made_is))
 check_end files name (Err refusal) is = (Err refusal, is, refl)
 
-migration_end_one : (files : Files) (carriage : Carriage) (a b : Result Files Refusal) → IsMigrationEnd files carriage a → IsMigrationEnd files carriage b → a ≡ b
+migration_end_one : (files : Files) (carriage : Carriage) (a b : End) → IsMigrationEnd files carriage a → IsMigrationEnd files carriage b → a ≡ b
 migration_end_one files carriage a b (at_tin refusal is x) (at_tin other also y) =
     let e = tin_end_one files carriage.tin (Err refusal) (Err other) x y in
     let same : refusal ≡ other = cc in
@@ -268,7 +315,7 @@ migration_end_one files carriage a b (at_layer tin x end) (at_layer other y also
     let same : tin ≡ other = cc in
     layer_end_one files carriage other a b (sound_of files carriage.tin other y) (rw same at end) also
 
-job_end_one : (files : Files) (job : Job) (a b : Result Files Refusal) → IsJobEnd files job a → IsJobEnd files job b → a ≡ b
+job_end_one : (files : Files) (job : Job) (a b : End) → IsJobEnd files job a → IsJobEnd files job b → a ≡ b
 job_end_one files (migrates carriage) a b x y = migration_end_one files carriage a b (migration_end files carriage a x) (migration_end files carriage b y)
 job_end_one files (checks name) a b x y =
     let (tin, ready, is) = check_end files name a x in
@@ -276,22 +323,22 @@ job_end_one files (checks name) a b x y =
     is ∙ (ap said_of (tin_end_one files name tin other ready also_ready) ∙ sym also)
 
 -- what an end makes
-abbrev status_at : Result Files Refusal → Status
-status_at (Ok made) = Same
+abbrev status_at : End → Status
+status_at (Ok end) = end.0
 status_at (Err refusal) = status_of refusal
 
-abbrev files_at : Result Files Refusal → Files
-files_at (Ok made) = made
+abbrev files_at : End → Files
+files_at (Ok end) = end.1
 files_at (Err refusal) = (codes "-", line_of refusal) ∷ []
 
 data IsRunEnd (words : List (List ℕ)) (files : Files) (status : Status) (made : Files) : Type 0 where
   without_job : LacksJob words → status ≡ status_of NotUnderstood → made ≡ (codes "-", line_of NotUnderstood) ∷ [] → IsRunEnd words files status made
-  with_job : (job : Job) → IsJob words job → (end : Result Files Refusal) → IsJobEnd files job end → status ≡ status_at end → made ≡ files_at end → IsRunEnd words files status made
+  with_job : (job : Job) → IsJob words job → (end : End) → IsJobEnd files job end → status ≡ status_at end → made ≡ files_at end → IsRunEnd words files status made
 
 run_end : (words : List (List ℕ)) (files : Files) (status : Status) (made : Files) → HasOutcome words files status made → IsRunEnd words files status made
 run_end words files status made (no_job lacks is) = without_job lacks is.status_is is.made_is
 run_end words files status made (refused job given refusal why is) = with_job job given (Err refusal) why is.status_is is.made_is
-run_end words files status made (done job given is what) = with_job job given (Ok made) what is refl
+run_end words files status made (done job given what) = with_job job given (Ok (status, made)) what refl refl
 
 run_end_one : (words : List (List ℕ)) (files : Files) (status other : Status) (made others : Files) → IsRunEnd words files status made → IsRunEnd words files other others
     → (status ≡ other) × (made ≡ others)

@@ -6,12 +6,13 @@ use Rattle.tin_base.specs.Triangulation.{Triangulation}
 use Rattle.tin_check.specs.declared.faults.CheckFault.TheVariants.{Flat, TurnsOver, Meets, NoMemory as CheckMemory}
 use Rattle.tinmove.specs.declared.status.Status.TheVariants.{Memory}
 use Rattle.tinmove.specs.declared.refusal.Refusal.{Refusal}
-use Rattle.tinmove.specs.declared.refusal.Refusal.TheVariants.{TinUnread, Tin, Check, Layer, Outside, TooManyPieces, NoMemory}
+use Rattle.tinmove.specs.declared.refusal.Refusal.TheVariants.{TinUnread, Tin, Check, Layer, Outside, TooManyPieces, TooManyChanges, NoMemory}
 use Rattle.tinmove.specs.declared.preparing.Written.{Written}
 use Rattle.tinmove.specs.Names.{IsNameIn, HasSlash}
-use Rattle.tinmove.specs.Jobs.{Carriage, migrates, checks}
+use Rattle.tinmove.specs.Jobs.{Carriage, Job, migrates, checks, IsJob, AreNamesOf}
+use Rattle.tinmove.specs.RunChanges.{end_of}
 use Rattle.tinmove.specs.Refusals.{status_of}
-use Rattle.tinmove.specs.Outcome.{HasFile, HasTin, IsTinRefused, IsJobDone}
+use Rattle.tinmove.specs.Outcome.{HasFile, HasTin, IsTinRefused, IsJobDone, row_of, report_of}
 use Rattle.tinmove.specs.Ends.{MayRefuse, by_the_files, unread, no_room}
 use Rattle.tinmove.specs.Prepared.{files_of, HasForm, IsTextRefused, IsCarriedOff, IsNotCarried, missing, fault, too_long, no_room as no_memory, IsTinUnready, not_loaded, no_tin}
 use Rattle.tinmove.proofs.Faults.{want_or_fault}
@@ -70,21 +71,27 @@ layer_refused None carriage tin bytes rose refusal ready file why = tt
 layer_refused (Some files) carriage tin bytes rose (Layer unread_so) ready file why = by_the_files (inr (tin, bytes, record { ready = ready; file = file }, why))
 layer_refused (Some files) carriage tin bytes rose (Outside path segment) ready file why = by_the_files (inr (tin, bytes, record { ready = ready; file = file }, why))
 layer_refused (Some files) carriage tin bytes rose TooManyPieces ready file why = by_the_files (inr (tin, bytes, record { ready = ready; file = file }, why))
+layer_refused (Some files) carriage tin bytes rose TooManyChanges ready file why = by_the_files (inr (tin, bytes, record { ready = ready; file = file }, why))
 layer_refused (Some files) carriage tin bytes rose NoMemory ready file why = no_room refl
 layer_refused (Some files) carriage tin bytes rose refusal ready file why = absurd why
 
 -- a layer is carried
 pub job_migrated : (told : Option Files) (carriage : Carriage) (tin : Triangulation) (bytes : List ℕ) (written : Written) → IfSome told (λ files. HasTin files carriage.tin tin)
-    → IfSome told (λ files. HasFile files carriage.layer bytes) → IsCarriedOff carriage tin bytes written → IfSome told (λ files. IsJobDone files (migrates carriage) (files_of written))
+    → IfSome told (λ files. HasFile files carriage.layer bytes) → IsCarriedOff carriage tin bytes written
+    → IfSome told (λ files. IsJobDone files (migrates carriage) (end_of written.changed) (files_of written))
 job_migrated None carriage tin bytes written ready file carried = tt
-job_migrated (Some files) carriage tin bytes written ready file (carried, layer, there, is, named, same, said) = record {
+job_migrated (Some files) carriage tin bytes written ready file (pieces, carried, changes, layer, there, is, listed, named, same, changed, said) = record {
   tin = tin;
   bytes = bytes;
+  pieces = pieces;
   carried = carried;
+  changes = changes;
   name = string_bytes layer.name;
   layer = record { ready = ready; file = file };
   is_carried = is;
+  are_listed = listed;
   named = named;
+  status_is = ap end_of changed;
   made_is = rw (there, same, said) refl;
 }
 
@@ -92,4 +99,10 @@ slash_in : (folder layer name : List ℕ) → IsNameIn folder layer name → Has
 slash_in folder layer name (part, last, is) = rw is (Contains-append_left (folder ++ 47 ∷ []) part 47 (Contains-append_right folder (47 ∷ []) 47 (0, lit< tt, refl)))
 
 pub carried_form : (carriage : Carriage) (tin : Triangulation) (bytes : List ℕ) (written : Written) → IsCarriedOff carriage tin bytes written → HasForm written
-carried_form carriage tin bytes written (carried, layer, there, is, named, same, said) = rw there (slash_in carriage.out carriage.layer (string_bytes layer.name) named)
+carried_form carriage tin bytes written (pieces, carried, changes, layer, there, is, listed, named, same, changed, said) =
+    rw there (slash_in carriage.out carriage.layer (string_bytes layer.name) named, (report_of carriage.tin tin (row_of carriage.layer carried ∷ []) changes, said, changed))
+
+-- the names of a job of words may be taken
+pub names_of : (words : List (List ℕ)) (job : Job) → IsJob words job → AreNamesOf job
+names_of words (migrates carriage) is = is.names
+names_of words (checks name) is = is.named

@@ -4,7 +4,7 @@ use Rattle.sheet_base.specs.Sheets.{Contents}
 use Rattle.sheet_base.specs.declared.faults.LayerFault.{LayerFault}
 use Rattle.tin_base.specs.declared.pieces.Piece.{Piece}
 use Rattle.tin_base.specs.Triangulation.{Triangulation}
-use Rattle.carry_map.specs.Layers.{IsLayerCarried, IsLayerOutside, IsLayerTooMany}
+use Rattle.carry_map.specs.Layers.{IsLayerCarried, IsLayerOutside, IsLayerTooMany, IsReadAsPieces}
 use Rattle.carry_map.specs.declared.layers.Carried.{Carried}
 use Rattle.carry_map.specs.declared.limits.TheConstants.{MOST_PIECES}
 use Rattle.wkt_layer.specs.Layers.{IsReadAs, IsRefusedBy}
@@ -18,11 +18,12 @@ IsLayerText text sheet = IsReadAs false text sheet
 abbrev pub LacksLayerText : List ℕ → LayerFault → Type 0
 LacksLayerText text fault = IsRefusedBy false text fault
 
--- the layer, the only one of its run, is carried, and its pieces are not too many
-pub record IsCarried (tin : Triangulation) (text : List ℕ) (carried : Carried) : Type 0 where
-  pub pieces : List Piece
+-- the layer, the only one of its run, is carried; these are its pieces, and they are not too many
+pub record IsCarried (tin : Triangulation) (text : List ℕ) (pieces : List Piece) (carried : Carried) : Type 0 where
   pub layer : IsLayerCarried tin text (IsLayerText text) edit_text 0 [] pieces carried
   pub few : length pieces ≤ MOST_PIECES
+  -- what is written is a layer again, whose segments in order are those between the rounded images of the ends of the pieces
+  pub back : IsReadAsPieces IsLayerText carried.text pieces
 
 -- its first segment that is not carried is outside: the one of this number, of the path of that number
 abbrev pub IsOutside : Triangulation → List ℕ → ℕ → ℕ → Type 0

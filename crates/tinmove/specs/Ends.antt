@@ -9,7 +9,10 @@ use Rattle.tinmove.specs.declared.refusal.Refusal.{Refusal}
 use Rattle.tinmove.specs.declared.refusal.Refusal.TheVariants.{NotUnderstood, TinUnread, TinLong, LayerUnread, LayerLong, NoMemory}
 use Rattle.tinmove.specs.Jobs.{Job, migrates, checks, IsJob, tin_name}
 use Rattle.tinmove.specs.Outcome.{HasTin, HasOutcome, IsJobRefused, Refuses}
-use Rattle.tinmove.specs.ReportText.{sound_text}
+use Rattle.tinmove.specs.RunChanges.{end_with}
+use Rattle.report_text.specs.Reports.{Contents as Report}
+use Rattle.report_text.specs.ReportText.{report_text}
+use Rattle.tinmove.specs.SoundLine.{sound_text}
 use Rattle.tinmove.specs.Refusals.{status_of, line_of}
 
 -- the job has a layer, and nothing refuses it before the layer's file
@@ -49,12 +52,12 @@ EndsTold words files shelf_rose press_rose status (Some made) = Ends words files
 EndsTold words files shelf_rose press_rose status None = (made : Files) × Ends words files shelf_rose press_rose status made
 
 -- after each status but `Write`: all files of a success, or `-` alone with the line of a sound triangulation or a refusal;
--- after `Write` a front of these
+-- after `Write` a front of these. The status of a success says whether its report lists a change
 pub data Stands (status : Status) (made : Files) : Type 0 where
-  all_written : status ≡ Same → (name layer report : List ℕ) → made ≡ (name, layer) ∷ (codes "-", report) ∷ [] → Stands status made
+  all_written : (name layer : List ℕ) → (report : Report) → status ≡ end_with report.changes → made ≡ (name, layer) ∷ (codes "-", report_text report) ∷ [] → Stands status made
   sound_alone : status ≡ Same → (tin : Triangulation) → made ≡ (codes "-", sound_text tin) ∷ [] → Stands status made
   line_alone : (refusal : Refusal) → Refuses refusal status made → Stands status made
-  front_of_files : status ≡ Write → (name layer report : List ℕ) → IsFrontOf made ((name, layer) ∷ (codes "-", report) ∷ []) → Stands status made
+  front_of_files : status ≡ Write → (name layer : List ℕ) → (report : Report) → IsFrontOf made ((name, layer) ∷ (codes "-", report_text report) ∷ []) → Stands status made
   front_of_sound : status ≡ Write → (tin : Triangulation) → IsFrontOf made ((codes "-", sound_text tin) ∷ []) → Stands status made
   front_of_line : status ≡ Write → (refusal : Refusal) → IsFrontOf made ((codes "-", line_of refusal) ∷ []) → Stands status made
 

@@ -34,6 +34,11 @@ abbrev pub IsJob : List (List ℕ) → Job → Type 0
 IsJob words (migrates carriage) = IsMigration words carriage
 IsJob words (checks name) = IsCheck words name
 
+-- the names of a job may be taken
+abbrev pub AreNamesOf : Job → Type 0
+AreNamesOf (migrates carriage) = AreNames carriage
+AreNamesOf (checks name) = IsName name
+
 -- the words give no job
 abbrev pub LacksJob : List (List ℕ) → Type 0
 LacksJob words = (job : Job) → IsJob words job → ⊥

@@ -3,12 +3,13 @@ pub mod Jobs
 pub mod Wanted
 pub mod Triangulations
 pub mod Carrying
-pub mod ReportText
-pub mod Counts
+pub mod RunChanges
+pub mod SoundLine
 pub mod Status
 pub mod Lines
 pub mod Refusals
 pub mod Outcome
+pub mod Kept
 pub mod Ends
 pub mod Prepared
 pub mod Laws

@@ -1,18 +1,24 @@
 -- What a run makes, as a relation of the words, the shelf's files, the status and the made files.
-use Rattle.std.specs.Prelude.{◌≡◌, ◌⊎◌, ℕ, ◌<◌, ◌≤◌, List, [], ◌∷◌, codes, length, None, Some}
+use Rattle.std.specs.Prelude.{◌≡◌, ◌⊎◌, ℕ, ◌<◌, ◌≤◌, List, [], ◌∷◌, codes, length, false, None, Some}
 use Rattle.shelf_io.specs.Files.{Files, bytes_of}
 use Rattle.carry_map.specs.declared.layers.Carried.{Carried}
+use Rattle.tin_base.specs.declared.pieces.Change.{Change}
+use Rattle.tin_base.specs.declared.pieces.Piece.{Piece}
 use Rattle.tin_base.specs.Triangulation.{Triangulation}
 use Rattle.tinmove.specs.declared.loading.TheConstants.{MOST_BYTES}
 use Rattle.tinmove.specs.declared.status.Status.{Status}
 use Rattle.tinmove.specs.declared.status.Status.TheVariants.{Same}
 use Rattle.tinmove.specs.declared.refusal.Refusal.{Refusal}
-use Rattle.tinmove.specs.declared.refusal.Refusal.TheVariants.{NotUnderstood, TinUnread, TinLong, Tin, Check, LayerUnread, LayerLong, Layer, Outside, TooManyPieces}
+use Rattle.tinmove.specs.declared.refusal.Refusal.TheVariants.{NotUnderstood, TinUnread, TinLong, Tin, Check, LayerUnread, LayerLong, Layer, Outside, TooManyPieces, TooManyChanges}
 use Rattle.tinmove.specs.Names.{IsNameIn}
 use Rattle.tinmove.specs.Jobs.{Carriage, Job, migrates, checks, IsJob, LacksJob}
 use Rattle.tinmove.specs.Triangulations.{IsTin, LacksTin, IsUnsound}
 use Rattle.tinmove.specs.Carrying.{LacksLayerText, IsCarried, IsOutside, HasTooMany}
-use Rattle.tinmove.specs.ReportText.{Report, report_text, sound_text}
+use Rattle.tinmove.specs.RunChanges.{AreListed, HasTooManyChanges, end_with}
+use Rattle.report_text.specs.Reports.{Contents as Report}
+use Rattle.report_text.specs.declared.rows.LayerRow.{LayerRow}
+use Rattle.report_text.specs.ReportText.{report_text}
+use Rattle.tinmove.specs.SoundLine.{sound_text}
 use Rattle.tinmove.specs.Refusals.{status_of, line_of}
 
 -- the file of this name has these bytes, and not too many
@@ -41,7 +47,7 @@ pub record HasLayer (files : Files) (carriage : Carriage) (tin : Triangulation) 
   pub ready : HasTin files carriage.tin tin
   pub file : HasFile files carriage.layer bytes
 
--- The triangulation is read and sound, and the layer is not carried: one row for each refusal, in the order in which they are tried.
+-- The triangulation is read and sound, and the layer is not carried, or its changes are not listed: one row for each refusal, in the order in which they are tried.
 -- A row speaks of what was accepted before it.
 abbrev pub IsLayerRefused : Files → Carriage → Refusal → Type 0
 IsLayerRefused files carriage LayerUnread = (tin : Triangulation) × HasTin files carriage.tin tin × (bytes_of files carriage.layer ≡ None)
@@ -49,6 +55,7 @@ IsLayerRefused files carriage LayerLong = (tin : Triangulation) × HasTin files 
 IsLayerRefused files carriage (Layer fault) = (tin : Triangulation) × (bytes : List ℕ) × HasLayer files carriage tin bytes × LacksLayerText bytes fault
 IsLayerRefused files carriage (Outside path segment) = (tin : Triangulation) × (bytes : List ℕ) × HasLayer files carriage tin bytes × IsOutside tin bytes path segment
 IsLayerRefused files carriage TooManyPieces = (tin : Triangulation) × (bytes : List ℕ) × HasLayer files carriage tin bytes × HasTooMany tin bytes
+IsLayerRefused files carriage TooManyChanges = (tin : Triangulation) × (bytes : List ℕ) × HasLayer files carriage tin bytes × HasTooManyChanges tin bytes
 IsLayerRefused files carriage refusal = ⊥
 
 -- the files refuse the job so
@@ -56,42 +63,55 @@ abbrev pub IsJobRefused : Files → Job → Refusal → Type 0
 IsJobRefused files (migrates carriage) refusal = IsTinRefused files carriage.tin refusal ⊎ IsLayerRefused files carriage refusal
 IsJobRefused files (checks name) refusal = IsTinRefused files name refusal
 
--- what the report of a carried layer says
-abbrev pub report_of : Carriage → Triangulation → Carried → Report
-report_of carriage tin carried = record {
-  corners = length tin.corners;
-  triangles = length tin.triangles;
-  tin_inexact = tin.inexact;
-  tin_name = carriage.tin;
+-- a layer's row of the report
+abbrev pub row_of : List ℕ → Carried → LayerRow
+row_of name carried = record {
   paths = carried.paths;
   segments = carried.segments;
   pieces = carried.pieces;
-  layer_inexact = carried.inexact;
+  inexact = carried.inexact;
   dropped = carried.dropped;
-  layer_name = carriage.layer;
+  drawing = false;
+  name = name;
 }
 
--- the layer is carried: its file with the images in place of the points, and then the report
-pub record IsMigrated (files : Files) (carriage : Carriage) (made : Files) : Type 0 where
+-- what the report of a run says
+abbrev pub report_of : List ℕ → Triangulation → List LayerRow → List Change → Report
+report_of name tin rows changes = record {
+  corners = length tin.corners;
+  triangles = length tin.triangles;
+  inexact = tin.inexact;
+  name = name;
+  layers = rows;
+  changes = changes;
+}
+
+-- the layer is carried: its file with the images in place of the points, and then the report; the status says whether this lists a change
+pub record IsMigrated (files : Files) (carriage : Carriage) (status : Status) (made : Files) : Type 0 where
   pub tin : Triangulation
   pub bytes : List ℕ
+  pub pieces : List Piece
   pub carried : Carried
+  pub changes : List Change
   pub name : List ℕ
   pub layer : HasLayer files carriage tin bytes
-  pub is_carried : IsCarried tin bytes carried
+  pub is_carried : IsCarried tin bytes pieces carried
+  pub are_listed : AreListed tin pieces changes
   pub named : IsNameIn carriage.out carriage.layer name
-  pub made_is : made ≡ (name, carried.text) ∷ (codes "-", report_text (report_of carriage tin carried)) ∷ []
+  pub status_is : status ≡ end_with changes
+  pub made_is : made ≡ (name, carried.text) ∷ (codes "-", report_text (report_of carriage.tin tin (row_of carriage.layer carried ∷ []) changes)) ∷ []
 
 -- the triangulation is sound, and its line says so
-pub record IsChecked (files : Files) (name : List ℕ) (made : Files) : Type 0 where
+pub record IsChecked (files : Files) (name : List ℕ) (status : Status) (made : Files) : Type 0 where
   pub tin : Triangulation
   pub ready : HasTin files name tin
+  pub status_is : status ≡ Same
   pub made_is : made ≡ (codes "-", sound_text tin) ∷ []
 
 -- the job is done
-abbrev pub IsJobDone : Files → Job → Files → Type 0
-IsJobDone files (migrates carriage) made = IsMigrated files carriage made
-IsJobDone files (checks name) made = IsChecked files name made
+abbrev pub IsJobDone : Files → Job → Status → Files → Type 0
+IsJobDone files (migrates carriage) status made = IsMigrated files carriage status made
+IsJobDone files (checks name) status made = IsChecked files name status made
 
 -- a refusal makes one file, standard output, with its line
 pub record Refuses (refusal : Refusal) (status : Status) (made : Files) : Type 0 where
@@ -103,4 +123,4 @@ pub record Refuses (refusal : Refusal) (status : Status) (made : Files) : Type 0
 pub data HasOutcome (words : List (List ℕ)) (files : Files) (status : Status) (made : Files) : Type 0 where
   no_job : LacksJob words → Refuses NotUnderstood status made → HasOutcome words files status made
   refused : (job : Job) → IsJob words job → (refusal : Refusal) → IsJobRefused files job refusal → Refuses refusal status made → HasOutcome words files status made
-  done : (job : Job) → IsJob words job → status ≡ Same → IsJobDone files job made → HasOutcome words files status made
+  done : (job : Job) → IsJob words job → IsJobDone files job status made → HasOutcome words files status made

@@ -1,21 +1,28 @@
 -- What is ready to be written.
-use Rattle.std.specs.Prelude.{◌≡◌, ℕ, List, [], ◌∷◌, codes, string_bytes, Option, None, Some, IfSome, Err}
+use Rattle.std.specs.Prelude.{◌≡◌, ℕ, List, [], ◌∷◌, codes, string_bytes, Bool, false, Option, None, Some, IfSome, Err}
 use Rattle.shelf_io.specs.Files.{Files}
 use Rattle.shelf_io.specs.Load.{LacksName}
 use Rattle.carry_map.specs.declared.layers.Carried.{Carried}
+use Rattle.tin_base.specs.declared.pieces.Change.{Change}
+use Rattle.tin_base.specs.declared.pieces.Piece.{Piece}
 use Rattle.tin_base.specs.Triangulation.{Triangulation}
 use Rattle.tin_check.specs.Faults.{IsCause}
 use Rattle.tin_file.specs.Reading.{Answers}
+use Rattle.topo_check.specs.Changes.{HasMoreThan}
+use Rattle.tinmove.specs.declared.listing.TheConstants.{MOST_CHANGES}
 use Rattle.tinmove.specs.declared.refusal.Refusal.{Refusal}
-use Rattle.tinmove.specs.declared.refusal.Refusal.TheVariants.{TinUnread, TinLong, Tin, Check, Layer, Outside, TooManyPieces, NoMemory}
+use Rattle.tinmove.specs.declared.refusal.Refusal.TheVariants.{TinUnread, TinLong, Tin, Check, Layer, Outside, TooManyPieces, TooManyChanges, NoMemory}
 use Rattle.tinmove.specs.declared.preparing.LayerFile.{LayerFile}
 use Rattle.tinmove.specs.declared.preparing.Written.{Written}
 use Rattle.tinmove.specs.Names.{IsNameIn, HasSlash}
 use Rattle.tinmove.specs.Jobs.{Carriage}
 use Rattle.tinmove.specs.Triangulations.{IsRead, plain}
 use Rattle.tinmove.specs.Carrying.{LacksLayerText, IsCarried, IsOutside, HasTooMany}
-use Rattle.tinmove.specs.ReportText.{report_text, sound_text}
-use Rattle.tinmove.specs.Outcome.{HasFile, HasLongFile, report_of}
+use Rattle.tinmove.specs.RunChanges.{AreListed, HasTooManyChanges, is_some_change}
+use Rattle.report_text.specs.Reports.{Contents as Report}
+use Rattle.report_text.specs.ReportText.{report_text}
+use Rattle.tinmove.specs.SoundLine.{sound_text}
+use Rattle.tinmove.specs.Outcome.{HasFile, HasLongFile, row_of, report_of}
 
 -- a layer's file and then what is said, or what is said alone
 abbrev pub files_with : Option LayerFile → List ℕ → Files
@@ -23,15 +30,15 @@ files_with None said = (codes "-", said) ∷ []
 files_with (Some file) said = (string_bytes file.name, file.text) ∷ (codes "-", said) ∷ []
 
 abbrev pub files_of : Written → Files
-files_of written = files_with written.layer (string_bytes written.said)
+files_of written = files_with written.layer written.said
 
--- a layer's file stands in a folder; where there is none, a sound triangulation is told of
-abbrev pub HasFormWith : Option LayerFile → List ℕ → Type 0
-HasFormWith None said = (tin : Triangulation) × (said ≡ sound_text tin)
-HasFormWith (Some file) said = HasSlash (string_bytes file.name)
+-- a layer's file stands in a folder, and a report comes with it that lists a change or not; where there is none, a sound triangulation is told of
+abbrev pub HasFormWith : Option LayerFile → List ℕ → Bool → Type 0
+HasFormWith None said changed = (tin : Triangulation) × (said ≡ sound_text tin) × (changed ≡ false)
+HasFormWith (Some file) said changed = HasSlash (string_bytes file.name) × ((report : Report) × (said ≡ report_text report) × (changed ≡ is_some_change report.changes))
 
 abbrev pub HasForm : Written → Type 0
-HasForm written = HasFormWith written.layer (string_bytes written.said)
+HasForm written = HasFormWith written.layer written.said written.changed
 
 -- the text gives no sound triangulation, or memory ran out
 abbrev pub IsTextRefused : List ℕ → Refusal → Type 0
@@ -43,15 +50,22 @@ IsTextRefused text refusal = ⊥
 -- a layer is carried through a triangulation: what is written is what a run makes
 abbrev pub IsCarriedOff : Carriage → Triangulation → List ℕ → Written → Type 0
 IsCarriedOff carriage tin bytes written =
-    (carried : Carried) × (file : LayerFile) × (written.layer ≡ Some file) × IsCarried tin bytes carried
-    × IsNameIn carriage.out carriage.layer (string_bytes file.name) × (file.text ≡ carried.text)
-    × (string_bytes written.said ≡ report_text (report_of carriage tin carried))
+    (pieces : List Piece) × (carried : Carried) × (changes : List Change) × (file : LayerFile) × (written.layer ≡ Some file) × IsCarried tin bytes pieces carried × AreListed tin pieces changes
+    × IsNameIn carriage.out carriage.layer (string_bytes file.name) × (file.text ≡ carried.text) × (written.changed ≡ is_some_change changes)
+    × (written.said ≡ report_text (report_of carriage.tin tin (row_of carriage.layer carried ∷ []) changes))
 
--- the layer of a text is not carried, or memory ran out
+-- the pieces have more changes than may be listed, or memory ran out
+abbrev pub IsUnlisted : Triangulation → List Piece → Refusal → Type 0
+IsUnlisted tin pieces TooManyChanges = HasMoreThan tin pieces MOST_CHANGES
+IsUnlisted tin pieces NoMemory = Unit {0}
+IsUnlisted tin pieces refusal = ⊥
+
+-- the layer of a text is not carried, its changes are not listed, or memory ran out
 abbrev pub IsNotCarried : Triangulation → List ℕ → Refusal → Type 0
 IsNotCarried tin bytes (Layer fault) = LacksLayerText bytes fault
 IsNotCarried tin bytes (Outside path segment) = IsOutside tin bytes path segment
 IsNotCarried tin bytes TooManyPieces = HasTooMany tin bytes
+IsNotCarried tin bytes TooManyChanges = HasTooManyChanges tin bytes
 IsNotCarried tin bytes NoMemory = Unit {0}
 IsNotCarried tin bytes refusal = ⊥
 

@@ -8,10 +8,12 @@ use Rattle.tin_check.specs.declared.faults.CheckFault.{CheckFault}
 use Rattle.tin_check.specs.declared.faults.CheckFault.TheVariants.{NoMemory as CheckMemory}
 use Rattle.tin_file.specs.declared.faults.TinFault.{TinFault}
 use Rattle.tin_file.specs.declared.faults.TinFault.TheVariants.{TooMany as TooManyRows, NoMemory as TinMemory}
+use Rattle.topo_check.specs.declared.faults.ChangesFault.{ChangesFault}
+use Rattle.topo_check.specs.declared.faults.ChangesFault.TheVariants.{TooMany as TooManyListed, NoMemory as ChangesMemory}
 use Rattle.tinmove.specs.declared.status.Status.{Status}
 use Rattle.tinmove.specs.declared.status.Status.TheVariants.{Words, Tin as TinStatus, Layer as LayerStatus, Outside as OutsideStatus, Read, Memory, Limit}
 use Rattle.tinmove.specs.declared.refusal.Refusal.{Refusal}
-use Rattle.tinmove.specs.declared.refusal.Refusal.TheVariants.{NotUnderstood, TinUnread, TinLong, Tin, Check, LayerUnread, LayerLong, Layer, Outside, TooManyPieces, NoMemory}
+use Rattle.tinmove.specs.declared.refusal.Refusal.TheVariants.{NotUnderstood, TinUnread, TinLong, Tin, Check, LayerUnread, LayerLong, Layer, Outside, TooManyPieces, TooManyChanges, NoMemory}
 use Rattle.tinmove.specs.Lines.{tin_line, check_line, layer_line}
 
 -- the refusal of a layer that is not carried
@@ -20,6 +22,11 @@ of_carrying (Unread fault) = Layer fault
 of_carrying (CarryOutside path segment) = Outside path segment
 of_carrying TooMany = TooManyPieces
 of_carrying CarryMemory = NoMemory
+
+-- the refusal of a run whose changes are not listed
+abbrev pub of_changes : ChangesFault → Refusal
+of_changes TooManyListed = TooManyChanges
+of_changes ChangesMemory = NoMemory
 
 -- too many rows pass a limit; want of memory says nothing of the text
 abbrev pub status_of_tin : TinFault → Status
@@ -48,6 +55,7 @@ status_of LayerLong = Limit
 status_of (Layer fault) = status_of_layer fault
 status_of (Outside path segment) = OutsideStatus
 status_of TooManyPieces = Limit
+status_of TooManyChanges = Limit
 status_of NoMemory = Memory
 
 abbrev pub line_of : Refusal → List ℕ
@@ -61,4 +69,5 @@ line_of LayerLong = codes "limit: bytes of layers\n"
 line_of (Layer fault) = layer_line fault
 line_of (Outside path segment) = codes "outside: layer 0 path " ++ decimal path ++ codes " segment " ++ decimal segment ++ codes "\n"
 line_of TooManyPieces = codes "limit: pieces\n"
+line_of TooManyChanges = codes "limit: changes\n"
 line_of NoMemory = codes "no memory\n"

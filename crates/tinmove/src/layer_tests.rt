@@ -120,22 +120,22 @@ fn texts_keep_all_but_their_points(rt: HostRuntime) -> Result<(), Fail> {
 fn the_report_counts_paths_segments_and_pieces(rt: HostRuntime) -> Result<(), Fail> {
     let alloc = rt.alloc();
     for (layer, written, report) in [
-        // a line of one segment in two pieces, and a point
+        // a line of one segment in two pieces
         (
-            b"LINESTRING (10 0, 0 10)\nPOINT (6 4)".as_slice(),
-            b"LINESTRING (110.000 100.000, 105.002 105.002, 100.000 110.000)\nPOINT (106.001 104.001)".as_slice(),
-            b"tinmove report 0\ntriangulation corners 4 triangles 2 inexact 0 name a/s.json\nlayer 0 paths 2 segments 2 pieces 3 inexact 0 dropped 0 name in/nine.wkt\nend\n".as_slice(),
+            b"LINESTRING (10 0, 0 10)".as_slice(),
+            b"LINESTRING (110.000 100.000, 105.002 105.002, 100.000 110.000)".as_slice(),
+            b"tinmove report 1\ntriangulation corners 4 triangles 2 inexact 0 name a/s.json\nlayer 0 paths 1 segments 1 pieces 2 inexact 0 dropped 0 name in/nine.wkt\nchanges 0\nend\n".as_slice(),
         ),
         // a line of three points, whose last segment ends at x 2.0004
         (
             b"LINESTRING (1 1, 1 1, 2.0004 1)",
             b"LINESTRING (101.000 101.000, 101.000 101.000, 102.000 101.000)",
-            b"tinmove report 0\ntriangulation corners 4 triangles 2 inexact 0 name a/s.json\nlayer 0 paths 1 segments 2 pieces 2 inexact 1 dropped 0 name in/nine.wkt\nend\n",
+            b"tinmove report 1\ntriangulation corners 4 triangles 2 inexact 0 name a/s.json\nlayer 0 paths 1 segments 2 pieces 2 inexact 1 dropped 0 name in/nine.wkt\nchanges 0\nend\n",
         ),
         (
             b"",
             b"",
-            b"tinmove report 0\ntriangulation corners 4 triangles 2 inexact 0 name a/s.json\nlayer 0 paths 0 segments 0 pieces 0 inexact 0 dropped 0 name in/nine.wkt\nend\n",
+            b"tinmove report 1\ntriangulation corners 4 triangles 2 inexact 0 name a/s.json\nlayer 0 paths 0 segments 0 pieces 0 inexact 0 dropped 0 name in/nine.wkt\nchanges 0\nend\n",
         ),
     ] {
         let (status, press) = carried(alloc, SQUARE, layer)?;

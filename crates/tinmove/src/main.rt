@@ -6,11 +6,14 @@ mod laws;
 #[cfg(test)]
 mod layer_tests;
 mod lines;
+mod listing;
 mod loading;
 mod preparing;
 mod publishing;
 mod refusal;
 mod report;
+#[cfg(test)]
+mod report_tests;
 mod run;
 #[cfg(test)]
 mod square_tests;

@@ -1,29 +1,30 @@
 //! What a job writes.
 
-ghost use Rattle.std.specs.Prelude.{◌≡◌, ◌≢◌, ◌+◌, ◌≤◌, IfOk, IfErr, IfSome, OnOk, length, string_bytes};
+ghost use Rattle.std.specs.Prelude.{◌≡◌, ◌≢◌, ◌+◌, ◌≤◌, [], IfOk, IfErr, IfSome, OnOk, false, length, string_bytes};
 ghost use Rattle.shelf_io.specs.Count.{Rose, counted};
 ghost use Rattle.tinmove.specs.declared.loading.TheConstants.{MOST_BYTES};
 ghost use Rattle.tinmove.specs.declared.status.Status.TheVariants.{Read as ReadStatus};
 ghost use Rattle.tinmove.specs.Names.{IsLastPart, IsNameIn};
-ghost use Rattle.tinmove.specs.Jobs.{migrates, checks};
+ghost use Rattle.tinmove.specs.Jobs.{AreNames, AreNamesOf, migrates, checks};
 ghost use Rattle.tinmove.specs.Wanted.{carriage_of, job_of};
 ghost use Rattle.tinmove.specs.Refusals.{status_of};
 ghost use Rattle.tinmove.specs.Carrying.{IsCarried};
-ghost use Rattle.tinmove.specs.Counts.{report_of_counts};
-ghost use Rattle.tinmove.specs.Outcome.{IsJobDone, report_of};
-ghost use Rattle.tinmove.specs.Ends.{MayRefuse, HasCauses};
+ghost use Rattle.tinmove.specs.RunChanges.{end_of};
+ghost use Rattle.tinmove.specs.Outcome.{IsJobDone};
+ghost use Rattle.tinmove.specs.Ends.{MayEnd, MayRefuse, HasCauses};
 ghost use Rattle.tinmove.specs.Prepared.{files_of, HasForm, IsCarriedOff, IsNotCarried};
 
+use crate::listing::{known, listed_changes};
 use crate::loading::{loaded, loaded_index, loaded_tin};
 use crate::refusal::Refusal;
-use crate::report::{Counts, sound_line, write_report};
+use crate::report::{layer_rows, run_report, sound_line};
 use crate::triangulations::plainly;
 use crate::words::{Migration, Wanted};
 use carry_map::{Carried, MOST_PIECES, carry_layer};
 use sheet_base::Listed;
 use shelf_io::Shelf;
 use std::alloc::{AllocError, Global};
-use tin_base::SoundTin;
+use tin_base::Piece;
 use tin_index::TinIndex;
 use wkt_layer::Wkt;
 
@@ -38,7 +39,9 @@ pub struct LayerFile {
 #[derive(Drop)]
 pub struct Written {
     pub layer: Option<LayerFile>,
-    pub said: String,
+    pub said: Listed<u8>,
+    /// Whether the report lists a change.
+    pub changed: bool,
 }
 
 /// The part of a name behind its last slash.
@@ -60,33 +63,20 @@ fn written_name(alloc: Global, out: &str, layer: &str) -> Result<String, AllocEr
     Ok(name)
 }
 
-/// What the report says of a layer that was carried.
-fn counts_of<'a>(migration: Migration<'a>, tin: &SoundTin, carried: &Carried) -> Counts<'a>
-    ensures { report_of_counts result ≡ report_of (carriage_of migration.entry) tin.now carried.now }
-{
-    Counts {
-        corners: tin.corners().len(),
-        triangles: tin.triangles().len(),
-        tin_inexact: tin.inexact(),
-        tin_name: migration.tin,
-        paths: carried.paths,
-        segments: carried.segments,
-        pieces: carried.pieces,
-        layer_inexact: carried.inexact,
-        dropped: carried.dropped,
-        layer_name: migration.layer,
-    }
-}
-
-/// A layer carried through a triangulation. It is the only one of its run.
-fn carried_layer(alloc: Global, index: &TinIndex, bytes: &[u8]) -> Result<Carried, Refusal>
-    requires { length bytes.now ≤ MOST_BYTES }
-    ensures ok { IfOk result (λ carried. IsCarried index.now bytes.now carried) }
+/// A layer carried through a triangulation, and its pieces. It is the only one of its run.
+fn carried_layer(
+    alloc: Global,
+    index: &TinIndex,
+    bytes: &[u8],
+    pieces: &mut Vec<Piece>,
+) -> Result<Carried, Refusal>
+    requires within { length bytes.now ≤ MOST_BYTES }
+    requires first { pieces.old.items ≡ [] }
+    ensures ok { IfOk result (λ carried. IsCarried index.now bytes.now pieces.new.items carried) }
     ensures refused { IfErr result (λ refusal. IsNotCarried index.now bytes.now refusal) }
 {
-    let mut pieces = Vec::new(alloc);
     let how = plainly();
-    match carry_layer::<Wkt>(alloc, index, bytes, how, 0, MOST_PIECES, &mut pieces) {
+    match carry_layer::<Wkt>(alloc, index, bytes, how, 0, MOST_PIECES, pieces) {
         Ok(carried) => Ok(carried),
         Err(fault) => Err(Refusal::from(fault)),
     }
@@ -99,15 +89,25 @@ fn carried(
     index: &TinIndex,
     bytes: &[u8],
 ) -> Result<Written, Refusal>
-    requires { length bytes.now ≤ MOST_BYTES }
+    requires within { length bytes.now ≤ MOST_BYTES }
+    requires names { AreNames (carriage_of migration) }
     ensures ok { IfOk result (λ written. IsCarriedOff (carriage_of migration.entry) index.now bytes.now written) }
     ensures refused { IfErr result (λ refusal. IsNotCarried index.now bytes.now refusal) }
 {
-    let carried = match carried_layer(alloc, index, bytes) {
+    let mut pieces = Vec::new(alloc);
+    let carried = match carried_layer(alloc, index, bytes, &mut pieces) {
         Ok(carried) => carried,
         Err(refusal) => return Err(refusal),
     };
-    let said = write_report(alloc, counts_of(migration, index.tin(), &carried))?;
+    let tin = index.tin();
+    known(tin);
+    let changes = match listed_changes(alloc, tin, &pieces) {
+        Ok(changes) => changes,
+        Err(refusal) => return Err(refusal),
+    };
+    let changed = !changes.is_empty();
+    let rows = layer_rows(alloc, migration.layer, &carried)?;
+    let said = run_report(alloc, migration.tin, tin, rows, changes)?;
     let file = LayerFile {
         name: written_name(alloc, migration.out, migration.layer)?,
         text: carried.text,
@@ -115,6 +115,7 @@ fn carried(
     Ok(Written {
         layer: Some(file),
         said,
+        changed,
     })
 }
 
@@ -124,7 +125,8 @@ fn migrated<S: Shelf>(
     shelf: &mut S,
     migration: Migration<'_>,
 ) -> Result<Written, Refusal>
-    ensures ok { IfOk result (λ written. IfSome (S.files shelf.old) (λ files. IsJobDone files (migrates (carriage_of migration.entry)) (files_of written))) }
+    requires { AreNames (carriage_of migration) }
+    ensures ok { IfOk result (λ written. IfSome (S.files shelf.old) (λ files. IsJobDone files (migrates (carriage_of migration.entry)) (end_of written.changed) (files_of written))) }
     ensures form { IfOk result (λ written. HasForm written) }
     ensures refused { IfErr result (λ refusal. IfSome (S.files shelf.old) (λ files. MayRefuse files (migrates (carriage_of migration.entry)) (Rose (S.faults shelf.old) (S.faults shelf.new)) refusal)) }
     ensures causes { IfErr result (λ refusal. HasCauses (migrates (carriage_of migration.entry)) (S.files shelf.old) (Rose (S.faults shelf.old) (S.faults shelf.new)) (counted (S.given shelf.old) (MOST_BYTES + 1) ≤ S.given shelf.new) refusal) }
@@ -154,7 +156,8 @@ fn migrated<S: Shelf>(
 
 /// What is written where a triangulation is to be checked.
 fn checked<S: Shelf>(alloc: Global, shelf: &mut S, name: &str) -> Result<Written, Refusal>
-    ensures ok { IfOk result (λ written. IfSome (S.files shelf.old) (λ files. IsJobDone files (checks name.now) (files_of written))) }
+    ensures ok { IfOk result (λ written. IfSome (S.files shelf.old) (λ files. IsJobDone files (checks name.now) (end_of written.changed) (files_of written))) }
+    ensures unchanged { IfOk result (λ written. written.changed ≡ false) }
     ensures form { IfOk result (λ written. HasForm written) }
     ensures refused { IfErr result (λ refusal. IfSome (S.files shelf.old) (λ files. MayRefuse files (checks name.now) (Rose (S.faults shelf.old) (S.faults shelf.new)) refusal)) }
     ensures causes { IfErr result (λ refusal. HasCauses (checks name.now) (S.files shelf.old) (Rose (S.faults shelf.old) (S.faults shelf.new)) (counted (S.given shelf.old) (MOST_BYTES + 1) ≤ S.given shelf.new) refusal) }
@@ -164,7 +167,11 @@ fn checked<S: Shelf>(alloc: Global, shelf: &mut S, name: &str) -> Result<Written
 {
     match loaded_tin(alloc, shelf, name) {
         Ok(tin) => match sound_line(alloc, &tin) {
-            Ok(said) => Ok(Written { layer: None, said }),
+            Ok(line) => Ok(Written {
+                layer: None,
+                said: Listed::of(line.into_bytes()),
+                changed: false,
+            }),
             Err(_) => Err(Refusal::NoMemory),
         },
         Err(refusal) => Err(refusal),
@@ -177,7 +184,9 @@ pub fn prepared<S: Shelf>(
     shelf: &mut S,
     wanted: Wanted<'_>,
 ) -> Result<Written, Refusal>
-    ensures ok { IfOk result (λ written. IfSome (S.files shelf.old) (λ files. IsJobDone files (job_of wanted.entry) (files_of written))) }
+    requires { AreNamesOf (job_of wanted) }
+    ensures ok { IfOk result (λ written. IfSome (S.files shelf.old) (λ files. IsJobDone files (job_of wanted.entry) (end_of written.changed) (files_of written))) }
+    ensures may_end { IfOk result (λ written. MayEnd (job_of wanted.entry) (end_of written.changed)) }
     ensures form { IfOk result (λ written. HasForm written) }
     ensures refused { IfErr result (λ refusal. IfSome (S.files shelf.old) (λ files. MayRefuse files (job_of wanted.entry) (Rose (S.faults shelf.old) (S.faults shelf.new)) refusal)) }
     ensures causes { IfErr result (λ refusal. HasCauses (job_of wanted.entry) (S.files shelf.old) (Rose (S.faults shelf.old) (S.faults shelf.new)) (counted (S.given shelf.old) (MOST_BYTES + 1) ≤ S.given shelf.new) refusal) }

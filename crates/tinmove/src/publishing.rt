@@ -3,17 +3,18 @@
 ghost use Rattle.std.specs.Prelude.{◌≡◌, ◌≢◌, ◌⊎◌, [], ◌∷◌, IfSome, false, string_bytes, codes};
 ghost use Rattle.shelf_io.specs.Count.{Rose};
 ghost use Rattle.tinmove.specs.Names.{HasSlash};
+ghost use Rattle.tinmove.specs.RunChanges.{end_of};
 ghost use Rattle.tinmove.specs.Refusals.{line_of, status_of};
 ghost use Rattle.tinmove.specs.Ends.{IsFrontOf};
 ghost use Rattle.tinmove.specs.Prepared.{files_of, HasForm};
 
-use crate::preparing::Written;
+use crate::preparing::{LayerFile, Written};
 use crate::refusal::Refusal;
 use crate::status::Status;
 use shelf_io::{Press, print};
 
 /// Writes a text to standard output alone, after which the run ends so.
-fn say<P: Press>(press: &mut P, said: &str, status: Status) -> Status
+fn say<P: Press>(press: &mut P, said: &[u8], status: Status) -> Status
     requires free { P.at_hand press.old ≡ false }
     requires empty { IfSome (P.made press.old) (λ made. made ≡ []) }
     requires other { status ≢ Status.Write }
@@ -23,30 +24,41 @@ fn say<P: Press>(press: &mut P, said: &str, status: Status) -> Status
     ensures rose { result ≡ Status.Write → Rose (P.faults press.old) (P.faults press.new) }
     ensures same { result ≢ Status.Write → P.faults press.new ≡ P.faults press.old }
 {
-    match print(press, "-", said.as_bytes()) {
+    match print(press, "-", said) {
         Ok(()) => status,
         Err(_) => Status::Write,
     }
 }
 
-/// Writes the layer's file of this name and then a text to standard output.
-fn publish_layer<P: Press>(press: &mut P, name: &str, text: &[u8], said: &str) -> Status
+/// How a run ends that has written all.
+fn end(changed: bool) -> Status
+    ensures { result ≡ end_of changed }
+{
+    if changed {
+        Status::Changed
+    } else {
+        Status::Same
+    }
+}
+
+/// Writes a layer's file and then a text to standard output. The run ends by whether the text lists a change.
+fn publish_layer<P: Press>(press: &mut P, file: &LayerFile, said: &[u8], changed: bool) -> Status
     requires free { P.at_hand press.old ≡ false }
     requires empty { IfSome (P.made press.old) (λ made. made ≡ []) }
-    requires slash { HasSlash name.now }
-    ensures status { (result ≡ Status.Same) ⊎ (result ≡ Status.Write) }
-    ensures whole { result ≡ Status.Same → IfSome (P.made press.new) (λ made. made ≡ (name.now, text.now) ∷ (codes "-", said.now) ∷ []) }
-    ensures front { result ≡ Status.Write → IfSome (P.made press.new) (λ made. IsFrontOf made ((name.now, text.now) ∷ (codes "-", said.now) ∷ [])) }
+    requires slash { HasSlash (string_bytes file.now.name) }
+    ensures status { (result ≡ end_of changed) ⊎ (result ≡ Status.Write) }
+    ensures whole { result ≢ Status.Write → IfSome (P.made press.new) (λ made. made ≡ (string_bytes file.now.name, file.now.text) ∷ (codes "-", said.now) ∷ []) }
+    ensures front { result ≡ Status.Write → IfSome (P.made press.new) (λ made. IsFrontOf made ((string_bytes file.now.name, file.now.text) ∷ (codes "-", said.now) ∷ [])) }
     ensures rose { result ≡ Status.Write → Rose (P.faults press.old) (P.faults press.new) }
     ensures same { result ≢ Status.Write → P.faults press.new ≡ P.faults press.old }
 {
-    if print(press, name, text).is_err() {
+    if print(press, file.name.as_str(), file.text.items()).is_err() {
         return Status::Write;
     }
-    if print(press, "-", said.as_bytes()).is_err() {
+    if print(press, "-", said).is_err() {
         return Status::Write;
     }
-    Status::Same
+    end(changed)
 }
 
 /// Writes what a job makes, in order.
@@ -54,20 +66,15 @@ pub fn publish<P: Press>(press: &mut P, written: &Written) -> Status
     requires free { P.at_hand press.old ≡ false }
     requires empty { IfSome (P.made press.old) (λ made. made ≡ []) }
     requires form { HasForm written.now }
-    ensures status { (result ≡ Status.Same) ⊎ (result ≡ Status.Write) }
-    ensures whole { result ≡ Status.Same → IfSome (P.made press.new) (λ made. made ≡ files_of written.now) }
+    ensures status { (result ≡ end_of written.now.changed) ⊎ (result ≡ Status.Write) }
+    ensures whole { result ≢ Status.Write → IfSome (P.made press.new) (λ made. made ≡ files_of written.now) }
     ensures front { result ≡ Status.Write → IfSome (P.made press.new) (λ made. IsFrontOf made (files_of written.now)) }
     ensures rose { result ≡ Status.Write → Rose (P.faults press.old) (P.faults press.new) }
     ensures same { result ≢ Status.Write → P.faults press.new ≡ P.faults press.old }
 {
     match &written.layer {
-        Some(file) => publish_layer(
-            press,
-            file.name.as_str(),
-            file.text.items(),
-            written.said.as_str(),
-        ),
-        None => say(press, written.said.as_str(), Status::Same),
+        Some(file) => publish_layer(press, file, written.said.items(), written.changed),
+        None => say(press, written.said.items(), Status::Same),
     }
 }
 
@@ -82,5 +89,5 @@ pub fn refuse<P: Press>(press: &mut P, refusal: Refusal) -> Status
     ensures same { result ≢ Status.Write → P.faults press.new ≡ P.faults press.old }
 {
     let line = refusal.line();
-    say(press, line.as_str(), refusal.status())
+    say(press, line.as_bytes(), refusal.status())
 }

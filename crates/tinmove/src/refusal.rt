@@ -1,7 +1,7 @@
 //! Why a run is refused, and the one line that says so.
 
 ghost use Rattle.std.specs.Prelude.{◌≡◌};
-ghost use Rattle.tinmove.specs.Refusals.{line_of, status_of, status_of_tin, status_of_check, status_of_layer, of_carrying};
+ghost use Rattle.tinmove.specs.Refusals.{line_of, status_of, status_of_tin, status_of_check, status_of_layer, of_carrying, of_changes};
 ghost use Rattle.tinmove.specs.declared.refusal.Refusal.TheVariants.{Tin, Check, NoMemory};
 
 use crate::lines::{Line, check_line, layer_line, outside_line, said, tin_line};
@@ -11,6 +11,7 @@ use sheet_base::LayerFault;
 use std::alloc::AllocError;
 use tin_check::CheckFault;
 use tin_file::TinFault;
+use topo_check::ChangesFault;
 
 /// Why nothing was carried.
 #[derive(Clone, Copy, Debug, PartialEq, Eq)]
@@ -36,6 +37,8 @@ pub enum Refusal {
     Outside { path: u32, segment: u32 },
     /// The layer has too many pieces.
     TooManyPieces,
+    /// The pieces have too many changes.
+    TooManyChanges,
     /// Memory ran out.
     NoMemory,
 }
@@ -73,6 +76,17 @@ impl From<CarryFault> for Refusal {
             CarryFault::Outside { path, segment } => Refusal::Outside { path, segment },
             CarryFault::TooMany => Refusal::TooManyPieces,
             CarryFault::NoMemory => Refusal::NoMemory,
+        }
+    }
+}
+
+impl From<ChangesFault> for Refusal {
+    ghost from_gives = { λ fault refusal. refusal ≡ of_changes fault };
+
+    fn from(fault: ChangesFault) -> Self {
+        match fault {
+            ChangesFault::TooMany => Refusal::TooManyChanges,
+            ChangesFault::NoMemory => Refusal::NoMemory,
         }
     }
 }
@@ -116,7 +130,10 @@ impl Refusal {
         match self {
             Refusal::NotUnderstood => Status::Words,
             Refusal::TinUnread | Refusal::LayerUnread => Status::Read,
-            Refusal::TinLong | Refusal::LayerLong | Refusal::TooManyPieces => Status::Limit,
+            Refusal::TinLong
+            | Refusal::LayerLong
+            | Refusal::TooManyPieces
+            | Refusal::TooManyChanges => Status::Limit,
             Refusal::Tin(fault) => tin_status(fault),
             Refusal::Check(fault) => check_status(fault),
             Refusal::Layer(fault) => layer_status(fault),
@@ -140,6 +157,7 @@ impl Refusal {
             Refusal::Layer(fault) => layer_line(fault),
             Refusal::Outside { path, segment } => outside_line(path, segment),
             Refusal::TooManyPieces => said("limit: pieces\n"),
+            Refusal::TooManyChanges => said("limit: changes\n"),
             Refusal::NoMemory => said("no memory\n"),
         }
     }

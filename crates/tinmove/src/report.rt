@@ -1,76 +1,84 @@
 //! The report of a run, and the line of a check.
 
-ghost use Rattle.std.specs.Prelude.{◌≡◌, IfOk, string_bytes};
-ghost use Rattle.tinmove.specs.ReportText.{tin_line as tin_line_of, layer_counts as layer_counts_of, layer_rest as layer_rest_of, report_text, sound_text};
-ghost use Rattle.tinmove.specs.Counts.{report_of_counts};
+ghost use Rattle.std.specs.Prelude.{◌≡◌, [], ◌∷◌, IfOk, string_bytes};
+ghost use Rattle.std.specs.List.{AllByRecursion};
+ghost use Rattle.report_text.specs.Reports.{IsPrintable, IsChanged};
+ghost use Rattle.report_text.specs.ReportText.{report_text};
+ghost use Rattle.tinmove.specs.SoundLine.{sound_text};
+ghost use Rattle.tinmove.specs.Outcome.{report_of, row_of};
 
+use carry_map::Carried;
+use report_text::{LayerRow, Report, write_report};
+use sheet_base::Listed;
+use shelf_io::Name;
 use std::alloc::{AllocError, Global};
-use tin_base::SoundTin;
+use tin_base::{Change, SoundTin};
 
-/// The counts and the names that a run's report gives.
-#[derive(Clone, Copy)]
-pub struct Counts<'a> {
-    pub corners: usize,
-    pub triangles: usize,
-    /// How many numbers of the triangulation lost digits.
-    pub tin_inexact: u64,
-    pub tin_name: &'a str,
-    pub paths: u32,
-    pub segments: u32,
-    pub pieces: u32,
-    /// How many numbers of the layer lost digits.
-    pub layer_inexact: u64,
-    /// How many entities of the layer are left out.
-    pub dropped: u64,
-    pub layer_name: &'a str,
+/// What the report says of a layer of this name that was carried.
+fn layer_row(alloc: Global, name: &str, carried: &Carried) -> Result<LayerRow, AllocError>
+    ensures { IfOk result (λ row. row ≡ row_of name.now carried.now) }
+{
+    Ok(LayerRow {
+        paths: carried.paths,
+        segments: carried.segments,
+        pieces: carried.pieces,
+        inexact: carried.inexact,
+        dropped: carried.dropped,
+        drawing: false,
+        name: Name::of(alloc, name)?,
+    })
 }
 
-/// The line of the triangulation.
-fn tin_line(alloc: Global, counts: Counts<'_>) -> Result<String, AllocError>
-    ensures { IfOk result (λ text. string_bytes text ≡ tin_line_of (report_of_counts counts.entry)) }
+/// The same of all layers of a run, of which there is one.
+pub fn layer_rows(alloc: Global, name: &str, carried: &Carried) -> Result<Vec<LayerRow>, AllocError>
+    ensures { IfOk result (λ rows. rows.items ≡ row_of name.now carried.now ∷ []) }
 {
-    let corners = counts.corners;
-    let triangles = counts.triangles;
-    let inexact = counts.tin_inexact;
-    let name = counts.tin_name;
-    format!(in alloc;
-        "triangulation corners {corners} triangles {triangles} inexact {inexact} name {name}\n"
-    )
+    let mut rows = Vec::new(alloc);
+    rows.push(layer_row(alloc, name, carried)?)?;
+    Ok(rows)
 }
 
-/// The front of the layer's line.
-fn layer_counts(alloc: Global, counts: Counts<'_>) -> Result<String, AllocError>
-    ensures { IfOk result (λ text. string_bytes text ≡ layer_counts_of (report_of_counts counts.entry)) }
+/// The report on layers that were carried through the triangulation of the file of this name.
+fn report_on(
+    alloc: Global,
+    name: &str,
+    tin: &SoundTin,
+    layers: Vec<LayerRow>,
+    changes: Vec<Change>,
+) -> Result<Report, AllocError>
+    requires name { IsPrintable name.now }
+    requires layers { AllByRecursion (λ row. IsPrintable row.name) layers.items }
+    requires changes { AllByRecursion IsChanged changes.items }
+    ensures { IfOk result (λ report. report ≡ report_of name.now tin.now layers.items changes.items) }
 {
-    let paths = counts.paths;
-    let segments = counts.segments;
-    let pieces = counts.pieces;
-    format!(in alloc; "layer 0 paths {paths} segments {segments} pieces {pieces}")
+    let corners = tin.corners().len() as u32;
+    let triangles = tin.triangles().len() as u32;
+    let name = Name::of(alloc, name)?;
+    Ok(Report::of(
+        corners,
+        triangles,
+        tin.inexact(),
+        name,
+        Listed::of(layers),
+        Listed::of(changes),
+    ))
 }
 
-/// The rest of the layer's line.
-fn layer_rest(alloc: Global, counts: Counts<'_>) -> Result<String, AllocError>
-    ensures { IfOk result (λ text. string_bytes text ≡ layer_rest_of (report_of_counts counts.entry)) }
+/// The text of that report.
+pub fn run_report(
+    alloc: Global,
+    name: &str,
+    tin: &SoundTin,
+    layers: Vec<LayerRow>,
+    changes: Vec<Change>,
+) -> Result<Listed<u8>, AllocError>
+    requires name { IsPrintable name.now }
+    requires layers { AllByRecursion (λ row. IsPrintable row.name) layers.items }
+    requires changes { AllByRecursion IsChanged changes.items }
+    ensures { IfOk result (λ text. text ≡ report_text (report_of name.now tin.now layers.items changes.items)) }
 {
-    let inexact = counts.layer_inexact;
-    let dropped = counts.dropped;
-    let name = counts.layer_name;
-    format!(in alloc; " inexact {inexact} dropped {dropped} name {name}\n")
-}
-
-/// The report's text.
-pub fn write_report(alloc: Global, counts: Counts<'_>) -> Result<String, AllocError>
-    ensures { IfOk result (λ text. string_bytes text ≡ report_text (report_of_counts counts.entry)) }
-{
-    let tin = tin_line(alloc, counts)?;
-    let layer = layer_counts(alloc, counts)?;
-    let rest = layer_rest(alloc, counts)?;
-    let mut text = String::from_str(alloc, "tinmove report 0\n")?;
-    text.push_str(tin.as_str())?;
-    text.push_str(layer.as_str())?;
-    text.push_str(rest.as_str())?;
-    text.push_str("end\n")?;
-    Ok(text)
+    let report = report_on(alloc, name, tin, layers, changes)?;
+    Ok(Listed::of(write_report(alloc, &report)?))
 }
 
 /// The line of a triangulation that was found sound.

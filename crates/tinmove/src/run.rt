@@ -3,7 +3,8 @@
 ghost use Rattle.std.specs.Prelude.{◌≡◌, ◌≢◌, ◌⊎◌, ◌+◌, ◌≤◌, ℕ, List, [], IfSome, false, map, string_bytes};
 ghost use Rattle.shelf_io.specs.Count.{Rose, counted};
 ghost use Rattle.tinmove.specs.declared.loading.TheConstants.{MOST_BYTES};
-ghost use Rattle.tinmove.specs.Jobs.{LacksJob, IsCheck};
+ghost use Rattle.tinmove.specs.Jobs.{Carriage, LacksJob, IsMigration, IsCheck};
+ghost use Rattle.tinmove.specs.Kept.{KeepsRelations};
 ghost use Rattle.tinmove.specs.Ends.{EndsTold, Stands, LacksWantedOf, TellsBytes, IsEndOfCheck};
 
 use crate::preparing::prepared;
@@ -27,6 +28,10 @@ pub fn run<S: Shelf, P: Press>(
     // Where the shelf tells its files, a run ends in one of four ways: by its outcome, after a read fault,
     // for want of memory, or after a write fault.
     ensures ends { IfSome (S.files shelf.old) (λ files. EndsTold (map string_bytes words.now) files (Rose (S.faults shelf.old) (S.faults shelf.new)) (Rose (P.faults press.old) (P.faults press.new)) result (P.made press.new)) }
+
+    // Where a migration ends with `Same`, each two segments of the written layer lie to each other as their pieces do in
+    // the source; where it ends with `Changed`, the report lists each two that do not, and no others.
+    ensures kept { IfSome (S.files shelf.old) (λ files. (carriage : Carriage) → IsMigration (map string_bytes words.now) carriage → KeepsRelations files carriage result (P.made press.new)) }
 
     // Told or not, what stands after each status.
     ensures stands { IfSome (P.made press.new) (Stands result) }

@@ -1,13 +1,12 @@
 //! Calls of the crates below, put together over a square of two triangles. What is expected is worked out by hand.
 
-ghost use Rattle.tin_base.specs.Limits.{IsWithinLimits};
-
+use crate::listing::known;
 use carry_map::{MOST_PIECES, carry};
 use plane_base::Pt;
 use sheet_base::{How, Layer};
 use std::alloc::Global;
 use std::test::Fail;
-use tin_base::{Change, Place, Rel, SoundTin};
+use tin_base::{Change, Place, Rel};
 use tin_check::check_tin;
 use tin_file::read_tin;
 use tin_index::TinIndex;
@@ -44,13 +43,6 @@ fn changes_of(alloc: Global, most: u32) -> Option<Result<Vec<Change>, ChangesFau
         }
         Err(_) => None,
     }
-}
-
-/// What the type keeps of a sound triangulation.
-fn known(tin: &SoundTin)
-    ensures { IsWithinLimits tin.now }
-{
-    let _ = tin.triangles();
 }
 
 fn place(path: u32, piece: u32) -> Place {

@@ -71,15 +71,15 @@ fn reports_say_what_was_carried(rt: HostRuntime) -> Result<(), Fail> {
     for (layer, report) in [
         (
             b"POINT (5 0)".as_slice(),
-            b"tinmove report 0\ntriangulation corners 3 triangles 1 inexact 0 name t.json\nlayer 0 paths 1 segments 1 pieces 1 inexact 0 dropped 0 name p.wkt\nend\n".as_slice(),
+            b"tinmove report 1\ntriangulation corners 3 triangles 1 inexact 0 name t.json\nlayer 0 paths 1 segments 1 pieces 1 inexact 0 dropped 0 name p.wkt\nchanges 0\nend\n".as_slice(),
         ),
         (
             b"",
-            b"tinmove report 0\ntriangulation corners 3 triangles 1 inexact 0 name t.json\nlayer 0 paths 0 segments 0 pieces 0 inexact 0 dropped 0 name p.wkt\nend\n",
+            b"tinmove report 1\ntriangulation corners 3 triangles 1 inexact 0 name t.json\nlayer 0 paths 0 segments 0 pieces 0 inexact 0 dropped 0 name p.wkt\nchanges 0\nend\n",
         ),
         (
             b"POINT (5 0.0004)",
-            b"tinmove report 0\ntriangulation corners 3 triangles 1 inexact 0 name t.json\nlayer 0 paths 1 segments 1 pieces 1 inexact 1 dropped 0 name p.wkt\nend\n",
+            b"tinmove report 1\ntriangulation corners 3 triangles 1 inexact 0 name t.json\nlayer 0 paths 1 segments 1 pieces 1 inexact 1 dropped 0 name p.wkt\nchanges 0\nend\n",
         ),
     ] {
         let mut shelf = MemShelf::new(alloc, 4096);

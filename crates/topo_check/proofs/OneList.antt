@@ -8,7 +8,7 @@ use Rattle.tin_base.specs.Triangulation.{Triangulation}
 use Rattle.tin_base.specs.Pieces.{IsPieceInside, first_point, last_point}
 use Rattle.plane_base.specs.Plane.{whole}
 use Rattle.meet_rel.proofs.Exclusive.{relations_are_exclusive}
-use Rattle.topo_check.specs.Changes.{AreAllComparable, HadRelation, HasRelation, IsChangeOf, Pair, with_each, pairs, put, AreChangesOf}
+use Rattle.topo_check.specs.Changes.{HadRelation, HasRelation, IsChangeOf, Pair, with_each, pairs, put, AreChangesOf}
 use Rattle.topo_check.specs.Laws.{ChangesAreOne, MoreStayMore}
 
 -- ---- of two pieces
@@ -55,9 +55,6 @@ pairs_inside tin [] h = tt
 pairs_inside tin (p ∷ ps) h =
     both_inside tin (with_each p ps) (pairs ps) (each_inside tin p ps (h 0 p (omega arith)) (λ i d b. h (suc i) d (omega arith))) (pairs_inside tin ps (λ i d b. h (suc i) d (omega arith)))
 
-all_inside : (tin : Triangulation) (ps : List Piece) → AreAllComparable tin ps → All (λ q. IsPieceInside tin q) ps
-all_inside tin ps h = λ i d b. let k = h i d b i d b in k.first
-
 one_list : (tin : Triangulation) (xs : List Pair) (cs ds : List Change) → AreInside tin xs → AreChangesOf tin xs cs → AreChangesOf tin xs ds → cs ≡ ds
 unfolding AreInside
 one_list tin [] cs ds i h k = h ∙ sym k
@@ -65,7 +62,7 @@ one_list tin (x ∷ xs) cs ds i h k =
     h.4 ∙ ap₂ put (one_change tin x.first x.second h.0 k.0 i.0 i.1 h.2 k.2) (one_list tin xs h.1 k.1 i.2 h.3 k.3) ∙ sym k.4
 
 pub changes_are_one : ChangesAreOne
-changes_are_one tin pieces h cs ds a b = one_list tin (pairs pieces) cs ds (pairs_inside tin pieces (all_inside tin pieces h)) a b
+changes_are_one tin pieces h cs ds a b = one_list tin (pairs pieces) cs ds (pairs_inside tin pieces h) a b
 
 -- ---- the changes of first pairs come first
 put_append : (c : Option Change) (xs ys : List Change) → put c (xs ++ ys) ≡ put c xs ++ ys
@@ -86,6 +83,6 @@ longer xs ys zs n e h = omega (arith, ap length e, length-append xs ys)
 
 pub more_stay_more : MoreStayMore
 more_stay_more tin pieces most h m changes a =
-    let i = pairs_inside tin pieces (all_inside tin pieces h) in
+    let i = pairs_inside tin pieces h in
     let f = front_of tin m.front m.rest m.changes changes (subst (λ (xs : List Pair). AreInside tin xs) (sym m.is_front) i) m.are_changes (subst (λ (xs : List Pair). AreChangesOf tin xs changes) (sym m.is_front) a) in
     longer m.changes f.0 changes most f.1 m.more

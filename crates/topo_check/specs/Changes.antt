@@ -19,6 +19,10 @@ pub record AreComparable (tin : Triangulation) (p q : Piece) : Type 0 where
 abbrev pub AreAllComparable : Triangulation → List Piece → Type 0
 AreAllComparable tin pieces = All (λ p. All (λ q. AreComparable tin p q) pieces) pieces
 
+-- what the laws ask of pieces: they are pieces of segments with ends in source triangles
+abbrev pub AreAllInside : Triangulation → List Piece → Type 0
+AreAllInside tin pieces = All (λ p. IsPieceInside tin p) pieces
+
 -- the relation of two exact pieces in the source frame
 abbrev pub HadRelation : Triangulation → Rel → Piece → Piece → Type 0
 HadRelation tin was p q = (s t : Part) → IsPieceOf tin p s → IsPieceOf tin q t → HaveRelation was (first_point p s) (last_point p s) (first_point q t) (last_point q t)

@@ -5,6 +5,7 @@ use Rattle.tinmove.proofs.publishing.publish_layer.Goals as goal
 
 pub returns-then-is_err-2-clause-front : goal.returns-then-is_err-2-clause-front
 returns-then-is_err-2-clause-front g c = λ write.
-    let whole : Becomes (with_whole c.args.name.now c.args.text.now) (g.P.Press.made c.args.press.now) (g.P.Press.made c.print.new.press) = search rules in
+    let whole : Becomes (with_whole c.as_str.result.now c.items.result.now) (g.P.Press.made c.args.press.now) (g.P.Press.made c.print.new.press) = search rules in
     let front : PrintsFront (g.P.Press.made c.print.new.press) (g.P.Press.made c.print-2.new.press) (codes "-") c.args.said.now = search rules in
-    second_front (g.P.Press.made c.args.press.now) (g.P.Press.made c.print.new.press) (g.P.Press.made c.print-2.new.press) c.args.name.now c.args.text.now c.args.said.now c.requires.empty whole front
+    rw (c.as_str.ensures.value, c.items.ensures)
+    at (second_front (g.P.Press.made c.args.press.now) (g.P.Press.made c.print.new.press) (g.P.Press.made c.print-2.new.press) c.as_str.result.now c.items.result.now c.args.said.now c.requires.empty whole front)

@@ -1,10 +1,12 @@
 use Rattle.std.proofs.Common.{map, string_bytes}
-use Rattle.tinmove.specs.declared.status.Status.TheVariants.{Same}
 use Rattle.tinmove.specs.declared.refusal.Refusal.TheVariants.{NotUnderstood}
 use Rattle.tinmove.specs.Wanted.{job_of}
+use Rattle.tinmove.specs.RunChanges.{end_of}
 use Rattle.tinmove.specs.Refusals.{status_of}
 use Rattle.tinmove.specs.Prepared.{files_of}
-use Rattle.tinmove.proofs.Ending.{line_file, printed_of, never-write, ends_so, makes_refusal, makes_no_job, makes_files, told, told_always, stands_refused, stands_done, limit_told, limit_done, check_job, end_as}
+use Rattle.tinmove.proofs.Ending.{line_file, never-write, ends_so, never-write-end, makes_refusal, makes_no_job, makes_files, told, told_always, stands_refused, stands_done, limit_told, limit_done, check_job, end_as}
+use Rattle.tinmove.proofs.Readied.{names_of}
+use Rattle.tinmove.proofs.KeptRuns.{run_keeps}
 use Rattle.tinmove.proofs.run.run.Goals as goal
 
 pub returns-in_default-clause-ends : goal.returns-in_default-clause-ends
@@ -28,15 +30,15 @@ pub returns-in-Ok-clause-ends : goal.returns-in-Ok-clause-ends
 returns-in-Ok-clause-ends g c =
     let e = c.publish.ensures in
     told (g.S.Shelf.files c.args.shelf.now) (λ files is.
-    ends_so (map string_bytes c.args.words.now) files _ _ (files_of c.in-Ok.written) Same c.publish.result (g.P.Press.made c.publish.new.press) (λ no. cc)
-    (makes_files (map string_bytes c.args.words.now) files _ (job_of c.in-Some.wanted) (files_of c.in-Ok.written) c.in-Some.ensures.found is)
-    (printed_of (files_of c.in-Ok.written) Same c.publish.result (g.P.Press.made c.publish.new.press) _ e.status e.whole e.front e.rose)) c.in-Ok.ensures.ok
+    ends_so (map string_bytes c.args.words.now) files _ _ (files_of c.in-Ok.written) (end_of c.in-Ok.written.changed) c.publish.result (g.P.Press.made c.publish.new.press) (never-write-end c.in-Ok.written.changed)
+    (makes_files (map string_bytes c.args.words.now) files _ (job_of c.in-Some.wanted) (end_of c.in-Ok.written.changed) (files_of c.in-Ok.written) c.in-Some.ensures.found is)
+    (record { status = e.status; all = e.whole; front = e.front; rose = e.rose })) c.in-Ok.ensures.ok
 
 pub returns-in-Ok-clause-stands : goal.returns-in-Ok-clause-stands
 returns-in-Ok-clause-stands g c =
     let e = c.publish.ensures in
-    stands_done c.in-Ok.written.layer (string_bytes c.in-Ok.written.said) c.publish.result (g.P.Press.made c.publish.new.press) _ c.in-Ok.ensures.form
-    (printed_of (files_of c.in-Ok.written) Same c.publish.result (g.P.Press.made c.publish.new.press) _ e.status e.whole e.front e.rose)
+    stands_done c.in-Ok.written.layer c.in-Ok.written.said c.in-Ok.written.changed c.publish.result (g.P.Press.made c.publish.new.press) _ c.in-Ok.ensures.form
+    (record { status = e.status; all = e.whole; front = e.front; rose = e.rose })
 
 pub returns-in-Ok-clause-no_job : goal.returns-in-Ok-clause-no_job
 returns-in-Ok-clause-no_job g c = λ lacks. absurd (lacks (job_of c.in-Some.wanted) c.in-Some.ensures.found)
@@ -44,8 +46,8 @@ returns-in-Ok-clause-no_job g c = λ lacks. absurd (lacks (job_of c.in-Some.want
 pub returns-in-Ok-clause-limit : goal.returns-in-Ok-clause-limit
 returns-in-Ok-clause-limit g c =
     let e = c.publish.ensures in
-    limit_done c.in-Ok.written.layer (string_bytes c.in-Ok.written.said) c.publish.result (g.P.Press.made c.publish.new.press) _ _ c.in-Ok.ensures.form
-    (printed_of (files_of c.in-Ok.written) Same c.publish.result (g.P.Press.made c.publish.new.press) _ e.status e.whole e.front e.rose)
+    limit_done c.in-Ok.written.layer c.in-Ok.written.said c.in-Ok.written.changed c.publish.result (g.P.Press.made c.publish.new.press) _ _ c.in-Ok.ensures.form
+    (record { status = e.status; all = e.whole; front = e.front; rose = e.rose })
 
 pub returns-in-Err-clause-ends : goal.returns-in-Err-clause-ends
 returns-in-Err-clause-ends g c =
@@ -72,3 +74,18 @@ returns-in-Err-clause-limit g c =
 pub returns-in-Err-clause-check : goal.returns-in-Err-clause-check
 returns-in-Err-clause-check g c = λ name check.
     end_as _ c.refuse-in-Err.result c.refuse-in-Err.ensures.status (check_job _ (job_of c.in-Some.wanted) name _ c.in-Some.ensures.found check c.in-Err.ensures.causes.may_end)
+
+pub prepared-requires : goal.prepared-requires
+prepared-requires g c = names_of (map string_bytes c.args.words.now) (job_of c.in-Some.wanted) c.in-Some.ensures.found
+
+pub returns-in_default-clause-kept : goal.returns-in_default-clause-kept
+returns-in_default-clause-kept g c =
+    run_keeps (map string_bytes c.args.words.now) (g.S.Shelf.files c.args.shelf.now) _ _ c.refuse.result (g.P.Press.made c.refuse.new.press) (returns-in_default-clause-ends g c)
+
+pub returns-in-Ok-clause-kept : goal.returns-in-Ok-clause-kept
+returns-in-Ok-clause-kept g c =
+    run_keeps (map string_bytes c.args.words.now) (g.S.Shelf.files c.args.shelf.now) _ _ c.publish.result (g.P.Press.made c.publish.new.press) (returns-in-Ok-clause-ends g c)
+
+pub returns-in-Err-clause-kept : goal.returns-in-Err-clause-kept
+returns-in-Err-clause-kept g c =
+    run_keeps (map string_bytes c.args.words.now) (g.S.Shelf.files c.args.shelf.now) _ _ c.refuse-in-Err.result (g.P.Press.made c.refuse-in-Err.new.press) (returns-in-Err-clause-ends g c)

@@ -1,0 +1,64 @@
+-- What a run says of how the pieces of its layer lie to each other: after rounding as in the source, or which of them do not.
+use Rattle.std.specs.Prelude.{◌≢◌, ◌⊎◌, ℕ, ◌<◌, List, [], ◌∷◌, All, AllPairs, Contains, codes, length, slice_index_or, Option, Some, IfSome}
+use Rattle.shelf_io.specs.Files.{Files}
+use Rattle.sheet_base.specs.Sheets.{Contents}
+use Rattle.tin_base.specs.declared.pieces.Change.{Change}
+use Rattle.tin_base.specs.declared.pieces.Piece.{Piece}
+use Rattle.tin_base.specs.declared.relations.Rel.{Rel}
+use Rattle.tin_base.specs.Triangulation.{Triangulation}
+use Rattle.affine_image.specs.SheetPieces.{ArePiecesOfRun, IsSheetInside}
+use Rattle.topo_check.specs.Changes.{HadRelation, HasRelation, IsChangeOf}
+use Rattle.tinmove.specs.declared.status.Status.{Status}
+use Rattle.tinmove.specs.declared.status.Status.TheVariants.{Same, Changed}
+use Rattle.carry_map.specs.Layers.{IsReadAsPieces}
+use Rattle.tinmove.specs.Names.{IsNameIn}
+use Rattle.tinmove.specs.Jobs.{Carriage}
+use Rattle.tinmove.specs.Carrying.{IsLayerText}
+use Rattle.tinmove.specs.Outcome.{HasLayer}
+use Rattle.report_text.specs.Reports.{Contents as Report}
+use Rattle.report_text.specs.ReportText.{report_text}
+
+-- the files give this sound triangulation, this sheet of the layer, which is inside, and these pieces of all its segments
+pub record GivesPieces (files : Files) (carriage : Carriage) (tin : Triangulation) (sheet : Contents) (pieces : List Piece) : Type 0 where
+  pub bytes : List ℕ
+  pub layer : HasLayer files carriage tin bytes
+  pub read : IsLayerText bytes sheet
+  pub inside : IsSheetInside tin sheet
+  pub are_pieces : ArePiecesOfRun tin 0 (sheet ∷ []) pieces
+
+-- the layer's file in the folder is a layer again, whose segments in order are those between the rounded images of the ends of the pieces
+abbrev pub HasWritten : Carriage → List Piece → Files → Type 0
+HasWritten carriage pieces made = (name : List ℕ) × (text : List ℕ) × IsNameIn carriage.out carriage.layer name × Contains made (name, text) × IsReadAsPieces IsLayerText text pieces
+
+-- one relation is that of the two pieces in the source, and that of the segments between the rounded images of their ends
+abbrev pub KeepTheirRelation : Triangulation → Piece → Piece → Type 0
+KeepTheirRelation tin p q = (relation : Rel) × HadRelation tin relation p q × HasRelation relation p q
+
+-- the change is that of some piece and a later one: they had one relation in the source, and the segments between the rounded images of their ends have another
+abbrev pub IsOfSomePair : Triangulation → List Piece → Change → Type 0
+IsOfSomePair tin pieces change = (i : ℕ) × (j : ℕ) × (d : Piece) × (i < j) × (j < length pieces) × IsChangeOf tin (slice_index_or pieces i d) (slice_index_or pieces j d) (Some change)
+
+-- the change of the two pieces is among these
+abbrev pub IsAmong : Triangulation → List Change → Piece → Piece → Type 0
+IsAmong tin changes p q = (change : Change) × Contains changes change × IsChangeOf tin p q (Some change)
+
+-- the changes are all those of the pieces, and no others
+pub record AreAllAndOnly (tin : Triangulation) (pieces : List Piece) (changes : List Change) : Type 0 where
+  pub all : AllPairs (λ p q. KeepTheirRelation tin p q ⊎ IsAmong tin changes p q) pieces
+  pub only : All (λ change. IsOfSomePair tin pieces change) changes
+
+-- the report lists the changes of the pieces, all and only them, and there is one
+pub record ReportsChanges (tin : Triangulation) (pieces : List Piece) (made : Option Files) : Type 0 where
+  pub report : Report
+  pub listed : AreAllAndOnly tin pieces report.changes
+  pub some : report.changes ≢ []
+  pub printed : IfSome made (λ made. Contains made (codes "-", report_text report))
+
+-- What the status of a migration says of all pieces of its layer, each of them with each later one.
+-- After `Same` each two written segments lie to each other as their pieces do in the source; after `Changed` the report names those that do not.
+abbrev pub KeepsRelations : Files → Carriage → Status → Option Files → Type 0
+KeepsRelations files carriage Same made =
+    (tin : Triangulation) × (sheet : Contents) × (pieces : List Piece) × GivesPieces files carriage tin sheet pieces × IfSome made (HasWritten carriage pieces) × AllPairs (KeepTheirRelation tin) pieces
+KeepsRelations files carriage Changed made =
+    (tin : Triangulation) × (sheet : Contents) × (pieces : List Piece) × GivesPieces files carriage tin sheet pieces × IfSome made (HasWritten carriage pieces) × ReportsChanges tin pieces made
+KeepsRelations files carriage status made = Unit {0}

@@ -1,0 +1,38 @@
+//! The changes that a run lists.
+
+ghost use Rattle.std.specs.Prelude.{IfOk, IfErr};
+ghost use Rattle.tin_base.specs.Limits.{IsWithinLimits};
+ghost use Rattle.topo_check.specs.Changes.{AreAllComparable};
+ghost use Rattle.tinmove.specs.RunChanges.{AreListed};
+ghost use Rattle.tinmove.specs.Prepared.{IsUnlisted};
+
+use crate::refusal::Refusal;
+use std::alloc::Global;
+use tin_base::{Change, Piece, SoundTin};
+use topo_check::changes;
+
+/// The most changes of a run.
+pub const MOST_CHANGES: u32 = 1 << 20;
+
+/// What the type of a sound triangulation keeps.
+pub fn known(tin: &SoundTin)
+    ensures { IsWithinLimits tin.now }
+{
+    let _ = tin.triangles();
+}
+
+/// The changes of a run's pieces by rounding, where they are not too many.
+pub fn listed_changes(
+    alloc: Global,
+    tin: &SoundTin,
+    pieces: &[Piece],
+) -> Result<Vec<Change>, Refusal>
+    requires { AreAllComparable tin.now pieces.now }
+    ensures ok { IfOk result (λ changes. AreListed tin.now pieces.now changes.items) }
+    ensures refused { IfErr result (λ refusal. IsUnlisted tin.now pieces.now refusal) }
+{
+    match changes(alloc, tin, pieces, MOST_CHANGES) {
+        Ok(changes) => Ok(changes),
+        Err(fault) => Err(Refusal::from(fault)),
+    }
+}
