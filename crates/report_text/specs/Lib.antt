@@ -2,3 +2,8 @@ pub mod Reports
 pub mod ReportText
 pub mod Beginnings
 pub mod Kept
+pub mod Laws
+pub mod Fields
+pub mod LineKinds
+pub mod Steps
+pub mod Worked

@@ -47,7 +47,7 @@ pub record IsPlaceHeld (place : Place) : Type 0 where
 abbrev pub IsChangeHeld : Change → Type 0
 IsChangeHeld change = IsPlaceHeld change.first × IsPlaceHeld change.second
 
--- the numbers of a report fit their fields, names are text, and both lists are counted in 64 bits
+-- the numbers of a report fit their fields, names are text, layers are numbered and changes counted in 64 bits
 pub record IsHeld (report : Contents) : Type 0 where
   pub corners : report.corners < 2 ^ 32
   pub triangles : report.triangles < 2 ^ 32
@@ -55,5 +55,5 @@ pub record IsHeld (report : Contents) : Type 0 where
   pub name : IsUtf8 report.name
   pub layers : AllByRecursion IsLayerHeld report.layers
   pub changes : AllByRecursion IsChangeHeld report.changes
-  pub layer_count : length report.layers < 2 ^ 64
-  pub change_count : length report.changes < 2 ^ 64
+  pub numbered : length report.layers ≤ 2 ^ 64
+  pub counted : length report.changes < 2 ^ 64

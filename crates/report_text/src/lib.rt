@@ -2,14 +2,25 @@
 //! another way after rounding.
 #![tactic(auto)]
 
+#[cfg(test)]
+mod bad_line_tests;
+mod drafts;
+mod faults;
+mod fields;
+mod laws;
+mod line_kinds;
 mod lines;
+mod reading;
 mod reports;
 mod rows;
 #[cfg(test)]
 mod tests;
 mod writing;
 
+pub use faults::ReportFault;
+pub use laws::{bad_lines_are_one, texts_are_one};
 pub use lines::LINE_FEED;
+pub use reading::read_report;
 pub use reports::Report;
 pub use rows::LayerRow;
 pub use writing::write_report;

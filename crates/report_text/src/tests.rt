@@ -1,11 +1,11 @@
-use crate::{LayerRow, Report, write_report};
+use crate::{LayerRow, Report, read_report, write_report};
 use sheet_base::Listed;
 use shelf_io::Name;
 use std::alloc::{AllocError, Global};
 use std::test::Fail;
 use tin_base::{Change, Place, Rel};
 
-const SQUARE: &[u8] = b"tinmove report 1
+pub(crate) const SQUARE: &[u8] = b"tinmove report 1
 triangulation corners 4 triangles 2 inexact 0 name s.json
 layer 0 paths 2 segments 2 pieces 3 inexact 0 dropped 0 name nine.wkt
 changes 1
@@ -22,6 +22,12 @@ extents 1 as they were
 changes 2
 change 0/1/2/3 4294967295/5/6/7 apart crossing
 change 0/0/0/0 1/0/0/0 crossing overlapping
+end
+";
+
+const NOTHING: &[u8] = b"tinmove report 1
+triangulation corners 0 triangles 0 inexact 0 name 
+changes 0
 end
 ";
 
@@ -106,5 +112,38 @@ fn writes_drawings(rt: HostRuntime) -> Result<(), Fail> {
     let report = drawings_report(rt.alloc())?;
     let text = write_report(rt.alloc(), &report)?;
     assert_eq!(rt; text.as_slice(), DRAWINGS);
+    Ok(())
+}
+
+#[test]
+fn reads_what_is_written(rt: HostRuntime) -> Result<(), Fail> {
+    for text in [SQUARE, DRAWINGS, NOTHING] {
+        let report = read_report(rt.alloc(), text)?;
+        let again = write_report(rt.alloc(), &report)?;
+        assert_eq!(rt; again.as_slice(), text);
+    }
+    Ok(())
+}
+
+#[test]
+fn reads_the_square(rt: HostRuntime) -> Result<(), Fail> {
+    let report = read_report(rt.alloc(), SQUARE)?;
+    assert_eq!(rt; report.corners(), 4);
+    assert_eq!(rt; report.triangles(), 2);
+    assert_eq!(rt; report.inexact(), 0);
+    assert_eq!(rt; report.name().text(), "s.json");
+    assert_eq!(rt; report.layers().len(), 1);
+    for row in report.layers() {
+        assert_eq!(rt; (row.paths, row.segments, row.pieces), (2, 2, 3));
+        assert_eq!(rt; (row.inexact, row.dropped, row.drawing), (0, 0, false));
+        assert_eq!(rt; row.name.text(), "nine.wkt");
+    }
+    let change = Change {
+        first: place(0, 0, 0, 0),
+        second: place(0, 1, 0, 0),
+        was: Rel::Touching,
+        now: Rel::Apart,
+    };
+    assert_eq!(rt; report.changes(), [change].as_slice());
     Ok(())
 }

@@ -1,0 +1,185 @@
+-- Lines of changes.
+use Rattle.std.proofs.Common.{◌≡◌, ◌==◌, ℕ, Bool, true, false, ◌||◌, cond, List, [], ◌∷◌, ◌++◌, length, codes, Option, Some, None, refl, sym, ◌∙◌, ap, arith, append_assoc, append-nil, subst}
+use Rattle.std.specs.Prelude.{not}
+use Rattle.std.specs.List.{concat}
+use Rattle.std.proofs.lemmas.Bool.Decides.{nat_tests}
+use Rattle.std.proofs.lemmas.List.{nil_from_length}
+use Rattle.tin_base.specs.declared.pieces.Change.{Change}
+use Rattle.tin_base.specs.declared.pieces.Place.{Place}
+use Rattle.tin_base.specs.declared.relations.Rel.{Rel}
+use Rattle.tin_base.specs.declared.relations.Rel.TheVariants.{Apart, Touching, Crossing, Overlapping}
+use Rattle.report_text.specs.Fields.{after, short_at}
+use Rattle.report_text.specs.LineKinds.{place_at, relation_at, change_of, found_or, as_relation, is_same}
+use Rattle.report_text.specs.ReportText.{field, place_text, relation_word, change_line}
+use Rattle.report_text.specs.Reports.{IsPlaceHeld, IsChangeHeld, IsChanged}
+use Rattle.report_text.proofs.Numbers.{Stops}
+use Rattle.report_text.proofs.Binding.{bound, some_is}
+use Rattle.report_text.proofs.FieldLaws.{short_again, short_takes}
+use Rattle.report_text.proofs.Words.{after_takes}
+
+-- ---- places
+
+in_a_row : (a b c d r : List ℕ) → concat (a ∷ b ∷ c ∷ d ∷ []) ++ r ≡ a ++ (b ++ (c ++ (d ++ r)))
+in_a_row a b c d r = simp (append_assoc, append-nil) refl
+
+place_is : (place : Place) (rest : List ℕ) → place_text place ++ rest ≡ field [] place.layer ++ (field (codes "/") place.path ++ (field (codes "/") place.segment ++ (field (codes "/") place.piece ++ rest)))
+place_is place rest = in_a_row (field [] place.layer) (field (codes "/") place.path) (field (codes "/") place.segment) (field (codes "/") place.piece) rest
+
+place_again : (place : Place) (rest : List ℕ) → IsPlaceHeld place → Stops rest → place_at (place_text place ++ rest) ≡ Some (place, rest)
+unfolding place_at
+place_again place rest held stops =
+    ap place_at (place_is place rest)
+    ∙ rw (
+      short_again [] (field (codes "/") place.path ++ (field (codes "/") place.segment ++ (field (codes "/") place.piece ++ rest))) place.layer held.layer refl,
+      short_again (codes "/") (field (codes "/") place.segment ++ (field (codes "/") place.piece ++ rest)) place.path held.path refl,
+      short_again (codes "/") (field (codes "/") place.piece ++ rest) place.segment held.segment refl,
+      short_again (codes "/") rest place.piece held.piece stops,
+    ) refl
+
+record TakesPlace (text : List ℕ) (found : Place × List ℕ) : Type 0 where
+  pub parts : text ≡ place_text found.0 ++ found.1
+  pub held : IsPlaceHeld found.0
+
+place_takes : (text : List ℕ) (found : Place × List ℕ) → place_at text ≡ Some found → TakesPlace text found
+unfolding place_at
+place_takes text found is =
+    let a = bound (short_at [] text) _ found is in
+    let b = bound (short_at (codes "/") a.found.1) _ found a.goes_on in
+    let c = bound (short_at (codes "/") b.found.1) _ found b.goes_on in
+    let d = bound (short_at (codes "/") c.found.1) _ found c.goes_on in
+    let ta = short_takes [] text a.found a.is in
+    let tb = short_takes (codes "/") a.found.1 b.found b.is in
+    let tc = short_takes (codes "/") b.found.1 c.found c.is in
+    let td = short_takes (codes "/") c.found.1 d.found d.is in
+    let place : Place = record { layer = a.found.0; path = b.found.0; segment = c.found.0; piece = d.found.0 } in
+    let made : Place × List ℕ = (place, d.found.1) in
+    let whole : text ≡ field [] place.layer ++ (field (codes "/") place.path ++ (field (codes "/") place.segment ++ (field (codes "/") place.piece ++ d.found.1))) =
+    ta.parts ∙ ap (λ r. field [] a.found.0 ++ r) (tb.parts ∙ ap (λ r. field (codes "/") b.found.0 ++ r) (tc.parts ∙ ap (λ r. field (codes "/") c.found.0 ++ r) td.parts)) in
+    subst (TakesPlace text) (some_is made found d.goes_on) (record {
+      parts = whole ∙ sym (place_is place d.found.1);
+      held = record { layer = ta.small; path = tb.small; segment = tc.small; piece = td.small };
+    })
+
+-- ---- relations
+
+abbrev spaced : Rel → List ℕ
+spaced relation = codes " " ++ relation_word relation
+
+relation_again : (relation : Rel) (rest : List ℕ) → relation_at (spaced relation ++ rest) ≡ Some (relation, rest)
+unfolding relation_at
+relation_again Apart rest = refl
+relation_again Touching rest = refl
+relation_again Crossing rest = refl
+relation_again Overlapping rest = refl
+
+-- the word of one relation is at the front of the text
+as_takes : (relation : Rel) (text : List ℕ) (read : Option (List ℕ)) (found : Rel × List ℕ) → after (spaced relation) text ≡ read → as_relation relation read ≡ Some found → text ≡ spaced found.0 ++ found.1
+as_takes relation text None found read is = absurd cc
+as_takes relation text (Some rest) found read is =
+    let made : Rel × List ℕ = (relation, rest) in
+    subst (λ (f : Rel × List ℕ). text ≡ spaced f.0 ++ f.1) (some_is made found is) (after_takes (spaced relation) text rest read)
+
+either : (text : List ℕ) (first other : Option (Rel × List ℕ)) (found : Rel × List ℕ)
+    → (first ≡ Some found → text ≡ spaced found.0 ++ found.1) → (other ≡ Some found → text ≡ spaced found.0 ++ found.1)
+    → found_or first other ≡ Some found → text ≡ spaced found.0 ++ found.1
+either text None other found here there is = there is
+either text (Some f) other found here there is = here is
+
+relation_takes : (text : List ℕ) (found : Rel × List ℕ) → relation_at text ≡ Some found → text ≡ spaced found.0 ++ found.1
+unfolding relation_at
+relation_takes text found is =
+    either text _ _ found (as_takes Apart text (after (codes " apart") text) found refl)
+    (either text _ _ found (as_takes Touching text (after (codes " touching") text) found refl)
+    (either text _ _ found (as_takes Crossing text (after (codes " crossing") text) found refl)
+    (as_takes Overlapping text (after (codes " overlapping") text) found refl))) is
+
+same_relation : (was now : Rel) → is_same was now ≡ false → was ≡ now → ⊥
+same_relation was now other same = one now (subst (λ r. is_same r now ≡ false) same other)
+  where
+    one : (r : Rel) → is_same r r ≡ false → ⊥
+    one Apart is = cc
+    one Touching is = cc
+    one Crossing is = cc
+    one Overlapping is = cc
+
+other_relation : (was now : Rel) → (was ≡ now → ⊥) → is_same was now ≡ false
+other_relation Apart Apart other = absurd (other refl)
+other_relation Apart Touching other = refl
+other_relation Apart Crossing other = refl
+other_relation Apart Overlapping other = refl
+other_relation Touching Apart other = refl
+other_relation Touching Touching other = absurd (other refl)
+other_relation Touching Crossing other = refl
+other_relation Touching Overlapping other = refl
+other_relation Crossing Apart other = refl
+other_relation Crossing Touching other = refl
+other_relation Crossing Crossing other = absurd (other refl)
+other_relation Crossing Overlapping other = refl
+other_relation Overlapping Apart other = refl
+other_relation Overlapping Touching other = refl
+other_relation Overlapping Crossing other = refl
+other_relation Overlapping Overlapping other = absurd (other refl)
+
+-- ---- changes
+
+pub record IsChangeGood (change : Change) : Type 0 where
+  pub held : IsChangeHeld change
+  pub changed : IsChanged change
+
+all_in_a_row : (w a s b x r y t : List ℕ) → concat (w ∷ a ∷ s ∷ b ∷ x ∷ r ∷ y ∷ t ∷ []) ≡ w ++ (a ++ (s ++ (b ++ ((x ++ r) ++ ((y ++ t) ++ [])))))
+all_in_a_row w a s b x r y t = simp (append_assoc, append-nil) refl
+
+abbrev change_parts : Change → List ℕ
+change_parts change = codes "change " ++ (place_text change.first ++ (codes " " ++ (place_text change.second ++ (spaced change.was ++ (spaced change.now ++ [])))))
+
+change_is : (change : Change) → change_line change ≡ change_parts change
+unfolding change_line
+change_is change = all_in_a_row (codes "change ") (place_text change.first) (codes " ") (place_text change.second) (codes " ") (relation_word change.was) (codes " ") (relation_word change.now)
+
+pub change_again : (change : Change) → IsChangeGood change → change_of (change_line change) ≡ Some change
+unfolding change_of
+change_again change good =
+    ap change_of (change_is change)
+    ∙ rw (
+      place_again change.first (codes " " ++ (place_text change.second ++ (spaced change.was ++ (spaced change.now ++ [])))) good.held.0 refl,
+      place_again change.second (spaced change.was ++ (spaced change.now ++ [])) good.held.1 refl,
+      relation_again change.was (spaced change.now ++ []),
+      relation_again change.now [],
+      other_relation change.was change.now good.changed,
+    ) refl
+
+pub record TakesChange (line : List ℕ) (change : Change) : Type 0 where
+  pub parts : line ≡ change_line change
+  pub good : IsChangeGood change
+
+neither : {A : Type 0} (same more : Bool) (value last : A) → cond (same || not more) None (Some value) ≡ Some last → (same ≡ false) × (more ≡ true) × (value ≡ last)
+neither true more value last is = absurd cc
+neither false true value last is = (refl, refl, some_is value last is)
+neither false false value last is = absurd cc
+
+pub change_takes : (line : List ℕ) (change : Change) → change_of line ≡ Some change → TakesChange line change
+unfolding change_of
+change_takes line change is =
+    let a = bound (after (codes "change ") line) _ change is in
+    let b = bound (place_at a.found) _ change a.goes_on in
+    let c = bound (after (codes " ") b.found.1) _ change b.goes_on in
+    let d = bound (place_at c.found) _ change c.goes_on in
+    let e = bound (relation_at d.found.1) _ change d.goes_on in
+    let f = bound (relation_at e.found.1) _ change e.goes_on in
+    let ta = after_takes (codes "change ") line a.found a.is in
+    let tb = place_takes a.found b.found b.is in
+    let tc = after_takes (codes " ") b.found.1 c.found c.is in
+    let td = place_takes c.found d.found d.is in
+    let te = relation_takes d.found.1 e.found e.is in
+    let tf = relation_takes e.found.1 f.found f.is in
+    let made : Change = record { first = b.found.0; second = d.found.0; was = e.found.0; now = f.found.0 } in
+    let last = neither (is_same e.found.0 f.found.0) (length f.found.1 == 0) made change f.goes_on in
+    let ended = last.1 in
+    let none : f.found.1 ≡ [] = nil_from_length f.found.1 (grind (arith, nat_tests, ended)) in
+    let whole : line ≡ change_parts made =
+    ta ∙ ap (λ r. codes "change " ++ r) (tb.parts ∙ ap (λ r. place_text b.found.0 ++ r) (tc ∙ ap (λ r. codes " " ++ r)
+    (td.parts ∙ ap (λ r. place_text d.found.0 ++ r) (te ∙ ap (λ r. spaced e.found.0 ++ r) (tf ∙ ap (λ r. spaced f.found.0 ++ r) none))))) in
+    subst (TakesChange line) last.2 (record {
+      parts = whole ∙ sym (change_is made);
+      good = record { held = (tb.held, td.held); changed = same_relation e.found.0 f.found.0 last.0 };
+    })

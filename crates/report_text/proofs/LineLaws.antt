@@ -1,0 +1,83 @@
+-- Each kind of line: what is written is read, and what is read is written so.
+use Rattle.std.proofs.Common.{◌≡◌, ℕ, ◌<◌, ◌^◌, List, [], ◌∷◌, ◌++◌, codes, Some, refl, sym, ◌∙◌, ap, append_assoc, append-nil, subst}
+use Rattle.std.specs.Prelude.{IsUtf8}
+use Rattle.std.specs.List.{concat}
+use Rattle.tin_base.specs.declared.pieces.Change.{Change}
+use Rattle.report_text.specs.declared.drafts.TinRow.{TinRow}
+use Rattle.report_text.specs.declared.rows.LayerRow.{LayerRow}
+use Rattle.report_text.specs.Fields.{long_at, short_at, name_at}
+use Rattle.report_text.specs.LineKinds.{tin_of}
+use Rattle.report_text.specs.ReportText.{field, tin_line}
+use Rattle.report_text.specs.Reports.{Contents, IsPrintable}
+use Rattle.report_text.proofs.Binding.{bound, some_is}
+use Rattle.report_text.proofs.FieldLaws.{long_again, long_takes, short_again, short_takes}
+use Rattle.report_text.proofs.Words.{name_again, name_takes}
+
+-- ---- the triangulation
+
+abbrev pub contents_of : TinRow → List LayerRow → List Change → Contents
+contents_of tin rows changes = record {
+  corners = tin.corners;
+  triangles = tin.triangles;
+  inexact = tin.inexact;
+  name = tin.name;
+  layers = rows;
+  changes = changes;
+}
+
+pub record IsTinHeld (tin : TinRow) : Type 0 where
+  pub corners : tin.corners < 2 ^ 32
+  pub triangles : tin.triangles < 2 ^ 32
+  pub inexact : tin.inexact < 2 ^ 64
+  pub utf8 : IsUtf8 tin.name
+  pub printable : IsPrintable tin.name
+
+in_a_row : (a b c w n : List ℕ) → a ++ (b ++ (c ++ (w ++ n))) ≡ concat (concat (a ∷ b ∷ c ∷ []) ∷ w ∷ n ∷ [])
+in_a_row a b c w n = simp (append_assoc, append-nil) refl
+
+abbrev tin_parts : TinRow → List ℕ
+tin_parts tin =
+    field (codes "triangulation corners ") tin.corners ++ (field (codes " triangles ") tin.triangles ++ (field (codes " inexact ") tin.inexact ++ (codes " name " ++ tin.name)))
+
+tin_is : (tin : TinRow) (rows : List LayerRow) (changes : List Change) → tin_line (contents_of tin rows changes) ≡ tin_parts tin
+unfolding tin_line
+tin_is tin rows changes = sym (in_a_row (field (codes "triangulation corners ") tin.corners) (field (codes " triangles ") tin.triangles) (field (codes " inexact ") tin.inexact) (codes " name ") tin.name)
+
+pub tin_again : (tin : TinRow) (rows : List LayerRow) (changes : List Change) → IsTinHeld tin → tin_of (tin_line (contents_of tin rows changes)) ≡ Some tin
+unfolding tin_of
+tin_again tin rows changes held =
+    ap tin_of (tin_is tin rows changes)
+    ∙ rw (
+      short_again (codes "triangulation corners ") (field (codes " triangles ") tin.triangles ++ (field (codes " inexact ") tin.inexact ++ (codes " name " ++ tin.name))) tin.corners held.corners refl,
+      short_again (codes " triangles ") (field (codes " inexact ") tin.inexact ++ (codes " name " ++ tin.name)) tin.triangles held.triangles refl,
+      long_again (codes " inexact ") (codes " name " ++ tin.name) tin.inexact held.inexact refl,
+      name_again tin.name held.printable held.utf8,
+    ) refl
+
+pub record TakesTin (line : List ℕ) (tin : TinRow) : Type 0 where
+  pub parts : (rows : List LayerRow) (changes : List Change) → line ≡ tin_line (contents_of tin rows changes)
+  pub held : IsTinHeld tin
+
+pub tin_takes : (line : List ℕ) (tin : TinRow) → tin_of line ≡ Some tin → TakesTin line tin
+unfolding tin_of
+tin_takes line tin is =
+    let a = bound (short_at (codes "triangulation corners ") line) _ tin is in
+    let b = bound (short_at (codes " triangles ") a.found.1) _ tin a.goes_on in
+    let c = bound (long_at (codes " inexact ") b.found.1) _ tin b.goes_on in
+    let d = bound (name_at c.found.1) _ tin c.goes_on in
+    let ta = short_takes (codes "triangulation corners ") line a.found a.is in
+    let tb = short_takes (codes " triangles ") a.found.1 b.found b.is in
+    let tc = long_takes (codes " inexact ") b.found.1 c.found c.is in
+    let td = name_takes c.found.1 d.found d.is in
+    let made : TinRow = record { corners = a.found.0; triangles = b.found.0; inexact = c.found.0; name = d.found } in
+    let whole : line ≡ tin_parts made =
+    ta.parts ∙ ap (λ r. field (codes "triangulation corners ") a.found.0 ++ r)
+    (tb.parts ∙ ap (λ r. field (codes " triangles ") b.found.0 ++ r) (tc.parts ∙ ap (λ r. field (codes " inexact ") c.found.0 ++ r) td.parts)) in
+    subst (TakesTin line) (some_is made tin d.goes_on) (record {
+      parts = λ rows changes. whole ∙ sym (tin_is made rows changes);
+      held = record { corners = ta.small; triangles = tb.small; inexact = tc.small; utf8 = td.utf8; printable = td.printable };
+    })
+
+-- the line of a triangulation says nothing of layers and changes
+pub tin_line_same : (tin : TinRow) (rows : List LayerRow) (changes : List Change) → tin_line (contents_of tin [] []) ≡ tin_line (contents_of tin rows changes)
+tin_line_same tin rows changes = tin_is tin [] [] ∙ sym (tin_is tin rows changes)

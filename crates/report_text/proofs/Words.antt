@@ -1,0 +1,81 @@
+-- Words at the front of a text, and names at its end.
+use Rattle.std.proofs.Common.{◌≡◌, ℕ, Bool, true, false, ◌&&◌, cond, List, [], ◌∷◌, ◌++◌, length, take, drop, codes, Some, None, refl, sym, ◌∙◌, ap, nat_eq, nat_le, arith, subst}
+use Rattle.std.specs.Cmp.Lexicographic.{same_text}
+use Rattle.std.specs.Prelude.{IsUtf8}
+use Rattle.std.specs.Str.{is_utf8, bytes_eq}
+use Rattle.std.proofs.lemmas.Bool.Decides.{nat_tests}
+use Rattle.std.proofs.lemmas.List.{take_at, drop_at, take-append-drop}
+use Rattle.std.proofs.lemmas.Str.{IsUtf8-from_is_utf8, is_utf8-from_IsUtf8}
+use Rattle.report_text.proofs.Binding.{bound, let_through, both_true}
+use Rattle.report_text.specs.Fields.{after, is_printable, name_at}
+use Rattle.report_text.specs.Reports.{IsPrintable}
+
+pub equals_itself : (text : List ℕ) → bytes_eq text text ≡ true
+equals_itself [] = refl
+equals_itself (byte ∷ text) =
+    let here : nat_eq byte byte ≡ true = grind (arith, nat_tests) in
+    rw (here, equals_itself text) refl
+
+-- a word in front of a rest
+pub after_again : (word rest : List ℕ) → after word (word ++ rest) ≡ Some rest
+after_again word rest = rw (take_at word rest (length word) refl, drop_at word rest (length word) refl, equals_itself word) refl
+
+pub after_takes : (word text rest : List ℕ) → after word text ≡ Some rest → text ≡ word ++ rest
+after_takes word text rest is =
+    let found = let_through (bytes_eq (take (length word) text) word) (drop (length word) text) rest is in
+    let same : take (length word) text ≡ word = same_text (take (length word) text) word (sym found.passes) in
+    sym (take-append-drop (length word) text) ∙ (ap (λ front. front ++ drop (length word) text) same ∙ ap (λ behind. word ++ behind) found.same)
+
+pub printable_is : (name : List ℕ) → is_printable name ≡ true → IsPrintable name
+printable_is [] is = tt
+printable_is (byte ∷ name) is =
+    let parts = both_true (nat_le 32 byte) (is_printable name) is in
+    let first = parts.0 in
+    (grind (arith, nat_tests, first), printable_is name parts.1)
+
+pub is_printable_from : (name : List ℕ) → IsPrintable name → is_printable name ≡ true
+is_printable_from [] is = refl
+is_printable_from (byte ∷ name) is =
+    let first = is.0 in
+    let here : nat_le 32 byte ≡ true = grind (arith, nat_tests, first) in
+    rw (here, is_printable_from name is.1) refl
+
+pub name_again : (name : List ℕ) → IsPrintable name → IsUtf8 name → name_at (codes " name " ++ name) ≡ Some name
+unfolding name_at
+name_again name printable utf8 = rw (after_again (codes " name ") name, is_printable_from name printable, is_utf8-from_IsUtf8 name utf8) refl
+
+pub record TakesName (text name : List ℕ) : Type 0 where
+  pub parts : text ≡ codes " name " ++ name
+  pub printable : IsPrintable name
+  pub utf8 : IsUtf8 name
+
+pub name_takes : (text name : List ℕ) → name_at text ≡ Some name → TakesName text name
+unfolding name_at
+name_takes text name is =
+    let read = bound (after (codes " name ") text) (λ n. cond (is_printable n && is_utf8 n) (Some n) None) name is in
+    let found = let_through (is_printable read.found && is_utf8 read.found) read.found name read.goes_on in
+    let tests = both_true (is_printable read.found) (is_utf8 read.found) found.passes in
+    record {
+      parts = after_takes (codes " name ") text read.found read.is ∙ ap (λ n. codes " name " ++ n) found.same;
+      printable = subst IsPrintable found.same (printable_is read.found tests.0);
+      utf8 = subst IsUtf8 found.same (IsUtf8-from_is_utf8 read.found tests.1);
+    }
+
+-- for a name's reading: text that is not UTF-8, text that is
+pub name_fails : (text name : List ℕ) → after (codes " name ") text ≡ Some name → (IsUtf8 name → ⊥) → name_at text ≡ None
+unfolding name_at
+name_fails text name behind never =
+    rw behind (by_tests (is_printable name) (is_utf8 name) (λ yes. never (IsUtf8-from_is_utf8 name yes)))
+  where
+    by_tests : (a b : Bool) → (b ≡ true → ⊥) → cond (a && b) (Some name) None ≡ None
+    by_tests true true never = absurd (never refl)
+    by_tests true false never = refl
+    by_tests false b never = refl
+
+pub name_found : (text name : List ℕ) → after (codes " name ") text ≡ Some name → IsUtf8 name → name_at text ≡ cond (is_printable name) (Some name) None
+unfolding name_at
+name_found text name behind utf8 = rw (behind, is_utf8-from_IsUtf8 name utf8) (by_test (is_printable name))
+  where
+    by_test : (a : Bool) → cond (a && true) (Some name) None ≡ cond a (Some name) None
+    by_test true = refl
+    by_test false = refl

@@ -1,0 +1,5 @@
+use Rattle.report_text.proofs.OneReport.{one_report}
+use Rattle.report_text.proofs.laws.texts_are_one.Goals as goal
+
+pub returns : goal.returns
+returns c = one_report

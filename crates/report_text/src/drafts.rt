@@ -1,0 +1,153 @@
+ghost use Rattle.std.specs.Prelude.{◌≡◌};
+ghost use Rattle.report_text.specs.LineKinds.{tin_of};
+ghost use Rattle.report_text.specs.Steps.{Leads, seen, step, behind_tin, step_of_layers, step_of_row, step_of_changes};
+
+use crate::line_kinds::{change_line, count_line, is_extents, layer_line, tin_line};
+use crate::{LayerRow, ReportFault};
+use shelf_io::Name;
+use std::alloc::{AllocError, Global};
+use tin_base::Change;
+
+/// What the line of the triangulation says.
+#[derive(Debug, Drop)]
+pub(crate) struct TinRow {
+    pub corners: u32,
+    pub triangles: u32,
+    pub inexact: u64,
+    pub name: Name,
+}
+
+/// What was read of a report, by what may come next.
+#[derive(Debug, Drop)]
+pub(crate) enum Draft {
+    /// Nothing: the title comes.
+    Title,
+    /// The title: the triangulation comes.
+    Tin,
+    /// The triangulation and some layers: a layer or the number of changes comes.
+    Layers(TinRow, Vec<LayerRow>),
+    /// The same and one more layer, which is a drawing if its extents come.
+    Row(TinRow, Vec<LayerRow>, LayerRow),
+    /// All layers and some changes; so many more come.
+    Changes(TinRow, Vec<LayerRow>, Vec<Change>, u64),
+    /// A whole report.
+    Whole(TinRow, Vec<LayerRow>, Vec<Change>),
+}
+
+// What follows the line of the triangulation.
+fn read_tin(alloc: Global, line: &[u8], number: u64) -> Result<Draft, ReportFault>
+    ensures { Leads result number (behind_tin (tin_of line.now)) }
+{
+    let Some((counts, name)) = tin_line(line) else {
+        return Err(ReportFault::Bad { line: number });
+    };
+    let tin = TinRow {
+        corners: counts.corners,
+        triangles: counts.triangles,
+        inexact: counts.inexact,
+        name: Name::of(alloc, name)?,
+    };
+    Ok(Draft::Layers(tin, Vec::new(alloc)))
+}
+
+// What follows a line behind some layers.
+fn read_layer(
+    alloc: Global,
+    tin: TinRow,
+    rows: Vec<LayerRow>,
+    line: &[u8],
+    number: u64,
+) -> Result<Draft, ReportFault>
+    ensures { Leads result number (step_of_layers tin rows.items line.now) }
+{
+    if let Some((counts, name)) = layer_line(rows.len() as u64, line) {
+        let row = LayerRow {
+            paths: counts.paths,
+            segments: counts.segments,
+            pieces: counts.pieces,
+            inexact: counts.inexact,
+            dropped: counts.dropped,
+            drawing: false,
+            name: Name::of(alloc, name)?,
+        };
+        return Ok(Draft::Row(tin, rows, row));
+    }
+    match count_line(line) {
+        Some(count) => Ok(Draft::Changes(tin, rows, Vec::new(alloc), count)),
+        None => Err(ReportFault::Bad { line: number }),
+    }
+}
+
+// What follows a line behind a layer that may be a drawing.
+fn read_behind_row(
+    alloc: Global,
+    tin: TinRow,
+    rows: Vec<LayerRow>,
+    row: LayerRow,
+    line: &[u8],
+    number: u64,
+) -> Result<Draft, ReportFault>
+    ensures { Leads result number (step_of_row tin rows.items row line.now) }
+{
+    let mut rows = rows;
+    let mut row = row;
+    if is_extents(rows.len() as u64, line) {
+        row.drawing = true;
+        rows.push(row)?;
+        return Ok(Draft::Layers(tin, rows));
+    }
+    rows.push(row)?;
+    read_layer(alloc, tin, rows, line, number)
+}
+
+// What follows a line behind some changes, of which so many more come.
+#[tactic(auto, unfolding(crate::specs::ReportText::end_line))]
+fn read_change(
+    tin: TinRow,
+    rows: Vec<LayerRow>,
+    changes: Vec<Change>,
+    left: u64,
+    line: &[u8],
+    number: u64,
+) -> Result<Draft, ReportFault>
+    ensures { Leads result number (step_of_changes tin rows.items changes.items left line.now) }
+{
+    if left == 0 {
+        return if line == b"end".as_slice() {
+            Ok(Draft::Whole(tin, rows, changes))
+        } else {
+            Err(ReportFault::Bad { line: number })
+        };
+    }
+    let Some(change) = change_line(line) else {
+        return Err(ReportFault::Bad { line: number });
+    };
+    let mut changes = changes;
+    changes.push(change)?;
+    Ok(Draft::Changes(tin, rows, changes, left - 1))
+}
+
+impl Draft {
+    // What the draft becomes by the line of this number.
+    #[tactic(auto, unfolding(crate::specs::ReportText::title))]
+    pub(crate) fn read(self, alloc: Global, line: &[u8], number: u64) -> Result<Draft, ReportFault>
+        ensures { Leads result number (step (seen self) line.now) }
+    {
+        match self {
+            Draft::Title => {
+                if line == b"tinmove report 1".as_slice() {
+                    Ok(Draft::Tin)
+                } else {
+                    Err(ReportFault::Bad { line: number })
+                }
+            }
+            Draft::Tin => read_tin(alloc, line, number),
+            Draft::Layers(tin, rows) => read_layer(alloc, tin, rows, line, number),
+            Draft::Row(tin, rows, row) => read_behind_row(alloc, tin, rows, row, line, number),
+            Draft::Changes(tin, rows, changes, left) => {
+                read_change(tin, rows, changes, left, line, number)
+            }
+            Draft::Whole(..) => Err(ReportFault::Bad { line: number }),
+        }
+    }
+}

@@ -1,0 +1,91 @@
+ghost use Rattle.std.specs.Prelude.{◌≡◌, true};
+ghost use Rattle.std.specs.Char.{is_ascii_digit};
+ghost use Rattle.std.specs.List.{prefix_len};
+ghost use Rattle.std.specs.Str.{all_ascii_digits};
+ghost use Rattle.report_text.specs.Fields.{Gives, after as after_word, has_leading_zero, number_of as number_of_digits, number_at as number_front, long_at as long_field, short_at as short_field, name_at as name_behind, is_printable as are_printable};
+
+// What stands behind a word at the front of a text.
+pub(crate) fn after<'a>(text: &'a [u8], word: &[u8]) -> Option<&'a [u8]>
+    ensures { Gives (λ rest. rest.now) result (after_word word.now text.now) }
+{
+    text.strip_prefix(word)
+}
+
+// Whether the first of several digits is 0.
+fn begins_with_zero(digits: &[u8]) -> bool
+    ensures { result ≡ has_leading_zero digits.now }
+{
+    digits.len() > 1 && digits[0] == b'0'
+}
+
+// The number that some digits write without leading zeros, where it fits.
+#[tactic(auto, unfolding(crate::specs::Fields::number_of))]
+fn number_of(digits: &[u8]) -> Option<u64>
+    requires { all_ascii_digits digits.now ≡ true }
+    ensures { result ≡ number_of_digits digits.now }
+{
+    if begins_with_zero(digits) {
+        return None;
+    }
+    let Ok(text) = str::from_utf8(digits) else {
+        return None;
+    };
+    text.parse().ok()
+}
+
+fn digit_count(text: &[u8]) -> usize
+    ensures { result ≡ prefix_len is_ascii_digit text.now }
+{
+    text.iter().take_while(|byte| byte.is_ascii_digit()).count()
+}
+
+// The number at the front of a text, up to the first byte that is no digit, and what stands behind it.
+#[tactic(auto, unfolding(crate::specs::Fields::number_at))]
+fn number_at(text: &[u8]) -> Option<(u64, &[u8])>
+    ensures { Gives (λ found. (found.0, found.1.now)) result (number_front text.now) }
+{
+    let (digits, rest) = text.split_at(digit_count(text));
+    let number = number_of(digits)?;
+    Some((number, rest))
+}
+
+// The number of 64 bits behind a word at the front of a text, and what stands behind it.
+#[tactic(auto, unfolding(crate::specs::Fields::long_at))]
+pub(crate) fn long_at<'a>(text: &'a [u8], word: &[u8]) -> Option<(u64, &'a [u8])>
+    ensures { Gives (λ found. (found.0, found.1.now)) result (long_field word.now text.now) }
+{
+    let rest = after(text, word)?;
+    number_at(rest)
+}
+
+// The same for a number of 32 bits.
+#[tactic(auto, unfolding(crate::specs::Fields::short_at))]
+pub(crate) fn short_at<'a>(text: &'a [u8], word: &[u8]) -> Option<(u32, &'a [u8])>
+    ensures { Gives (λ found. (found.0, found.1.now)) result (short_field word.now text.now) }
+{
+    let (number, rest) = long_at(text, word)?;
+    let short = u32::try_from(number).ok()?;
+    Some((short, rest))
+}
+
+fn is_printable(name: &[u8]) -> bool
+    ensures { result ≡ are_printable name.now }
+{
+    name.iter().all(|byte| *byte >= 32)
+}
+
+// The name that is the rest of a line.
+#[tactic(auto, unfolding(crate::specs::Fields::name_at))]
+pub(crate) fn name_at(text: &[u8]) -> Option<&str>
+    ensures { Gives (λ name. name.now) result (name_behind text.now) }
+{
+    let name = after(text, b" name ")?;
+    let Ok(name_text) = str::from_utf8(name) else {
+        return None;
+    };
+    if is_printable(name) {
+        Some(name_text)
+    } else {
+        None
+    }
+}
