@@ -1,0 +1,13 @@
+pub mod Deciding
+pub mod LastParts
+pub mod Flags
+pub mod Again
+pub mod Refusals
+pub mod Placed
+pub mod OneAnswer
+pub mod SizesRead
+pub mod SimpleCommands
+pub mod Migrations
+pub mod Distinct
+pub mod Keeping
+pub mod WorkedRows

@@ -1,0 +1,39 @@
+-- The answers to some words that are written out.
+use Rattle.std.proofs.Common.{List, [], ◌∷◌, true, false, refl, codes}
+use Rattle.clap.proofs.OnLiterals.{clap_on_literals}
+use Rattle.clap.specs.Walk.{Text}
+use Rattle.job_words.specs.declared.jobs.Job.TheVariants.{Migrate, Check}
+use Rattle.job_words.specs.declared.faults.WordsFault.TheVariants.{NoMode, Parse, Size, Suffix, SameName}
+use Rattle.job_words.specs.Jobs.{IsJobOf, IsWordsFault}
+
+-- `migrate --tin t --out o`, and these layers
+abbrev migrating : List Text → List Text
+migrating layers = codes "migrate" ∷ codes "--tin" ∷ codes "t" ∷ codes "--out" ∷ codes "o" ∷ layers
+
+no-words : IsWordsFault [] NoMode
+no-words = refl
+
+no-format : IsWordsFault (migrating (codes "a.tif" ∷ [])) (Suffix 0)
+unfolding clap_on_literals
+no-format = refl
+
+one-part : IsWordsFault (migrating (codes "a/x.wkt" ∷ codes "b/x.wkt" ∷ [])) (SameName 1)
+unfolding clap_on_literals
+one-part = refl
+
+no-size : IsWordsFault (codes "make" ∷ codes "0" ∷ []) Size
+unfolding clap_on_literals
+no-size = refl
+
+twice : IsWordsFault (codes "check" ∷ codes "--tin" ∷ codes "t" ∷ codes "--tin=t" ∷ []) Parse
+unfolding clap_on_literals
+twice = refl
+
+a-check : IsJobOf (codes "check" ∷ codes "--tin" ∷ codes "s.json" ∷ []) (Check (codes "s.json") (record { exact = false; drop_other = false; inside_only = false }))
+unfolding clap_on_literals
+a-check = refl
+
+options-between : IsJobOf (codes "migrate" ∷ codes "--tin=t.json" ∷ codes "a.WKT" ∷ codes "--exact" ∷ codes "b.json" ∷ codes "--out" ∷ codes "o" ∷ [])
+    (Migrate (codes "t.json") (codes "o") (record { exact = true; drop_other = false; inside_only = false }) false (codes "a.WKT" ∷ codes "b.json" ∷ []))
+unfolding clap_on_literals
+options-between = refl

@@ -1,0 +1,43 @@
+-- The commands of the modes, in the terms in which `clap` states its reading of a simple command.
+use Rattle.std.specs.Prelude.{true, List, [], ◌∷◌, Some, codes}
+use Rattle.clap.specs.Lexer.{usize_max}
+use Rattle.clap.specs.Walk.{Rule, Text}
+use Rattle.clap.specs.Simple.{App, new_rule, new_shape}
+use Rattle.clap.specs.declared.builder.action.ArgAction.TheVariants.{Set, Append, SetTrue}
+use Rattle.job_words.specs.declared.modes.Mode.{Mode}
+use Rattle.job_words.specs.declared.modes.Mode.TheVariants.{Migrate, Check, Make}
+use Rattle.job_words.specs.Modes.{spelling}
+
+-- `--ID VALUE`, which has to stand once
+abbrev pub option_rule : Text → Rule
+option_rule id = record (new_rule id) { long = Some id; action = Some Set; required = true }
+
+-- `--ID`, which may stand once
+abbrev pub flag_rule : Text → Rule
+flag_rule id = record (new_rule id) { long = Some id; action = Some SetTrue }
+
+-- a word that has to stand, and is no option
+abbrev pub word_rule : Text → Rule
+word_rule id = record (new_rule id) { action = Some Set; required = true }
+
+-- one word or more, each no option, among which options may stand
+abbrev pub words_rule : Text → Rule
+words_rule id = record (new_rule id) {
+  action = Some Append;
+  range = Some (record { start_inclusive = 1; end_inclusive = usize_max });
+  required = true;
+}
+
+-- the options and words of a mode
+abbrev pub rules_for : Mode → List Rule
+rules_for Migrate = option_rule (codes "tin") ∷ option_rule (codes "out") ∷ flag_rule (codes "inverse") ∷ flag_rule (codes "exact")
+    ∷ flag_rule (codes "inside-only") ∷ flag_rule (codes "drop-other") ∷ words_rule (codes "layer") ∷ []
+rules_for Check = option_rule (codes "tin") ∷ flag_rule (codes "exact") ∷ flag_rule (codes "inside-only") ∷ []
+rules_for Make = word_rule (codes "n") ∷ []
+
+-- the command of a mode: it has no subcommand, and no option for help
+abbrev pub command_for : Mode → App
+command_for mode = record {
+  top = record (new_shape (spelling mode)) { rules = rules_for mode; disable_help_flag = true };
+  subs = [];
+}

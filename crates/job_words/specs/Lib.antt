@@ -1,0 +1,10 @@
+pub mod Modes
+pub mod Faults
+pub mod Commands
+pub mod Readings
+pub mod Names
+pub mod Formats
+pub mod Sizes
+pub mod Jobs
+pub mod Kept
+pub mod Laws

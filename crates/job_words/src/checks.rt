@@ -1,0 +1,126 @@
+//! What the names of a job must meet.
+
+ghost use Rattle.std.specs.Prelude.{◌≡◌, ◌≤◌, ◌<◌, length, map, not, is_some, position, IfSome, OnOk};
+ghost use Rattle.job_words.specs.declared.limits.TheConstants.{MOST_LAYERS as most_layers};
+ghost use Rattle.job_words.specs.Faults.{Checks};
+ghost use Rattle.job_words.specs.Names.{is_name};
+ghost use Rattle.job_words.specs.Formats.{format_of as format_by_name};
+ghost use Rattle.job_words.specs.Jobs.{layer_fault, many_fault, migration_fault, out_fault, same_fault, suffix_fault, tin_fault};
+
+use crate::faults::{Which, WordsFault};
+use crate::formats::format_of;
+use crate::limits::MOST_LAYERS;
+use crate::names::{is_name, last_part};
+use indexmap::IndexSet;
+use std::alloc::Global;
+
+/// Refuses too many layers.
+fn check_count(layers: &[&str]) -> Result<(), WordsFault>
+    ensures fault { Checks (many_fault (map (λ layer. layer.now) layers.now)) result }
+    ensures few { OnOk result (length layers.now ≤ most_layers) }
+{
+    if layers.len() > MOST_LAYERS {
+        return Err(WordsFault::Many);
+    }
+    Ok(())
+}
+
+/// Refuses the triangulation's name, where it may not be taken.
+pub fn check_tin(tin: &str) -> Result<(), WordsFault>
+    ensures { Checks (tin_fault tin.now) result }
+{
+    if is_name(tin) {
+        Ok(())
+    } else {
+        Err(WordsFault::Name { which: Which::Tin })
+    }
+}
+
+/// Refuses the folder's name, where it may not be taken.
+fn check_out(out: &str) -> Result<(), WordsFault>
+    ensures { Checks (out_fault out.now) result }
+{
+    if is_name(out) {
+        Ok(())
+    } else {
+        Err(WordsFault::Name { which: Which::Out })
+    }
+}
+
+/// The number of the first layer whose name may not be taken.
+fn first_unnamed(layers: &[&str]) -> Option<usize>
+    ensures first { result ≡ position (λ layer. not (is_name layer.now)) layers.now }
+    ensures within { IfSome result (λ number. number < length layers.now) }
+{
+    layers.iter().position(|layer| !is_name(layer))
+}
+
+/// The number of the first layer whose name ends as that of no format.
+fn first_formless(layers: &[&str]) -> Option<usize>
+    ensures first { result ≡ position (λ layer. not (is_some (format_by_name layer.now))) layers.now }
+    ensures within { IfSome result (λ number. number < length layers.now) }
+{
+    layers.iter().position(|layer| format_of(layer).is_none())
+}
+
+/// Refuses the first layer's name that may not be taken.
+fn check_layers(layers: &[&str]) -> Result<(), WordsFault>
+    requires { length layers.now ≤ most_layers }
+    ensures { Checks (layer_fault (map (λ layer. layer.now) layers.now)) result }
+{
+    match first_unnamed(layers) {
+        Some(number) => Err(WordsFault::Name {
+            which: Which::Layer(number as u32),
+        }),
+        None => Ok(()),
+    }
+}
+
+/// Refuses the first layer whose name ends as that of no format.
+fn check_suffixes(layers: &[&str]) -> Result<(), WordsFault>
+    requires { length layers.now ≤ most_layers }
+    ensures { Checks (suffix_fault (map (λ layer. layer.now) layers.now)) result }
+{
+    match first_formless(layers) {
+        Some(number) => Err(WordsFault::Suffix {
+            layer: number as u32,
+        }),
+        None => Ok(()),
+    }
+}
+
+/// Refuses the first layer whose last part is that of an earlier one.
+fn check_last_parts(alloc: Global, layers: &[&str]) -> Result<(), WordsFault>
+    requires { length layers.now ≤ most_layers }
+    ensures { Checks (same_fault (map (λ layer. layer.now) layers.now)) result }
+{
+    let mut parts = IndexSet::with_capacity(alloc, layers.len())?;
+    for (number, layer) in layers.iter().enumerate() {
+        let part = last_part(layer);
+        let is_new = parts.insert(part)?;
+        if !is_new {
+            return Err(WordsFault::SameName {
+                layer: number as u32,
+            });
+        }
+    }
+    Ok(())
+}
+
+/// Refuses the first fault of the names of a migration.
+pub fn check_migration(
+    alloc: Global,
+    tin: &str,
+    out: &str,
+    layers: &[&str],
+) -> Result<(), WordsFault>
+    ensures { Checks (migration_fault tin.now out.now (map (λ layer. layer.now) layers.now)) result }
+{
+    check_count(layers)?;
+    check_tin(tin)?;
+    check_out(out)?;
+    check_layers(layers)?;
+    check_suffixes(layers)?;
+    check_last_parts(alloc, layers)?;
+    Ok(())
+}

@@ -1,0 +1,25 @@
+//! The words of the command line, read with `clap`, and the job that they give.
+#![tactic(auto)]
+
+mod checks;
+mod commands;
+mod faults;
+mod formats;
+mod jobs;
+mod laws;
+mod limits;
+mod matching;
+mod modes;
+mod names;
+mod reading;
+mod sizes;
+#[cfg(test)]
+mod tests;
+
+pub use faults::{Which, WordsFault};
+pub use formats::{Format, format_of};
+pub use jobs::Job;
+pub use laws::words_have_one_answer;
+pub use limits::{MOST_LAYERS, MOST_SIZE};
+pub use names::last_part;
+pub use reading::read_words;

@@ -1,0 +1,41 @@
+//! What `clap` reads of the words of a mode.
+
+ghost use Rattle.std.specs.Prelude.{◌≡◌, ◌⊎◌, Some, None, IfOk, IfErr, map, string_bytes};
+ghost use Rattle.clap.specs.Matches.{found_of};
+ghost use Rattle.clap.specs.Walk.{rows_of};
+ghost use Rattle.job_words.specs.declared.faults.WordsFault.TheVariants.{NoMemory, Parse};
+ghost use Rattle.job_words.specs.Readings.{is_set, reading_of, text_in};
+
+use crate::commands::command_of;
+use crate::faults::WordsFault;
+use crate::modes::Mode;
+use clap::ArgMatches;
+use std::alloc::Global;
+
+/// The matches of the words of a mode, the mode standing in the place of a program's name.
+pub fn read_matches<'a>(
+    alloc: Global,
+    mode: Mode,
+    words: &'a [String],
+) -> Result<ArgMatches<'a>, WordsFault>
+    ensures read { IfOk result (λ matches. reading_of mode (map string_bytes words.entry.now) ≡ Some (rows_of (found_of matches))) }
+    ensures refused { IfErr result (λ fault. (fault ≡ NoMemory) ⊎ ((fault ≡ Parse) × (reading_of mode (map string_bytes words.entry.now) ≡ None))) }
+{
+    let command = command_of(alloc, mode)?;
+    let matches = command.try_get_matches_from(words)?;
+    Ok(matches)
+}
+
+/// The text of an option or of a word, empty where it does not stand.
+pub fn text_in<'a>(id: &str, matches: &ArgMatches<'a>) -> &'a str
+    ensures { result.now ≡ text_in id.now (rows_of (found_of matches.now)) }
+{
+    matches.get_str(id).unwrap_or("")
+}
+
+/// Whether the flag stands among the words.
+pub fn is_set(id: &str, matches: &ArgMatches<'_>) -> bool
+    ensures { result ≡ is_set id.now (rows_of (found_of matches.now)) }
+{
+    matches.get_one::<bool>(id).unwrap_or(false)
+}
