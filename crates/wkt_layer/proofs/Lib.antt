@@ -25,3 +25,4 @@ pub mod GeometryTurns
 pub mod LineTurns
 pub mod SheetTurns
 pub mod ReadingBack
+pub mod OneFault

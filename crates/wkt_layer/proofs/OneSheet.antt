@@ -28,7 +28,7 @@ line_one exact [] paths others is too = is ∙ sym too
 line_one exact (first ∷ more) paths others (one, is, same, are) (other, too, alike, were) = are ∙ geometry_one exact one other is too (sym same ∙ alike) ∙ sym were
 
 -- a line that is read has no fault
-line_apart : (exact : Bool) (line : List Placed) (end : ℕ) (paths : List Path) (fault : LayerFault) → IsLineOf exact line paths → IsLineFault exact line end fault → ⊥
+pub line_apart : (exact : Bool) (line : List Placed) (end : ℕ) (paths : List Path) (fault : LayerFault) → IsLineOf exact line paths → IsLineFault exact line end fault → ⊥
 line_apart exact [] end paths fault is refused = refused
 line_apart exact (first ∷ more) end paths fault (one, is, same, are) refused = refused.first.refused (one, is, same)
 

@@ -8,3 +8,8 @@ pub fn sheet_is_one()
     ensures one { (exact : Bool) → (bytes : List ℕ) → (sheet other : Contents) → IsReadAs exact bytes sheet → IsReadAs exact bytes other → sheet ≡ other }
     ensures apart { (exact : Bool) → (bytes : List ℕ) → (sheet : Contents) → (fault : LayerFault) → IsReadAs exact bytes sheet → IsRefusedBy exact bytes fault → ⊥ }
 {}
+
+/// A layer that is refused has one first fault.
+pub fn fault_is_one()
+    ensures { (exact : Bool) → (bytes : List ℕ) → (fault other : LayerFault) → IsRefusedBy exact bytes fault → IsRefusedBy exact bytes other → fault ≡ other }
+{}

@@ -15,5 +15,5 @@ mod texts;
 mod tokens;
 mod words;
 
-pub use laws::sheet_is_one;
+pub use laws::{fault_is_one, sheet_is_one};
 pub use layer::Wkt;

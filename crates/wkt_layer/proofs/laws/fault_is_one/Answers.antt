@@ -1,0 +1,5 @@
+use Rattle.wkt_layer.proofs.OneFault.{fault_one}
+use Rattle.wkt_layer.proofs.laws.fault_is_one.Goals as goal
+
+pub returns : goal.returns
+returns c = fault_one
