@@ -5,6 +5,8 @@
 mod carrying;
 mod crossings;
 mod faults;
+#[cfg(test)]
+mod layer_tests;
 mod layers;
 mod limits;
 mod paths;

@@ -40,7 +40,7 @@ fn tin_of(corners: Vec<Corner>, triangles: Vec<[u32; 3]>) -> Option<Tin>
 }
 
 /// The square of ten metres, cut from the lower left to the upper right; one corner of its image is moved outwards.
-fn square(alloc: Global) -> Option<TinIndex> {
+pub fn square(alloc: Global) -> Option<TinIndex> {
     let corners = [
         (0, 0, 100_000, 100_000),
         (10_000, 0, 110_000, 100_000),
@@ -184,7 +184,7 @@ fn are_images(images: &Images, points: &[(i32, i32)], run: &[u32]) -> bool {
 }
 
 /// A piece's path, segment and number, its triangle, and the ends of its image.
-type Want = ((u32, u32, u32), u32, (i32, i32), (i32, i32));
+pub type Want = ((u32, u32, u32), u32, (i32, i32), (i32, i32));
 
 fn is_piece(piece: &Piece, layer: u32, want: &Want) -> bool {
     let from = piece.from;
@@ -195,7 +195,7 @@ fn is_piece(piece: &Piece, layer: u32, want: &Want) -> bool {
         && piece.ib == at(want.3)
 }
 
-fn are_pieces(pieces: &[Piece], layer: u32, want: &[Want]) -> bool {
+pub fn are_pieces(pieces: &[Piece], layer: u32, want: &[Want]) -> bool {
     pieces.len() == want.len()
         && pieces
             .iter()
