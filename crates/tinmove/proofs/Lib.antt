@@ -12,3 +12,5 @@ pub mod Comparable
 pub mod OneOutcome
 pub mod Keeping
 pub mod KeptRuns
+pub mod MadeRows
+pub mod MadeExamples

@@ -13,3 +13,4 @@ pub mod Kept
 pub mod Ends
 pub mod Prepared
 pub mod Laws
+pub mod Making

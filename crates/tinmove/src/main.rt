@@ -8,6 +8,9 @@ mod layer_tests;
 mod lines;
 mod listing;
 mod loading;
+mod making;
+#[cfg(test)]
+mod making_tests;
 mod preparing;
 mod publishing;
 mod refusal;

@@ -1,0 +1,6 @@
+use Rattle.tinmove.specs.Making.{vertex_row}
+use Rattle.tinmove.proofs.MadeRows.{one_more_row}
+use Rattle.tinmove.proofs.making.put_vertex_line.Goals as goal
+
+pub loop-i-preserved : goal.loop-i-preserved
+loop-i-preserved c = one_more_row (λ i. vertex_row i c.args.j) c.args.out.now.items _ _ _ c.loop-i.invariant c.in_ok-put_vertex.ensures

@@ -1,0 +1,8 @@
+use Rattle.std.proofs.Common.{◌+◌, map}
+use Rattle.tinmove.specs.Making.{below, vertex_row}
+use Rattle.tinmove.proofs.MadeRows.{one_more_list}
+use Rattle.tinmove.proofs.making.put_vertices.Goals as goal
+
+pub loop-j-preserved : goal.loop-j-preserved
+loop-j-preserved c =
+    one_more_list (λ j. map (λ i. vertex_row i j) (below (c.args.n + 1))) c.args.out.now.items _ _ _ c.loop-j.invariant c.in_ok-put_vertex_line.ensures
