@@ -14,3 +14,4 @@ pub mod Ends
 pub mod Prepared
 pub mod Laws
 pub mod Making
+pub mod Help

@@ -2,6 +2,9 @@
 //! `run` is the whole program, over the words, the shelf and the press that it is handed.
 #![tactic(auto)]
 
+mod help;
+#[cfg(test)]
+mod help_tests;
 mod laws;
 #[cfg(test)]
 mod layer_tests;
