@@ -1,9 +1,10 @@
 #!/bin/sh
-# How fast a layer of 100,000 segments goes through a triangulation of 200 triangles.
+# How fast a layer of segments goes through a triangulation of 200 triangles. Each two pieces are compared, so the time grows
+# with the square of their number: 100,000 segments, the size that was measured before pieces were compared, take hours.
 # Prints, for each of three runs, segments, pieces and slices of triangles a second, and the peak of memory. Each piece asks every
 # triangle for its slice. Needs GNU time as /usr/bin/time, or as the command that TIME names. No part of the gate.
 set -eu
-segments=${1:-100000}
+segments=${1:-1000}
 time=${TIME:-/usr/bin/time}
 top=$(CDPATH='' cd -- "$(dirname -- "$0")/.." && pwd)
 folder=$(mktemp -d)
