@@ -1,0 +1,86 @@
+-- What is written of a layer is read as its images.
+use Rattle.std.proofs.Common.{◌≡◌, ℕ, zero, suc, ◌+◌, ◌≤◌, Bool, List, [], ◌∷◌, ◌++◌, length, take, drop, refl, sym, ap, ◌∙◌, subst, arith, length-append, All}
+use Rattle.std.specs.Prelude.{map, flat_map, sum_by, fold, unsigned_abs, ℤ, codes, Ok}
+use Rattle.std.specs.Int.{int_min, int_max}
+use Rattle.std.specs.List.{AllByRecursion}
+use Rattle.jtext.specs.Values.{Json, null, numeral, array, no_element, element, spelling}
+use Rattle.jtext.specs.Texts.{Whole, IsWhole, mark_text, whole_text}
+use Rattle.jtext.specs.Places.{whole_start}
+use Rattle.jtext.specs.declared.reading.TheConstants.{DEEPEST}
+use Rattle.plane_base.specs.declared.shapes.Pt.{Pt}
+use Rattle.sheet_base.specs.declared.edits.Edit.{Edit}
+use Rattle.sheet_base.specs.Sheets.{Contents}
+use Rattle.sheet_base.specs.Fitting.{Runs, IsWithinReach, DoFit}
+use Rattle.sheet_base.specs.Splices.{AreInOrder, spliced}
+use Rattle.sheet_base.specs.ReadBack.{ends_of, imaged, IsReadBack}
+use Rattle.gj_layer.specs.declared.forms.Holder.TheVariants as holders
+use Rattle.gj_layer.specs.declared.forms.Form.TheVariants as forms
+use Rattle.gj_layer.specs.Paths.{Part, points_in, lost_in, rows_from, sheet_of}
+use Rattle.gj_layer.specs.Texts.{path_images, edit_text}
+use Rattle.gj_layer.specs.Layers.{layer_reading, IsReadAs}
+use Rattle.gj_layer.proofs.Fine.{value_fine}
+use Rattle.gj_layer.proofs.Documents.{read_in_order}
+use Rattle.gj_layer.proofs.Swaps.{Swapped, spliced_on, on_from, swapped_all, front_swapped, behind_swapped}
+use Rattle.gj_layer.proofs.Redrawing.{IsDrawn}
+use Rattle.gj_layer.proofs.Turns.{ValueTurned}
+use Rattle.gj_layer.proofs.EditTexts.{texts_say}
+use Rattle.gj_layer.proofs.ValueTurns.{value_turned}
+use Rattle.gj_layer.proofs.SheetTurns.{sheet_suits, points_again, rows_again}
+
+-- a text is read as a sheet of just these images, with the first sheet's paths over them, and no number lost digits
+pub record IsReadAgain (exact : Bool) (text : List ℕ) (sheet : Contents) (images : Runs) : Type 0 where
+  pub back : Contents
+  pub is_read : IsReadAs exact text back
+  pub points : back.points ≡ images.points
+  pub paths : back.paths ≡ map (imaged images) sheet.paths
+  pub exact_all : back.inexact ≡ 0
+
+-- the whole text of the value that the layer's value turns into
+whole_again : (exact : Bool) (bytes : List ℕ) (part : Part) (images : Runs) (whole : Whole) → IsWhole DEEPEST whole bytes → layer_reading exact whole ≡ Ok part → DoFit (sheet_of part) images
+    → ValueTurned exact (edit_text (sheet_of part) images) (path_images (rows_from 0 part.paths) images) (forms.Object holders.Layer) 0 (whole_start whole) DEEPEST whole.value part
+    → IsReadAgain exact (spliced bytes (edit_text (sheet_of part) images) part.edits) (sheet_of part) images
+whole_again exact bytes part images whole is read fit v =
+    let text = edit_text (sheet_of part) images in
+    let start = whole_start whole in
+    let mark = mark_text whole.marked in
+    let new : Whole = record { marked = whole.marked; before = whole.before; value = v.now; after = whole.after } in
+    let d = v.reads start in
+    let swap : Swapped text 0 (whole_text whole) part.edits (whole_text new) =
+    front_swapped text 0 (length mark) mark (whole.before ++ (spelling whole.value ++ whole.after)) part.edits (whole.before ++ (spelling v.now ++ whole.after)) (omega arith)
+    (front_swapped text (length mark) start whole.before (spelling whole.value ++ whole.after) part.edits (spelling v.now ++ whole.after) refl
+    (behind_swapped text start (spelling whole.value) whole.after part.edits (spelling v.now) v.swap)) in
+    let order : AreInOrder 0 part.edits (length bytes) = read_in_order exact bytes (sheet_of part) (part, (whole, is, read), refl) in
+    let now : spliced bytes text part.edits ≡ whole_text new =
+    on_from bytes text 0 part.edits (length bytes) order ∙ ap (λ xs. spliced_on text 0 xs part.edits) is.all ∙ swapped_all text 0 (whole_text whole) part.edits (whole_text new) swap in
+    record {
+      back = sheet_of d.part;
+      is_read = (d.part, (new, record { before = is.before; value = v.valid; after = is.after; all = now }, d.is), refl);
+      points = points_again part d.part.paths images fit d.drawn_are;
+      paths = rows_again part d.part.paths images fit d.drawn_are;
+      exact_all = d.exact_all;
+    }
+
+part_again : (exact : Bool) (bytes : List ℕ) (part : Part) (images : Runs) (whole : Whole) → IsWhole DEEPEST whole bytes → layer_reading exact whole ≡ Ok part → DoFit (sheet_of part) images
+    → IsReadAgain exact (spliced bytes (edit_text (sheet_of part) images) part.edits) (sheet_of part) images
+part_again exact bytes part images whole is read fit =
+    let start = whole_start whole in
+    let fine = value_fine whole.value exact (forms.Object holders.Layer) 0 start part read in
+    whole_again exact bytes part images whole is read fit
+    (value_turned exact (edit_text (sheet_of part) images) (path_images (rows_from 0 part.paths) images) (texts_say part images fit) whole.value (forms.Object holders.Layer) 0 start DEEPEST part (omega arith) is.value read
+    (sheet_suits part images fine.sound fit))
+
+pub read_again : (exact : Bool) (bytes : List ℕ) (sheet : Contents) (images : Runs) → IsReadAs exact bytes sheet → DoFit sheet images
+    → IsReadAgain exact (spliced bytes (edit_text sheet images) sheet.edits) sheet images
+read_again exact bytes sheet images (part, (whole, text, read), same) fit =
+    subst (λ (s : Contents). IsReadAgain exact (spliced bytes (edit_text s images) s.edits) s images) (sym same) (part_again exact bytes part images whole text read (subst (λ (s : Contents). DoFit s images) same fit))
+
+pub reads_back : (exact : Bool) (bytes : List ℕ) (sheet : Contents) (images : Runs) → IsReadAs exact bytes sheet → DoFit sheet images
+    → IsReadBack (IsReadAs exact) sheet images (spliced bytes (edit_text sheet images) sheet.edits)
+reads_back exact bytes sheet images is fit = go (read_again exact bytes sheet images is fit)
+  where
+    go : IsReadAgain exact (spliced bytes (edit_text sheet images) sheet.edits) sheet images → IsReadBack (IsReadAs exact) sheet images (spliced bytes (edit_text sheet images) sheet.edits)
+    go again = record {
+      back = again.back;
+      is_read = again.is_read;
+      segments = ap (λ points. ends_of points again.back.paths) again.points ∙ ap (ends_of images.points) again.paths;
+    }

@@ -1,0 +1,186 @@
+-- How coordinates that are one path at most turn into the path's images.
+use Rattle.std.proofs.Common.{◌≡◌, ℕ, zero, suc, ◌+◌, ◌-◌, ◌<◌, ◌≤◌, ℤ, pos, negsuc, Bool, true, false, ◌&&◌, List, [], ◌∷◌, ◌++◌, length, map, take, refl, sym, ap, ◌∙◌, subst, arith, length-append}
+use Rattle.std.specs.Prelude.{Result, Ok, Err, sum_by, slice_index_or, nat_le, if◌then◌else◌}
+use Rattle.std.specs.Ordering.{int_eq}
+use Rattle.std.specs.List.{AllByRecursion}
+use Rattle.std.proofs.Math.Seq.{take-append_seam}
+use Rattle.std.proofs.lemmas.Bool.{le-leb}
+use Rattle.std.proofs.lemmas.Bool.Decides.{Decides-int_eq}
+use Rattle.std.proofs.lemmas.List.{length-map, length-take}
+use Rattle.jtext.specs.Values.{Json, Elements, array, no_element, element, spelling, IsValue}
+use Rattle.jtext.specs.Nodes.{inner_place, element_start, next_place}
+use Rattle.plane_base.specs.declared.shapes.Pt.{Pt}
+use Rattle.sheet_base.specs.declared.faults.LayerFault.{LayerFault}
+use Rattle.sheet_base.specs.declared.faults.LayerFault.TheVariants.{Ring as RingFault}
+use Rattle.sheet_base.specs.declared.paths.PathKind.TheVariants as kinds
+use Rattle.sheet_base.specs.declared.edits.Edit.{Edit}
+use Rattle.sheet_base.specs.Fitting.{IsWithinReach}
+use Rattle.sheet_base.specs.Segments.{no_point, point_at}
+use Rattle.gj_layer.specs.declared.forms.Trace.{Trace}
+use Rattle.gj_layer.specs.declared.forms.Trace.TheVariants as traces
+use Rattle.gj_layer.specs.declared.forms.Form.TheVariants as forms
+use Rattle.gj_layer.specs.declared.positions.Position.{Position}
+use Rattle.gj_layer.specs.Faults.{and_then}
+use Rattle.gj_layer.specs.Positions.{position, positions, in_front, point_of, lost_of}
+use Rattle.gj_layer.specs.Paths.{Path, Part, nothing, path_of, end_of, is_same, is_closed, dot_of, line_of, ring_of, traced, part_of, edit_of}
+use Rattle.gj_layer.specs.Texts.{list_text, ring_text}
+use Rattle.gj_layer.proofs.Tracing.{closed_some}
+use Rattle.gj_layer.proofs.Fine.{split_then, position_is, closed_ring}
+use Rattle.gj_layer.proofs.Swaps.{kept_swapped}
+use Rattle.gj_layer.proofs.Redrawing.{AllSuit, kind_text, IsDrawn}
+use Rattle.gj_layer.proofs.ImageValues.{image_value, ArePositionsAt, ring_spelled}
+use Rattle.gj_layer.proofs.Turns.{DoesSay, ValueTurned}
+use Rattle.gj_layer.proofs.PathTurns.{path_drawn, some_read, alone, dot_turned, list_turned}
+
+-- ---- lists of images
+one_image : (images : List Pt) → length images ≡ 1 → (image : Pt) × (images ≡ image ∷ [])
+one_image [] is = absurd (omega (arith, is))
+one_image (image ∷ []) is = (image, refl)
+one_image (image ∷ next ∷ more) is = absurd (omega (arith, is))
+
+some_images : (images : List Pt) → 0 < length images → (image : Pt) × (others : List Pt) × (images ≡ image ∷ others)
+some_images [] some = absurd (omega (arith, some))
+some_images (image ∷ others) some = (image, others, refl)
+
+-- ---- a ring that is closed by its first image
+int_same : (z : ℤ) → int_eq z z ≡ true
+int_same z = (Decides-int_eq z z).1 refl
+
+same_again : (p : Pt) → is_same p p ≡ true
+same_again p = ap (λ b. b && int_eq p.y p.y) (int_same p.x) ∙ int_same p.y
+
+last_at : (points : List Pt) (p : Pt) → point_at (points ++ p ∷ []) (length points) ≡ p
+last_at [] p = refl
+last_at (q ∷ points) p = last_at points p
+
+closed_again : (image : Pt) (others : List Pt) → 3 ≤ length (image ∷ others) → is_closed ((image ∷ others) ++ image ∷ []) ≡ true
+closed_again image others many =
+    let points = (image ∷ others) ++ image ∷ [] in
+    let size = length-append (image ∷ others) (image ∷ []) in
+    let last : length points - 1 ≡ length (image ∷ others) = omega (arith, size) in
+    ap (λ b. b && is_same (point_at points 0) (point_at points (length points - 1))) (le-leb 4 (length points) (omega (arith, size, many)))
+    ∙ ap (λ n. is_same image (point_at points n)) last ∙ ap (is_same image) (last_at (image ∷ others) image) ∙ same_again image
+
+ring_made : (at : ℕ) (all : List Position) (points : List Pt) → map point_of all ≡ points → is_closed points ≡ true → ring_of at all ≡ Ok (path_of kinds.Loop (take (length points - 1) points) all)
+ring_made at all points are closed =
+    ap (λ ps. if is_closed ps then Ok (path_of kinds.Loop (take (length ps - 1) ps) all) else Err (RingFault at)) are
+    ∙ ap (λ b. if b then Ok (path_of kinds.Loop (take (length points - 1) points) all) else Err (RingFault at)) closed
+
+some_all : (exact : Bool) (place : ℕ) (before : List ℕ) (value : Json) (after : List ℕ) (rest : Elements) (all : List Position) → positions exact place (element before value after rest) ≡ Ok all
+    → (one : Position) × (more : List Position) × (all ≡ one ∷ more)
+some_all exact place before value after rest all is =
+    let start = element_start place before in
+    let (first, first_is, onward) = split_then (λ one. and_then (in_front one) (positions exact (next_place start value after) rest)) (position exact start value) all is in
+    let (others, others_are, made) = split_then (in_front first) (positions exact (next_place start value after) rest) all onward in
+    (first, others, cc)
+
+module _ (exact : Bool) (text : Edit → List ℕ) (images : ℕ → List Pt) (says : DoesSay text images) where
+  line_read : (number at : ℕ) (blank : List ℕ) (elements : Elements) (path : Path) (points : List Pt) → path.kind ≡ kinds.Line → images number ≡ points → 0 < length points
+      → ArePositionsAt points (positions exact (inner_place at blank) elements) → IsDrawn images number (path ∷ []) (and_then (part_of number) (traced exact traces.Line at (array blank elements)))
+  line_read number at blank elements path points kind_is images_are some p =
+      subst (λ r. IsDrawn images number (path ∷ []) (and_then (part_of number) (and_then line_of r))) (sym p.is)
+      (path_drawn images number path kinds.Line (map point_of p.all) p.all (sym kind_is) (p.points ∙ sym images_are) p.exact_all (some_read points p.all p.points some))
+
+  ring_read : (number at : ℕ) (blank : List ℕ) (elements : Elements) (path : Path) (image : Pt) (others : List Pt) → path.kind ≡ kinds.Loop → images number ≡ image ∷ others → 3 ≤ length (image ∷ others)
+      → ArePositionsAt ((image ∷ others) ++ image ∷ []) (positions exact (inner_place at blank) elements)
+      → IsDrawn images number (path ∷ []) (and_then (part_of number) (traced exact traces.Ring at (array blank elements)))
+  ring_read number at blank elements path image others kind_is images_are many p =
+      let points = (image ∷ others) ++ image ∷ [] in
+      let size = length-append (image ∷ others) (image ∷ []) in
+      let last : length points - 1 ≡ length (image ∷ others) = omega (arith, size) in
+      let kept : take (length points - 1) points ≡ image ∷ others = ap (λ n. take n points) last ∙ take-append_seam (image ∷ others) (image ∷ []) in
+      subst (λ r. IsDrawn images number (path ∷ []) (and_then (part_of number) (and_then (ring_of at) r))) (sym p.is)
+      (subst (λ r. IsDrawn images number (path ∷ []) (and_then (part_of number) r)) (sym (ring_made at p.all points p.points (closed_again image others many)))
+      (path_drawn images number path kinds.Loop (take (length points - 1) points) p.all (sym kind_is) (kept ∙ sym images_are) p.exact_all (some_read points p.all p.points (omega (arith, size)))))
+
+  none_turned : (trace : Trace) (number start depth : ℕ) (blank : List ℕ) → ((at : ℕ) → traced exact trace at (array blank no_element) ≡ Ok []) → IsValue depth (array blank no_element)
+      → ValueTurned exact text images (forms.Path trace) number start depth (array blank no_element) nothing
+  none_turned trace number start depth blank none valid = record {
+    now = array blank no_element;
+    swap = kept_swapped text start (spelling (array blank no_element));
+    valid = valid;
+    reads = λ at. record { part = nothing; is = ap (and_then (part_of number)) (none at); drawn_are = refl; exact_all = refl };
+  }
+
+  dot_traced : (trace : Trace) → ((at : ℕ) (image : Pt) → traced exact trace at (image_value image) ≡ and_then dot_of (position exact at (image_value image)))
+      → (number start depth : ℕ) (blank : List ℕ) (elements : Elements) (part : Part) → IsValue depth (array blank elements) → and_then (part_of number) (and_then dot_of (position exact start (array blank elements))) ≡ Ok part
+      → AllSuit images number part.paths → ValueTurned exact text images (forms.Path trace) number start depth (array blank elements) part
+  dot_traced trace is_dot number start depth blank elements part valid is suit =
+      let value = array blank elements in
+      let (paths, read, made) = split_then (part_of number) (and_then dot_of (position exact start value)) part is in
+      let (one, one_is, dot) = split_then dot_of (position exact start value) paths read in
+      let path : Path = record { kind = kinds.Dot; points = point_of one ∷ []; lost = sum_by lost_of (one ∷ []); start = one.start; end = one.end } in
+      let same : path_of kinds.Dot (point_of one ∷ []) (one ∷ []) ≡ paths = cc in
+      let whole : alone exact text images says number path ≡ part = let e = ap (part_of number) same ∙ made in cc in
+      let suits = subst (λ (p : Part). AllSuit images number p.paths) (sym whole) suit in
+      let ends = position_is exact start value one one_is in
+      let (image, images_are) = one_image (images number) (suits.0.dot refl) in
+      let reach = subst (AllByRecursion IsWithinReach) images_are suits.0.reach in
+      subst (ValueTurned exact text images (forms.Path trace) number start depth value) whole
+      (dot_turned exact text images says trace is_dot number start depth blank elements path image refl ends.0 ends.1 images_are reach.0 valid)
+
+  line_turned : (number start depth : ℕ) (blank before : List ℕ) (value : Json) (after : List ℕ) (rest : Elements) (one : Position) (more : List Position) (part : Part)
+      → IsValue depth (array blank (element before value after rest)) → positions exact (inner_place start blank) (element before value after rest) ≡ Ok (one ∷ more)
+      → part_of number (path_of kinds.Line (map point_of (one ∷ more)) (one ∷ more)) ≡ Ok part → AllSuit images number part.paths
+      → ValueTurned exact text images (forms.Path traces.Line) number start depth (array blank (element before value after rest)) part
+  line_turned number start depth blank before value after rest one more part valid all_is made suit =
+      let path : Path = record { kind = kinds.Line; points = map point_of (one ∷ more); lost = sum_by lost_of (one ∷ more); start = one.start; end = end_of one more } in
+      let whole : alone exact text images says number path ≡ part = cc in
+      let suits = subst (λ (p : Part). AllSuit images number p.paths) (sym whole) suit in
+      let (image, others, images_are) = some_images (images number) suits.0.some in
+      let reach = subst (AllByRecursion IsWithinReach) images_are suits.0.reach in
+      subst (ValueTurned exact text images (forms.Path traces.Line) number start depth (array blank (element before value after rest))) whole
+      (list_turned exact text images says traces.Line number start depth blank before value after rest path one more all_is refl refl valid image others (says.paths number path ∙ ap list_text images_are) reach
+      (λ at elements p. line_read number at blank elements path (image ∷ others) refl images_are (omega arith) p))
+
+  ring_turned : (number start depth : ℕ) (blank before : List ℕ) (value : Json) (after : List ℕ) (rest : Elements) (one : Position) (more : List Position) (part : Part)
+      → IsValue depth (array blank (element before value after rest)) → positions exact (inner_place start blank) (element before value after rest) ≡ Ok (one ∷ more)
+      → 4 ≤ length (map point_of (one ∷ more)) → part_of number (path_of kinds.Loop (take (length (map point_of (one ∷ more)) - 1) (map point_of (one ∷ more))) (one ∷ more)) ≡ Ok part
+      → AllSuit images number part.paths → ValueTurned exact text images (forms.Path traces.Ring) number start depth (array blank (element before value after rest)) part
+  ring_turned number start depth blank before value after rest one more part valid all_is four made suit =
+      let points = map point_of (one ∷ more) in
+      let path : Path = record { kind = kinds.Loop; points = take (length points - 1) points; lost = sum_by lost_of (one ∷ more); start = one.start; end = end_of one more } in
+      let whole : alone exact text images says number path ≡ part = cc in
+      let suits = subst (λ (p : Part). AllSuit images number p.paths) (sym whole) suit in
+      let (image, others, images_are) = some_images (images number) suits.0.some in
+      let reach = subst (AllByRecursion IsWithinReach) images_are suits.0.reach in
+      let kept = length-take (length points - 1) points in
+      let many = suits.0.many in
+      let count = ap length images_are in
+      subst (ValueTurned exact text images (forms.Path traces.Ring) number start depth (array blank (element before value after rest))) whole
+      (list_turned exact text images says traces.Ring number start depth blank before value after rest path one more all_is refl refl valid image (others ++ image ∷ [])
+      (says.paths number path ∙ ap ring_text images_are ∙ ring_spelled image others) (reach.0, reach_append others image reach.1 reach.0)
+      (λ at elements p. ring_read number at blank elements path image others refl images_are (omega (arith, kept, many, count, four)) p))
+    where
+      reach_append : (others : List Pt) (image : Pt) → AllByRecursion IsWithinReach others → IsWithinReach image → AllByRecursion IsWithinReach (others ++ image ∷ [])
+      reach_append [] image all one = (one, tt)
+      reach_append (next ∷ others) image all one = (all.0, reach_append others image all.1 one)
+
+  pub traced_turned : (trace : Trace) (number start depth : ℕ) (blank : List ℕ) (elements : Elements) (part : Part) → IsValue depth (array blank elements)
+      → and_then (part_of number) (traced exact trace start (array blank elements)) ≡ Ok part → AllSuit images number part.paths
+      → ValueTurned exact text images (forms.Path trace) number start depth (array blank elements) part
+  traced_turned traces.Point number start depth blank no_element part valid is suit =
+      let none : nothing ≡ part = cc in subst (ValueTurned exact text images (forms.Path traces.Point) number start depth (array blank no_element)) none (none_turned traces.Point number start depth blank (λ at. refl) valid)
+  traced_turned traces.Point number start depth blank (element before value after rest) part valid is suit =
+      dot_traced traces.Point (λ at image. refl) number start depth blank (element before value after rest) part valid is suit
+  traced_turned traces.Position number start depth blank elements part valid is suit = dot_traced traces.Position (λ at image. refl) number start depth blank elements part valid is suit
+  traced_turned traces.Line number start depth blank no_element part valid is suit =
+      let none : nothing ≡ part = cc in subst (ValueTurned exact text images (forms.Path traces.Line) number start depth (array blank no_element)) none (none_turned traces.Line number start depth blank (λ at. refl) valid)
+  traced_turned traces.Line number start depth blank (element before value after rest) part valid is suit =
+      let here = positions exact (inner_place start blank) (element before value after rest) in
+      let (paths, read, made) = split_then (part_of number) (and_then line_of here) part is in
+      let (all, all_is, line) = split_then line_of here paths read in
+      let (one, more, all_are) = some_all exact (inner_place start blank) before value after rest all all_is in
+      let same : path_of kinds.Line (map point_of all) all ≡ paths = cc in
+      line_turned number start depth blank before value after rest one more part valid (all_is ∙ ap Ok all_are)
+      (ap (λ ps. part_of number (path_of kinds.Line (map point_of ps) ps)) (sym all_are) ∙ ap (part_of number) same ∙ made) suit
+  traced_turned traces.Ring number start depth blank no_element part valid is suit = cc
+  traced_turned traces.Ring number start depth blank (element before value after rest) part valid is suit =
+      let here = positions exact (inner_place start blank) (element before value after rest) in
+      let (paths, read, made) = split_then (part_of number) (and_then (ring_of start) here) part is in
+      let (all, all_is, ring) = split_then (ring_of start) here paths read in
+      let (one, more, all_are) = some_all exact (inner_place start blank) before value after rest all all_is in
+      let (closed, same) = closed_ring start all paths ring in
+      let four = closed_some (map point_of all) closed in
+      ring_turned number start depth blank before value after rest one more part valid (all_is ∙ ap Ok all_are) (subst (λ ps. 4 ≤ length (map point_of ps)) all_are four)
+      (ap (λ ps. part_of number (path_of kinds.Loop (take (length (map point_of ps) - 1) (map point_of ps)) ps)) (sym all_are) ∙ ap (part_of number) same ∙ made) suit

@@ -1,0 +1,53 @@
+use Rattle.std.proofs.Common.{◌≡◌, ◌+◌, ◌∷◌, [], length, vec_len, refl, sym, ap, ◌∙◌, arith, length-append}
+use Rattle.std.specs.Prelude.{Ok}
+use Rattle.gj_layer.proofs.There.{node_there, seen}
+use Rattle.gj_layer.proofs.Giving.{passed_on, give_fault}
+use Rattle.gj_layer.proofs.Holding.{held_more, held_first}
+use Rattle.gj_layer.proofs.Tracing.{run_path, dot_traced, dot_refused}
+use Rattle.sheet_base.specs.declared.paths.PathKind.TheVariants.{Dot}
+use Rattle.gj_layer.specs.Standing.{path_part}
+use Rattle.gj_layer.proofs.paths.read_dot.Goals as goal
+
+pub end_path-requires-clause-paths : goal.end_path-requires-clause-paths
+end_path-requires-clause-paths c =
+    let (node, got, s) = node_there c.args.doc.now c.args.bytes.now c.args.value c.requires.read c.requires.node in
+    let room = c.requires.room node got in omega (arith, room.paths)
+
+pub end_path-requires-clause-points : goal.end_path-requires-clause-points
+end_path-requires-clause-points c =
+    let (node, got, s) = node_there c.args.doc.now c.args.bytes.now c.args.value c.requires.read c.requires.node in
+    let room = c.requires.room node got in
+    let size = length-append c.args.pass.now.points.items (c.point_of.result ∷ []) in
+    rw c.in_ok-push.ensures.items (omega (arith, room.points, s.onward, size))
+
+pub end_path-requires-clause-first : goal.end_path-requires-clause-first
+end_path-requires-clause-first c =
+    let (node, got, s) = node_there c.args.doc.now c.args.bytes.now c.args.value c.requires.read c.requires.node in
+    let room = c.requires.room node got in omega (arith, room.points, c.len-first.ensures)
+
+pub end_path-requires-clause-inexact : goal.end_path-requires-clause-inexact
+end_path-requires-clause-inexact c =
+    let (node, got, s) = node_there c.args.doc.now c.args.bytes.now c.args.value c.requires.read c.requires.node in
+    let room = c.requires.room node got in omega (arith, room.inexact, c.lost_of.ensures.few)
+
+pub returns-clause-path : goal.returns-clause-path
+returns-clause-path c start is part h held =
+    let one = c.in_ok-position.position in
+    let number = length part.paths in
+    let path = run_path Dot (c.point_of.result ∷ []) c.lost_of.result one.start one.end in (
+      path_part number path,
+      dot_traced c.args.exact number start is one c.lost_of.result (c.in_ok-position.ensures start is h) c.lost_of.ensures.value
+          ∙ ap (λ p. Ok (path_part number (run_path Dot (p ∷ []) c.lost_of.result one.start one.end))) (sym c.point_of.ensures),
+      c.in_ok-end_path.ensures.holds part (c.point_of.result ∷ []) (held_more c.args.pass.now _ part (c.point_of.result ∷ []) held refl c.in_ok-push.ensures.items refl refl)
+          (let long : vec_len c.args.pass.now.points ≡ length c.args.pass.now.points.items = omega arith in c.len-first.ensures ∙ long ∙ held_first c.args.pass.now part held),
+    )
+
+pub returns-clause-grows : goal.returns-clause-grows
+returns-clause-grows c node got =
+    let s = seen c.args.doc.now c.args.bytes.now c.args.value node c.requires.read c.requires.node got in
+    let size = length-append c.args.pass.now.points.items (c.point_of.result ∷ []) in
+    record {
+      points = rw (c.in_ok-end_path.ensures.points, c.in_ok-push.ensures.items) (omega (arith, size, s.onward));
+      paths = omega (arith, c.in_ok-end_path.ensures.paths, s.onward);
+      inexact = omega (arith, c.in_ok-end_path.ensures.inexact, c.lost_of.ensures.few, s.onward);
+    }

@@ -1,0 +1,16 @@
+use Rattle.std.proofs.Common.{ℕ, ◌+◌, ◌*◌, length}
+use Rattle.std.specs.Prelude.{Result}
+use Rattle.sheet_base.specs.declared.faults.LayerFault.{LayerFault}
+use Rattle.gj_layer.specs.Paths.{Part}
+use Rattle.gj_layer.specs.Standing.{HasRoom}
+use Rattle.gj_layer.specs.Opening.{Going, left_in}
+use Rattle.gj_layer.proofs.reading.read_all.Given as goal
+
+abbrev pub invariant-loop-frame : goal.invariant-loop-frame
+invariant-loop-frame l = record {
+  room : HasRoom l.pass (left_in l.frames);
+  going : (wanted : Result Part LayerFault) → Going l.exact l.doc.nodes l.bytes l.fn.frames l.fn.pass wanted → Going l.exact l.doc.nodes l.bytes l.frames l.pass wanted;
+}
+
+abbrev pub decreases-loop-frame : goal.decreases-loop-frame
+decreases-loop-frame l = 2 * left_in l.frames + length l.frames

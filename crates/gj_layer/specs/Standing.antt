@@ -1,0 +1,85 @@
+-- What stands where in the document that is read, and what the code makes of it. Only private functions speak of it.
+use Rattle.std.specs.Prelude.{◌≡◌, ℕ, ◌+◌, ◌*◌, ◌<◌, ◌≤◌, ◌^◌, List, [], ◌∷◌, ◌++◌, length, map, flat_map, sum_by, Option, Some, None, Result, Ok, Err}
+use Rattle.jtext.specs.Values.{Json, Elements, no_element, element}
+use Rattle.jtext.specs.Nodes.{node_count, element_start, next_place}
+use Rattle.jtext.specs.Places.{Stands}
+use Rattle.jtext.specs.declared.document.Node.{Node}
+use Rattle.plane_base.specs.declared.shapes.Pt.{Pt}
+use Rattle.sheet_base.specs.declared.faults.LayerFault.{LayerFault}
+use Rattle.sheet_base.specs.declared.faults.LayerFault.TheVariants as faults
+use Rattle.gj_layer.specs.declared.positions.Position.{Position}
+use Rattle.gj_layer.specs.declared.positions.Run.{Run}
+use Rattle.gj_layer.specs.declared.pass.Pass.{Pass}
+use Rattle.gj_layer.specs.Members.{Member}
+use Rattle.gj_layer.specs.Positions.{point_of, lost_of}
+use Rattle.gj_layer.specs.Paths.{end_of, Path, Part, joined, rows_from, edit_of, points_in, lost_in}
+
+-- the answer is the value that is wanted, up to the relation, or its fault; want of memory may come always
+abbrev pub Gives : {A B : Type 0} → (A → B → Type 0) → Result A LayerFault → Result B LayerFault → Type 0
+Gives {A} {B} R (Ok one) wanted = (other : B) × (wanted ≡ Ok other) × R one other
+Gives R (Err fault) wanted = (fault ≡ faults.NoMemory → ⊥) → wanted ≡ Err fault
+
+-- the member's value stands at the node of this number, inside the object and before its end
+pub record IsFound (nodes : List Node) (bytes : List ℕ) (object past number : ℕ) (one : Member) : Type 0 where
+  pub stands : Stands nodes bytes number one.start one.value
+  pub inside : object < number
+  pub ends : number + node_count one.value ≤ past
+
+-- the member was found there, or there is none
+abbrev pub AreFound : List Node → List ℕ → ℕ → ℕ → Option ℕ → Option Member → Type 0
+AreFound nodes bytes object past None None = Unit {0}
+AreFound nodes bytes object past (Some number) (Some one) = IsFound nodes bytes object past number one
+AreFound nodes bytes object past found one = ⊥
+
+-- the one member was found, or none, or a second one
+abbrev pub Finds : List Node → List ℕ → ℕ → ℕ → Result (Option ℕ) LayerFault → Result (Option Member) LayerFault → Type 0
+Finds nodes bytes object past (Ok found) wanted = (one : Option Member) × (wanted ≡ Ok one) × AreFound nodes bytes object past found one
+Finds nodes bytes object past (Err fault) wanted = wanted ≡ Err fault
+
+-- these elements stand from the node of this number to before that one
+abbrev pub AreLeft : List Node → List ℕ → ℕ → ℕ → ℕ → Elements → Type 0
+AreLeft nodes bytes at end place no_element = at ≡ end
+AreLeft nodes bytes at end place (element before value after rest) =
+    Stands nodes bytes at (element_start place before) value × AreLeft nodes bytes (at + node_count value) end (next_place (element_start place before) value after) rest
+
+-- from where the first position begins to where the last one ends
+abbrev pub AreFrom : List Position → ℕ → ℕ → Type 0
+AreFrom [] start end = Unit {0}
+AreFrom (one ∷ more) start end = (start ≡ one.start) × (end ≡ end_of one more)
+
+-- the points of the positions were appended, and their run is this
+pub record IsRun (old new : List Pt) (run : Run) (all : List Position) : Type 0 where
+  pub points : new ≡ old ++ map point_of all
+  pub lost : run.lost ≡ sum_by lost_of all
+  pub ends : AreFrom all run.start run.end
+
+-- the sheet so far is this part, with these points behind it
+pub record HoldsMore (pass : Pass) (part : Part) (points : List Pt) : Type 0 where
+  pub paths : pass.paths.items ≡ rows_from 0 part.paths
+  pub points_are : pass.points.items ≡ flat_map points_in part.paths ++ points
+  pub edits : pass.edits.items ≡ part.edits
+  pub inexact : pass.inexact ≡ sum_by lost_in part.paths
+
+-- the sheet so far is this part
+abbrev pub Holds : Pass → Part → Type 0
+Holds pass part = HoldsMore pass part []
+
+-- one path
+abbrev pub path_part : ℕ → Path → Part
+path_part number path = record { paths = path ∷ []; edits = edit_of number path ∷ [] }
+
+-- what is wanted was read behind the part
+abbrev pub Joins : {A : Type 0} → Part → Pass → Result A LayerFault → Result Part LayerFault → Type 0
+Joins {A} part new result wanted = Gives {A = A} (λ done more. Holds new (joined part more)) result wanted
+
+-- there is room for what stands in so many nodes
+pub record HasRoom (pass : Pass) (size : ℕ) : Type 0 where
+  pub points : length pass.points.items + size < 2 ^ 32
+  pub paths : length pass.paths.items + size < 2 ^ 32
+  pub inexact : pass.inexact + 2 * size < 2 ^ 34
+
+-- no more was appended than stands in so many nodes
+pub record Grows (old new : Pass) (size : ℕ) : Type 0 where
+  pub points : length new.points.items ≤ length old.points.items + size
+  pub paths : length new.paths.items ≤ length old.paths.items + size
+  pub inexact : new.inexact ≤ old.inexact + 2 * size

@@ -1,0 +1,11 @@
+ghost use Rattle.std.specs.Prelude.{◌≡◌, ℕ, List, Bool};
+ghost use Rattle.sheet_base.specs.Sheets.{Contents};
+ghost use Rattle.sheet_base.specs.declared.faults.LayerFault.{LayerFault};
+ghost use Rattle.gj_layer.specs.Layers.{IsReadAs, IsRefusedBy};
+
+/// A layer is read as one sheet, or refused by one fault.
+pub fn sheet_is_one()
+    ensures one { (exact : Bool) → (bytes : List ℕ) → (sheet other : Contents) → IsReadAs exact bytes sheet → IsReadAs exact bytes other → sheet ≡ other }
+    ensures apart { (exact : Bool) → (bytes : List ℕ) → (sheet : Contents) → (fault : LayerFault) → IsReadAs exact bytes sheet → IsRefusedBy exact bytes fault → ⊥ }
+    ensures first { (exact : Bool) → (bytes : List ℕ) → (fault other : LayerFault) → IsRefusedBy exact bytes fault → IsRefusedBy exact bytes other → fault ≡ other }
+{}

@@ -1,0 +1,37 @@
+//! The format.
+
+use crate::reading::read;
+use crate::texts::Texts;
+use sheet_base::{How, Images, Layer, LayerFault, Sheet, splice};
+use std::alloc::{AllocError, Global};
+
+/// Layers of GeoJSON.
+pub struct GeoJson;
+
+impl Layer for GeoJson {
+    ghost use Rattle.gj_layer.specs.Layers.{IsReadAs, IsRefusedBy};
+    ghost use Rattle.gj_layer.specs.Texts.{edit_text};
+
+    ghost reads = { λ how bytes sheet. IsReadAs how.exact bytes sheet };
+
+    ghost refuses = { λ how bytes fault. IsRefusedBy how.exact bytes fault };
+
+    ghost text = { λ bytes how sheet images. edit_text sheet images };
+
+    ghost reads_back = { λ how bytes sheet images. Unit {0} };
+
+    fn read(alloc: Global, bytes: &[u8], how: How) -> Result<Sheet, LayerFault> {
+        read(alloc, bytes, how.exact)
+    }
+
+    fn render(
+        alloc: Global,
+        bytes: &[u8],
+        how: How,
+        sheet: &Sheet,
+        images: &Images,
+    ) -> Result<Vec<u8>, AllocError> {
+        let _ = how;
+        splice(alloc, bytes, sheet.edits(), &Texts { sheet, images })
+    }
+}

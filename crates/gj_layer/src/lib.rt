@@ -1,0 +1,20 @@
+//! Layers of GeoJSON (RFC 7946): one object, whose geometries have positions of two numbers in a
+//! plane frame.
+#![tactic(auto)]
+
+mod forms;
+mod frames;
+mod laws;
+mod layer;
+mod nodes;
+mod objects;
+mod pass;
+mod paths;
+mod positions;
+mod reading;
+#[cfg(test)]
+mod tests;
+mod texts;
+
+pub use laws::sheet_is_one;
+pub use layer::GeoJson;

@@ -1,0 +1,154 @@
+//! Coordinates that are one path at most.
+
+ghost use Rattle.std.specs.Prelude.{◌≡◌, ℕ, ◌-◌, ◌<◌, ◌≤◌, [], ◌∷◌, ◌++◌, List, length, slice_get, Some, OnOk};
+ghost use Rattle.jtext.specs.Values.{Json};
+ghost use Rattle.jtext.specs.Places.{IsReadFrom, Stands, HasKind};
+ghost use Rattle.jtext.specs.declared.document.Node.{Node};
+ghost use Rattle.plane_base.specs.declared.shapes.Pt.{Pt};
+ghost use Rattle.gj_layer.specs.Faults.{and_then};
+ghost use Rattle.gj_layer.specs.Paths.{Part, is_same, is_closed, traced, part_of};
+ghost use Rattle.gj_layer.specs.Standing.{Holds, Joins, HasRoom, Grows};
+
+use crate::forms::Trace;
+use crate::nodes::{is_kind, node_at, shape_at};
+use crate::pass::Pass;
+use crate::positions::{Run, lost_of, point_of, read_position, read_positions};
+use jtext::{Doc, Kind};
+use plane_base::Pt;
+use sheet_base::{LayerFault, PathKind};
+
+/// Two points are one.
+fn is_same(p: Pt, q: Pt) -> bool
+    ensures { result ≡ is_same p q }
+{
+    p.x == q.x && p.y == q.y
+}
+
+/// A ring has at least four points, of which the last is the first again.
+fn is_closed(points: &[Pt]) -> bool
+    ensures { result ≡ is_closed points.now }
+{
+    if points.len() < 4 {
+        return false;
+    }
+    is_same(points[0], points[points.len() - 1])
+}
+
+/// Reads a position as a path.
+fn read_dot(
+    pass: &mut Pass,
+    doc: &Doc,
+    bytes: &[u8],
+    value: u32,
+    exact: bool,
+) -> Result<(), LayerFault>
+    requires read { IsReadFrom doc.now bytes.now }
+    requires node { value < length doc.now.nodes }
+    requires room { (node : Node) → slice_get doc.now.nodes value ≡ Some node → HasRoom pass.old (node.next - value) }
+    ensures path { (start : ℕ) (is : Json) (part : Part) → Stands doc.now.nodes bytes.now value start is → Holds pass.old part
+        → Joins part pass.new result (and_then (part_of (length part.paths)) (traced exact Trace.Position start is)) }
+    ensures grows { OnOk result ((node : Node) → slice_get doc.now.nodes value ≡ Some node → Grows pass.old pass.new (node.next - value)) }
+{
+    let position = read_position(doc, bytes, value, exact)?;
+    let first = pass.points.len();
+    pass.points.push(point_of(position))?;
+    let run = Run {
+        start: position.start,
+        end: position.end,
+        lost: lost_of(position),
+    };
+    pass.end_path(PathKind::Dot, first, run)?;
+    Ok(())
+}
+
+/// Reads an array of positions as a path of joined points.
+fn read_line(
+    pass: &mut Pass,
+    doc: &Doc,
+    bytes: &[u8],
+    array: u32,
+    exact: bool,
+) -> Result<(), LayerFault>
+    requires read { IsReadFrom doc.now bytes.now }
+    requires kind { HasKind doc.now.nodes array Kind.Array }
+    requires room { (node : Node) → slice_get doc.now.nodes array ≡ Some node → HasRoom pass.old (node.next - array) }
+    ensures path { (start : ℕ) (is : Json) (part : Part) → Stands doc.now.nodes bytes.now array start is → Holds pass.old part
+        → Joins part pass.new result (and_then (part_of (length part.paths)) (traced exact Trace.Line start is)) }
+    ensures grows { OnOk result ((node : Node) → slice_get doc.now.nodes array ≡ Some node → Grows pass.old pass.new (node.next - array)) }
+{
+    let first = pass.points.len();
+    let run = read_positions(&mut pass.points, doc, bytes, array, exact)?;
+    if first < pass.points.len() {
+        pass.end_path(PathKind::Line, first, run)?;
+    }
+    Ok(())
+}
+
+/// Drops the closing point of a ring.
+fn drop_last(points: &mut Vec<Pt>)
+    ensures front { (front : List Pt) → (last : Pt) → points.old.items ≡ front ++ last ∷ [] → points.new.items ≡ front }
+    ensures few { length points.new.items ≤ length points.old.items }
+{
+    let _ = points.pop();
+}
+
+/// Reads an array of positions as a ring.
+fn read_ring(
+    pass: &mut Pass,
+    doc: &Doc,
+    bytes: &[u8],
+    array: u32,
+    exact: bool,
+) -> Result<(), LayerFault>
+    requires read { IsReadFrom doc.now bytes.now }
+    requires kind { HasKind doc.now.nodes array Kind.Array }
+    requires room { (node : Node) → slice_get doc.now.nodes array ≡ Some node → HasRoom pass.old (node.next - array) }
+    ensures path { (start : ℕ) (is : Json) (part : Part) → Stands doc.now.nodes bytes.now array start is → Holds pass.old part
+        → Joins part pass.new result (and_then (part_of (length part.paths)) (traced exact Trace.Ring start is)) }
+    ensures grows { OnOk result ((node : Node) → slice_get doc.now.nodes array ≡ Some node → Grows pass.old pass.new (node.next - array)) }
+{
+    let first = pass.points.len();
+    let run = read_positions(&mut pass.points, doc, bytes, array, exact)?;
+    if !is_closed(&pass.points[first..]) {
+        return Err(LayerFault::Ring {
+            at: u64::from(node_at(doc, array).start),
+        });
+    }
+    drop_last(&mut pass.points);
+    pass.end_path(PathKind::Loop, first, run)?;
+    Ok(())
+}
+
+/// Reads coordinates that are one path at most.
+pub fn read_path(
+    pass: &mut Pass,
+    doc: &Doc,
+    bytes: &[u8],
+    trace: Trace,
+    value: u32,
+    exact: bool,
+) -> Result<(), LayerFault>
+    requires read { IsReadFrom doc.now bytes.now }
+    requires node { value < length doc.now.nodes }
+    requires room { (node : Node) → slice_get doc.now.nodes value ≡ Some node → HasRoom pass.old (node.next - value) }
+    ensures path { (start : ℕ) (is : Json) (part : Part) → Stands doc.now.nodes bytes.now value start is → Holds pass.old part
+        → Joins part pass.new result (and_then (part_of (length part.paths)) (traced exact trace start is)) }
+    ensures grows { OnOk result ((node : Node) → slice_get doc.now.nodes value ≡ Some node → Grows pass.old pass.new (node.next - value)) }
+{
+    let node = node_at(doc, value);
+    if !is_kind(node, Kind::Array) {
+        return Err(shape_at(node));
+    }
+    match trace {
+        Trace::Point => {
+            if node.next > value + 1 {
+                read_dot(pass, doc, bytes, value, exact)
+            } else {
+                Ok(())
+            }
+        }
+        Trace::Position => read_dot(pass, doc, bytes, value, exact),
+        Trace::Line => read_line(pass, doc, bytes, value, exact),
+        Trace::Ring => read_ring(pass, doc, bytes, value, exact),
+    }
+}

@@ -1,0 +1,269 @@
+//! The texts that take the place of edits.
+
+ghost use Rattle.std.specs.Prelude.{◌≡◌, ◌-◌, ◌++◌, ◌∷◌, [], List, Option, length, take, drop, codes, flat_map, OnOk};
+ghost use Rattle.mm_decimal.specs.Writing.{written};
+ghost use Rattle.plane_base.specs.declared.shapes.Rect.{Rect};
+ghost use Rattle.sheet_base.specs.Fitting.{run_begin};
+ghost use Rattle.std.specs.Int.{int_min, int_max};
+ghost use Rattle.gj_layer.specs.Texts.{pair_text, image_text, texts_behind, list_text, ring_text, row_images, path_images, box_of, widened, box_text, bounds_text, edit_text};
+ghost use Rattle.gj_layer.specs.Boxes.{widened_by, bounded_text};
+
+use mm_decimal::write_mm;
+use plane_base::{Pt, Rect};
+use sheet_base::{Edit, EditTexts, Images, PathRow, Sheet, What};
+use std::alloc::AllocError;
+
+/// No image is longer, in bytes, with its brackets and commas.
+const IMAGE_ROOM: usize = 52;
+
+/// The images of a layer, as texts.
+#[derive(Clone, Copy)]
+pub struct Texts<'a> {
+    pub sheet: &'a Sheet,
+    pub images: &'a Images,
+}
+
+/// Appends a number of millimetres as metres.
+fn push_mm(out: &mut Vec<u8>, mm: i64) -> Result<(), AllocError>
+    ensures { OnOk result (out.new.items ≡ out.old.items ++ written mm) }
+{
+    let mut digits = [0; 24];
+    let count = write_mm(mm, &mut digits);
+    out.extend_from_slice(&digits[..count])?;
+    Ok(())
+}
+
+/// Appends two numbers of millimetres as metres, with a comma between them.
+fn push_pair(out: &mut Vec<u8>, x: i64, y: i64) -> Result<(), AllocError>
+    ensures { OnOk result (out.new.items ≡ out.old.items ++ pair_text x y) }
+{
+    push_mm(out, x)?;
+    out.push(b',')?;
+    push_mm(out, y)?;
+    Ok(())
+}
+
+/// Appends an image as a position.
+fn push_image(out: &mut Vec<u8>, image: Pt) -> Result<(), AllocError>
+    ensures { OnOk result (out.new.items ≡ out.old.items ++ image_text image) }
+{
+    out.push(b'[')?;
+    push_pair(out, image.x, image.y)?;
+    out.push(b']')?;
+    Ok(())
+}
+
+/// Appends images, each behind a comma.
+fn push_behind(out: &mut Vec<u8>, images: &[Pt]) -> Result<(), AllocError>
+    ensures { OnOk result (out.new.items ≡ out.old.items ++ texts_behind images.now) }
+{
+    for image in images {
+        out.push(b',')?;
+        push_image(out, *image)?;
+    }
+    Ok(())
+}
+
+/// Appends images with a comma between them.
+fn push_list(out: &mut Vec<u8>, images: &[Pt]) -> Result<(), AllocError>
+    ensures { OnOk result (out.new.items ≡ out.old.items ++ list_text images.now) }
+{
+    match images {
+        [image, more @ ..] => {
+            push_image(out, *image)?;
+            push_behind(out, more)?;
+            Ok(())
+        }
+        [] => Ok(()),
+    }
+}
+
+/// Appends images with a comma between them, and the first one again.
+fn push_ring(out: &mut Vec<u8>, images: &[Pt]) -> Result<(), AllocError>
+    ensures { OnOk result (out.new.items ≡ out.old.items ++ ring_text images.now) }
+{
+    match images {
+        [image, more @ ..] => {
+            push_image(out, *image)?;
+            push_behind(out, more)?;
+            push_behind(out, &[*image])?;
+            Ok(())
+        }
+        [] => Ok(()),
+    }
+}
+
+/// Appends a box.
+fn push_box(out: &mut Vec<u8>, bounds: Rect) -> Result<(), AllocError>
+    ensures { OnOk result (out.new.items ≡ out.old.items ++ box_text bounds) }
+{
+    out.push(b'[')?;
+    push_pair(out, bounds.x0, bounds.y0)?;
+    out.push(b',')?;
+    push_pair(out, bounds.x1, bounds.y1)?;
+    out.push(b']')?;
+    Ok(())
+}
+
+/// Appends a box, or null.
+fn push_bounds(out: &mut Vec<u8>, bounds: Option<Rect>) -> Result<(), AllocError>
+    ensures { OnOk result (out.new.items ≡ out.old.items ++ bounded_text bounds) }
+{
+    match bounds {
+        Some(bounds) => push_box(out, bounds),
+        None => push_null(out),
+    }
+}
+
+/// Appends the word null.
+fn push_null(out: &mut Vec<u8>) -> Result<(), AllocError>
+    ensures { OnOk result (out.new.items ≡ out.old.items ++ codes "null") }
+{
+    out.extend_from_slice(b"null")?;
+    Ok(())
+}
+
+/// Where the run of this point begins among the images; behind the last point, where they end.
+fn run_begin(images: &Images, point: u32) -> usize
+    ensures { result ≡ run_begin images.now point }
+{
+    match images.run().get(point as usize) {
+        Some(place) => *place as usize,
+        None => images.points().len(),
+    }
+}
+
+/// The members of a list from this place to before that one, as far as there are some.
+fn part<T>(items: &[T], from: usize, past: usize) -> &[T]
+    ensures { result.now ≡ take (past - from) (drop from items.now) }
+{
+    let past = if past < items.len() {
+        past
+    } else {
+        items.len()
+    };
+    if from < past {
+        &items[from..past]
+    } else {
+        &items[..0]
+    }
+}
+
+/// The images of a path of this row.
+fn row_images<'a>(images: &'a Images, row: PathRow) -> &'a [Pt]
+    ensures { result.now ≡ row_images images.now row }
+{
+    let from = run_begin(images, row.first);
+    let past = run_begin(images, row.past);
+    part(images.points(), from, past)
+}
+
+/// The images of a path.
+fn path_images<'a>(sheet: &Sheet, images: &'a Images, path: u32) -> &'a [Pt]
+    ensures { result.now ≡ path_images sheet.now.paths images.now path }
+{
+    match sheet.paths().get(path as usize) {
+        Some(row) => row_images(images, *row),
+        None => &images.points()[..0],
+    }
+}
+
+/// The lesser of two numbers.
+fn least(one: i64, other: i64) -> i64
+    ensures { result ≡ int_min one other }
+{
+    if other < one { other } else { one }
+}
+
+/// The greater of two numbers.
+fn greatest(one: i64, other: i64) -> i64
+    ensures { result ≡ int_max one other }
+{
+    if other < one { one } else { other }
+}
+
+/// The least box with this one and the image.
+fn widened(bounds: Rect, image: Pt) -> Rect
+    ensures { result ≡ widened bounds image }
+{
+    Rect {
+        x0: least(bounds.x0, image.x),
+        y0: least(bounds.y0, image.y),
+        x1: greatest(bounds.x1, image.x),
+        y1: greatest(bounds.y1, image.y),
+    }
+}
+
+/// The image as a box.
+fn box_of(image: Pt) -> Rect
+    ensures { result ≡ box_of image }
+{
+    Rect {
+        x0: image.x,
+        y0: image.y,
+        x1: image.x,
+        y1: image.y,
+    }
+}
+
+/// The least box with this one, if any, and the image.
+fn widen(bounds: Option<Rect>, image: Pt) -> Rect
+    ensures { Option.Some result ≡ widened_by bounds (image ∷ []) }
+{
+    match bounds {
+        None => box_of(image),
+        Some(bounds) => widened(bounds, image),
+    }
+}
+
+/// The least box with this one, if any, and the images.
+fn widen_by(bounds: Option<Rect>, images: &[Pt]) -> Option<Rect>
+    ensures { result ≡ widened_by bounds images.now }
+{
+    let mut bounds = bounds;
+    for image in images {
+        bounds = Some(widen(bounds, *image));
+    }
+    bounds
+}
+
+/// The least box of the images of these paths.
+fn bounds_of(images: &Images, rows: &[PathRow]) -> Option<Rect>
+    ensures { bounded_text result ≡ bounds_text (flat_map (row_images images.now) rows.now) }
+{
+    let mut bounds = None;
+    for row in rows {
+        bounds = widen_by(bounds, row_images(images, *row));
+    }
+    bounds
+}
+
+impl<'a> EditTexts for Texts<'a> {
+    ghost text = { λ texts. edit_text texts.sheet.now texts.images.now };
+
+    fn room(&self, edit: Edit) -> usize {
+        let path = match edit.what {
+            What::GeoList { path } => path,
+            What::GeoRing { path } => path,
+            _ => return 2 * IMAGE_ROOM,
+        };
+        let images = path_images(self.sheet, self.images, path);
+        images.len().saturating_add(1).saturating_mul(IMAGE_ROOM)
+    }
+
+    fn push(&self, edit: Edit, out: &mut Vec<u8>) -> Result<(), AllocError> {
+        match edit.what {
+            What::GeoList { path } => push_list(out, path_images(self.sheet, self.images, path)),
+            What::GeoRing { path } => push_ring(out, path_images(self.sheet, self.images, path)),
+            What::Bounds { first, past } => push_bounds(
+                out,
+                bounds_of(
+                    self.images,
+                    part(self.sheet.paths(), first as usize, past as usize),
+                ),
+            ),
+            What::Null => push_null(out),
+            _ => Ok(()),
+        }
+    }
+}
