@@ -20,6 +20,7 @@ use Rattle.affine_image.proofs.Reach.{rounded_images_are_near}
 use Rattle.meet_rel.proofs.Scale.{mix_first, mix_last}
 use Rattle.topo_check.specs.Changes.{AreComparable, AreAllComparable, AreAllInside}
 use Rattle.carry_map.specs.declared.layers.Carried.{Carried}
+use Rattle.tinmove.specs.declared.formats.Format.{Format}
 use Rattle.tinmove.specs.Carrying.{IsCarried}
 
 -- both ends of the piece's segment are in source triangles
@@ -80,12 +81,12 @@ pieces_are_comparable tin layer sheet pieces limits inside are i d h j e k =
     compared tin (slice_index_or pieces i d) (slice_index_or pieces j e) limits (imaged i d h) (imaged j e k) (within i d h) (within j e k)
 
 -- the pieces of a layer that is carried
-pub carried_are_inside : (tin : Triangulation) (text : List ℕ) (pieces : List Piece) (carried : Carried) → IsCarried tin text pieces carried → AreAllInside tin pieces
-carried_are_inside tin text pieces carried is =
+pub carried_are_inside : (tin : Triangulation) (format : Format) (text : List ℕ) (pieces : List Piece) (carried : Carried) → IsCarried tin format text pieces carried → AreAllInside tin pieces
+carried_are_inside tin format text pieces carried is =
     let layer = is.layer in
     subst (λ (ps : List Piece). AreAllInside tin ps) (sym layer.stand) (pieces_are_inside tin 0 layer.sheet layer.own layer.inside layer.are_pieces)
 
-pub carried_are_comparable : (tin : Triangulation) (text : List ℕ) (pieces : List Piece) (carried : Carried) → IsWithinLimits tin → IsCarried tin text pieces carried → AreAllComparable tin pieces
-carried_are_comparable tin text pieces carried limits is =
+pub carried_are_comparable : (tin : Triangulation) (format : Format) (text : List ℕ) (pieces : List Piece) (carried : Carried) → IsWithinLimits tin → IsCarried tin format text pieces carried → AreAllComparable tin pieces
+carried_are_comparable tin format text pieces carried limits is =
     let layer = is.layer in
     subst (λ (ps : List Piece). AreAllComparable tin ps) (sym layer.stand) (pieces_are_comparable tin 0 layer.sheet layer.own limits layer.inside layer.are_pieces)

@@ -19,9 +19,11 @@ use Rattle.tinmove.specs.Refusals.{status_of}
 use Rattle.tinmove.specs.Outcome.{IsMigrated, row_of, report_of, Refuses, HasOutcome, no_job, refused, done}
 use Rattle.tinmove.specs.Ends.{Ends, by_outcome, after_read_fault, out_of_memory, made_whole, after_write_fault, EndsTold}
 use Rattle.tinmove.specs.Kept.{GivesPieces, HasWritten, AreAllAndOnly, KeepsRelations}
-use Rattle.carry_map.specs.Layers.{IsReadAsPieces}
+use Rattle.carry_map.specs.Layers.{IsBackAsPieces}
 use Rattle.tinmove.specs.Names.{IsNameIn}
 use Rattle.tinmove.specs.Carrying.{IsLayerText}
+use Rattle.tinmove.specs.LayerTexts.{reads_back_of}
+use Rattle.tinmove.specs.Triangulations.{plain}
 use Rattle.tinmove.proofs.Faults.{IsOfTin, refused as refused_tin, limited, wanted, of_text, of_check, IsOfLayer, unread, without_room, of_layer}
 use Rattle.tinmove.proofs.OneOutcome.{job_one}
 use Rattle.tinmove.proofs.Keeping.{all_and_only, all_keep}
@@ -58,17 +60,18 @@ in_second : (name text said : List ℕ) (whole : Files) (made : Option Files) �
 in_second name text said whole None is two = tt
 in_second name text said whole (Some made) is two = rw (is, two) (1, lit< tt, refl)
 
-in_first : (carriage : Carriage) (pieces : List Piece) (name text said : List ℕ) (whole : Files) (made : Option Files) → IfSome made (λ files. files ≡ whole) → whole ≡ (name, text) ∷ (codes "-", said) ∷ []
-    → IsNameIn carriage.out carriage.layer name → IsReadAsPieces IsLayerText text pieces → IfSome made (HasWritten carriage pieces)
-in_first carriage pieces name text said whole None is two named back = tt
-in_first carriage pieces name text said whole (Some made) is two named back = (name, text, named, rw (is, two) (0, lit< tt, refl), back)
+in_first : (carriage : Carriage) (tin : Triangulation) (bytes : List ℕ) (pieces : List Piece) (name text said : List ℕ) (whole : Files) (made : Option Files) → IfSome made (λ files. files ≡ whole) → whole ≡ (name, text) ∷ (codes "-", said) ∷ []
+    → IsNameIn carriage.out carriage.layer name → IsBackAsPieces tin bytes (IsLayerText carriage.format) (reads_back_of carriage.format plain bytes) text pieces → IfSome made (HasWritten carriage tin bytes pieces)
+in_first carriage tin bytes pieces name text said whole None is two named back = tt
+in_first carriage tin bytes pieces name text said whole (Some made) is two named back = (name, text, named, rw (is, two) (0, lit< tt, refl), back)
 
-keeps_with : (files : Files) (carriage : Carriage) (tin : Triangulation) (sheet : Contents) (pieces : List Piece) (changes : List Change) (report : Report) (made : Option Files)
-    → GivesPieces files carriage tin sheet pieces → IfSome made (HasWritten carriage pieces) → AreChanges tin pieces changes → report.changes ≡ changes → IfSome made (λ files. Contains files (codes "-", report_text report))
+keeps_with : (files : Files) (carriage : Carriage) (tin : Triangulation) (bytes : List ℕ) (sheet : Contents) (pieces : List Piece) (changes : List Change) (report : Report) (made : Option Files)
+    → GivesPieces files carriage tin bytes sheet pieces → IfSome made (HasWritten carriage tin bytes pieces) → AreChanges tin pieces changes → report.changes ≡ changes → IfSome made (λ files. Contains files (codes "-", report_text report))
     → KeepsRelations files carriage (end_with changes) made
-keeps_with files carriage tin sheet pieces [] report made gives written are same there = (tin, sheet, pieces, gives, written, all_keep tin pieces are)
-keeps_with files carriage tin sheet pieces (change ∷ changes) report made gives written are same there = (
+keeps_with files carriage tin bytes sheet pieces [] report made gives written are same there = (tin, bytes, sheet, pieces, gives, written, all_keep tin pieces are)
+keeps_with files carriage tin bytes sheet pieces (change ∷ changes) report made gives written are same there = (
   tin,
+  bytes,
   sheet,
   pieces,
   gives,
@@ -86,15 +89,14 @@ migrated_keeps files carriage status whole made same is =
     let listed = is.are_listed in
     let carried = is.is_carried in
     let layer = carried.layer in
-    let report = report_of carriage.tin is.tin (row_of carriage.layer is.carried ∷ []) is.changes in
+    let report = report_of carriage.tin is.tin (row_of carriage.layer carriage.format is.carried ∷ []) is.changes in
     subst (λ (s : Status). KeepsRelations files carriage s made) (sym is.status_is)
-    (keeps_with files carriage is.tin layer.sheet is.pieces is.changes report made (record {
-      bytes = is.bytes;
+    (keeps_with files carriage is.tin is.bytes layer.sheet is.pieces is.changes report made (record {
       layer = is.layer;
       read = layer.read;
       inside = layer.inside;
       are_pieces = (layer.own, [], layer.stand ∙ sym (append-nil layer.own), layer.are_pieces, refl);
-    }) (in_first carriage is.pieces is.name _ (report_text report) whole made same is.made_is is.named carried.back) listed.are_changes refl (in_second is.name _ (report_text report) whole made same is.made_is))
+    }) (in_first carriage is.tin is.bytes is.pieces is.name _ (report_text report) whole made same is.made_is is.named carried.back) listed.are_changes refl (in_second is.name _ (report_text report) whole made same is.made_is))
 
 outcome_keeps : (words : List (List ℕ)) (files : Files) (carriage : Carriage) (status : Status) (whole : Files) (made : Option Files) → IsMigration words carriage → IfSome made (λ files. files ≡ whole)
     → HasOutcome words files status whole → KeepsRelations files carriage status made

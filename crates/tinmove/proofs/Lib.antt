@@ -4,8 +4,8 @@ pub mod Readied
 pub mod Uncarried
 pub mod Fronts
 pub mod Ending
-pub mod OneFault
 pub mod OneCut
+pub mod OneReading
 pub mod OnePieces
 pub mod OneCarried
 pub mod Comparable
@@ -14,3 +14,4 @@ pub mod Keeping
 pub mod KeptRuns
 pub mod MadeRows
 pub mod MadeExamples
+pub mod FormatExamples

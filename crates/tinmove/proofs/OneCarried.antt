@@ -1,5 +1,5 @@
 -- A layer is read and carried in one way, and there is one first segment that is outside or passes the limit.
-use Rattle.std.proofs.Common.{◌≡◌, ℕ, ◌+◌, ◌-◌, ◌<◌, ◌≤◌, pos, ◌<ℤ◌, Option, Some, None, List, [], ◌∷◌, ◌++◌, length, length-append, false, refl, sym, ◌∙◌, ap, ap₂, subst, arith}
+use Rattle.std.proofs.Common.{◌≡◌, ℕ, ◌+◌, ◌-◌, ◌<◌, ◌≤◌, pos, ◌<ℤ◌, Option, Some, None, List, [], ◌∷◌, ◌++◌, length, length-append, refl, sym, ◌∙◌, ap, ap₂, subst, arith}
 use lib.Signed.{lt_z_yes}
 use Rattle.plane_base.specs.Plane.{whole}
 use Rattle.plane_base.specs.declared.shapes.Pt.{Pt}
@@ -19,9 +19,11 @@ use Rattle.affine_image.proofs.Told.{told_length}
 use Rattle.carry_map.specs.Causes.{IsFirstOutside, IsFirstTooMany}
 use Rattle.carry_map.specs.declared.layers.Carried.{Carried}
 use Rattle.carry_map.specs.declared.limits.TheConstants.{MOST_PIECES}
-use Rattle.wkt_layer.specs.Texts.{edit_text}
-use Rattle.wkt_layer.proofs.OneSheet.{sheet_one, sheet_apart}
+use Rattle.tinmove.specs.declared.formats.Format.{Format}
+use Rattle.tinmove.specs.LayerTexts.{text_of}
+use Rattle.tinmove.specs.Triangulations.{plain}
 use Rattle.tinmove.specs.Carrying.{IsLayerText, LacksLayerText, IsCarried, IsOutside, HasTooMany}
+use Rattle.tinmove.proofs.OneReading.{sheet_one, sheet_apart}
 use Rattle.tinmove.proofs.OneCut.{cut_alike, alike_length, ends_one}
 use Rattle.tinmove.proofs.OnePieces.{pieces_one}
 
@@ -143,20 +145,20 @@ images_one tin sheet images pictures sound is too =
 
 -- ---- the layer
 -- two readings of a text, of one sheet
-same_sheet : (text : List ℕ) (sheet other : Contents) → IsLayerText text sheet → IsLayerText text other → sheet ≡ other
-same_sheet text sheet other is too = sheet_one false text sheet other is too
+same_sheet : (format : Format) (text : List ℕ) (sheet other : Contents) → IsLayerText format text sheet → IsLayerText format text other → sheet ≡ other
+same_sheet format text sheet other is too = sheet_one format text sheet other is too
 
-pub lacks_outside : (tin : Triangulation) (text : List ℕ) (fault : LayerFault) (path number : ℕ) → LacksLayerText text fault → IsOutside tin text path number → ⊥
-lacks_outside tin text fault path number lacks (sheet, reads, is) = sheet_apart false text sheet fault reads lacks
+pub lacks_outside : (tin : Triangulation) (format : Format) (text : List ℕ) (fault : LayerFault) (path number : ℕ) → LacksLayerText format text fault → IsOutside tin format text path number → ⊥
+lacks_outside tin format text fault path number lacks (sheet, reads, is) = sheet_apart format text sheet fault reads lacks
 
-pub lacks_many : (tin : Triangulation) (text : List ℕ) (fault : LayerFault) → LacksLayerText text fault → HasTooMany tin text → ⊥
-lacks_many tin text fault lacks (sheet, reads, is) = sheet_apart false text sheet fault reads lacks
+pub lacks_many : (tin : Triangulation) (format : Format) (text : List ℕ) (fault : LayerFault) → LacksLayerText format text fault → HasTooMany tin format text → ⊥
+lacks_many tin format text fault lacks (sheet, reads, is) = sheet_apart format text sheet fault reads lacks
 
-pub lacks_carried : (tin : Triangulation) (text : List ℕ) (fault : LayerFault) (pieces : List Piece) (carried : Carried) → LacksLayerText text fault → IsCarried tin text pieces carried → ⊥
-lacks_carried tin text fault pieces carried lacks is = let layer = is.layer in sheet_apart false text layer.sheet fault layer.read lacks
+pub lacks_carried : (tin : Triangulation) (format : Format) (text : List ℕ) (fault : LayerFault) (pieces : List Piece) (carried : Carried) → LacksLayerText format text fault → IsCarried tin format text pieces carried → ⊥
+lacks_carried tin format text fault pieces carried lacks is = let layer = is.layer in sheet_apart format text layer.sheet fault layer.read lacks
 
-pub outside_one : (tin : Triangulation) (text : List ℕ) (path number way count : ℕ) → IsOutside tin text path number → IsOutside tin text way count → (path ≡ way) × (number ≡ count)
-outside_one tin text path number way count (sheet, reads, is) (other, reads_too, too) = go (rw (same_sheet text sheet other reads reads_too) at is) too
+pub outside_one : (tin : Triangulation) (format : Format) (text : List ℕ) (path number way count : ℕ) → IsOutside tin format text path number → IsOutside tin format text way count → (path ≡ way) × (number ≡ count)
+outside_one tin format text path number way count (sheet, reads, is) (other, reads_too, too) = go (rw (same_sheet format text sheet other reads reads_too) at is) too
   where
     go : IsFirstOutside tin 0 0 MOST_PIECES (sheet_segments other) path number → IsFirstOutside tin 0 0 MOST_PIECES (sheet_segments other) way count → (path ≡ way) × (number ≡ count)
     go x y =
@@ -171,8 +173,8 @@ bare m n h = omega arith
 bare_many : (n m k : ℕ) → n < 0 + m + k → n < m + k
 bare_many n m k h = omega arith
 
-pub outside_many : (tin : Triangulation) (text : List ℕ) (path number : ℕ) → IsOutside tin text path number → HasTooMany tin text → ⊥
-outside_many tin text path number (sheet, reads, is) (other, reads_too, too) = go (rw (same_sheet text sheet other reads reads_too) at is) too
+pub outside_many : (tin : Triangulation) (format : Format) (text : List ℕ) (path number : ℕ) → IsOutside tin format text path number → HasTooMany tin format text → ⊥
+outside_many tin format text path number (sheet, reads, is) (other, reads_too, too) = go (rw (same_sheet format text sheet other reads reads_too) at is) too
   where
     go : IsFirstOutside tin 0 0 MOST_PIECES (sheet_segments other) path number → IsFirstTooMany tin 0 0 MOST_PIECES (sheet_segments other) → ⊥
     go x y =
@@ -182,10 +184,10 @@ outside_many tin text path number (sheet, reads, is) (other, reads_too, too) = g
         (total_of tin 0 p.before room.pieces room.are) (total_of tin 0 q.before room'.pieces room'.are) (y.parts, y.cut, refl) x.outside y.inside
         (bare (length room.pieces) MOST_PIECES room.room) (bare_many MOST_PIECES (length room'.pieces) (length y.parts) y.full) (sym p.stands ∙ q.stands)
 
-pub outside_carried : (tin : Triangulation) (text : List ℕ) (path number : ℕ) (pieces : List Piece) (carried : Carried) → IsOutside tin text path number → IsCarried tin text pieces carried → ⊥
-outside_carried tin text path number pieces carried (sheet, reads, is) done =
+pub outside_carried : (tin : Triangulation) (format : Format) (text : List ℕ) (path number : ℕ) (pieces : List Piece) (carried : Carried) → IsOutside tin format text path number → IsCarried tin format text pieces carried → ⊥
+outside_carried tin format text path number pieces carried (sheet, reads, is) done =
     let layer = done.layer in
-    go (sheet_segments layer.sheet) (rw (same_sheet text sheet layer.sheet reads layer.read) at is) layer.inside
+    go (sheet_segments layer.sheet) (rw (same_sheet format text sheet layer.sheet reads layer.read) at is) layer.inside
   where
     go : (segments : List Segment) → IsFirstOutside tin 0 0 MOST_PIECES segments path number → AreInside tin segments → ⊥
     go segments x inside =
@@ -195,10 +197,10 @@ outside_carried tin text path number pieces carried (sheet, reads, is) done =
 too_few : (n m k t : ℕ) → n < 0 + m + k → m + k ≤ t → t ≤ n → ⊥
 too_few n m k t g h i = absurd (omega arith)
 
-pub many_carried : (tin : Triangulation) (text : List ℕ) (pieces : List Piece) (carried : Carried) → HasTooMany tin text → IsCarried tin text pieces carried → ⊥
-many_carried tin text pieces carried (sheet, reads, is) done =
+pub many_carried : (tin : Triangulation) (format : Format) (text : List ℕ) (pieces : List Piece) (carried : Carried) → HasTooMany tin format text → IsCarried tin format text pieces carried → ⊥
+many_carried tin format text pieces carried (sheet, reads, is) done =
     let layer = done.layer in
-    go (sheet_segments layer.sheet) layer.own (rw (same_sheet text sheet layer.sheet reads layer.read) at is) layer.are_pieces (subst (λ (ps : List Piece). length ps ≤ MOST_PIECES) layer.stand done.few)
+    go (sheet_segments layer.sheet) layer.own (rw (same_sheet format text sheet layer.sheet reads layer.read) at is) layer.are_pieces (subst (λ (ps : List Piece). length ps ≤ MOST_PIECES) layer.stand done.few)
   where
     go : (segments : List Segment) (own : List Piece) → IsFirstTooMany tin 0 0 MOST_PIECES segments → ArePiecesOfAll tin 0 segments own → length own ≤ MOST_PIECES → ⊥
     go segments own x are few =
@@ -209,9 +211,9 @@ many_carried tin text pieces carried (sheet, reads, is) done =
         too_few MOST_PIECES (length room.pieces) (length x.parts) (length own) x.full up few
 
 -- what a carried layer is, by its sheet, its images and how many pieces it has
-abbrev carried_of : List ℕ → Contents → Runs → ℕ → Carried
-carried_of text sheet images total = record {
-  text = spliced text (edit_text sheet images) sheet.edits;
+abbrev carried_of : Format → List ℕ → Contents → Runs → ℕ → Carried
+carried_of format text sheet images total = record {
+  text = spliced text (text_of format text plain sheet images) sheet.edits;
   paths = length sheet.paths;
   segments = length (sheet_segments sheet);
   pieces = total;
@@ -231,27 +233,27 @@ six c d text paths segments pieces inexact dropped =
     ∙ (ap (λ n. six_of d.text d.paths d.segments d.pieces n c.dropped) inexact
     ∙ ap (λ n. six_of d.text d.paths d.segments d.pieces d.inexact n) dropped))))
 
-is_carried_of : (tin : Triangulation) (text : List ℕ) (pieces : List Piece) (carried : Carried) (is : IsCarried tin text pieces carried)
-    → (let layer = is.layer in carried ≡ carried_of text layer.sheet layer.images (length layer.own))
-is_carried_of tin text pieces carried is = let layer = is.layer in six carried _ layer.text_is layer.paths layer.segments layer.pieces layer.inexact layer.dropped
+is_carried_of : (tin : Triangulation) (format : Format) (text : List ℕ) (pieces : List Piece) (carried : Carried) (is : IsCarried tin format text pieces carried)
+    → (let layer = is.layer in carried ≡ carried_of format text layer.sheet layer.images (length layer.own))
+is_carried_of tin format text pieces carried is = let layer = is.layer in six carried _ layer.text_is layer.paths layer.segments layer.pieces layer.inexact layer.dropped
 
-pub carried_one : (tin : Triangulation) (text : List ℕ) (pieces others : List Piece) (carried other : Carried) → IsSound tin → IsCarried tin text pieces carried → IsCarried tin text others other → carried ≡ other
-carried_one tin text pieces others carried other sound is too =
+pub carried_one : (tin : Triangulation) (format : Format) (text : List ℕ) (pieces others : List Piece) (carried other : Carried) → IsSound tin → IsCarried tin format text pieces carried → IsCarried tin format text others other → carried ≡ other
+carried_one tin format text pieces others carried other sound is too =
     let x = is.layer in let y = too.layer in
-    let sheets : x.sheet ≡ y.sheet = same_sheet text x.sheet y.sheet x.read y.read in
+    let sheets : x.sheet ≡ y.sheet = same_sheet format text x.sheet y.sheet x.read y.read in
     let images : x.images ≡ y.images = images_one tin y.sheet x.images y.images sound (subst (λ (s : Contents). AreImagesOf tin s x.images) sheets x.are_images) y.are_images in
     let totals : length x.own ≡ length y.own =
     total_one tin (sheet_segments y.sheet) (length x.own) (length y.own)
     (subst (λ (s : Contents). HaveTotal tin (sheet_segments s) (length x.own)) sheets (total_of tin 0 (sheet_segments x.sheet) x.own x.are_pieces))
     (total_of tin 0 (sheet_segments y.sheet) y.own y.are_pieces) in
-    is_carried_of tin text pieces carried is
-    ∙ (ap (λ (s : Contents). carried_of text s x.images (length x.own)) sheets
-    ∙ (ap (λ (r : Runs). carried_of text y.sheet r (length x.own)) images
-    ∙ (ap (λ (n : ℕ). carried_of text y.sheet y.images n) totals ∙ sym (is_carried_of tin text others other too))))
+    is_carried_of tin format text pieces carried is
+    ∙ (ap (λ (s : Contents). carried_of format text s x.images (length x.own)) sheets
+    ∙ (ap (λ (r : Runs). carried_of format text y.sheet r (length x.own)) images
+    ∙ (ap (λ (n : ℕ). carried_of format text y.sheet y.images n) totals ∙ sym (is_carried_of tin format text others other too))))
 
 -- and into the same pieces
-pub carried_pieces_one : (tin : Triangulation) (text : List ℕ) (pieces others : List Piece) (carried other : Carried) → IsSound tin → IsCarried tin text pieces carried → IsCarried tin text others other → pieces ≡ others
-carried_pieces_one tin text pieces others carried other sound is too =
+pub carried_pieces_one : (tin : Triangulation) (format : Format) (text : List ℕ) (pieces others : List Piece) (carried other : Carried) → IsSound tin → IsCarried tin format text pieces carried → IsCarried tin format text others other → pieces ≡ others
+carried_pieces_one tin format text pieces others carried other sound is too =
     let x = is.layer in let y = too.layer in
-    let sheets : x.sheet ≡ y.sheet = same_sheet text x.sheet y.sheet x.read y.read in
+    let sheets : x.sheet ≡ y.sheet = same_sheet format text x.sheet y.sheet x.read y.read in
     x.stand ∙ (pieces_one tin 0 (sheet_segments y.sheet) x.own y.own sound (subst (λ (s : Contents). ArePiecesOfAll tin 0 (sheet_segments s) x.own) sheets x.are_pieces) y.are_pieces ∙ sym y.stand)

@@ -1,5 +1,5 @@
 -- A run has one outcome.
-use Rattle.std.proofs.Common.{◌≡◌, ◌≢◌, ◌⊎◌, inl, inr, ℕ, ◌<◌, ◌≤◌, List, [], ◌∷◌, ◌++◌, None, Result, Ok, Err, false, length, codes, refl, sym, ◌∙◌, ap, ap₂, subst, arith}
+use Rattle.std.proofs.Common.{◌≡◌, ◌≢◌, ◌⊎◌, inl, inr, ℕ, ◌<◌, ◌≤◌, List, [], ◌∷◌, ◌++◌, None, Some, Result, Ok, Err, length, codes, refl, sym, ◌∙◌, ap, ap₂, subst, arith}
 use Rattle.std.specs.List.{AllByRecursion}
 use Rattle.std.proofs.lemmas.Option.{none-some, same_Some}
 use Rattle.shelf_io.specs.Files.{Files, bytes_of}
@@ -22,7 +22,9 @@ use Rattle.tinmove.specs.declared.status.Status.{Status}
 use Rattle.tinmove.specs.declared.status.Status.TheVariants.{Same}
 use Rattle.tinmove.specs.declared.refusal.Refusal.{Refusal}
 use Rattle.tinmove.specs.declared.refusal.Refusal.TheVariants.{NotUnderstood, TinUnread, TinLong, Tin, Check, LayerUnread, LayerLong, Layer, Outside, TooManyPieces, TooManyChanges}
+use Rattle.tinmove.specs.declared.formats.Format.{Format}
 use Rattle.tinmove.specs.Names.{EndsWith, IsLastPart, IsNameIn}
+use Rattle.tinmove.specs.Formats.{format_of}
 use Rattle.tinmove.specs.Jobs.{Carriage, Job, migrates, checks, IsJob, LacksJob}
 use Rattle.tinmove.specs.Triangulations.{plain, IsTin, LacksTin, IsUnsound}
 use Rattle.tinmove.specs.Carrying.{LacksLayerText, IsCarried, IsOutside, HasTooMany}
@@ -32,9 +34,16 @@ use Rattle.tinmove.specs.SoundLine.{sound_text}
 use Rattle.tinmove.specs.Refusals.{status_of, line_of}
 use Rattle.tinmove.specs.Outcome.{HasFile, HasLongFile, HasTin, IsTinRefused, IsLayerRefused, IsJobRefused, IsJobDone, row_of, report_of, HasOutcome, no_job, refused, done}
 use Rattle.tinmove.specs.Laws.{OutcomeIsOne}
-use Rattle.tinmove.proofs.OneFault.{fault_one}
+use Rattle.tinmove.proofs.OneReading.{fault_one}
 use Rattle.tinmove.proofs.OneCarried.{lacks_outside, lacks_many, lacks_carried, outside_one, outside_many, outside_carried, many_carried, carried_one, carried_pieces_one}
 use Rattle.tinmove.proofs.Comparable.{carried_are_inside}
+
+-- a name ends as that of one format
+format_one : (name other : List ℕ) (format also : Format) → name ≡ other → format_of name ≡ Some format → format_of other ≡ Some also → format ≡ also
+format_one name other format also same is too = same_Some format also (sym is ∙ (ap format_of same ∙ too))
+
+abbrev carriage_with : List ℕ → List ℕ → List ℕ → Format → Carriage
+carriage_with tin out layer format = record { tin = tin; out = out; layer = layer; format = format }
 
 -- the words give one job
 pub job_one : (words : List (List ℕ)) (job other : Job) → IsJob words job → IsJob words other → job ≡ other
@@ -43,8 +52,10 @@ job_one words (migrates a) (migrates b) x y =
     let tin : a.tin ≡ b.tin = cc in
     let out : a.out ≡ b.out = cc in
     let layer : a.layer ≡ b.layer = cc in
-    ap (λ t. migrates (record { tin = t; out = a.out; layer = a.layer })) tin
-    ∙ (ap (λ t. migrates (record { tin = b.tin; out = t; layer = a.layer })) out ∙ ap (λ t. migrates (record { tin = b.tin; out = b.out; layer = t })) layer)
+    let format : a.format ≡ b.format = format_one a.layer b.layer a.format b.format layer x.names.suffix y.names.suffix in
+    ap (λ t. migrates (carriage_with t a.out a.layer a.format)) tin
+    ∙ (ap (λ t. migrates (carriage_with b.tin t a.layer a.format)) out
+    ∙ (ap (λ t. migrates (carriage_with b.tin b.out t a.format)) layer ∙ ap (λ f. migrates (carriage_with b.tin b.out b.layer f)) format))
 job_one words (migrates a) (checks name) x y = let same = sym x.spelled ∙ y.spelled in cc
 job_one words (checks name) (migrates b) x y = let same = sym x.spelled ∙ y.spelled in cc
 job_one words (checks name) (checks other) x y = let same = sym x.spelled ∙ y.spelled in let names : name ≡ other = cc in ap checks names
@@ -182,7 +193,7 @@ IsJobEnd files job (Err refusal) = IsJobRefused files job refusal
 abbrev made_of : Carriage → Triangulation → Carried → List Change → List ℕ → Status × Files
 made_of carriage tin carried changes name = (
   end_with changes,
-  (name, carried.text) ∷ (codes "-", report_text (report_of carriage.tin tin (row_of carriage.layer carried ∷ []) changes)) ∷ [],
+  (name, carried.text) ∷ (codes "-", report_text (report_of carriage.tin tin (row_of carriage.layer carriage.format carried ∷ []) changes)) ∷ [],
 )
 
 data IsListingEnd (carriage : Carriage) (tin : Triangulation) (pieces : List Piece) (carried : Carried) (end : End) : Type 0 where
@@ -192,10 +203,10 @@ data IsListingEnd (carriage : Carriage) (tin : Triangulation) (pieces : List Pie
 
 -- how the carrying of a layer ends
 data IsLayerTextEnd (carriage : Carriage) (tin : Triangulation) (bytes : List ℕ) (end : End) : Type 0 where
-  faulty_layer : (why : LayerFault) → end ≡ Err (Layer why) → LacksLayerText bytes why → IsLayerTextEnd carriage tin bytes end
-  outside_end : (path segment : ℕ) → end ≡ Err (Outside path segment) → IsOutside tin bytes path segment → IsLayerTextEnd carriage tin bytes end
-  many_end : end ≡ Err TooManyPieces → HasTooMany tin bytes → IsLayerTextEnd carriage tin bytes end
-  carried_end : (pieces : List Piece) (carried : Carried) → IsCarried tin bytes pieces carried → IsListingEnd carriage tin pieces carried end → IsLayerTextEnd carriage tin bytes end
+  faulty_layer : (why : LayerFault) → end ≡ Err (Layer why) → LacksLayerText carriage.format bytes why → IsLayerTextEnd carriage tin bytes end
+  outside_end : (path segment : ℕ) → end ≡ Err (Outside path segment) → IsOutside tin carriage.format bytes path segment → IsLayerTextEnd carriage tin bytes end
+  many_end : end ≡ Err TooManyPieces → HasTooMany tin carriage.format bytes → IsLayerTextEnd carriage tin bytes end
+  carried_end : (pieces : List Piece) (carried : Carried) → IsCarried tin carriage.format bytes pieces carried → IsListingEnd carriage tin pieces carried end → IsLayerTextEnd carriage tin bytes end
 
 data IsLayerEnd (files : Files) (carriage : Carriage) (tin : Triangulation) (end : End) : Type 0 where
   unread_layer : end ≡ Err LayerUnread → bytes_of files carriage.layer ≡ None → IsLayerEnd files carriage tin end
@@ -224,33 +235,33 @@ listing_end_one carriage tin pieces carried a b inside (listed_end changes name 
     ∙ (same_made carriage tin carried changes others name called (changes_are_one tin pieces inside changes others x.are_changes y.are_changes)
     (name_one carriage.out carriage.layer name called named named_too) ∙ sym also)
 
-carried_end_one : (carriage : Carriage) (tin : Triangulation) (bytes : List ℕ) (pieces others : List Piece) (carried other : Carried) (a b : End) → IsSound tin → IsCarried tin bytes pieces carried → IsCarried tin bytes others other
+carried_end_one : (carriage : Carriage) (tin : Triangulation) (bytes : List ℕ) (pieces others : List Piece) (carried other : Carried) (a b : End) → IsSound tin → IsCarried tin carriage.format bytes pieces carried → IsCarried tin carriage.format bytes others other
     → IsListingEnd carriage tin pieces carried a → IsListingEnd carriage tin others other b → a ≡ b
 carried_end_one carriage tin bytes pieces others carried other a b sound x y end also =
-    listing_end_one carriage tin others other a b (carried_are_inside tin bytes others other y)
-    (subst (λ (c : Carried). IsListingEnd carriage tin others c a) (carried_one tin bytes pieces others carried other sound x y)
-    (subst (λ (ps : List Piece). IsListingEnd carriage tin ps carried a) (carried_pieces_one tin bytes pieces others carried other sound x y) end)) also
+    listing_end_one carriage tin others other a b (carried_are_inside tin carriage.format bytes others other y)
+    (subst (λ (c : Carried). IsListingEnd carriage tin others c a) (carried_one tin carriage.format bytes pieces others carried other sound x y)
+    (subst (λ (ps : List Piece). IsListingEnd carriage tin ps carried a) (carried_pieces_one tin carriage.format bytes pieces others carried other sound x y) end)) also
 
 same_outside : (path segment way count : ℕ) → (path ≡ way) × (segment ≡ count) → ◌≡◌ {A = End} (Err (Outside path segment)) (Err (Outside way count))
 same_outside path segment way count same = ap (λ k. Err (Outside k segment)) same.0 ∙ ap (λ k. Err (Outside way k)) same.1
 
 layer_text_end_one : (carriage : Carriage) (tin : Triangulation) (bytes : List ℕ) (a b : End) → IsSound tin → IsLayerTextEnd carriage tin bytes a → IsLayerTextEnd carriage tin bytes b → a ≡ b
-layer_text_end_one carriage tin bytes a b sound (faulty_layer why is x) (faulty_layer other also y) = is ∙ (ap (λ f. Err (Layer f)) (fault_one false bytes why other x y) ∙ sym also)
-layer_text_end_one carriage tin bytes a b sound (faulty_layer why is x) (outside_end path segment also y) = absurd (lacks_outside tin bytes why path segment x y)
-layer_text_end_one carriage tin bytes a b sound (faulty_layer why is x) (many_end also y) = absurd (lacks_many tin bytes why x y)
-layer_text_end_one carriage tin bytes a b sound (faulty_layer why is x) (carried_end pieces carried y also) = absurd (lacks_carried tin bytes why pieces carried x y)
-layer_text_end_one carriage tin bytes a b sound (outside_end path segment is x) (faulty_layer why also y) = absurd (lacks_outside tin bytes why path segment y x)
+layer_text_end_one carriage tin bytes a b sound (faulty_layer why is x) (faulty_layer other also y) = is ∙ (ap (λ f. Err (Layer f)) (fault_one carriage.format bytes why other x y) ∙ sym also)
+layer_text_end_one carriage tin bytes a b sound (faulty_layer why is x) (outside_end path segment also y) = absurd (lacks_outside tin carriage.format bytes why path segment x y)
+layer_text_end_one carriage tin bytes a b sound (faulty_layer why is x) (many_end also y) = absurd (lacks_many tin carriage.format bytes why x y)
+layer_text_end_one carriage tin bytes a b sound (faulty_layer why is x) (carried_end pieces carried y also) = absurd (lacks_carried tin carriage.format bytes why pieces carried x y)
+layer_text_end_one carriage tin bytes a b sound (outside_end path segment is x) (faulty_layer why also y) = absurd (lacks_outside tin carriage.format bytes why path segment y x)
 layer_text_end_one carriage tin bytes a b sound (outside_end path segment is x) (outside_end way count also y) =
-    is ∙ (same_outside path segment way count (outside_one tin bytes path segment way count x y) ∙ sym also)
-layer_text_end_one carriage tin bytes a b sound (outside_end path segment is x) (many_end also y) = absurd (outside_many tin bytes path segment x y)
-layer_text_end_one carriage tin bytes a b sound (outside_end path segment is x) (carried_end pieces carried y also) = absurd (outside_carried tin bytes path segment pieces carried x y)
-layer_text_end_one carriage tin bytes a b sound (many_end is x) (faulty_layer why also y) = absurd (lacks_many tin bytes why y x)
-layer_text_end_one carriage tin bytes a b sound (many_end is x) (outside_end path segment also y) = absurd (outside_many tin bytes path segment y x)
+    is ∙ (same_outside path segment way count (outside_one tin carriage.format bytes path segment way count x y) ∙ sym also)
+layer_text_end_one carriage tin bytes a b sound (outside_end path segment is x) (many_end also y) = absurd (outside_many tin carriage.format bytes path segment x y)
+layer_text_end_one carriage tin bytes a b sound (outside_end path segment is x) (carried_end pieces carried y also) = absurd (outside_carried tin carriage.format bytes path segment pieces carried x y)
+layer_text_end_one carriage tin bytes a b sound (many_end is x) (faulty_layer why also y) = absurd (lacks_many tin carriage.format bytes why y x)
+layer_text_end_one carriage tin bytes a b sound (many_end is x) (outside_end path segment also y) = absurd (outside_many tin carriage.format bytes path segment y x)
 layer_text_end_one carriage tin bytes a b sound (many_end is x) (many_end also y) = is ∙ sym also
-layer_text_end_one carriage tin bytes a b sound (many_end is x) (carried_end pieces carried y also) = absurd (many_carried tin bytes pieces carried x y)
-layer_text_end_one carriage tin bytes a b sound (carried_end pieces carried x end) (faulty_layer why also y) = absurd (lacks_carried tin bytes why pieces carried y x)
-layer_text_end_one carriage tin bytes a b sound (carried_end pieces carried x end) (outside_end path segment also y) = absurd (outside_carried tin bytes path segment pieces carried y x)
-layer_text_end_one carriage tin bytes a b sound (carried_end pieces carried x end) (many_end also y) = absurd (many_carried tin bytes pieces carried y x)
+layer_text_end_one carriage tin bytes a b sound (many_end is x) (carried_end pieces carried y also) = absurd (many_carried tin carriage.format bytes pieces carried x y)
+layer_text_end_one carriage tin bytes a b sound (carried_end pieces carried x end) (faulty_layer why also y) = absurd (lacks_carried tin carriage.format bytes why pieces carried y x)
+layer_text_end_one carriage tin bytes a b sound (carried_end pieces carried x end) (outside_end path segment also y) = absurd (outside_carried tin carriage.format bytes path segment pieces carried y x)
+layer_text_end_one carriage tin bytes a b sound (carried_end pieces carried x end) (many_end also y) = absurd (many_carried tin carriage.format bytes pieces carried y x)
 layer_text_end_one carriage tin bytes a b sound (carried_end pieces carried x end) (carried_end others other y also) =
     carried_end_one carriage tin bytes pieces others carried other a b sound x y end also
 

@@ -66,7 +66,7 @@ migration_refused (Some files) carriage rose passed refusal why =
 
 -- or where its layer's text is not carried
 pub layer_refused : (told : Option Files) (carriage : Carriage) (tin : Triangulation) (bytes : List ℕ) (rose : Type 0) (refusal : Refusal) → IfSome told (λ files. HasTin files carriage.tin tin)
-    → IfSome told (λ files. HasFile files carriage.layer bytes) → IsNotCarried tin bytes refusal → IfSome told (λ files. MayRefuse files (migrates carriage) rose refusal)
+    → IfSome told (λ files. HasFile files carriage.layer bytes) → IsNotCarried tin carriage.format bytes refusal → IfSome told (λ files. MayRefuse files (migrates carriage) rose refusal)
 layer_refused None carriage tin bytes rose refusal ready file why = tt
 layer_refused (Some files) carriage tin bytes rose (Layer unread_so) ready file why = by_the_files (inr (tin, bytes, record { ready = ready; file = file }, why))
 layer_refused (Some files) carriage tin bytes rose (Outside path segment) ready file why = by_the_files (inr (tin, bytes, record { ready = ready; file = file }, why))
@@ -100,7 +100,7 @@ slash_in folder layer name (part, last, is) = rw is (Contains-append_left (folde
 
 pub carried_form : (carriage : Carriage) (tin : Triangulation) (bytes : List ℕ) (written : Written) → IsCarriedOff carriage tin bytes written → HasForm written
 carried_form carriage tin bytes written (pieces, carried, changes, layer, there, is, listed, named, same, changed, said) =
-    rw there (slash_in carriage.out carriage.layer (string_bytes layer.name) named, (report_of carriage.tin tin (row_of carriage.layer carried ∷ []) changes, said, changed))
+    rw there (slash_in carriage.out carriage.layer (string_bytes layer.name) named, (report_of carriage.tin tin (row_of carriage.layer carriage.format carried ∷ []) changes, said, changed))
 
 -- the names of a job of words may be taken
 pub names_of : (words : List (List ℕ)) (job : Job) → IsJob words job → AreNamesOf job

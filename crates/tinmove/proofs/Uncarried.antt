@@ -6,19 +6,30 @@ use Rattle.carry_map.specs.declared.layers.Carried.{Carried}
 use Rattle.carry_map.specs.declared.limits.TheConstants.{MOST_PIECES}
 use Rattle.carry_map.specs.Layers.{IsLayerOutside, IsLayerTooMany}
 use Rattle.sheet_base.specs.declared.faults.LayerFault.{LayerFault}
+use Rattle.sheet_base.specs.Sheets.{Contents}
 use Rattle.tin_base.specs.Triangulation.{Triangulation}
-use Rattle.tinmove.specs.Carrying.{IsLayerText, LacksLayerText}
+use Rattle.tinmove.specs.declared.formats.Format.{Format}
+use Rattle.tinmove.specs.declared.refusal.Refusal.{Refusal}
+use Rattle.tinmove.specs.declared.refusal.Refusal.TheVariants.{Layer, Outside, TooManyPieces, NoMemory}
 use Rattle.tinmove.specs.Refusals.{of_carrying}
-use Rattle.tinmove.specs.Prepared.{IsNotCarried}
+use Rattle.tinmove.specs.Prepared.{IsUncarriedAs, IsUncarried, IsNotCarried}
 
 -- the fault of an answer
 abbrev IsFault : CarryFault → CarryFault → Type 0
 IsFault fault other = IsErrOf {T = Carried} (Err fault) other
 
-pub not_carried : (tin : Triangulation) (text : List ℕ) (fault : CarryFault) → ((f : LayerFault) → IsFault fault (Unread f) → LacksLayerText text f)
-    → ((path segment : ℕ) → IsFault fault (CarryOutside path segment) → IsLayerOutside tin (IsLayerText text) 0 0 MOST_PIECES path segment)
-    → (IsFault fault TooMany → IsLayerTooMany tin (IsLayerText text) 0 0 MOST_PIECES) → IsNotCarried tin text (of_carrying fault)
-not_carried tin text (Unread fault) layer outside many = layer fault refl
-not_carried tin text (CarryOutside path segment) layer outside many = outside path segment refl
-not_carried tin text TooMany layer outside many = many refl
-not_carried tin text CarryMemory layer outside many = tt
+module _ (reads : List ℕ → Contents → Type 0) (refuses : List ℕ → LayerFault → Type 0) (tin : Triangulation) (text : List ℕ) where
+  pub uncarried_as : (fault : CarryFault) → ((f : LayerFault) → IsFault fault (Unread f) → refuses text f)
+      → ((path segment : ℕ) → IsFault fault (CarryOutside path segment) → IsLayerOutside tin (reads text) 0 0 MOST_PIECES path segment)
+      → (IsFault fault TooMany → IsLayerTooMany tin (reads text) 0 0 MOST_PIECES) → IsUncarriedAs reads refuses tin text (of_carrying fault)
+  uncarried_as (Unread fault) layer outside many = layer fault refl
+  uncarried_as (CarryOutside path segment) layer outside many = outside path segment refl
+  uncarried_as TooMany layer outside many = many refl
+  uncarried_as CarryMemory layer outside many = tt
+
+pub not_carried : (tin : Triangulation) (format : Format) (text : List ℕ) (refusal : Refusal) → IsUncarried tin format text refusal → IsNotCarried tin format text refusal
+not_carried tin format text (Layer fault) is = is
+not_carried tin format text (Outside path segment) is = is
+not_carried tin format text TooManyPieces is = is
+not_carried tin format text NoMemory is = tt
+not_carried tin format text refusal is = absurd is

@@ -1,24 +1,27 @@
 -- What the words of the command line ask for.
-use Rattle.std.specs.Prelude.{◌≡◌, ℕ, List, [], ◌∷◌, codes}
-use Rattle.tinmove.specs.Names.{IsName, EndsWith}
+use Rattle.std.specs.Prelude.{◌≡◌, ℕ, List, [], ◌∷◌, Some, codes}
+use Rattle.tinmove.specs.declared.formats.Format.{Format}
+use Rattle.tinmove.specs.Names.{IsName}
+use Rattle.tinmove.specs.Formats.{format_of}
 
--- the names of a triangulation, of a folder, and of a layer that is to be carried into it
+-- the names of a triangulation, of a folder, and of a layer that is to be carried into it, and the layer's format
 pub record Carriage : Type 0 where
   pub tin : List ℕ
   pub out : List ℕ
   pub layer : List ℕ
+  pub format : Format
 
 -- to carry a layer, or to check the triangulation of a name
 pub data Job : Type 0 where
   migrates : Carriage → Job
   checks : List ℕ → Job
 
--- the three names may be taken, and the layer's is that of a WKT file
+-- the three names may be taken, and the layer's ends as that of a layer of this format
 pub record AreNames (carriage : Carriage) : Type 0 where
   pub tin : IsName carriage.tin
   pub out : IsName carriage.out
   pub layer : IsName carriage.layer
-  pub suffix : EndsWith carriage.layer (codes ".wkt")
+  pub suffix : format_of carriage.layer ≡ Some carriage.format
 
 -- the words `migrate --tin FILE --out FOLDER LAYER` of such names
 pub record IsMigration (words : List (List ℕ)) (carriage : Carriage) : Type 0 where

@@ -10,25 +10,28 @@ use Rattle.affine_image.specs.SheetPieces.{ArePiecesOfRun, IsSheetInside}
 use Rattle.topo_check.specs.Changes.{HadRelation, HasRelation, IsChangeOf}
 use Rattle.tinmove.specs.declared.status.Status.{Status}
 use Rattle.tinmove.specs.declared.status.Status.TheVariants.{Same, Changed}
-use Rattle.carry_map.specs.Layers.{IsReadAsPieces}
+use Rattle.carry_map.specs.Layers.{IsBackAsPieces}
 use Rattle.tinmove.specs.Names.{IsNameIn}
 use Rattle.tinmove.specs.Jobs.{Carriage}
 use Rattle.tinmove.specs.Carrying.{IsLayerText}
+use Rattle.tinmove.specs.LayerTexts.{reads_back_of}
+use Rattle.tinmove.specs.Triangulations.{plain}
 use Rattle.tinmove.specs.Outcome.{HasLayer}
 use Rattle.report_text.specs.Reports.{Contents as Report}
 use Rattle.report_text.specs.ReportText.{report_text}
 
--- the files give this sound triangulation, this sheet of the layer, which is inside, and these pieces of all its segments
-pub record GivesPieces (files : Files) (carriage : Carriage) (tin : Triangulation) (sheet : Contents) (pieces : List Piece) : Type 0 where
-  pub bytes : List ℕ
+-- the files give this sound triangulation, these bytes of the layer and their sheet, which is inside, and these pieces of all its segments
+pub record GivesPieces (files : Files) (carriage : Carriage) (tin : Triangulation) (bytes : List ℕ) (sheet : Contents) (pieces : List Piece) : Type 0 where
   pub layer : HasLayer files carriage tin bytes
-  pub read : IsLayerText bytes sheet
+  pub read : IsLayerText carriage.format bytes sheet
   pub inside : IsSheetInside tin sheet
   pub are_pieces : ArePiecesOfRun tin 0 (sheet ∷ []) pieces
 
--- the layer's file in the folder is a layer again, whose segments in order are those between the rounded images of the ends of the pieces
-abbrev pub HasWritten : Carriage → List Piece → Files → Type 0
-HasWritten carriage pieces made = (name : List ℕ) × (text : List ℕ) × IsNameIn carriage.out carriage.layer name × Contains made (name, text) × IsReadAsPieces IsLayerText text pieces
+-- the layer's file in the folder is a layer again, whose segments in order are those between the rounded images of the ends of the pieces, unless the format excepts what is written of the layer's bytes
+abbrev pub HasWritten : Carriage → Triangulation → List ℕ → List Piece → Files → Type 0
+HasWritten carriage tin bytes pieces made =
+    (name : List ℕ) × (text : List ℕ) × IsNameIn carriage.out carriage.layer name × Contains made (name, text)
+    × IsBackAsPieces tin bytes (IsLayerText carriage.format) (reads_back_of carriage.format plain bytes) text pieces
 
 -- one relation is that of the two pieces in the source, and that of the segments between the rounded images of their ends
 abbrev pub KeepTheirRelation : Triangulation → Piece → Piece → Type 0
@@ -58,7 +61,9 @@ pub record ReportsChanges (tin : Triangulation) (pieces : List Piece) (made : Op
 -- After `Same` each two written segments lie to each other as their pieces do in the source; after `Changed` the report names those that do not.
 abbrev pub KeepsRelations : Files → Carriage → Status → Option Files → Type 0
 KeepsRelations files carriage Same made =
-    (tin : Triangulation) × (sheet : Contents) × (pieces : List Piece) × GivesPieces files carriage tin sheet pieces × IfSome made (HasWritten carriage pieces) × AllPairs (KeepTheirRelation tin) pieces
+    (tin : Triangulation) × (bytes : List ℕ) × (sheet : Contents) × (pieces : List Piece) × GivesPieces files carriage tin bytes sheet pieces
+    × IfSome made (HasWritten carriage tin bytes pieces) × AllPairs (KeepTheirRelation tin) pieces
 KeepsRelations files carriage Changed made =
-    (tin : Triangulation) × (sheet : Contents) × (pieces : List Piece) × GivesPieces files carriage tin sheet pieces × IfSome made (HasWritten carriage pieces) × ReportsChanges tin pieces made
+    (tin : Triangulation) × (bytes : List ℕ) × (sheet : Contents) × (pieces : List Piece) × GivesPieces files carriage tin bytes sheet pieces
+    × IfSome made (HasWritten carriage tin bytes pieces) × ReportsChanges tin pieces made
 KeepsRelations files carriage status made = Unit {0}

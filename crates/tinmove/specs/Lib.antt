@@ -1,4 +1,6 @@
 pub mod Names
+pub mod Formats
+pub mod LayerTexts
 pub mod Jobs
 pub mod Wanted
 pub mod Triangulations

@@ -1,5 +1,5 @@
 -- What a run makes, as a relation of the words, the shelf's files, the status and the made files.
-use Rattle.std.specs.Prelude.{◌≡◌, ◌⊎◌, ℕ, ◌<◌, ◌≤◌, List, [], ◌∷◌, codes, length, false, None, Some}
+use Rattle.std.specs.Prelude.{◌≡◌, ◌⊎◌, ℕ, ◌<◌, ◌≤◌, List, [], ◌∷◌, codes, length, None, Some}
 use Rattle.shelf_io.specs.Files.{Files, bytes_of}
 use Rattle.carry_map.specs.declared.layers.Carried.{Carried}
 use Rattle.tin_base.specs.declared.pieces.Change.{Change}
@@ -10,7 +10,9 @@ use Rattle.tinmove.specs.declared.status.Status.{Status}
 use Rattle.tinmove.specs.declared.status.Status.TheVariants.{Same}
 use Rattle.tinmove.specs.declared.refusal.Refusal.{Refusal}
 use Rattle.tinmove.specs.declared.refusal.Refusal.TheVariants.{NotUnderstood, TinUnread, TinLong, Tin, Check, LayerUnread, LayerLong, Layer, Outside, TooManyPieces, TooManyChanges}
+use Rattle.tinmove.specs.declared.formats.Format.{Format}
 use Rattle.tinmove.specs.Names.{IsNameIn}
+use Rattle.tinmove.specs.Formats.{is_drawing}
 use Rattle.tinmove.specs.Jobs.{Carriage, Job, migrates, checks, IsJob, LacksJob}
 use Rattle.tinmove.specs.Triangulations.{IsTin, LacksTin, IsUnsound}
 use Rattle.tinmove.specs.Carrying.{LacksLayerText, IsCarried, IsOutside, HasTooMany}
@@ -52,10 +54,10 @@ pub record HasLayer (files : Files) (carriage : Carriage) (tin : Triangulation) 
 abbrev pub IsLayerRefused : Files → Carriage → Refusal → Type 0
 IsLayerRefused files carriage LayerUnread = (tin : Triangulation) × HasTin files carriage.tin tin × (bytes_of files carriage.layer ≡ None)
 IsLayerRefused files carriage LayerLong = (tin : Triangulation) × HasTin files carriage.tin tin × HasLongFile files carriage.layer
-IsLayerRefused files carriage (Layer fault) = (tin : Triangulation) × (bytes : List ℕ) × HasLayer files carriage tin bytes × LacksLayerText bytes fault
-IsLayerRefused files carriage (Outside path segment) = (tin : Triangulation) × (bytes : List ℕ) × HasLayer files carriage tin bytes × IsOutside tin bytes path segment
-IsLayerRefused files carriage TooManyPieces = (tin : Triangulation) × (bytes : List ℕ) × HasLayer files carriage tin bytes × HasTooMany tin bytes
-IsLayerRefused files carriage TooManyChanges = (tin : Triangulation) × (bytes : List ℕ) × HasLayer files carriage tin bytes × HasTooManyChanges tin bytes
+IsLayerRefused files carriage (Layer fault) = (tin : Triangulation) × (bytes : List ℕ) × HasLayer files carriage tin bytes × LacksLayerText carriage.format bytes fault
+IsLayerRefused files carriage (Outside path segment) = (tin : Triangulation) × (bytes : List ℕ) × HasLayer files carriage tin bytes × IsOutside tin carriage.format bytes path segment
+IsLayerRefused files carriage TooManyPieces = (tin : Triangulation) × (bytes : List ℕ) × HasLayer files carriage tin bytes × HasTooMany tin carriage.format bytes
+IsLayerRefused files carriage TooManyChanges = (tin : Triangulation) × (bytes : List ℕ) × HasLayer files carriage tin bytes × HasTooManyChanges tin carriage.format bytes
 IsLayerRefused files carriage refusal = ⊥
 
 -- the files refuse the job so
@@ -64,14 +66,14 @@ IsJobRefused files (migrates carriage) refusal = IsTinRefused files carriage.tin
 IsJobRefused files (checks name) refusal = IsTinRefused files name refusal
 
 -- a layer's row of the report
-abbrev pub row_of : List ℕ → Carried → LayerRow
-row_of name carried = record {
+abbrev pub row_of : List ℕ → Format → Carried → LayerRow
+row_of name format carried = record {
   paths = carried.paths;
   segments = carried.segments;
   pieces = carried.pieces;
   inexact = carried.inexact;
   dropped = carried.dropped;
-  drawing = false;
+  drawing = is_drawing format;
   name = name;
 }
 
@@ -95,11 +97,11 @@ pub record IsMigrated (files : Files) (carriage : Carriage) (status : Status) (m
   pub changes : List Change
   pub name : List ℕ
   pub layer : HasLayer files carriage tin bytes
-  pub is_carried : IsCarried tin bytes pieces carried
+  pub is_carried : IsCarried tin carriage.format bytes pieces carried
   pub are_listed : AreListed tin pieces changes
   pub named : IsNameIn carriage.out carriage.layer name
   pub status_is : status ≡ end_with changes
-  pub made_is : made ≡ (name, carried.text) ∷ (codes "-", report_text (report_of carriage.tin tin (row_of carriage.layer carried ∷ []) changes)) ∷ []
+  pub made_is : made ≡ (name, carried.text) ∷ (codes "-", report_text (report_of carriage.tin tin (row_of carriage.layer carriage.format carried ∷ []) changes)) ∷ []
 
 -- the triangulation is sound, and its line says so
 pub record IsChecked (files : Files) (name : List ℕ) (status : Status) (made : Files) : Type 0 where

@@ -8,6 +8,7 @@ use Rattle.topo_check.specs.Changes.{AreChanges, HasMoreThan}
 use Rattle.tinmove.specs.declared.listing.TheConstants.{MOST_CHANGES}
 use Rattle.tinmove.specs.declared.status.Status.{Status}
 use Rattle.tinmove.specs.declared.status.Status.TheVariants.{Same, Changed}
+use Rattle.tinmove.specs.declared.formats.Format.{Format}
 use Rattle.tinmove.specs.Carrying.{IsCarried}
 
 -- these are the changes of the pieces, and not too many to be listed
@@ -16,8 +17,8 @@ pub record AreListed (tin : Triangulation) (pieces : List Piece) (changes : List
   pub few : length changes ≤ MOST_CHANGES
 
 -- the layer is carried, but its pieces have more changes than may be listed
-abbrev pub HasTooManyChanges : Triangulation → List ℕ → Type 0
-HasTooManyChanges tin text = (pieces : List Piece) × (carried : Carried) × IsCarried tin text pieces carried × HasMoreThan tin pieces MOST_CHANGES
+abbrev pub HasTooManyChanges : Triangulation → Format → List ℕ → Type 0
+HasTooManyChanges tin format text = (pieces : List Piece) × (carried : Carried) × IsCarried tin format text pieces carried × HasMoreThan tin pieces MOST_CHANGES
 
 -- is there a change?
 abbrev pub is_some_change : List Change → Bool

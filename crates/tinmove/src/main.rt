@@ -2,6 +2,9 @@
 //! `run` is the whole program, over the words, the shelf and the press that it is handed.
 #![tactic(auto)]
 
+mod formats;
+#[cfg(test)]
+mod geojson_tests;
 mod help;
 #[cfg(test)]
 mod help_tests;

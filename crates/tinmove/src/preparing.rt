@@ -8,12 +8,14 @@ ghost use Rattle.tinmove.specs.Names.{IsLastPart, IsNameIn};
 ghost use Rattle.tinmove.specs.Jobs.{AreNames, AreNamesOf, migrates, checks};
 ghost use Rattle.tinmove.specs.Wanted.{carriage_of, job_of};
 ghost use Rattle.tinmove.specs.Refusals.{status_of};
-ghost use Rattle.tinmove.specs.Carrying.{IsCarried};
+ghost use Rattle.tinmove.specs.Triangulations.{plain};
+ghost use Rattle.tinmove.specs.Carrying.{IsCarriedAs, IsCarried};
 ghost use Rattle.tinmove.specs.RunChanges.{end_of};
 ghost use Rattle.tinmove.specs.Outcome.{IsJobDone};
 ghost use Rattle.tinmove.specs.Ends.{MayEnd, MayRefuse, HasCauses};
-ghost use Rattle.tinmove.specs.Prepared.{files_of, HasForm, IsCarriedOff, IsNotCarried};
+ghost use Rattle.tinmove.specs.Prepared.{files_of, HasForm, IsCarriedOff, IsUncarriedAs, IsUncarried, IsNotCarried};
 
+use crate::formats::Format;
 use crate::listing::{known, listed_changes};
 use crate::loading::{loaded, loaded_index, loaded_tin};
 use crate::refusal::Refusal;
@@ -21,7 +23,8 @@ use crate::report::{layer_rows, run_report, sound_line};
 use crate::triangulations::plainly;
 use crate::words::{Migration, Wanted};
 use carry_map::{Carried, MOST_PIECES, carry_layer};
-use sheet_base::Listed;
+use gj_layer::GeoJson;
+use sheet_base::{Layer, Listed};
 use shelf_io::Shelf;
 use std::alloc::{AllocError, Global};
 use tin_base::Piece;
@@ -63,8 +66,8 @@ fn written_name(alloc: Global, out: &str, layer: &str) -> Result<String, AllocEr
     Ok(name)
 }
 
-/// A layer carried through a triangulation, and its pieces. It is the only one of its run.
-fn carried_layer(
+/// A layer of the format `L` carried through a triangulation, and its pieces. It is the only one of its run.
+fn carried_as<L: Layer>(
     alloc: Global,
     index: &TinIndex,
     bytes: &[u8],
@@ -72,13 +75,32 @@ fn carried_layer(
 ) -> Result<Carried, Refusal>
     requires within { length bytes.now ≤ MOST_BYTES }
     requires first { pieces.old.items ≡ [] }
-    ensures ok { IfOk result (λ carried. IsCarried index.now bytes.now pieces.new.items carried) }
-    ensures refused { IfErr result (λ refusal. IsNotCarried index.now bytes.now refusal) }
+    ensures ok { IfOk result (λ carried. IsCarriedAs (L.reads plain) (λ text sheet images edit. L.text text plain sheet images edit) (L.reads_back plain) index.now bytes.now pieces.new.items carried) }
+    ensures refused { IfErr result (λ refusal. IsUncarriedAs (L.reads plain) (L.refuses plain) index.now bytes.now refusal) }
 {
     let how = plainly();
-    match carry_layer::<Wkt>(alloc, index, bytes, how, 0, MOST_PIECES, pieces) {
+    match carry_layer::<L>(alloc, index, bytes, how, 0, MOST_PIECES, pieces) {
         Ok(carried) => Ok(carried),
         Err(fault) => Err(Refusal::from(fault)),
+    }
+}
+
+/// The same of a layer of this format.
+fn carried_layer(
+    alloc: Global,
+    format: Format,
+    index: &TinIndex,
+    bytes: &[u8],
+    pieces: &mut Vec<Piece>,
+) -> Result<Carried, Refusal>
+    requires within { length bytes.now ≤ MOST_BYTES }
+    requires first { pieces.old.items ≡ [] }
+    ensures ok { IfOk result (λ carried. IsCarried index.now format bytes.now pieces.new.items carried) }
+    ensures refused { IfErr result (λ refusal. IsUncarried index.now format bytes.now refusal) }
+{
+    match format {
+        Format::Wkt => carried_as::<Wkt>(alloc, index, bytes, pieces),
+        Format::GeoJson => carried_as::<GeoJson>(alloc, index, bytes, pieces),
     }
 }
 
@@ -92,10 +114,10 @@ fn carried(
     requires within { length bytes.now ≤ MOST_BYTES }
     requires names { AreNames (carriage_of migration) }
     ensures ok { IfOk result (λ written. IsCarriedOff (carriage_of migration.entry) index.now bytes.now written) }
-    ensures refused { IfErr result (λ refusal. IsNotCarried index.now bytes.now refusal) }
+    ensures refused { IfErr result (λ refusal. IsNotCarried index.now migration.entry.format bytes.now refusal) }
 {
     let mut pieces = Vec::new(alloc);
-    let carried = match carried_layer(alloc, index, bytes, &mut pieces) {
+    let carried = match carried_layer(alloc, migration.format, index, bytes, &mut pieces) {
         Ok(carried) => carried,
         Err(refusal) => return Err(refusal),
     };
@@ -106,7 +128,7 @@ fn carried(
         Err(refusal) => return Err(refusal),
     };
     let changed = !changes.is_empty();
-    let rows = layer_rows(alloc, migration.layer, &carried)?;
+    let rows = layer_rows(alloc, migration.layer, migration.format, &carried)?;
     let said = run_report(alloc, migration.tin, tin, rows, changes)?;
     let file = LayerFile {
         name: written_name(alloc, migration.out, migration.layer)?,

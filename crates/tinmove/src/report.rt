@@ -7,6 +7,7 @@ ghost use Rattle.report_text.specs.ReportText.{report_text};
 ghost use Rattle.tinmove.specs.SoundLine.{sound_text};
 ghost use Rattle.tinmove.specs.Outcome.{report_of, row_of};
 
+use crate::formats::{Format, is_drawing};
 use carry_map::Carried;
 use report_text::{LayerRow, Report, write_report};
 use sheet_base::Listed;
@@ -14,9 +15,14 @@ use shelf_io::Name;
 use std::alloc::{AllocError, Global};
 use tin_base::{Change, SoundTin};
 
-/// What the report says of a layer of this name that was carried.
-fn layer_row(alloc: Global, name: &str, carried: &Carried) -> Result<LayerRow, AllocError>
-    ensures { IfOk result (λ row. row ≡ row_of name.now carried.now) }
+/// What the report says of a layer of this name and format that was carried.
+fn layer_row(
+    alloc: Global,
+    name: &str,
+    format: Format,
+    carried: &Carried,
+) -> Result<LayerRow, AllocError>
+    ensures { IfOk result (λ row. row ≡ row_of name.now format carried.now) }
 {
     Ok(LayerRow {
         paths: carried.paths,
@@ -24,17 +30,22 @@ fn layer_row(alloc: Global, name: &str, carried: &Carried) -> Result<LayerRow, A
         pieces: carried.pieces,
         inexact: carried.inexact,
         dropped: carried.dropped,
-        drawing: false,
+        drawing: is_drawing(format),
         name: Name::of(alloc, name)?,
     })
 }
 
 /// The same of all layers of a run, of which there is one.
-pub fn layer_rows(alloc: Global, name: &str, carried: &Carried) -> Result<Vec<LayerRow>, AllocError>
-    ensures { IfOk result (λ rows. rows.items ≡ row_of name.now carried.now ∷ []) }
+pub fn layer_rows(
+    alloc: Global,
+    name: &str,
+    format: Format,
+    carried: &Carried,
+) -> Result<Vec<LayerRow>, AllocError>
+    ensures { IfOk result (λ rows. rows.items ≡ row_of name.now format carried.now ∷ []) }
 {
     let mut rows = Vec::new(alloc);
-    rows.push(layer_row(alloc, name, carried)?)?;
+    rows.push(layer_row(alloc, name, format, carried)?)?;
     Ok(rows)
 }
 

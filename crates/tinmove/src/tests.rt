@@ -144,6 +144,9 @@ fn words_that_give_no_job(rt: HostRuntime) -> Result<(), Fail> {
     let alloc = rt.alloc();
     for texts in [
         ["migrate", "--tin", "t.json", "--out", "o", "p.tif"].as_slice(),
+        &["migrate", "--tin", "t.json", "--out", "o", "p.geojson.gz"],
+        &["migrate", "--tin", "t.json", "--out", "o", "p.JSON"],
+        &["migrate", "--tin", "t.json", "--out", "o", "json"],
         &["migrate", "--tin", "", "--out", "o", "p.wkt"],
         &["migrate", "--tin", "t\n", "--out", "o", "p.wkt"],
         &["migrate", "--out", "o", "--tin", "t.json", "p.wkt"],

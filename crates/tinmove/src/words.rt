@@ -1,9 +1,11 @@
 //! The words of the command line, and the job that they give.
 
-ghost use Rattle.std.specs.Prelude.{◌≡◌, ◌↔◌, ℕ, List, codes, IsTrue, IfSome, IfNone, map, string_bytes};
-ghost use Rattle.tinmove.specs.Names.{IsName, EndsWith};
-ghost use Rattle.tinmove.specs.Jobs.{Carriage, AreNames, IsMigration, IsCheck, IsJob, LacksJob};
+ghost use Rattle.std.specs.Prelude.{◌≡◌, ◌↔◌, ℕ, List, IsTrue, IfSome, IfNone, map, string_bytes};
+ghost use Rattle.tinmove.specs.Names.{IsName};
+ghost use Rattle.tinmove.specs.Jobs.{Carriage, IsMigration, IsCheck, IsJob, LacksJob};
 ghost use Rattle.tinmove.specs.Wanted.{carriage_of, job_of};
+
+use crate::formats::{Format, format_of};
 
 /// A layer that is to be carried through a triangulation into a folder.
 #[derive(Clone, Copy)]
@@ -14,6 +16,8 @@ pub struct Migration<'a> {
     pub out: &'a str,
     /// The name of the layer's file.
     pub layer: &'a str,
+    /// The layer's format, by the end of that name.
+    pub format: Format,
 }
 
 /// What the words ask for.
@@ -39,30 +43,20 @@ fn is_word(word: &String, text: &str) -> bool
     word.as_str() == text
 }
 
-/// Whether the name is that of a WKT layer.
-fn is_wkt(name: &str) -> bool
-    ensures { IsTrue result ↔ EndsWith name.now (codes ".wkt") }
+/// Whether these three names may be taken.
+fn are_names(tin: &str, out: &str, layer: &str) -> bool
+    ensures { IsTrue result ↔ (IsName tin.now × IsName out.now × IsName layer.now) }
 {
-    name.ends_with(".wkt")
+    if !is_name(tin) {
+        return false;
+    }
+    if !is_name(out) {
+        return false;
+    }
+    is_name(layer)
 }
 
-/// Whether the three names and the layer's format may be taken.
-fn are_names(migration: Migration<'_>) -> bool
-    ensures { IsTrue result ↔ AreNames (carriage_of migration.entry) }
-{
-    if !is_name(migration.tin) {
-        return false;
-    }
-    if !is_name(migration.out) {
-        return false;
-    }
-    if !is_name(migration.layer) {
-        return false;
-    }
-    is_wkt(migration.layer)
-}
-
-/// What the words `migrate --tin FILE --out FOLDER LAYER` ask for, where LAYER ends in `.wkt`.
+/// What the words `migrate --tin FILE --out FOLDER LAYER` ask for, where LAYER ends as that of a format.
 fn read_migration(words: &[String]) -> Option<Migration<'_>>
     ensures found { IfSome result (λ migration. IsMigration (map string_bytes words.now) (carriage_of migration)) }
     ensures none { IfNone result ((carriage : Carriage) → IsMigration (map string_bytes words.now) carriage → ⊥) }
@@ -79,15 +73,17 @@ fn read_migration(words: &[String]) -> Option<Migration<'_>>
     if !is_word(out_option, "--out") {
         return None;
     }
-    let migration = Migration {
-        tin: tin.as_str(),
-        out: out.as_str(),
-        layer: layer.as_str(),
-    };
-    if are_names(migration) {
-        Some(migration)
-    } else {
-        None
+    if !are_names(tin.as_str(), out.as_str(), layer.as_str()) {
+        return None;
+    }
+    match format_of(layer.as_str()) {
+        Some(format) => Some(Migration {
+            tin: tin.as_str(),
+            out: out.as_str(),
+            layer: layer.as_str(),
+            format,
+        }),
+        None => None,
     }
 }
 

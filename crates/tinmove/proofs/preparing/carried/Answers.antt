@@ -26,7 +26,7 @@ pub listed_changes-requires : goal.listed_changes-requires
 listed_changes-requires c =
     let tin : Triangulation = c.args.index.now in
     let limits : IsWithinLimits tin = subst (λ (t : Triangulation). IsWithinLimits t) c.tin-tin.ensures c.known.ensures in
-    let all : AreAllComparable tin c.carried_layer.new.pieces.items = carried_are_comparable tin c.args.bytes.now c.carried_layer.new.pieces.items c.in-Ok.carried limits c.in-Ok.ensures.ok in
+    let all : AreAllComparable tin c.carried_layer.new.pieces.items = carried_are_comparable tin c.args.migration.format c.args.bytes.now c.carried_layer.new.pieces.items c.in-Ok.carried limits c.in-Ok.ensures.ok in
     let seen : AreAllComparable tin c.deref.result.now = subst (λ (ps : List Piece). AreAllComparable tin ps) (sym c.deref.ensures.value) all in
     subst (λ (t : Triangulation). AreAllComparable t c.deref.result.now) (sym c.tin-tin.ensures) seen
 
