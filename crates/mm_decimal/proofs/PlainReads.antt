@@ -1,0 +1,138 @@
+-- A plain numeral is read as the scan reads it.
+use Rattle.std.proofs.Common.{◌≡◌, ℕ, ◌+◌, ◌-◌, ◌*◌, ◌^◌, ◌<◌, ◌≤◌, List, [], ◌∷◌, ◌++◌, length, take, drop, get_or, refl, sym, ap, ◌∙◌, subst, arith, lit<, length-append, Bool, true, false, add-one, add-zero, zero-add}
+use Rattle.std.specs.Prelude.{Option, Some, None, IfSome}
+use Rattle.std.specs.List.{AllByRecursion}
+use Rattle.std.proofs.Math.Nat.{pow-succ', pow-le-pow_right, one-le-pow}
+use Rattle.std.proofs.Math.Seq.{take-length}
+use Rattle.std.proofs.lemmas.List.{take_more, append-nil}
+use Rattle.mm_decimal.specs.Numerals.{Sign, Bare, Minus, Numeral, IsDigit, Value, HasValue, number_of, is_minus, sign_text}
+use Rattle.mm_decimal.specs.Millimetres.{signed_of, IsRead}
+use Rattle.mm_decimal.specs.Rounding.{HasSize}
+use Rattle.mm_decimal.specs.Answers.{Reads}
+use Rattle.mm_decimal.specs.Plain.{Write, IsPlain}
+use Rattle.mm_decimal.specs.declared.limits.TheConstants.{LIMIT}
+use Rattle.mm_decimal.specs.declared.reading.MmRead.{MmRead}
+use Rattle.mm_decimal.proofs.Values.{number_after, number_after-is, number_after-append, number_after-none}
+use Rattle.mm_decimal.proofs.Scales.{whole_rounds}
+use Rattle.mm_decimal.proofs.Floors.{value_read_so}
+
+all_behind : (xs ys : List ℕ) → AllByRecursion IsDigit xs → AllByRecursion IsDigit ys → AllByRecursion IsDigit (xs ++ ys)
+all_behind [] ys a b = b
+all_behind (x ∷ xs) ys a b = (a.0, all_behind xs ys a.1 b)
+
+number_behind : (digits more : List ℕ) → number_of (digits ++ more) ≡ number_of digits * 10 ^ length more + number_of more
+number_behind digits more =
+    sym (number_after-none (digits ++ more)) ∙ number_after-append 0 digits more ∙ number_after-is (number_after 0 digits) more
+    ∙ ap (λ n. n * 10 ^ length more + number_of more) (number_after-none digits)
+
+-- one digit more
+pub writes_more : (text : List ℕ) (count number : ℕ) → count < length text → IsDigit (get_or text count 0) → Write (take count text) number
+    → Write (take (count + 1) text) (number * 10 + (get_or text count 0 - 48))
+writes_more text count number within digit h =
+    let byte = get_or text count 0 in
+    subst (λ digits. Write digits (number * 10 + (byte - 48))) (sym (take_more text count 0 within)) (record {
+      all = all_behind (take count text) (byte ∷ []) h.all (digit, tt);
+      worth = omega (arith, number_behind (take count text) (byte ∷ []), h.worth);
+    })
+
+pub less_than : (number count : ℕ) → number < 10 ^ count → count ≤ 15 → number < 10 ^ 15
+less_than number count small few = let grows : 10 ^ count ≤ 10 ^ 15 = pow-le-pow_right (lit< tt) {j = 15} few in omega (arith, small, grows)
+
+pub below : (number count : ℕ) → number < 10 ^ count → count ≤ 16 → number < 10 ^ 16
+below number count small few = let grows : 10 ^ count ≤ 10 ^ 16 = pow-le-pow_right (lit< tt) {j = 16} few in omega (arith, small, grows)
+
+pub stays_small : (number count digit : ℕ) → number < 10 ^ count → digit ≤ 9 → number * 10 + digit < 10 ^ (count + 1)
+stays_small number count digit small few = rw (add-one, pow-succ' 10 count) (omega (arith, small))
+
+pub head_is : (text : List ℕ) (byte : ℕ) → 0 < length text → get_or text 0 0 ≡ byte → text ≡ byte ∷ drop 1 text
+head_is [] byte some is = absurd (omega (arith, some))
+head_is (first ∷ more) byte some is = ap (λ b. b ∷ more) is
+
+-- ---- a plain numeral
+module _ (whole fraction : List ℕ) (number rest : ℕ) where
+  -- the thousandths of the digits before the point and of those behind it
+  pub worth_of : Write whole number → number_of fraction * 1000 ≡ rest * 10 ^ length fraction
+      → 1000 * number_of (whole ++ fraction) ≡ (number * 1000 + rest) * 10 ^ length fraction
+  worth_of h is = ap (λ n. 1000 * n) (number_behind whole fraction) ∙ again (number_of whole) (10 ^ length fraction) (number_of fraction) is ∙ ap (λ n. (n * 1000 + rest) * 10 ^ length fraction) (sym h.worth)
+    where
+      again : (a p f : ℕ) → f * 1000 ≡ rest * p → 1000 * (a * p + f) ≡ (a * 1000 + rest) * p
+      again a p f e = omega (arith, e)
+
+module _ (whole fraction : List ℕ) (size : ℕ) (worth : 1000 * number_of (whole ++ fraction) ≡ size * 10 ^ length fraction) where
+  abbrev digits : ℕ
+  digits = number_of (whole ++ fraction)
+
+  abbrev value : (sign : Sign) → Value
+  value sign = record { negative = is_minus sign; digits = digits; places = length fraction; lowered = false; power = 0 }
+
+  moved : digits * 10 ^ 3 ≡ size * 10 ^ (0 + (length fraction + 0))
+  moved = rw (zero-add (length fraction + 0), add-zero (length fraction)) (omega (arith, worth))
+
+  so : (sign : Sign) → size ≤ LIMIT → HasSize (is_minus sign) (digits * 10 ^ 3) (10 ^ (0 + (length fraction + 0))) (record { size = size; exact = true })
+  so sign within = record {
+    rounds = whole_rounds (is_minus sign) (digits * 10 ^ 3) (10 ^ (0 + (length fraction + 0))) size (one-le-pow (0 + (length fraction + 0)) 10 (lit< tt)) moved;
+    limit = within;
+    exact = (λ _. moved, λ _. refl);
+  }
+
+  reads : (sign : Sign) → size ≤ LIMIT → IsRead (value sign) (record { mm = signed_of (is_minus sign) size; exact = true })
+  reads sign within = value_read_so (value sign) 0 (record { size = size; exact = true }) (omega arith) (so sign within)
+
+  abbrev numeral : Sign → Numeral
+  numeral sign = record { sign = sign; whole = whole; fraction = Some fraction; power = None }
+
+  has_value : (sign : Sign) (text : List ℕ) → text ≡ whole ++ 46 ∷ fraction → 0 < length whole → AllByRecursion IsDigit whole → AllByRecursion IsDigit fraction
+      → HasValue (sign_text sign ++ text) (value sign)
+  has_value sign text is some a b = (
+    numeral sign,
+    (
+      record { whole = a; fraction = b; some = omega (arith, some, length-append whole fraction); power = tt },
+      ap (λ t. sign_text sign ++ t) (is ∙ ap (λ t. whole ++ 46 ∷ t) (sym (append-nil fraction))),
+    ),
+    refl,
+  )
+
+pub reads_plain : (sign : Sign) (text : List ℕ) (size : ℕ) → IsPlain text size → size ≤ LIMIT → length (sign_text sign ++ text) ≤ 64
+    → Reads (sign_text sign ++ text) (record { mm = signed_of (is_minus sign) size; exact = true })
+reads_plain sign text size h within short = (
+  short,
+  (
+    value h.whole h.fraction size h.worth sign,
+    has_value h.whole h.fraction size h.worth sign text h.is h.some h.whole_digits h.fraction_digits,
+    reads h.whole h.fraction size h.worth sign within,
+  ),
+)
+
+pub plain_with : (digits behind more : List ℕ) (number count value rest : ℕ) → behind ≡ 46 ∷ drop 1 behind → more ≡ drop 1 behind
+    → length more ≤ count → count ≤ length more → Write (take count more) value → 1000 * value ≡ rest * 10 ^ count
+    → Write digits number → 0 < length digits → IsPlain (digits ++ behind) (number * 1000 + rest)
+plain_with digits behind more number count value rest is more_is low high front size writes some =
+    let same : count ≡ length more = omega (arith, low, high) in
+    let all : Write more value = subst (λ l. Write l value) (ap (λ n. take n more) same ∙ take-length more) front in
+    let moved : 1000 * value ≡ rest * 10 ^ length more = size ∙ ap (λ n. rest * 10 ^ n) same in
+    record {
+      whole = digits;
+      fraction = more;
+      is = ap (λ t. digits ++ t) (is ∙ ap (λ t. 46 ∷ t) (sym more_is));
+      some = some;
+      whole_digits = writes.all;
+      fraction_digits = all.all;
+      worth = worth_of digits more number rest writes (omega (arith, all.worth, moved));
+    }
+
+-- what is read, where it is in range
+pub some_read : (result : Option MmRead) (negative : Bool) (size : ℕ) (text : List ℕ) → IfSome result (λ read. size ≤ LIMIT)
+    → IfSome result (λ read. read ≡ record { mm = signed_of negative size; exact = true })
+    → (size ≤ LIMIT → Reads text (record { mm = signed_of negative size; exact = true })) → IfSome result (λ read. Reads text read)
+some_read None negative size text limit is reads = tt
+some_read (Some read) negative size text limit is reads = subst (λ r. Reads text r) (sym is) (reads limit)
+
+pub reads_bare : (text : List ℕ) (size : ℕ) → IsPlain text size → length text ≤ 16 → size ≤ LIMIT
+    → Reads text (record { mm = signed_of false size; exact = true })
+reads_bare text size h short within = reads_plain Bare text size h within (omega (arith, short))
+
+pub reads_minus : (text more : List ℕ) (size : ℕ) → text ≡ 45 ∷ drop 1 text → more ≡ drop 1 text → IsPlain more size → length more ≤ 16 → size ≤ LIMIT
+    → Reads text (record { mm = signed_of true size; exact = true })
+reads_minus text more size is more_is h short within =
+    subst (λ t. Reads t (record { mm = signed_of true size; exact = true })) (sym (is ∙ ap (λ t. 45 ∷ t) (sym more_is)))
+    (reads_plain Minus more size h within (omega (arith, short)))
