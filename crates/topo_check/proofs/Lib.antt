@@ -1,3 +1,4 @@
 pub mod Adding
 pub mod OneList
 pub mod Trying
+pub mod InBoxes

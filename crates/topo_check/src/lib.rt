@@ -1,7 +1,8 @@
 //! Which pieces lie to each other in another way after rounding than in the source frame: all changed pairs, in order.
-//! Every two pieces are compared.
+//! Every two pieces are compared: by their boxes, and where these meet by their points.
 #![tactic(auto)]
 
+mod boxes;
 mod comparing;
 mod faults;
 mod laws;
