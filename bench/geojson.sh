@@ -1,65 +1,133 @@
 #!/bin/sh
-# Reads and renders a FeatureCollection of lines in the layout of ogr2ogr, and prints megabytes a second of processor time and the
-# peak of memory. It builds a program over the crates of this repository in a folder of its own, outside the gate; the word `try` as
-# second argument builds it without a proof.
-set -e
+# Reads a layer of GeoJSON (60 MB, a FeatureCollection of lines of 20 points in the layout of ogr2ogr) to its sheet, carries it
+# through one triangle, and writes it. Prints, in microseconds of processor time, where each part ends: reading (GeoJson::read), then
+# reading and carrying (carry), then reading, carrying and writing (carry_layer, whose last part is GeoJson::render); and the peak of
+# memory, of reading alone and of all, as a multiple of the layer. All holds the pieces, too. It builds a program over the crates of
+# this repository in a folder of its own. No part of the gate.
+set -eu
 size=${1:-60}
-how=${2:-run}
-top=$(cd "$(dirname "$0")/.." && pwd)
-work=$(mktemp -d)
-trap 'rm -rf "$work"' EXIT
-mkdir -p "$work/crates/geojson_bench/src"
-for name in text_places jtext integer_ring mm_decimal frac128 plane_base sheet_base gj_layer; do
-    cp -r "$top/crates/$name" "$work/crates/$name"
+top=$(CDPATH='' cd -- "$(dirname -- "$0")/.." && pwd)
+folder=$(mktemp -d)
+trap 'rm -rf "$folder"' EXIT
+mkdir -p "$folder/crates/geojson_bench/src"
+names='integer_ring text_places mm_decimal frac128 plane_base jtext tin_base tin_check tin_index sheet_base affine_image
+    tin_file seg_walk carry_map gj_layer'
+for name in $names; do
+    cp -r "$top/crates/$name" "$folder/crates/$name"
+    grep "^$name:" "$top/crates.txt" >> "$folder/crates.txt"
 done
-cat > "$work/crates/geojson_bench/src/main.rt" <<'END'
-//! Reads the file `made.geojson` to a sheet, renders it with the points as their own images, and prints how fast.
+{
+    printf 'geojson_bench: %s ' "$(echo $names)"
+    echo 'indexmap smallvec thiserror anyhow'
+} >> "$folder/crates.txt"
+cat > "$folder/crates/geojson_bench/src/main.rt" <<'END'
+//! Reads the layer `made.geojson`, carries it through the triangulation `made.json`, and writes it, and prints how long each takes.
 #![tactic(auto)]
 
+use carry_map::{MOST_PIECES, carry, carry_layer};
 use gj_layer::GeoJson;
-use plane_base::Pt;
-use sheet_base::{How, Images, Layer, Listed, Sheet};
-use std::alloc::{AllocError, Global};
+use sheet_base::{How, Layer};
+use std::alloc::Global;
 use std::fs;
 use std::time::CpuClock;
+use tin_check::check_tin;
+use tin_file::{MOST_BYTES, read_tin};
+use tin_index::TinIndex;
 
-/// The points as their own images.
-fn images_of(alloc: Global, sheet: &Sheet) -> Result<Images, AllocError> {
-    let mut points: Vec<Pt> = Vec::new(alloc);
-    points.extend_from_slice(sheet.points())?;
-    let mut run = Vec::new(alloc);
-    for number in 0..sheet.points().len() {
-        run.push(number as u32)?;
+fn how() -> How {
+    How {
+        exact: false,
+        drop_other: false,
+        inside_only: false,
     }
-    Ok(Images::of(Listed::of(points), Listed::of(run)))
+}
+
+fn index_of(alloc: Global, text: &[u8]) -> Option<TinIndex> {
+    if text.len() as u64 > MOST_BYTES as u64 {
+        return None;
+    }
+    let tin = read_tin(alloc, text, how()).ok()?;
+    let sound = check_tin(alloc, tin).ok()?;
+    TinIndex::build(alloc, sound).ok()
+}
+
+/// The processor time of this thread, in microseconds.
+fn now(rt: &HostRuntime) -> u128 {
+    match rt.thread_cpu_time() {
+        Ok(time) => time.as_micros(),
+        Err(_) => 0,
+    }
+}
+
+/// Reads the layer to its sheet, and tells how many points it has.
+fn read(alloc: Global, bytes: &[u8]) -> usize {
+    if bytes.len() > 1 << 26 {
+        return 0;
+    }
+    match GeoJson::read(alloc, bytes, how()) {
+        Ok(sheet) => sheet.points().len(),
+        Err(_) => 0,
+    }
+}
+
+/// Reads the layer and carries its sheet, and tells how many images there are.
+fn read_and_carry(alloc: Global, bytes: &[u8], index: &TinIndex) -> usize {
+    if bytes.len() > 1 << 26 {
+        return 0;
+    }
+    let Ok(sheet) = GeoJson::read(alloc, bytes, how()) else {
+        return 0;
+    };
+    let mut pieces = Vec::new(alloc);
+    match carry(alloc, index, &sheet, 0, MOST_PIECES, &mut pieces) {
+        Ok(images) => images.points().len(),
+        Err(_) => 0,
+    }
+}
+
+/// Reads the layer, carries its sheet and writes it, and tells how many bytes it then has.
+fn read_carry_and_render(alloc: Global, bytes: &[u8], index: &TinIndex) -> usize {
+    if bytes.len() > 1 << 26 {
+        return 0;
+    }
+    let mut pieces = Vec::new(alloc);
+    match carry_layer::<GeoJson>(alloc, index, bytes, how(), 0, MOST_PIECES, &mut pieces) {
+        Ok(carried) => carried.text.items().len(),
+        Err(_) => 0,
+    }
+}
+
+/// Says how long each of the three takes.
+fn measure(rt: &HostRuntime, bytes: &[u8], index: &TinIndex) -> anyhow::Result<()> {
+    let start = now(rt);
+    let points = read(rt.alloc(), bytes);
+    let first = now(rt);
+    let images = read_and_carry(rt.alloc(), bytes, index);
+    let second = now(rt);
+    let written = read_carry_and_render(rt.alloc(), bytes, index);
+    let third = now(rt);
+    println!(rt; "points {points} images {images} written {written}")?;
+    println!(rt; "times {start} {first} {second} {third}")?;
+    Ok(())
 }
 
 fn main(rt: HostRuntime) -> anyhow::Result<()> {
     let bytes = fs::read(&rt, "made.geojson")?;
-    let how = How {
-        exact: false,
-        drop_other: false,
-        inside_only: false,
-    };
-    let begun = rt.thread_cpu_time()?;
-    let sheet = GeoJson::read(rt.alloc(), &bytes, how)?;
-    let read = rt.thread_cpu_time()?;
-    let images = images_of(rt.alloc(), &sheet)?;
-    let made = rt.thread_cpu_time()?;
-    let out = GeoJson::render(rt.alloc(), &bytes, how, &sheet, &images)?;
-    let rendered = rt.thread_cpu_time()?;
-    println!(rt; "bytes {} paths {} points {} written {}", bytes.len(), sheet.paths().len(), sheet.points().len(), out.len())?;
-    let size = bytes.len() as u128;
-    println!(rt; "read: {} MB a second", size / (read.saturating_sub(begun).as_micros() + 1))?;
-    println!(rt; "render: {} MB a second", size / (rendered.saturating_sub(made).as_micros() + 1))?;
+    let text = fs::read(&rt, "made.json")?;
+    if let Some(index) = index_of(rt.alloc(), &text) {
+        measure(&rt, &bytes, &index)?;
+    } else {
+        let points = read(rt.alloc(), &bytes);
+        println!(rt; "points {points}")?;
+    }
     Ok(())
 }
 END
-{
-    grep -E '^(text_places|jtext|integer_ring|mm_decimal|frac128|plane_base|sheet_base|gj_layer):' "$top/crates.txt"
-    echo 'geojson_bench: text_places jtext integer_ring mm_decimal frac128 plane_base sheet_base gj_layer thiserror anyhow'
-} > "$work/crates.txt"
-python3 - "$size" "$work/made.geojson" <<'END'
+# The run that builds the program finds no layer, and is not counted.
+(cd "$folder/crates/geojson_bench" && rt run > "$folder/log" 2>&1) || true
+program="$folder/crates/geojson_bench/out/geojson_bench"
+[ -x "$program" ] || { tail -n 40 "$folder/log"; exit 1; }
+python3 - "$size" "$folder/made.geojson" <<'END'
 import sys
 most = int(sys.argv[1]) * 1000000
 with open(sys.argv[2], 'w') as f:
@@ -74,10 +142,21 @@ with open(sys.argv[2], 'w') as f:
         k += 1
     f.write('\n]\n}\n')
 END
-sed -i "s|\"made.geojson\"|\"$work/made.geojson\"|" "$work/crates/geojson_bench/src/main.rt"
-(cd "$work/crates/geojson_bench" && rt "$how" 2>&1 | tail -n 30)
-program="$work/crates/geojson_bench/out/geojson_bench"
-[ -x "$program" ] || exit 0
-(cd "$work" && python3 -c 'import resource, subprocess, sys
-subprocess.run([sys.argv[1]])
-print("most memory: %d KiB" % resource.getrusage(resource.RUSAGE_CHILDREN).ru_maxrss)' "$program")
+cat > "$folder/run.py" <<'END'
+import os, resource, subprocess, sys
+size = os.path.getsize("made.geojson")
+subprocess.run([sys.argv[1]], check=True)
+peak = resource.getrusage(resource.RUSAGE_CHILDREN).ru_maxrss
+print("bytes %d, most memory: %d KiB, %.1f times the layer" % (size, peak, peak * 1024 / size))
+END
+cd "$folder"
+echo 'reading alone'
+echo '{}' > made.json
+python3 run.py "$program"
+echo 'reading, carrying and writing'
+printf '%s' '{"file_type":"triangulation_file","format_version":"1.1",' \
+    '"transformed_components":["horizontal"],' \
+    '"vertices_columns":["source_x","source_y","target_x","target_y"],' \
+    '"triangles_columns":["idx_vertex1","idx_vertex2","idx_vertex3"],' \
+    '"vertices":[[500000,100000,500100,100100],[900000,100000,900108,100100],[500000,500000,500100,500100]],"triangles":[[0,1,2]]}' > made.json
+python3 run.py "$program"
