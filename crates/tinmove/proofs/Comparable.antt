@@ -1,5 +1,5 @@
--- The pieces of a layer that is inside may be compared.
-use Rattle.std.proofs.Common.{ℕ, All, List, [], ◌∷◌, sym, subst, slice_index_or, arith}
+-- The pieces of layers that are inside may be compared.
+use Rattle.std.proofs.Common.{ℕ, ◌+◌, All, List, [], ◌∷◌, length, Option, sym, subst, slice_index_or, arith}
 use Rattle.std.proofs.lemmas.List.Elements.{All-append, All-cons}
 use Rattle.std.proofs.lemmas.Int.{ints}
 use Rattle.plane_base.specs.Plane.{whole, IsNear}
@@ -19,9 +19,9 @@ use Rattle.affine_image.proofs.Bearing.{sheet_pieces_are_pieces}
 use Rattle.affine_image.proofs.Reach.{rounded_images_are_near}
 use Rattle.meet_rel.proofs.Scale.{mix_first, mix_last}
 use Rattle.topo_check.specs.Changes.{AreComparable, AreAllComparable, AreAllInside}
-use Rattle.carry_map.specs.declared.layers.Carried.{Carried}
-use Rattle.tinmove.specs.declared.formats.Format.{Format}
-use Rattle.tinmove.specs.Carrying.{IsCarried}
+use Rattle.shelf_io.specs.Files.{Files}
+use Rattle.sheet_base.specs.declared.flags.How.{How}
+use Rattle.tinmove.specs.LayerRuns.{Done, IsNextCarried, AreCarried}
 
 -- both ends of the piece's segment are in source triangles
 record AreEndsInside (tin : Triangulation) (piece : Piece) : Type 0 where
@@ -74,19 +74,45 @@ compared tin p q limits of_p of_q inside_p inside_q = record {
       ((ab, ac, bc), (ab, ad, bd), cd);
 }
 
-pub pieces_are_comparable : (tin : Triangulation) (layer : ℕ) (sheet : Contents) (pieces : List Piece) → IsWithinLimits tin → IsSheetInside tin sheet → ArePiecesOfSheet tin layer sheet pieces → AreAllComparable tin pieces
-pieces_are_comparable tin layer sheet pieces limits inside are i d h j e k =
+-- a piece that is imaged and inside
+pub record IsSeen (tin : Triangulation) (piece : Piece) : Type 0 where
+  pub imaged : IsImagedPiece tin piece
+  pub inside : IsPieceInside tin piece
+
+pub seen_of : (tin : Triangulation) (layer : ℕ) (sheet : Contents) (pieces : List Piece) → IsSheetInside tin sheet → ArePiecesOfSheet tin layer sheet pieces → All (IsSeen tin) pieces
+seen_of tin layer sheet pieces inside are i d h =
     let imaged : All (IsImagedPiece tin) pieces = sheet_pieces_are_pieces tin layer sheet pieces are in
     let within : AreAllInside tin pieces = pieces_are_inside tin layer sheet pieces inside are in
-    compared tin (slice_index_or pieces i d) (slice_index_or pieces j e) limits (imaged i d h) (imaged j e k) (within i d h) (within j e k)
+    record { imaged = imaged i d h; inside = within i d h }
 
--- the pieces of a layer that is carried
-pub carried_are_inside : (tin : Triangulation) (format : Format) (text : List ℕ) (pieces : List Piece) (carried : Carried) → IsCarried tin format text pieces carried → AreAllInside tin pieces
-carried_are_inside tin format text pieces carried is =
-    let layer = is.layer in
-    subst (λ (ps : List Piece). AreAllInside tin ps) (sym layer.stand) (pieces_are_inside tin 0 layer.sheet layer.own layer.inside layer.are_pieces)
+pub all_compared : (tin : Triangulation) (pieces : List Piece) → IsWithinLimits tin → All (IsSeen tin) pieces → AreAllComparable tin pieces
+all_compared tin pieces limits seen i d h j e k =
+    let p = seen i d h in let q = seen j e k in
+    compared tin (slice_index_or pieces i d) (slice_index_or pieces j e) limits p.imaged q.imaged p.inside q.inside
 
-pub carried_are_comparable : (tin : Triangulation) (format : Format) (text : List ℕ) (pieces : List Piece) (carried : Carried) → IsWithinLimits tin → IsCarried tin format text pieces carried → AreAllComparable tin pieces
-carried_are_comparable tin format text pieces carried limits is =
-    let layer = is.layer in
-    subst (λ (ps : List Piece). AreAllComparable tin ps) (sym layer.stand) (pieces_are_comparable tin 0 layer.sheet layer.own limits layer.inside layer.are_pieces)
+pub pieces_are_comparable : (tin : Triangulation) (layer : ℕ) (sheet : Contents) (pieces : List Piece) → IsWithinLimits tin → IsSheetInside tin sheet → ArePiecesOfSheet tin layer sheet pieces → AreAllComparable tin pieces
+pieces_are_comparable tin layer sheet pieces limits inside are = all_compared tin pieces limits (seen_of tin layer sheet pieces inside are)
+
+-- ---- the pieces of all layers that are carried
+next_seen : (told : Option Files) (how : How) (tin : Triangulation) (number used : ℕ) (before : List Piece) (name bytes : List ℕ) (after : List Piece) (done : Done)
+    → IsNextCarried told how tin number used before name bytes after done → All (IsSeen tin) before → All (IsSeen tin) after
+next_seen told how tin number used before name bytes after done is seen =
+    let carried = is.carried in
+    let layer = carried.layer in
+    subst (λ (ps : List Piece). All (IsSeen tin) ps) (sym layer.stand) (All-append (IsSeen tin) before layer.own seen (seen_of tin number layer.sheet layer.own layer.inside layer.are_pieces))
+
+pub run_seen : (told : Option Files) (how : How) (tin : Triangulation) (number used : ℕ) (before : List Piece) (names : List (List ℕ)) (after : List Piece) (done : List Done) (total : ℕ)
+    → AreCarried told how tin number used before names after done total → All (IsSeen tin) before → All (IsSeen tin) after
+run_seen told how tin number used before [] after done total (same, none, count) seen = subst (λ (ps : List Piece). All (IsSeen tin) ps) (sym same) seen
+run_seen told how tin number used before (name ∷ names) after done total (bytes, pieces, first, rest, is, are, others) seen =
+    run_seen told how tin (number + 1) (used + length bytes) pieces names after rest total others (next_seen told how tin number used before name bytes pieces first is seen)
+
+none_seen : (tin : Triangulation) → All (IsSeen tin) []
+none_seen tin k d h = absurd (omega arith)
+
+pub run_compared : (told : Option Files) (how : How) (tin : Triangulation) (names : List (List ℕ)) (pieces : List Piece) (done : List Done) (total : ℕ) → IsWithinLimits tin
+    → AreCarried told how tin 0 0 [] names pieces done total → AreAllComparable tin pieces
+run_compared told how tin names pieces done total limits are = all_compared tin pieces limits (run_seen told how tin 0 0 [] names pieces done total are (none_seen tin))
+
+pub run_inside : (told : Option Files) (how : How) (tin : Triangulation) (names : List (List ℕ)) (pieces : List Piece) (done : List Done) (total : ℕ) → AreCarried told how tin 0 0 [] names pieces done total → AreAllInside tin pieces
+run_inside told how tin names pieces done total are i d h = let seen = run_seen told how tin 0 0 [] names pieces done total are (none_seen tin) i d h in seen.inside

@@ -1,34 +1,50 @@
--- What an end of a run says of the pieces of its layer.
-use Rattle.std.proofs.Common.{◌≡◌, ℕ, List, [], ◌∷◌, codes, lit<, Option, None, Some, IfSome, refl, sym, ◌∙◌, subst}
+-- What an end of a run says of the pieces of its layers.
+use Rattle.std.proofs.Common.{◌≡◌, ℕ, ◌+◌, Bool, List, [], ◌∷◌, ◌++◌, map, codes, length, drop, Option, None, Some, IfSome, refl, sym, ◌∙◌, ap, subst, append_assoc, arith}
 use Rattle.std.proofs.lemmas.List.{append-nil}
+use Rattle.std.proofs.lemmas.List.Elements.{Contains-append_left, Contains-append_right}
+use Rattle.std.proofs.Math.Seq.{drop-append_seam}
 use Rattle.std.specs.Prelude.{Contains}
 use Rattle.shelf_io.specs.Files.{Files}
-use Rattle.sheet_base.specs.Sheets.{Contents}
+use Rattle.carry_map.specs.Layers.{IsBackAsPieces}
+use Rattle.sheet_base.specs.declared.flags.How.{How}
 use Rattle.tin_base.specs.Triangulation.{Triangulation}
 use Rattle.tin_base.specs.declared.pieces.Change.{Change}
 use Rattle.tin_base.specs.declared.pieces.Piece.{Piece}
 use Rattle.topo_check.specs.Changes.{AreChanges}
+use Rattle.job_words.specs.declared.faults.WordsFault.{WordsFault}
+use Rattle.job_words.specs.declared.faults.WordsFault.TheVariants.{NoMode, Parse, Size, Many, Name, Suffix, SameName, NoMemory as WordsMemory}
+use Rattle.job_words.specs.declared.jobs.Job.{Job}
+use Rattle.job_words.specs.declared.jobs.Job.TheVariants.{Migrate, Check as CheckJob, Make}
 use Rattle.tinmove.specs.declared.status.Status.{Status}
 use Rattle.tinmove.specs.declared.refusal.Refusal.{Refusal}
-use Rattle.tinmove.specs.declared.refusal.Refusal.TheVariants.{NotUnderstood, TinUnread, TinLong, Tin, Check, LayerUnread, LayerLong, Layer, Outside, TooManyPieces, TooManyChanges, NoMemory}
-use Rattle.tinmove.specs.Jobs.{Carriage, migrates, checks, IsMigration}
+use Rattle.tinmove.specs.declared.refusal.Refusal.TheVariants.{Words, TinUnread, TinLong, Tin, Check, NoMaker, LayerUnread, LayersLong, NoDrawing, Layer, Outside, TooManyPieces, TooManyChanges, NoMemory}
+use Rattle.tinmove.specs.Names.{name_in}
+use Rattle.tinmove.specs.Jobs.{Carriage, AsksMigration}
+use Rattle.tinmove.specs.Carrying.{IsLayerText}
+use Rattle.tinmove.specs.LayerTexts.{reads_back_of}
+use Rattle.tinmove.specs.LayerRuns.{Done, IsNextCarried, AreCarried}
 use Rattle.tinmove.specs.RunChanges.{end_with}
 use Rattle.report_text.specs.Reports.{Contents as Report}
 use Rattle.report_text.specs.ReportText.{report_text}
-use Rattle.tinmove.specs.Refusals.{status_of}
-use Rattle.tinmove.specs.Outcome.{IsMigrated, row_of, report_of, Refuses, HasOutcome, no_job, refused, done}
+use Rattle.tinmove.specs.Refusals.{status_of, status_of_words}
+use Rattle.tinmove.specs.Outcome.{IsMigrationDone, carriage_with, file_in, row_of, report_of, Refuses, HasOutcome, no_job, refused, done}
 use Rattle.tinmove.specs.Ends.{Ends, by_outcome, after_read_fault, out_of_memory, made_whole, after_write_fault, EndsTold}
-use Rattle.tinmove.specs.Kept.{GivesPieces, HasWritten, AreAllAndOnly, KeepsRelations}
-use Rattle.carry_map.specs.Layers.{IsBackAsPieces}
-use Rattle.tinmove.specs.Names.{IsNameIn}
-use Rattle.tinmove.specs.Carrying.{IsLayerText}
-use Rattle.tinmove.specs.LayerTexts.{reads_back_of}
-use Rattle.tinmove.specs.Triangulations.{plain}
+use Rattle.tinmove.specs.Kept.{HasWritten, IsKeptLayer, AreKeptLayers, GivesPieces, AreAllAndOnly, KeepsRelations}
 use Rattle.tinmove.proofs.Faults.{IsOfTin, refused as refused_tin, limited, wanted, of_text, of_check, IsOfLayer, unread, without_room, of_layer}
 use Rattle.tinmove.proofs.OneOutcome.{job_one}
 use Rattle.tinmove.proofs.Keeping.{all_and_only, all_keep}
 
 -- ---- a refusal says nothing of pieces
+of_words : (files : Files) (carriage : Carriage) (fault : WordsFault) (made : Option Files) → KeepsRelations files carriage (status_of_words fault) made
+of_words files carriage NoMode made = tt
+of_words files carriage Parse made = tt
+of_words files carriage Size made = tt
+of_words files carriage Many made = tt
+of_words files carriage (Name which) made = tt
+of_words files carriage (Suffix layer) made = tt
+of_words files carriage (SameName layer) made = tt
+of_words files carriage WordsMemory made = tt
+
 of_tin : (files : Files) (carriage : Carriage) (status : Status) (made : Option Files) → IsOfTin status → KeepsRelations files carriage status made
 of_tin files carriage status made (refused_tin is) = rw is tt
 of_tin files carriage status made (limited is) = rw is tt
@@ -39,15 +55,17 @@ of_unread files carriage status made (unread is) = rw is tt
 of_unread files carriage status made (without_room is) = rw is tt
 
 of_refusal : (files : Files) (carriage : Carriage) (refusal : Refusal) (made : Option Files) → KeepsRelations files carriage (status_of refusal) made
-of_refusal files carriage NotUnderstood made = tt
+of_refusal files carriage (Words fault) made = of_words files carriage fault made
 of_refusal files carriage TinUnread made = tt
 of_refusal files carriage TinLong made = tt
 of_refusal files carriage (Tin fault) made = of_tin files carriage _ made (of_text fault)
 of_refusal files carriage (Check fault) made = of_tin files carriage _ made (of_check fault)
-of_refusal files carriage LayerUnread made = tt
-of_refusal files carriage LayerLong made = tt
-of_refusal files carriage (Layer fault) made = of_unread files carriage _ made (of_layer fault)
-of_refusal files carriage (Outside path segment) made = tt
+of_refusal files carriage NoMaker made = tt
+of_refusal files carriage (LayerUnread layer) made = tt
+of_refusal files carriage LayersLong made = tt
+of_refusal files carriage (NoDrawing layer) made = tt
+of_refusal files carriage (Layer layer fault) made = of_unread files carriage _ made (of_layer fault)
+of_refusal files carriage (Outside layer path segment) made = tt
 of_refusal files carriage TooManyPieces made = tt
 of_refusal files carriage TooManyChanges made = tt
 of_refusal files carriage NoMemory made = tt
@@ -55,27 +73,72 @@ of_refusal files carriage NoMemory made = tt
 refused_so : (files : Files) (carriage : Carriage) (refusal : Refusal) (status : Status) (whole : Files) (made : Option Files) → Refuses refusal status whole → KeepsRelations files carriage status made
 refused_so files carriage refusal status whole made is = subst (λ (s : Status). KeepsRelations files carriage s made) (sym is.status_is) (of_refusal files carriage refusal made)
 
+-- ---- the layers of a migration that is done
+-- these files are among those that were made
+abbrev AreAmong : Files → Option Files → Type 0
+AreAmong layers made = IfSome made (λ files. (file : List ℕ × List ℕ) → Contains layers file → Contains files file)
+
+among_later : (first : List ℕ × List ℕ) (layers : Files) (made : Option Files) → AreAmong (first ∷ layers) made → AreAmong layers made
+among_later first layers None among = tt
+among_later first layers (Some made) among = λ file has. among file (Contains-append_right (first ∷ []) layers file has)
+
+written_in : (how : How) (tin : Triangulation) (folder name bytes : List ℕ) (own : List Piece) (first : Done) (layers : Files) (made : Option Files) → first.name ≡ name → AreAmong (file_in folder first ∷ layers) made
+    → IsBackAsPieces tin bytes (IsLayerText how first.format) (reads_back_of first.format how bytes) first.carried.text own → IfSome made (HasWritten how first.format tin folder name bytes own)
+written_in how tin folder name bytes own first layers None named among back = tt
+written_in how tin folder name bytes own first layers (Some made) named among back =
+    (first.carried.text, subst (λ (n : List ℕ). Contains made (name_in folder n, first.carried.text)) named (among (file_in folder first) (0, omega arith, refl)), back)
+
+seam : (before own after : List Piece) → after ≡ before ++ own → drop (length before) after ≡ own
+seam before own after is = ap (λ (ps : List Piece). drop (length before) ps) is ∙ drop-append_seam before own
+
+kept_next : (files : Files) (how : How) (tin : Triangulation) (folder : List ℕ) (made : Option Files) (number used : ℕ) (before : List Piece) (name bytes : List ℕ) (after : List Piece) (first : Done) (layers : Files)
+    → IsNextCarried (Some files) how tin number used before name bytes after first → AreAmong (file_in folder first ∷ layers) made
+    → (own : List Piece) × (after ≡ before ++ own) × IsKeptLayer files how tin folder made number used name bytes own
+kept_next files how tin folder made number used before name bytes after first layers is among =
+    let carried = is.carried in
+    let layer = carried.layer in (
+      layer.own,
+      layer.stand,
+      record {
+        format = first.format;
+        file = is.file;
+        sheet = layer.sheet;
+        read = layer.read;
+        inside = layer.inside;
+        are_pieces = layer.are_pieces;
+        written =
+            written_in how tin folder name bytes layer.own first layers made is.named among
+            (subst (λ (ps : List Piece). IsBackAsPieces tin bytes (IsLayerText how first.format) (reads_back_of first.format how bytes) first.carried.text ps) (seam before layer.own after layer.stand) carried.back);
+      },
+    )
+
+kept_all : (files : Files) (how : How) (tin : Triangulation) (folder : List ℕ) (made : Option Files) (number used : ℕ) (before : List Piece) (names : List (List ℕ)) (after : List Piece) (ds : List Done) (total : ℕ)
+    → AreCarried (Some files) how tin number used before names after ds total → AreAmong (map (file_in folder) ds) made
+    → (rest : List Piece) × (after ≡ before ++ rest) × AreKeptLayers files how tin folder made number used names rest
+kept_all files how tin folder made number used before [] after ds total (same, none, sum) among = ([], same ∙ sym (append-nil before), refl)
+kept_all files how tin folder made number used before (name ∷ names) after ds total (bytes, pieces, first, others, next, are, more) among =
+    let among_here : AreAmong (file_in folder first ∷ map (file_in folder) others) made = subst (λ (es : List Done). AreAmong (map (file_in folder) es) made) are among in
+    let (own, stand, kept) = kept_next files how tin folder made number used before name bytes pieces first (map (file_in folder) others) next among_here in
+    let (rest, behind, later) =
+    kept_all files how tin folder made (number + 1) (used + length bytes) pieces names after others total more (among_later (file_in folder first) (map (file_in folder) others) made among_here) in
+    (own ++ rest, behind ∙ (ap (λ (ps : List Piece). ps ++ rest) stand ∙ append_assoc before own rest), (bytes, own, rest, kept, refl, later))
+
 -- ---- a migration that is done
-in_second : (name text said : List ℕ) (whole : Files) (made : Option Files) → IfSome made (λ files. files ≡ whole) → whole ≡ (name, text) ∷ (codes "-", said) ∷ [] → IfSome made (λ files. Contains files (codes "-", said))
-in_second name text said whole None is two = tt
-in_second name text said whole (Some made) is two = rw (is, two) (1, lit< tt, refl)
+in_last : (layers : Files) (said : List ℕ) (whole : Files) (made : Option Files) → IfSome made (λ files. files ≡ whole) → whole ≡ layers ++ (codes "-", said) ∷ [] → IfSome made (λ files. Contains files (codes "-", said))
+in_last layers said whole None is two = tt
+in_last layers said whole (Some made) is two = rw (is, two) (Contains-append_right layers ((codes "-", said) ∷ []) (codes "-", said) (0, omega arith, refl))
 
-in_first : (carriage : Carriage) (tin : Triangulation) (bytes : List ℕ) (pieces : List Piece) (name text said : List ℕ) (whole : Files) (made : Option Files) → IfSome made (λ files. files ≡ whole) → whole ≡ (name, text) ∷ (codes "-", said) ∷ []
-    → IsNameIn carriage.out carriage.layer name → IsBackAsPieces tin bytes (IsLayerText carriage.format) (reads_back_of carriage.format plain bytes) text pieces → IfSome made (HasWritten carriage tin bytes pieces)
-in_first carriage tin bytes pieces name text said whole None is two named back = tt
-in_first carriage tin bytes pieces name text said whole (Some made) is two named back = (name, text, named, rw (is, two) (0, lit< tt, refl), back)
+in_front : (layers : Files) (said : List ℕ) (whole : Files) (made : Option Files) → IfSome made (λ files. files ≡ whole) → whole ≡ layers ++ (codes "-", said) ∷ [] → AreAmong layers made
+in_front layers said whole None is two = tt
+in_front layers said whole (Some made) is two = λ file has. subst (λ (fs : Files). Contains fs file) (sym (is ∙ two)) (Contains-append_left layers ((codes "-", said) ∷ []) file has)
 
-keeps_with : (files : Files) (carriage : Carriage) (tin : Triangulation) (bytes : List ℕ) (sheet : Contents) (pieces : List Piece) (changes : List Change) (report : Report) (made : Option Files)
-    → GivesPieces files carriage tin bytes sheet pieces → IfSome made (HasWritten carriage tin bytes pieces) → AreChanges tin pieces changes → report.changes ≡ changes → IfSome made (λ files. Contains files (codes "-", report_text report))
-    → KeepsRelations files carriage (end_with changes) made
-keeps_with files carriage tin bytes sheet pieces [] report made gives written are same there = (tin, bytes, sheet, pieces, gives, written, all_keep tin pieces are)
-keeps_with files carriage tin bytes sheet pieces (change ∷ changes) report made gives written are same there = (
+keeps_with : (files : Files) (carriage : Carriage) (tin : Triangulation) (pieces : List Piece) (changes : List Change) (report : Report) (made : Option Files) → GivesPieces files carriage made tin pieces
+    → AreChanges tin pieces changes → report.changes ≡ changes → IfSome made (λ files. Contains files (codes "-", report_text report)) → KeepsRelations files carriage (end_with changes) made
+keeps_with files carriage tin pieces [] report made gives are same there = (tin, pieces, gives, all_keep tin pieces are)
+keeps_with files carriage tin pieces (change ∷ changes) report made gives are same there = (
   tin,
-  bytes,
-  sheet,
   pieces,
   gives,
-  written,
   record {
     report = report;
     listed = subst (λ (cs : List Change). AreAllAndOnly tin pieces cs) (sym same) (all_and_only tin pieces (change ∷ changes) are);
@@ -84,45 +147,57 @@ keeps_with files carriage tin bytes sheet pieces (change ∷ changes) report mad
   },
 )
 
-migrated_keeps : (files : Files) (carriage : Carriage) (status : Status) (whole : Files) (made : Option Files) → IfSome made (λ files. files ≡ whole) → IsMigrated files carriage status whole → KeepsRelations files carriage status made
+migrated_keeps : (files : Files) (carriage : Carriage) (status : Status) (whole : Files) (made : Option Files) → IfSome made (λ files. files ≡ whole) → IsMigrationDone files carriage status whole → KeepsRelations files carriage status made
 migrated_keeps files carriage status whole made same is =
-    let listed = is.are_listed in
-    let carried = is.is_carried in
-    let layer = carried.layer in
-    let report = report_of carriage.tin is.tin (row_of carriage.layer carriage.format is.carried ∷ []) is.changes in
+    let all = is.migrated in
+    let listed = all.listed in
+    let report = report_of carriage.tin all.tin (map row_of all.done) is.changes in
+    let two : whole ≡ map (file_in carriage.out) all.done ++ (codes "-", report_text report) ∷ [] =
+    is.made_is ∙ (ap (λ (layers : Files). layers ++ (codes "-", is.said) ∷ []) all.layers_are ∙ ap (λ (text : List ℕ). map (file_in carriage.out) all.done ++ (codes "-", text) ∷ []) all.said_is) in
+    let (rest, stand, kept) =
+    kept_all files carriage.how all.tin carriage.out made 0 0 [] carriage.layers all.pieces all.done all.used all.carried (in_front (map (file_in carriage.out) all.done) (report_text report) whole made same two) in
+    let gives : GivesPieces files carriage made all.tin all.pieces = record {
+      way = all.way;
+      layers = subst (λ (ps : List Piece). AreKeptLayers files carriage.how all.tin carriage.out made 0 0 carriage.layers ps) (sym stand) kept;
+    } in
     subst (λ (s : Status). KeepsRelations files carriage s made) (sym is.status_is)
-    (keeps_with files carriage is.tin is.bytes layer.sheet is.pieces is.changes report made (record {
-      layer = is.layer;
-      read = layer.read;
-      inside = layer.inside;
-      are_pieces = (layer.own, [], layer.stand ∙ sym (append-nil layer.own), layer.are_pieces, refl);
-    }) (in_first carriage is.tin is.bytes is.pieces is.name _ (report_text report) whole made same is.made_is is.named carried.back) listed.are_changes refl (in_second is.name _ (report_text report) whole made same is.made_is))
+    (keeps_with files carriage all.tin all.pieces is.changes report made gives listed.are_changes refl (in_last (map (file_in carriage.out) all.done) (report_text report) whole made same two))
 
-outcome_keeps : (words : List (List ℕ)) (files : Files) (carriage : Carriage) (status : Status) (whole : Files) (made : Option Files) → IsMigration words carriage → IfSome made (λ files. files ≡ whole)
+abbrev carriage_in : Job → Carriage → Carriage
+carriage_in (Migrate tin out how inverse layers) other = carriage_with tin out how inverse layers
+carriage_in (CheckJob name how) other = other
+carriage_in (Make n) other = other
+
+same_carriage : (tin out : List ℕ) (how : How) (inverse : Bool) (layers : List (List ℕ)) (carriage : Carriage)
+    → Migrate tin out how inverse layers ≡ Migrate carriage.tin carriage.out carriage.how carriage.inverse carriage.layers → carriage_with tin out how inverse layers ≡ carriage
+same_carriage tin out how inverse layers carriage one = ap (λ (job : Job). carriage_in job carriage) one
+
+outcome_keeps : (words : List (List ℕ)) (files : Files) (carriage : Carriage) (status : Status) (whole : Files) (made : Option Files) → AsksMigration words carriage → IfSome made (λ files. files ≡ whole)
     → HasOutcome words files status whole → KeepsRelations files carriage status made
-outcome_keeps words files carriage status whole made given same (no_job lacks is) = absurd (lacks (migrates carriage) given)
+outcome_keeps words files carriage status whole made given same (no_job fault lacks is) = refused_so files carriage (Words fault) status whole made is
 outcome_keeps words files carriage status whole made given same (refused job also refusal why is) = refused_so files carriage refusal status whole made is
-outcome_keeps words files carriage status whole made given same (done (migrates other) also is) =
-    let one = job_one words (migrates other) (migrates carriage) also given in
-    let names : other ≡ carriage = cc in
-    migrated_keeps files carriage status whole made same (subst (λ (c : Carriage). IsMigrated files c status whole) names is)
-outcome_keeps words files carriage status whole made given same (done (checks name) also is) =
-    let one = job_one words (checks name) (migrates carriage) also given in cc
+outcome_keeps words files carriage status whole made given same (done (Migrate tin out how inverse layers) also is) =
+    let one = job_one words (Migrate tin out how inverse layers) (Migrate carriage.tin carriage.out carriage.how carriage.inverse carriage.layers) also given in
+    migrated_keeps files carriage status whole made same
+    (subst (λ (c : Carriage). IsMigrationDone files c status whole) (same_carriage tin out how inverse layers carriage one) is)
+outcome_keeps words files carriage status whole made given same (done (CheckJob name how) also is) =
+    let one = job_one words (CheckJob name how) (Migrate carriage.tin carriage.out carriage.how carriage.inverse carriage.layers) also given in cc
+outcome_keeps words files carriage status whole made given same (done (Make n) also is) = absurd is
 
-end_keeps : (words : List (List ℕ)) (files : Files) (shelf_rose press_rose : Type 0) (carriage : Carriage) (status : Status) (whole : Files) (made : Option Files) → IsMigration words carriage
+end_keeps : (words : List (List ℕ)) (files : Files) (shelf_rose press_rose : Type 0) (carriage : Carriage) (status : Status) (whole : Files) (made : Option Files) → AsksMigration words carriage
     → IfSome made (λ files. files ≡ whole) → Ends words files shelf_rose press_rose status whole → KeepsRelations files carriage status made
 end_keeps words files shelf_rose press_rose carriage status whole made given same (made_whole (by_outcome is)) = outcome_keeps words files carriage status whole made given same is
 end_keeps words files shelf_rose press_rose carriage status whole made given same (made_whole (after_read_fault rose job also refusal reached is)) = refused_so files carriage refusal status whole made is
 end_keeps words files shelf_rose press_rose carriage status whole made given same (made_whole (out_of_memory is)) = refused_so files carriage NoMemory status whole made is
 end_keeps words files shelf_rose press_rose carriage status whole made given same (after_write_fault is rose other others makes front) = rw is tt
 
-pub ends_keep : (words : List (List ℕ)) (files : Files) (shelf_rose press_rose : Type 0) (carriage : Carriage) (status : Status) (made : Option Files) → IsMigration words carriage
+pub ends_keep : (words : List (List ℕ)) (files : Files) (shelf_rose press_rose : Type 0) (carriage : Carriage) (status : Status) (made : Option Files) → AsksMigration words carriage
     → EndsTold words files shelf_rose press_rose status made → KeepsRelations files carriage status made
 ends_keep words files shelf_rose press_rose carriage status None given (whole, ends) = end_keeps words files shelf_rose press_rose carriage status whole None given tt ends
 ends_keep words files shelf_rose press_rose carriage status (Some made) given ends = end_keeps words files shelf_rose press_rose carriage status made (Some made) given refl ends
 
 -- of the files that a shelf tells
 pub run_keeps : (words : List (List ℕ)) (told : Option Files) (shelf_rose press_rose : Type 0) (status : Status) (made : Option Files)
-    → IfSome told (λ files. EndsTold words files shelf_rose press_rose status made) → IfSome told (λ files. (carriage : Carriage) → IsMigration words carriage → KeepsRelations files carriage status made)
+    → IfSome told (λ files. EndsTold words files shelf_rose press_rose status made) → IfSome told (λ files. (carriage : Carriage) → AsksMigration words carriage → KeepsRelations files carriage status made)
 run_keeps words None shelf_rose press_rose status made ends = tt
 run_keeps words (Some files) shelf_rose press_rose status made ends = λ carriage given. ends_keep words files shelf_rose press_rose carriage status made given ends

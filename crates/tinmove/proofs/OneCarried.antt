@@ -19,10 +19,10 @@ use Rattle.affine_image.proofs.Told.{told_length}
 use Rattle.carry_map.specs.Causes.{IsFirstOutside, IsFirstTooMany}
 use Rattle.carry_map.specs.declared.layers.Carried.{Carried}
 use Rattle.carry_map.specs.declared.limits.TheConstants.{MOST_PIECES}
-use Rattle.tinmove.specs.declared.formats.Format.{Format}
+use Rattle.sheet_base.specs.declared.flags.How.{How}
+use Rattle.job_words.specs.declared.formats.Format.{Format}
 use Rattle.tinmove.specs.LayerTexts.{text_of}
-use Rattle.tinmove.specs.Triangulations.{plain}
-use Rattle.tinmove.specs.Carrying.{IsLayerText, LacksLayerText, IsCarried, IsOutside, HasTooMany}
+use Rattle.tinmove.specs.Carrying.{LacksLayerText, IsCarried, IsOutside, HasTooMany}
 use Rattle.tinmove.proofs.OneReading.{sheet_one, sheet_apart}
 use Rattle.tinmove.proofs.OneCut.{cut_alike, alike_length, ends_one}
 use Rattle.tinmove.proofs.OnePieces.{pieces_one}
@@ -144,76 +144,87 @@ images_one tin sheet images pictures sound is too =
     ap₂ runs_of (is.points ∙ (ap joined same ∙ sym too.points)) (is.run ∙ (ap (begins_from 0) same ∙ sym too.run))
 
 -- ---- the layer
--- two readings of a text, of one sheet
-same_sheet : (format : Format) (text : List ℕ) (sheet other : Contents) → IsLayerText format text sheet → IsLayerText format text other → sheet ≡ other
-same_sheet format text sheet other is too = sheet_one format text sheet other is too
+module _ (how : How) (tin : Triangulation) (format : Format) (text : List ℕ) (layer : ℕ) (before : List Piece) where
+  pub lacks_outside : (fault : LayerFault) (path number old : ℕ) → LacksLayerText how format text fault → IsOutside how tin format text layer old path number → ⊥
+  lacks_outside fault path number old lacks (sheet, reads, is) = sheet_apart how format text sheet fault reads lacks
 
-pub lacks_outside : (tin : Triangulation) (format : Format) (text : List ℕ) (fault : LayerFault) (path number : ℕ) → LacksLayerText format text fault → IsOutside tin format text path number → ⊥
-lacks_outside tin format text fault path number lacks (sheet, reads, is) = sheet_apart format text sheet fault reads lacks
+  pub lacks_many : (fault : LayerFault) (old : ℕ) → LacksLayerText how format text fault → HasTooMany how tin format text layer old → ⊥
+  lacks_many fault old lacks (sheet, reads, is) = sheet_apart how format text sheet fault reads lacks
 
-pub lacks_many : (tin : Triangulation) (format : Format) (text : List ℕ) (fault : LayerFault) → LacksLayerText format text fault → HasTooMany tin format text → ⊥
-lacks_many tin format text fault lacks (sheet, reads, is) = sheet_apart format text sheet fault reads lacks
+  pub lacks_carried : (fault : LayerFault) (pieces : List Piece) (carried : Carried) → LacksLayerText how format text fault → IsCarried how tin format text layer before pieces carried → ⊥
+  lacks_carried fault pieces carried lacks is = let it = is.layer in sheet_apart how format text it.sheet fault it.read lacks
 
-pub lacks_carried : (tin : Triangulation) (format : Format) (text : List ℕ) (fault : LayerFault) (pieces : List Piece) (carried : Carried) → LacksLayerText format text fault → IsCarried tin format text pieces carried → ⊥
-lacks_carried tin format text fault pieces carried lacks is = let layer = is.layer in sheet_apart format text layer.sheet fault layer.read lacks
+outside_pair : (tin : Triangulation) (layer old : ℕ) (segments : List Segment) (path number way count : ℕ) → IsFirstOutside tin layer old MOST_PIECES segments path number
+    → IsFirstOutside tin layer old MOST_PIECES segments way count → (path ≡ way) × (number ≡ count)
+outside_pair tin layer old segments path number way count x y =
+    let p = x.reached in let q = y.reached in
+    let room = p.room in let room' = q.room in
+    let same = first_outside tin p.before q.before p.behind q.behind x.segment y.segment room.inside room'.inside x.outside y.outside (sym p.stands ∙ q.stands) in
+    (sym x.path_is ∙ (ap (λ (s : Segment). s.path) same ∙ y.path_is), sym x.number_is ∙ (ap (λ (s : Segment). s.number) same ∙ y.number_is))
 
-pub outside_one : (tin : Triangulation) (format : Format) (text : List ℕ) (path number way count : ℕ) → IsOutside tin format text path number → IsOutside tin format text way count → (path ≡ way) × (number ≡ count)
-outside_one tin format text path number way count (sheet, reads, is) (other, reads_too, too) = go (rw (same_sheet format text sheet other reads reads_too) at is) too
-  where
-    go : IsFirstOutside tin 0 0 MOST_PIECES (sheet_segments other) path number → IsFirstOutside tin 0 0 MOST_PIECES (sheet_segments other) way count → (path ≡ way) × (number ≡ count)
-    go x y =
-        let p = x.reached in let q = y.reached in
-        let room = p.room in let room' = q.room in
-        let same = first_outside tin p.before q.before p.behind q.behind x.segment y.segment room.inside room'.inside x.outside y.outside (sym p.stands ∙ q.stands) in
-        (sym x.path_is ∙ (ap (λ (s : Segment). s.path) same ∙ y.path_is), sym x.number_is ∙ (ap (λ (s : Segment). s.number) same ∙ y.number_is))
+pub outside_one : (how : How) (tin : Triangulation) (format : Format) (text : List ℕ) (layer old path number way count : ℕ) → IsOutside how tin format text layer old path number → IsOutside how tin format text layer old way count
+    → (path ≡ way) × (number ≡ count)
+outside_one how tin format text layer old path number way count (sheet, reads, is) (other, reads_too, too) =
+    outside_pair tin layer old (sheet_segments other) path number way count
+    (subst (λ (s : Contents). IsFirstOutside tin layer old MOST_PIECES (sheet_segments s) path number) (sheet_one how format text sheet other reads reads_too) is) too
 
-bare : (m n : ℕ) → 0 + m ≤ n → m ≤ n
-bare m n h = omega arith
+bare : (old m n : ℕ) → old + m ≤ n → m ≤ n - old
+bare old m n h = omega arith
 
-bare_many : (n m k : ℕ) → n < 0 + m + k → n < m + k
-bare_many n m k h = omega arith
+bare_many : (old n m k l : ℕ) → old + l ≤ n → n < old + m + k → n - old < m + k
+bare_many old n m k l g h = omega arith
 
-pub outside_many : (tin : Triangulation) (format : Format) (text : List ℕ) (path number : ℕ) → IsOutside tin format text path number → HasTooMany tin format text → ⊥
-outside_many tin format text path number (sheet, reads, is) (other, reads_too, too) = go (rw (same_sheet format text sheet other reads reads_too) at is) too
-  where
-    go : IsFirstOutside tin 0 0 MOST_PIECES (sheet_segments other) path number → IsFirstTooMany tin 0 0 MOST_PIECES (sheet_segments other) → ⊥
-    go x y =
-        let p = x.reached in let q = y.reached in
-        let room = p.room in let room' = q.room in
-        outside_or_many tin p.before q.before p.behind q.behind x.segment y.segment (length room.pieces) (length room'.pieces) (length y.parts) MOST_PIECES room.inside room'.inside
-        (total_of tin 0 p.before room.pieces room.are) (total_of tin 0 q.before room'.pieces room'.are) (y.parts, y.cut, refl) x.outside y.inside
-        (bare (length room.pieces) MOST_PIECES room.room) (bare_many MOST_PIECES (length room'.pieces) (length y.parts) y.full) (sym p.stands ∙ q.stands)
+outside_many_in : (tin : Triangulation) (layer old : ℕ) (segments : List Segment) (path number : ℕ) → IsFirstOutside tin layer old MOST_PIECES segments path number → IsFirstTooMany tin layer old MOST_PIECES segments → ⊥
+outside_many_in tin layer old segments path number x y =
+    let p = x.reached in let q = y.reached in
+    let room = p.room in let room' = q.room in
+    outside_or_many tin p.before q.before p.behind q.behind x.segment y.segment (length room.pieces) (length room'.pieces) (length y.parts) (MOST_PIECES - old) room.inside room'.inside
+    (total_of tin layer p.before room.pieces room.are) (total_of tin layer q.before room'.pieces room'.are) (y.parts, y.cut, refl) x.outside y.inside
+    (bare old (length room.pieces) MOST_PIECES room.room) (bare_many old MOST_PIECES (length room'.pieces) (length y.parts) (length room.pieces) room.room y.full) (sym p.stands ∙ q.stands)
 
-pub outside_carried : (tin : Triangulation) (format : Format) (text : List ℕ) (path number : ℕ) (pieces : List Piece) (carried : Carried) → IsOutside tin format text path number → IsCarried tin format text pieces carried → ⊥
-outside_carried tin format text path number pieces carried (sheet, reads, is) done =
-    let layer = done.layer in
-    go (sheet_segments layer.sheet) (rw (same_sheet format text sheet layer.sheet reads layer.read) at is) layer.inside
-  where
-    go : (segments : List Segment) → IsFirstOutside tin 0 0 MOST_PIECES segments path number → AreInside tin segments → ⊥
-    go segments x inside =
-        let p = x.reached in
-        x.outside (outside_in tin p.before p.behind x.segment (subst (AreInside tin) p.stands inside))
+pub outside_many : (how : How) (tin : Triangulation) (format : Format) (text : List ℕ) (layer old path number : ℕ) → IsOutside how tin format text layer old path number → HasTooMany how tin format text layer old → ⊥
+outside_many how tin format text layer old path number (sheet, reads, is) (other, reads_too, too) =
+    outside_many_in tin layer old (sheet_segments other) path number
+    (subst (λ (s : Contents). IsFirstOutside tin layer old MOST_PIECES (sheet_segments s) path number) (sheet_one how format text sheet other reads reads_too) is) too
 
-too_few : (n m k t : ℕ) → n < 0 + m + k → m + k ≤ t → t ≤ n → ⊥
-too_few n m k t g h i = absurd (omega arith)
+outside_not_in : (tin : Triangulation) (layer old : ℕ) (segments : List Segment) (path number : ℕ) → IsFirstOutside tin layer old MOST_PIECES segments path number → AreInside tin segments → ⊥
+outside_not_in tin layer old segments path number x inside =
+    let p = x.reached in
+    x.outside (outside_in tin p.before p.behind x.segment (subst (AreInside tin) p.stands inside))
 
-pub many_carried : (tin : Triangulation) (format : Format) (text : List ℕ) (pieces : List Piece) (carried : Carried) → HasTooMany tin format text → IsCarried tin format text pieces carried → ⊥
-many_carried tin format text pieces carried (sheet, reads, is) done =
-    let layer = done.layer in
-    go (sheet_segments layer.sheet) layer.own (rw (same_sheet format text sheet layer.sheet reads layer.read) at is) layer.are_pieces (subst (λ (ps : List Piece). length ps ≤ MOST_PIECES) layer.stand done.few)
-  where
-    go : (segments : List Segment) (own : List Piece) → IsFirstTooMany tin 0 0 MOST_PIECES segments → ArePiecesOfAll tin 0 segments own → length own ≤ MOST_PIECES → ⊥
-    go segments own x are few =
-        let p = x.reached in
-        let room = p.room in
-        let up = total_up tin p.before p.behind x.segment (length room.pieces) (length x.parts) (length own) (total_of tin 0 p.before room.pieces room.are) (x.parts, x.cut, refl)
-        (subst (λ (ss : List Segment). HaveTotal tin ss (length own)) p.stands (total_of tin 0 segments own are)) in
-        too_few MOST_PIECES (length room.pieces) (length x.parts) (length own) x.full up few
+pub outside_carried : (how : How) (tin : Triangulation) (format : Format) (text : List ℕ) (layer old path number : ℕ) (before pieces : List Piece) (carried : Carried) → IsOutside how tin format text layer old path number
+    → IsCarried how tin format text layer before pieces carried → ⊥
+outside_carried how tin format text layer old path number before pieces carried (sheet, reads, is) done =
+    let it = done.layer in
+    outside_not_in tin layer old (sheet_segments it.sheet) path number
+    (subst (λ (s : Contents). IsFirstOutside tin layer old MOST_PIECES (sheet_segments s) path number) (sheet_one how format text sheet it.sheet reads it.read) is) it.inside
+
+too_few : (old n m k t : ℕ) → n < old + m + k → m + k ≤ t → old + t ≤ n → ⊥
+too_few old n m k t g h i = absurd (omega arith)
+
+many_not_in : (tin : Triangulation) (layer old : ℕ) (segments : List Segment) (own : List Piece) → IsFirstTooMany tin layer old MOST_PIECES segments → ArePiecesOfAll tin layer segments own → old + length own ≤ MOST_PIECES → ⊥
+many_not_in tin layer old segments own x are few =
+    let p = x.reached in
+    let room = p.room in
+    let up = total_up tin p.before p.behind x.segment (length room.pieces) (length x.parts) (length own) (total_of tin layer p.before room.pieces room.are) (x.parts, x.cut, refl)
+    (subst (λ (ss : List Segment). HaveTotal tin ss (length own)) p.stands (total_of tin layer segments own are)) in
+    too_few old MOST_PIECES (length room.pieces) (length x.parts) (length own) x.full up few
+
+room_of : (before own after : List Piece) → after ≡ before ++ own → length after ≤ MOST_PIECES → length before + length own ≤ MOST_PIECES
+room_of before own after is few = subst (λ n. n ≤ MOST_PIECES) (ap (λ (ps : List Piece). length ps) is ∙ length-append before own) few
+
+pub many_carried : (how : How) (tin : Triangulation) (format : Format) (text : List ℕ) (layer : ℕ) (before pieces : List Piece) (carried : Carried) → HasTooMany how tin format text layer (length before)
+    → IsCarried how tin format text layer before pieces carried → ⊥
+many_carried how tin format text layer before pieces carried (sheet, reads, is) done =
+    let it = done.layer in
+    many_not_in tin layer (length before) (sheet_segments it.sheet) it.own
+    (subst (λ (s : Contents). IsFirstTooMany tin layer (length before) MOST_PIECES (sheet_segments s)) (sheet_one how format text sheet it.sheet reads it.read) is) it.are_pieces
+    (room_of before it.own pieces it.stand done.few)
 
 -- what a carried layer is, by its sheet, its images and how many pieces it has
-abbrev carried_of : Format → List ℕ → Contents → Runs → ℕ → Carried
-carried_of format text sheet images total = record {
-  text = spliced text (text_of format text plain sheet images) sheet.edits;
+abbrev carried_of : How → Format → List ℕ → Contents → Runs → ℕ → Carried
+carried_of how format text sheet images total = record {
+  text = spliced text (text_of format text how sheet images) sheet.edits;
   paths = length sheet.paths;
   segments = length (sheet_segments sheet);
   pieces = total;
@@ -233,27 +244,31 @@ six c d text paths segments pieces inexact dropped =
     ∙ (ap (λ n. six_of d.text d.paths d.segments d.pieces n c.dropped) inexact
     ∙ ap (λ n. six_of d.text d.paths d.segments d.pieces d.inexact n) dropped))))
 
-is_carried_of : (tin : Triangulation) (format : Format) (text : List ℕ) (pieces : List Piece) (carried : Carried) (is : IsCarried tin format text pieces carried)
-    → (let layer = is.layer in carried ≡ carried_of format text layer.sheet layer.images (length layer.own))
-is_carried_of tin format text pieces carried is = let layer = is.layer in six carried _ layer.text_is layer.paths layer.segments layer.pieces layer.inexact layer.dropped
+is_carried_of : (how : How) (tin : Triangulation) (format : Format) (text : List ℕ) (number : ℕ) (before pieces : List Piece) (carried : Carried) (is : IsCarried how tin format text number before pieces carried)
+    → (let layer = is.layer in carried ≡ carried_of how format text layer.sheet layer.images (length layer.own))
+is_carried_of how tin format text number before pieces carried is = let layer = is.layer in six carried _ layer.text_is layer.paths layer.segments layer.pieces layer.inexact layer.dropped
 
-pub carried_one : (tin : Triangulation) (format : Format) (text : List ℕ) (pieces others : List Piece) (carried other : Carried) → IsSound tin → IsCarried tin format text pieces carried → IsCarried tin format text others other → carried ≡ other
-carried_one tin format text pieces others carried other sound is too =
+pub carried_one : (how : How) (tin : Triangulation) (format : Format) (text : List ℕ) (number : ℕ) (before pieces others : List Piece) (carried other : Carried) → IsSound tin
+    → IsCarried how tin format text number before pieces carried → IsCarried how tin format text number before others other → carried ≡ other
+carried_one how tin format text number before pieces others carried other sound is too =
     let x = is.layer in let y = too.layer in
-    let sheets : x.sheet ≡ y.sheet = same_sheet format text x.sheet y.sheet x.read y.read in
+    let sheets : x.sheet ≡ y.sheet = sheet_one how format text x.sheet y.sheet x.read y.read in
     let images : x.images ≡ y.images = images_one tin y.sheet x.images y.images sound (subst (λ (s : Contents). AreImagesOf tin s x.images) sheets x.are_images) y.are_images in
     let totals : length x.own ≡ length y.own =
     total_one tin (sheet_segments y.sheet) (length x.own) (length y.own)
-    (subst (λ (s : Contents). HaveTotal tin (sheet_segments s) (length x.own)) sheets (total_of tin 0 (sheet_segments x.sheet) x.own x.are_pieces))
-    (total_of tin 0 (sheet_segments y.sheet) y.own y.are_pieces) in
-    is_carried_of tin format text pieces carried is
-    ∙ (ap (λ (s : Contents). carried_of format text s x.images (length x.own)) sheets
-    ∙ (ap (λ (r : Runs). carried_of format text y.sheet r (length x.own)) images
-    ∙ (ap (λ (n : ℕ). carried_of format text y.sheet y.images n) totals ∙ sym (is_carried_of tin format text others other too))))
+    (subst (λ (s : Contents). HaveTotal tin (sheet_segments s) (length x.own)) sheets (total_of tin number (sheet_segments x.sheet) x.own x.are_pieces))
+    (total_of tin number (sheet_segments y.sheet) y.own y.are_pieces) in
+    is_carried_of how tin format text number before pieces carried is
+    ∙ (ap (λ (s : Contents). carried_of how format text s x.images (length x.own)) sheets
+    ∙ (ap (λ (r : Runs). carried_of how format text y.sheet r (length x.own)) images
+    ∙ (ap (λ (n : ℕ). carried_of how format text y.sheet y.images n) totals ∙ sym (is_carried_of how tin format text number before others other too))))
 
 -- and into the same pieces
-pub carried_pieces_one : (tin : Triangulation) (format : Format) (text : List ℕ) (pieces others : List Piece) (carried other : Carried) → IsSound tin → IsCarried tin format text pieces carried → IsCarried tin format text others other → pieces ≡ others
-carried_pieces_one tin format text pieces others carried other sound is too =
+pub carried_pieces_one : (how : How) (tin : Triangulation) (format : Format) (text : List ℕ) (number : ℕ) (before pieces others : List Piece) (carried other : Carried) → IsSound tin
+    → IsCarried how tin format text number before pieces carried → IsCarried how tin format text number before others other → pieces ≡ others
+carried_pieces_one how tin format text number before pieces others carried other sound is too =
     let x = is.layer in let y = too.layer in
-    let sheets : x.sheet ≡ y.sheet = same_sheet format text x.sheet y.sheet x.read y.read in
-    x.stand ∙ (pieces_one tin 0 (sheet_segments y.sheet) x.own y.own sound (subst (λ (s : Contents). ArePiecesOfAll tin 0 (sheet_segments s) x.own) sheets x.are_pieces) y.are_pieces ∙ sym y.stand)
+    let sheets : x.sheet ≡ y.sheet = sheet_one how format text x.sheet y.sheet x.read y.read in
+    x.stand
+    ∙ (ap (λ (own : List Piece). before ++ own)
+    (pieces_one tin number (sheet_segments y.sheet) x.own y.own sound (subst (λ (s : Contents). ArePiecesOfAll tin number (sheet_segments s) x.own) sheets x.are_pieces) y.are_pieces) ∙ sym y.stand)

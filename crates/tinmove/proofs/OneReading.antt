@@ -1,22 +1,26 @@
 -- In each format a text is read as one layer, or has one first fault.
-use Rattle.std.proofs.Common.{◌≡◌, ℕ, List, false}
+use Rattle.std.proofs.Common.{◌≡◌, ℕ, List}
 use Rattle.sheet_base.specs.declared.faults.LayerFault.{LayerFault}
+use Rattle.sheet_base.specs.declared.flags.How.{How}
 use Rattle.sheet_base.specs.Sheets.{Contents}
 use Rattle.wkt_layer.proofs.OneSheet as wkt
-use Rattle.tinmove.specs.declared.formats.Format.{Format}
-use Rattle.tinmove.specs.declared.formats.Format.TheVariants.{Wkt, GeoJson}
+use Rattle.job_words.specs.declared.formats.Format.{Format}
+use Rattle.job_words.specs.declared.formats.Format.TheVariants.{Wkt, GeoJson, Drawing}
 use Rattle.tinmove.specs.Carrying.{IsLayerText, LacksLayerText}
 use Rattle.wkt_layer.proofs.OneFault as wkt_faults
 use Rattle.gj_layer.proofs.OneSheet as geojson
 
-pub sheet_one : (format : Format) (text : List ℕ) (sheet other : Contents) → IsLayerText format text sheet → IsLayerText format text other → sheet ≡ other
-sheet_one Wkt text sheet other is too = wkt.sheet_one false text sheet other is too
-sheet_one GeoJson text sheet other is too = geojson.sheet_one false text sheet other is too
+pub sheet_one : (how : How) (format : Format) (text : List ℕ) (sheet other : Contents) → IsLayerText how format text sheet → IsLayerText how format text other → sheet ≡ other
+sheet_one how Wkt text sheet other is too = wkt.sheet_one how.exact text sheet other is too
+sheet_one how GeoJson text sheet other is too = geojson.sheet_one how.exact text sheet other is too
+sheet_one how Drawing text sheet other is too = absurd is
 
-pub sheet_apart : (format : Format) (text : List ℕ) (sheet : Contents) (fault : LayerFault) → IsLayerText format text sheet → LacksLayerText format text fault → ⊥
-sheet_apart Wkt text sheet fault reads lacks = wkt.sheet_apart false text sheet fault reads lacks
-sheet_apart GeoJson text sheet fault reads lacks = geojson.sheet_apart false text sheet fault reads lacks
+pub sheet_apart : (how : How) (format : Format) (text : List ℕ) (sheet : Contents) (fault : LayerFault) → IsLayerText how format text sheet → LacksLayerText how format text fault → ⊥
+sheet_apart how Wkt text sheet fault reads lacks = wkt.sheet_apart how.exact text sheet fault reads lacks
+sheet_apart how GeoJson text sheet fault reads lacks = geojson.sheet_apart how.exact text sheet fault reads lacks
+sheet_apart how Drawing text sheet fault reads lacks = absurd reads
 
-pub fault_one : (format : Format) (text : List ℕ) (fault other : LayerFault) → LacksLayerText format text fault → LacksLayerText format text other → fault ≡ other
-fault_one Wkt text fault other is too = wkt_faults.fault_one false text fault other is too
-fault_one GeoJson text fault other is too = geojson.fault_one false text fault other is too
+pub fault_one : (how : How) (format : Format) (text : List ℕ) (fault other : LayerFault) → LacksLayerText how format text fault → LacksLayerText how format text other → fault ≡ other
+fault_one how Wkt text fault other is too = wkt_faults.fault_one how.exact text fault other is too
+fault_one how GeoJson text fault other is too = geojson.fault_one how.exact text fault other is too
+fault_one how Drawing text fault other is too = absurd is

@@ -1,108 +1,270 @@
 -- What stands of a job after each of its steps.
-use Rattle.std.proofs.Common.{◌≡◌, inl, inr, ◌++◌, ℕ, List, [], ◌∷◌, Option, None, Some, IfSome, lit<, string_bytes, refl, ap}
-use Rattle.std.proofs.lemmas.List.Elements.{Contains-append_left, Contains-append_right}
+use Rattle.std.proofs.Common.{◌≡◌, ◌⊎◌, ◌≤◌, ◌<◌, ◌+◌, ◌-◌, inl, inr, ℕ, List, [], ◌∷◌, ◌++◌, map, length, take, drop, get_or, Option, None, Some, IfSome, refl, sym, ◌∙◌, ap, subst, arith}
+use Rattle.std.proofs.lemmas.List.{take-append-drop, drop_more, take_more, map-append, length-take}
+use Rattle.std.specs.List.{AllByRecursion}
+use Rattle.shelf_io.specs.Count.{counted}
 use Rattle.shelf_io.specs.Files.{Files}
+use Rattle.shelf_io.specs.Load.{Loads, IsLonger}
+use Rattle.sheet_base.specs.declared.flags.How.{How}
+use Rattle.report_text.specs.Reports.{IsPrintable}
+use Rattle.report_text.specs.declared.rows.LayerRow.{LayerRow}
+use Rattle.tin_base.specs.Limits.{IsWithinLimits}
 use Rattle.tin_base.specs.Triangulation.{Triangulation}
 use Rattle.tin_check.specs.declared.faults.CheckFault.TheVariants.{Flat, TurnsOver, Meets, NoMemory as CheckMemory}
-use Rattle.tinmove.specs.declared.status.Status.TheVariants.{Memory}
+use Rattle.topo_check.specs.Changes.{AreAllComparable}
+use Rattle.job_words.specs.declared.formats.Format.{Format}
+use Rattle.job_words.specs.declared.formats.Format.TheVariants.{Drawing}
+use Rattle.job_words.specs.Formats.{format_of}
+use Rattle.tinmove.specs.declared.loading.TheConstants.{MOST_BYTES}
+use Rattle.tinmove.specs.declared.status.Status.TheVariants.{Memory, Read as ReadStatus}
 use Rattle.tinmove.specs.declared.refusal.Refusal.{Refusal}
-use Rattle.tinmove.specs.declared.refusal.Refusal.TheVariants.{TinUnread, Tin, Check, Layer, Outside, TooManyPieces, TooManyChanges, NoMemory}
+use Rattle.tinmove.specs.declared.refusal.Refusal.TheVariants.{TinUnread, Tin, Check, LayerUnread, LayersLong, NoDrawing, Layer, Outside, TooManyPieces, TooManyChanges, NoMemory}
+use Rattle.report_text.specs.ReportText.{report_text}
+use Rattle.tinmove.specs.declared.carrying.LayerFile.{LayerFile}
+use Rattle.tinmove.specs.declared.carrying.Run.{Run}
 use Rattle.tinmove.specs.declared.preparing.Written.{Written}
-use Rattle.tinmove.specs.Names.{IsNameIn, HasSlash}
-use Rattle.tinmove.specs.Jobs.{Carriage, Job, migrates, checks, IsJob, AreNamesOf}
+use Rattle.tinmove.specs.Jobs.{Carriage, MayBeTaken}
+use Rattle.tinmove.specs.Carrying.{IsLayerText, LacksLayerText}
 use Rattle.tinmove.specs.RunChanges.{end_of}
 use Rattle.tinmove.specs.Refusals.{status_of}
-use Rattle.tinmove.specs.Outcome.{HasFile, HasTin, IsTinRefused, IsJobDone, row_of, report_of}
-use Rattle.tinmove.specs.Ends.{MayRefuse, by_the_files, unread, no_room}
-use Rattle.tinmove.specs.Prepared.{files_of, HasForm, IsTextRefused, IsCarriedOff, IsNotCarried, missing, fault, too_long, no_room as no_memory, IsTinUnready, not_loaded, no_tin}
+use Rattle.tinmove.specs.LayerRuns.{Done, IsLayerFile, IsLongLayer, IsNextCarried, AreCarried, IsNextRefused, IsReachedLayer, AreRefused, at_layer, at_changes}
+use Rattle.tinmove.specs.Outcome.{HasFile, IsTinRefused, HasTurned, by_tin, by_layers, row_of, report_of, file_in, IsJobDone}
+use Rattle.job_words.specs.declared.jobs.Job.{Job}
+use Rattle.job_words.specs.declared.jobs.Job.TheVariants.{Migrate, Check as CheckJob}
+use Rattle.tinmove.specs.Ends.{LacksSome, MayRefuse, by_the_files, unread, no_room}
+use Rattle.tinmove.specs.Prepared.{file_of, files_of, AreWritable, report_said, HasForm, IsTextRefused, IsUnloaded, missing, read_failed, too_long, no_room as no_memory, IsTinUnready, not_loaded, no_tin, IsUncarriedAs, as_layer, as_drawing, Holds, HasCarried, AreUncarried, by_layers as by_the_layers, by_fault, by_want, IsUnlisted}
+use Rattle.tinmove.specs.Wanted.{AddsLayer, AddsNone, IsReported}
 use Rattle.tinmove.proofs.Faults.{want_or_fault}
+use Rattle.tinmove.proofs.LayerLists.{one_more, names_done, rows_printable, files_writable}
+use Rattle.tinmove.proofs.Comparable.{run_compared}
 
+-- ---- files
+-- the file that was loaded
+pub has_file : (told : Option Files) (name bytes : List ℕ) → IfSome told (Loads name bytes) → length bytes ≤ MOST_BYTES → IfSome told (λ files. HasFile files name bytes)
+has_file None name bytes found within = tt
+has_file (Some files) name bytes found within = record { found = found; within = within }
+
+-- ---- counts
+pub filled : (used count bytes : ℕ) → count ≡ bytes → used ≤ MOST_BYTES → count ≤ MOST_BYTES - used → used + bytes ≤ MOST_BYTES
+filled used count bytes is few within = omega arith
+
+pub used_more : (used bytes now : ℕ) → used + bytes ≤ MOST_BYTES → now ≡ used + bytes → now ≤ MOST_BYTES
+used_more used bytes now few is = omega arith
+
+pub given_more : (start used given count bytes after now : ℕ) → counted start used ≤ given → counted given count ≤ after → count ≡ bytes → now ≡ used + bytes → counted start now ≤ after
+given_more start used given count bytes after now before next same is = omega arith
+
+-- ---- the layers
+module _ (told : Option Files) (how : How) (tin : Triangulation) (names : List (List ℕ)) where
+  stands_at : (i : ℕ) (name : List ℕ) → i < length names → name ≡ get_or names i name → names ≡ take i names ++ name ∷ drop (i + 1) names
+  stands_at i name within is = sym (take-append-drop i names) ∙ ap (λ (rest : List (List ℕ)). take i names ++ rest) (drop_more names i name within ∙ ap (λ (n : List ℕ). n ∷ drop (i + 1) names) (sym is))
+
+  fronts : (i : ℕ) → i < length names → i ≡ length (take i names)
+  fronts i within = rw length-take (omega (arith, within))
+
+  reached_at : (i : ℕ) (name : List ℕ) (folder : List ℕ) (run : Run) → i < length names → name ≡ get_or names i name → HasCarried told how tin folder (take i names) run → IsReachedLayer told how tin names i name
+  reached_at i name folder run within is has = record {
+    front = take i names;
+    back = drop (i + 1) names;
+    stands = stands_at i name within is;
+    number_is = fronts i within;
+    pieces = run.pieces.items;
+    done = has.done;
+    used = run.used;
+    carried = has.carried;
+  }
+
+  refused_at : (i : ℕ) (name folder : List ℕ) (run : Run) (refusal : Refusal) → i < length names → name ≡ get_or names i name → HasCarried told how tin folder (take i names) run
+      → IsNextRefused told how tin i run.used (length run.pieces.items) name refusal → AreRefused told how tin names refusal
+  unfolding reached_at
+  refused_at i name folder run refusal within is has why = at_layer (record { number = i; name = name; reached = reached_at i name folder run within is has; refused = why })
+
+  more_than : (most used n : ℕ) → used ≤ most → most - used < n → most < used + n
+  more_than most used n few many = omega arith
+
+  long_layer : (files : Option Files) (name : List ℕ) (used : ℕ) → used ≤ MOST_BYTES → IfSome files (IsLonger name (MOST_BYTES - used)) → IsLongLayer files name used
+  long_layer None name used few long = tt
+  long_layer (Some files) name used few (bytes, found, many) = (bytes, found, more_than MOST_BYTES used (length bytes) few many)
+
+  -- the layer's file is not loaded
+  pub unloaded_at : (i : ℕ) (name folder : List ℕ) (run : Run) (rose_here rose passed : Type 0) (refusal : Refusal) → i < length names → name ≡ get_or names i name → HasCarried told how tin folder (take i names) run
+      → run.used ≤ MOST_BYTES → (rose_here → rose) → IsUnloaded told name (MOST_BYTES - run.used) (LayerUnread i) LayersLong rose_here passed refusal → AreUncarried told how tin names rose refusal
+  unloaded_at i name folder run rose_here rose passed refusal within is has few rises (missing so lacks) =
+      subst (λ (r : Refusal). AreUncarried told how tin names rose r) (sym so) (by_the_layers (refused_at i name folder run (LayerUnread i) within is has (refl, lacks)))
+  unloaded_at i name folder run rose_here rose passed refusal within is has few rises (read_failed so rose_now) = by_fault (rises rose_now) i name (reached_at i name folder run within is has) so
+  unloaded_at i name folder run rose_here rose passed refusal within is has few rises (too_long so long given) =
+      subst (λ (r : Refusal). AreUncarried told how tin names rose r) (sym so) (by_the_layers (refused_at i name folder run LayersLong within is has (long_layer told name run.used few long)))
+  unloaded_at i name folder run rose_here rose passed refusal within is has few rises (no_memory so) = by_want so
+
+  -- a file is missing, or the count of faults rose
+  pub lacks_at : (i : ℕ) (name : List ℕ) (most : ℕ) (rose_here rose passed : Type 0) (refusal : Refusal) → i < length names → name ≡ get_or names i name → (rose_here → rose)
+      → IsUnloaded told name most (LayerUnread i) LayersLong rose_here passed refusal → status_of refusal ≡ ReadStatus → rose ⊎ LacksSome names told
+  lacks_at i name most rose_here rose passed refusal within is rises (missing so lacks) status = inr (name, (i, within, sym is), lacks)
+  lacks_at i name most rose_here rose passed refusal within is rises (read_failed so rose_now) status = inl (rises rose_now)
+  lacks_at i name most rose_here rose passed refusal within is rises (too_long so long given) status = let e = sym (ap status_of so) ∙ status in cc
+  lacks_at i name most rose_here rose passed refusal within is rises (no_memory so) status = let e = sym (ap status_of so) ∙ status in cc
+
+  file_at : (i : ℕ) (name bytes : List ℕ) (used : ℕ) (format : Format) → format_of name ≡ Some format → IfSome told (Loads name bytes) → used + length bytes ≤ MOST_BYTES → IsLayerFile told name used format bytes
+  file_at i name bytes used format suffix found within = record { suffix = suffix; found = found; within = within }
+
+  uncarried_rows : (i : ℕ) (name folder bytes : List ℕ) (run : Run) (rose : Type 0) (format : Format) (refusal : Refusal) → i < length names → name ≡ get_or names i name → HasCarried told how tin folder (take i names) run
+      → IsLayerFile told name run.used format bytes → IsUncarriedAs (IsLayerText how format) (LacksLayerText how format) tin bytes i (length run.pieces.items) refusal → AreUncarried told how tin names rose refusal
+  uncarried_rows i name folder bytes run rose format (Layer layer why) within is has file (same, lacks) = by_the_layers (refused_at i name folder run (Layer layer why) within is has (same, format, bytes, file, lacks))
+  uncarried_rows i name folder bytes run rose format (Outside layer path segment) within is has file (same, outside) =
+      by_the_layers (refused_at i name folder run (Outside layer path segment) within is has (same, format, bytes, file, outside))
+  uncarried_rows i name folder bytes run rose format TooManyPieces within is has file many = by_the_layers (refused_at i name folder run TooManyPieces within is has (format, bytes, file, many))
+  uncarried_rows i name folder bytes run rose format NoMemory within is has file why = by_want refl
+  uncarried_rows i name folder bytes run rose format refusal within is has file why = absurd why
+
+  -- the layer's text is not carried
+  pub uncarried_at : (i : ℕ) (name folder bytes : List ℕ) (run : Run) (rose : Type 0) (refusal : Refusal) → i < length names → name ≡ get_or names i name → HasCarried told how tin folder (take i names) run
+      → IfSome told (Loads name bytes) → run.used + length bytes ≤ MOST_BYTES → AddsNone how tin i name bytes (length run.pieces.items) refusal → AreUncarried told how tin names rose refusal
+  uncarried_at i name folder bytes run rose refusal within is has found few none =
+      elim none.why [
+        | as_layer why ↦ uncarried_rows i name folder bytes run rose none.format refusal within is has (file_at i name bytes run.used none.format none.suffix found few) why
+        | as_drawing drawing so ↦
+            let file : IsLayerFile told name run.used Drawing bytes = subst (λ (f : Format). IsLayerFile told name run.used f bytes) drawing (file_at i name bytes run.used none.format none.suffix found few) in
+            subst (λ (r : Refusal). AreUncarried told how tin names rose r) (sym so) (by_the_layers (refused_at i name folder run (NoDrawing i) within is has (refl, bytes, file)))
+      ]
+
+  -- it is carried
+  pub carried_at : (i : ℕ) (name folder bytes : List ℕ) (before now : Run) → i < length names → name ≡ get_or names i name → HasCarried told how tin folder (take i names) before
+      → IfSome told (Loads name bytes) → before.used + length bytes ≤ MOST_BYTES → AddsLayer how tin folder i name bytes before now → HasCarried told how tin folder (take (i + 1) names) now
+  carried_at i name folder bytes before now within is has found few adds =
+      let holds = has.holds in
+      let done = adds.done in
+      let next : IsNextCarried told how tin i before.used before.pieces.items name bytes now.pieces.items done =
+      record { named = adds.named; file = file_at i name bytes before.used done.format adds.suffix found few; carried = adds.carried } in
+      let all : AreCarried told how tin 0 0 [] (take i names ++ name ∷ []) now.pieces.items (has.done ++ done ∷ []) now.used =
+      one_more told how tin 0 0 [] (take i names) before.pieces.items has.done before.used name bytes now.pieces.items done i (has.done ++ done ∷ []) now.used has.carried (zero_more i within) next refl adds.used in
+      record {
+        done = has.done ++ done ∷ [];
+        carried = subst (λ (ns : List (List ℕ)). AreCarried told how tin 0 0 [] ns now.pieces.items (has.done ++ done ∷ []) now.used) (sym (take_more names i name within ∙ ap (λ (n : List ℕ). take i names ++ n ∷ []) (sym is))) all;
+        holds = record {
+          files = adds.files ∙ (ap (λ (fs : Files). fs ++ file_in folder done ∷ []) holds.files ∙ sym (map-append (file_in folder) has.done (done ∷ [])));
+          rows = adds.rows ∙ (ap (λ (rs : List LayerRow). rs ++ row_of done ∷ []) holds.rows ∙ sym (map-append row_of has.done (done ∷ [])));
+        };
+      }
+    where
+      zero_more : (k : ℕ) → k < length names → k ≡ 0 + length (take k names)
+      zero_more k h = let e = fronts k h in omega (arith, e)
+
+-- ---- the triangulation
 -- why the triangulation is not had: by the files, after a read fault, or for want of memory
-pub data IsWithoutTin (files : Files) (name : List ℕ) (rose : Type 0) (refusal : Refusal) : Type 0 where
-  by_file : IsTinRefused files name refusal → IsWithoutTin files name rose refusal
-  by_fault : rose → refusal ≡ TinUnread → IsWithoutTin files name rose refusal
-  by_want : status_of refusal ≡ Memory → IsWithoutTin files name rose refusal
+pub data IsWithoutTin (files : Files) (how : How) (name : List ℕ) (rose : Type 0) (refusal : Refusal) : Type 0 where
+  without_file : IsTinRefused files how name refusal → IsWithoutTin files how name rose refusal
+  without_read : rose → refusal ≡ TinUnread → IsWithoutTin files how name rose refusal
+  without_room : status_of refusal ≡ Memory → IsWithoutTin files how name rose refusal
 
-text-refused : (files : Files) (name text : List ℕ) (rose : Type 0) (refusal : Refusal) → HasFile files name text → IsTextRefused text refusal → IsWithoutTin files name rose refusal
-text-refused files name text rose (Tin why_not) file why =
+text-refused : (files : Files) (how : How) (name text : List ℕ) (rose : Type 0) (refusal : Refusal) → HasFile files name text → IsTextRefused how text refusal → IsWithoutTin files how name rose refusal
+text-refused files how name text rose (Tin why_not) file why =
     elim (want_or_fault why_not) [
-      | inl want ↦ by_want want
-      | inr other ↦ by_file (text, file, record { answers = why; of_text = other })
+      | inl want ↦ without_room want
+      | inr other ↦ without_file (text, file, record { answers = why; of_text = other })
     ]
-text-refused files name text rose (Check (Flat triangle frame)) file (tin, read, first) = by_file (text, file, record { tin = tin; read = read; first = first })
-text-refused files name text rose (Check (TurnsOver triangle)) file (tin, read, first) = by_file (text, file, record { tin = tin; read = read; first = first })
-text-refused files name text rose (Check (Meets first second frame)) file (tin, read, cause) = by_file (text, file, record { tin = tin; read = read; first = cause })
-text-refused files name text rose (Check CheckMemory) file why = by_want refl
-text-refused files name text rose NoMemory file why = by_want refl
-text-refused files name text rose refusal file why = absurd why
+text-refused files how name text rose (Check (Flat triangle frame)) file (tin, read, first) = without_file (text, file, record { tin = tin; read = read; first = first })
+text-refused files how name text rose (Check (TurnsOver triangle)) file (tin, read, first) = without_file (text, file, record { tin = tin; read = read; first = first })
+text-refused files how name text rose (Check (Meets first second frame)) file (tin, read, cause) = without_file (text, file, record { tin = tin; read = read; first = cause })
+text-refused files how name text rose (Check CheckMemory) file why = without_room refl
+text-refused files how name text rose NoMemory file why = without_room refl
+text-refused files how name text rose refusal file why = absurd why
 
-unready : (files : Files) (name : List ℕ) (rose passed : Type 0) (refusal : Refusal) → IsTinUnready (Some files) name rose passed refusal → IsWithoutTin files name rose refusal
-unready files name rose passed refusal (not_loaded (missing is lacks)) = rw is (by_file lacks)
-unready files name rose passed refusal (not_loaded (fault is rises)) = by_fault rises is
-unready files name rose passed refusal (not_loaded (too_long is long given)) = rw is (by_file long)
-unready files name rose passed refusal (not_loaded (no_memory is)) = by_want (ap status_of is)
-unready files name rose passed refusal (no_tin text file why) = text-refused files name text rose refusal file why
+pub unready : (files : Files) (how : How) (name : List ℕ) (rose passed : Type 0) (refusal : Refusal) → IsTinUnready (Some files) how name rose passed refusal → IsWithoutTin files how name rose refusal
+unready files how name rose passed refusal (not_loaded (missing is lacks)) = rw is (without_file lacks)
+unready files how name rose passed refusal (not_loaded (read_failed is rises)) = without_read rises is
+unready files how name rose passed refusal (not_loaded (too_long is long given)) = rw is (without_file long)
+unready files how name rose passed refusal (not_loaded (no_memory is)) = without_room (ap status_of is)
+unready files how name rose passed refusal (no_tin text file why) = text-refused files how name text rose refusal file why
 
 -- a check is refused as its triangulation is
-pub check_refused : (told : Option Files) (name : List ℕ) (rose passed : Type 0) (refusal : Refusal) → IsTinUnready told name rose passed refusal → IfSome told (λ files. MayRefuse files (checks name) rose refusal)
-check_refused None name rose passed refusal why = tt
-check_refused (Some files) name rose passed refusal why =
-    elim (unready files name rose passed refusal why) [
-      | by_file is ↦ by_the_files is
-      | by_fault rises is ↦ unread rises (rw is tt)
-      | by_want is ↦ no_room is
+pub check_refused : (told : Option Files) (how : How) (name : List ℕ) (rose passed : Type 0) (refusal : Refusal) → IsTinUnready told how name rose passed refusal → IfSome told (λ files. MayRefuse files (CheckJob name how) rose refusal)
+check_refused None how name rose passed refusal why = tt
+check_refused (Some files) how name rose passed refusal why =
+    elim (unready files how name rose passed refusal why) [
+      | without_file is ↦ by_the_files is
+      | without_read rises is ↦ unread rises is
+      | without_room is ↦ no_room is
     ]
 
--- so is a migration, before its layer is looked at
-pub migration_refused : (told : Option Files) (carriage : Carriage) (rose passed : Type 0) (refusal : Refusal) → IsTinUnready told carriage.tin rose passed refusal
-    → IfSome told (λ files. MayRefuse files (migrates carriage) rose refusal)
-migration_refused None carriage rose passed refusal why = tt
-migration_refused (Some files) carriage rose passed refusal why =
-    elim (unready files carriage.tin rose passed refusal why) [
-      | by_file is ↦ by_the_files (inl is)
-      | by_fault rises is ↦ unread rises (rw is tt)
-      | by_want is ↦ no_room is
+-- ---- a migration
+abbrev job_from : Carriage → Job
+job_from carriage = Migrate carriage.tin carriage.out carriage.how carriage.inverse carriage.layers
+
+-- is refused as its triangulation is, before its layers are looked at
+pub tin_refused : (told : Option Files) (carriage : Carriage) (rose passed : Type 0) (refusal : Refusal) → IsTinUnready told carriage.how carriage.tin rose passed refusal
+    → IfSome told (λ files. MayRefuse files (job_from carriage) rose refusal)
+tin_refused None carriage rose passed refusal why = tt
+tin_refused (Some files) carriage rose passed refusal why =
+    elim (unready files carriage.how carriage.tin rose passed refusal why) [
+      | without_file is ↦ by_the_files (by_tin is)
+      | without_read rises is ↦ unread rises (rw is tt)
+      | without_room is ↦ no_room is
     ]
 
--- or where its layer's text is not carried
-pub layer_refused : (told : Option Files) (carriage : Carriage) (tin : Triangulation) (bytes : List ℕ) (rose : Type 0) (refusal : Refusal) → IfSome told (λ files. HasTin files carriage.tin tin)
-    → IfSome told (λ files. HasFile files carriage.layer bytes) → IsNotCarried tin carriage.format bytes refusal → IfSome told (λ files. MayRefuse files (migrates carriage) rose refusal)
-layer_refused None carriage tin bytes rose refusal ready file why = tt
-layer_refused (Some files) carriage tin bytes rose (Layer unread_so) ready file why = by_the_files (inr (tin, bytes, record { ready = ready; file = file }, why))
-layer_refused (Some files) carriage tin bytes rose (Outside path segment) ready file why = by_the_files (inr (tin, bytes, record { ready = ready; file = file }, why))
-layer_refused (Some files) carriage tin bytes rose TooManyPieces ready file why = by_the_files (inr (tin, bytes, record { ready = ready; file = file }, why))
-layer_refused (Some files) carriage tin bytes rose TooManyChanges ready file why = by_the_files (inr (tin, bytes, record { ready = ready; file = file }, why))
-layer_refused (Some files) carriage tin bytes rose NoMemory ready file why = no_room refl
-layer_refused (Some files) carriage tin bytes rose refusal ready file why = absurd why
+-- or as its layers are
+pub layers_refused : (told : Option Files) (carriage : Carriage) (tin : Triangulation) (rose_here rose : Type 0) (refusal : Refusal) → IfSome told (λ files. HasTurned files carriage.how carriage.tin carriage.inverse tin)
+    → (rose_here → rose) → AreUncarried told carriage.how tin carriage.layers rose_here refusal → IfSome told (λ files. MayRefuse files (job_from carriage) rose refusal)
+layers_refused None carriage tin rose_here rose refusal ready rises why = tt
+layers_refused (Some files) carriage tin rose_here rose refusal ready rises (by_the_layers is) = by_the_files (by_layers tin ready is)
+layers_refused (Some files) carriage tin rose_here rose refusal ready rises (by_fault rose_now number name reached is) =
+    unread (rises rose_now) (rw is (record { tin = tin; way = ready; name = name; reached = reached }))
+layers_refused (Some files) carriage tin rose_here rose refusal ready rises (by_want is) = no_room (ap status_of is)
 
--- a layer is carried
-pub job_migrated : (told : Option Files) (carriage : Carriage) (tin : Triangulation) (bytes : List ℕ) (written : Written) → IfSome told (λ files. HasTin files carriage.tin tin)
-    → IfSome told (λ files. HasFile files carriage.layer bytes) → IsCarriedOff carriage tin bytes written
-    → IfSome told (λ files. IsJobDone files (migrates carriage) (end_of written.changed) (files_of written))
-job_migrated None carriage tin bytes written ready file carried = tt
-job_migrated (Some files) carriage tin bytes written ready file (pieces, carried, changes, layer, there, is, listed, named, same, changed, said) = record {
-  tin = tin;
-  bytes = bytes;
-  pieces = pieces;
-  carried = carried;
-  changes = changes;
-  name = string_bytes layer.name;
-  layer = record { ready = ready; file = file };
-  is_carried = is;
-  are_listed = listed;
-  named = named;
-  status_is = ap end_of changed;
-  made_is = rw (there, same, said) refl;
-}
+-- or as their changes are
+pub changes_refused : (told : Option Files) (carriage : Carriage) (tin : Triangulation) (run : Run) (rose : Type 0) (refusal : Refusal) → IfSome told (λ files. HasTurned files carriage.how carriage.tin carriage.inverse tin)
+    → HasCarried told carriage.how tin carriage.out carriage.layers run → IsUnlisted tin run.pieces.items refusal → IfSome told (λ files. MayRefuse files (job_from carriage) rose refusal)
+changes_refused None carriage tin run rose refusal ready has why = tt
+changes_refused (Some files) carriage tin run rose TooManyChanges ready has why =
+    by_the_files (by_layers tin ready (at_changes (record { is = refl; pieces = run.pieces.items; done = has.done; used = run.used; carried = has.carried; more = why })))
+changes_refused (Some files) carriage tin run rose NoMemory ready has why = no_room refl
+changes_refused (Some files) carriage tin run rose refusal ready has why = absurd why
 
-slash_in : (folder layer name : List ℕ) → IsNameIn folder layer name → HasSlash name
-slash_in folder layer name (part, last, is) = rw is (Contains-append_left (folder ++ 47 ∷ []) part 47 (Contains-append_right folder (47 ∷ []) 47 (0, lit< tt, refl)))
+-- what the report asks of the layers
+pub rows_named : (told : Option Files) (carriage : Carriage) (tin : Triangulation) (run : Run) → MayBeTaken carriage → HasCarried told carriage.how tin carriage.out carriage.layers run
+    → AllByRecursion (λ row. IsPrintable row.name) run.rows.items
+rows_named told carriage tin run taken has =
+    let holds = has.holds in
+    subst (λ (rows : List LayerRow). AllByRecursion (λ row. IsPrintable row.name) rows) (sym holds.rows)
+    (rows_printable has.done carriage.layers (names_done told carriage.how tin 0 0 [] carriage.layers run.pieces.items has.done run.used has.carried) taken.layers_named)
 
-pub carried_form : (carriage : Carriage) (tin : Triangulation) (bytes : List ℕ) (written : Written) → IsCarriedOff carriage tin bytes written → HasForm written
-carried_form carriage tin bytes written (pieces, carried, changes, layer, there, is, listed, named, same, changed, said) =
-    rw there (slash_in carriage.out carriage.layer (string_bytes layer.name) named, (report_of carriage.tin tin (row_of carriage.layer carriage.format carried ∷ []) changes, said, changed))
+pub run_comparable : (told : Option Files) (carriage : Carriage) (tin : Triangulation) (run : Run) → IsWithinLimits tin → HasCarried told carriage.how tin carriage.out carriage.layers run → AreAllComparable tin run.pieces.items
+run_comparable told carriage tin run limits has = run_compared told carriage.how tin carriage.layers run.pieces.items has.done run.used limits has.carried
 
--- the names of a job of words may be taken
-pub names_of : (words : List (List ℕ)) (job : Job) → IsJob words job → AreNamesOf job
-names_of words (migrates carriage) is = is.names
-names_of words (checks name) is = is.named
+-- the layers' files
+files_are : (run : Run) (written : Written) (folder : List ℕ) (done : List Done) → written.layers.items ≡ run.files.items → Holds folder done run → map file_of written.layers.items ≡ map (file_in folder) done
+files_are run written folder done same holds = ap (λ (fs : List LayerFile). map file_of fs) same ∙ holds.files
+
+pub migration_done : (told : Option Files) (carriage : Carriage) (tin : Triangulation) (run : Run) (written : Written) → IfSome told (λ files. HasTurned files carriage.how carriage.tin carriage.inverse tin)
+    → HasCarried told carriage.how tin carriage.out carriage.layers run → IsReported carriage.tin tin run written → IfSome told (λ files. IsJobDone files (job_from carriage) (end_of written.changed) (files_of written))
+migration_done None carriage tin run written ready has is = tt
+migration_done (Some files) carriage tin run written ready has is =
+    let holds = has.holds in
+    record {
+      changes = is.changes;
+      layers = map file_of written.layers.items;
+      said = written.said;
+      migrated = record {
+        tin = tin;
+        way = ready;
+        pieces = run.pieces.items;
+        done = has.done;
+        used = run.used;
+        carried = has.carried;
+        listed = is.listed;
+        layers_are = files_are run written carriage.out has.done is.layers holds;
+        said_is = is.said ∙ ap (λ (rows : List LayerRow). report_text (report_of carriage.tin tin rows is.changes)) holds.rows;
+      };
+      status_is = ap end_of is.changed;
+      made_is = refl;
+    }
+
+pub migration_form : (told : Option Files) (carriage : Carriage) (tin : Triangulation) (run : Run) (written : Written) → MayBeTaken carriage → HasCarried told carriage.how tin carriage.out carriage.layers run
+    → IsReported carriage.tin tin run written → HasForm written
+migration_form told carriage tin run written taken has is =
+    let holds = has.holds in
+    record {
+      writable =
+          subst (λ (fs : Files). AreWritable fs) (sym (files_are run written carriage.out has.done is.layers holds))
+          (files_writable carriage.out has.done carriage.layers (names_done told carriage.how tin 0 0 [] carriage.layers run.pieces.items has.done run.used has.carried) taken.distinct);
+      is_said = report_said (report_of carriage.tin tin run.rows.items is.changes) is.said is.changed;
+    }

@@ -1,5 +1,5 @@
 -- Why a layer is not carried, from the fault of carrying it.
-use Rattle.std.proofs.Common.{ℕ, List, Err, IsErrOf, refl}
+use Rattle.std.proofs.Common.{ℕ, List, Result, Ok, Err, IfErr, IsErrOf, refl}
 use Rattle.carry_map.specs.declared.faults.CarryFault.{CarryFault}
 use Rattle.carry_map.specs.declared.faults.CarryFault.TheVariants.{Layer as Unread, Outside as CarryOutside, TooMany, NoMemory as CarryMemory}
 use Rattle.carry_map.specs.declared.layers.Carried.{Carried}
@@ -8,28 +8,24 @@ use Rattle.carry_map.specs.Layers.{IsLayerOutside, IsLayerTooMany}
 use Rattle.sheet_base.specs.declared.faults.LayerFault.{LayerFault}
 use Rattle.sheet_base.specs.Sheets.{Contents}
 use Rattle.tin_base.specs.Triangulation.{Triangulation}
-use Rattle.tinmove.specs.declared.formats.Format.{Format}
 use Rattle.tinmove.specs.declared.refusal.Refusal.{Refusal}
-use Rattle.tinmove.specs.declared.refusal.Refusal.TheVariants.{Layer, Outside, TooManyPieces, NoMemory}
 use Rattle.tinmove.specs.Refusals.{of_carrying}
-use Rattle.tinmove.specs.Prepared.{IsUncarriedAs, IsUncarried, IsNotCarried}
+use Rattle.tinmove.specs.Prepared.{IsUncarriedAs}
 
 -- the fault of an answer
 abbrev IsFault : CarryFault → CarryFault → Type 0
 IsFault fault other = IsErrOf {T = Carried} (Err fault) other
 
-module _ (reads : List ℕ → Contents → Type 0) (refuses : List ℕ → LayerFault → Type 0) (tin : Triangulation) (text : List ℕ) where
+module _ (reads : List ℕ → Contents → Type 0) (refuses : List ℕ → LayerFault → Type 0) (tin : Triangulation) (text : List ℕ) (number before : ℕ) where
   pub uncarried_as : (fault : CarryFault) → ((f : LayerFault) → IsFault fault (Unread f) → refuses text f)
-      → ((path segment : ℕ) → IsFault fault (CarryOutside path segment) → IsLayerOutside tin (reads text) 0 0 MOST_PIECES path segment)
-      → (IsFault fault TooMany → IsLayerTooMany tin (reads text) 0 0 MOST_PIECES) → IsUncarriedAs reads refuses tin text (of_carrying fault)
-  uncarried_as (Unread fault) layer outside many = layer fault refl
-  uncarried_as (CarryOutside path segment) layer outside many = outside path segment refl
+      → ((path segment : ℕ) → IsFault fault (CarryOutside path segment) → IsLayerOutside tin (reads text) number before MOST_PIECES path segment)
+      → (IsFault fault TooMany → IsLayerTooMany tin (reads text) number before MOST_PIECES) → IsUncarriedAs reads refuses tin text number before (of_carrying number fault)
+  uncarried_as (Unread fault) layer outside many = (refl, layer fault refl)
+  uncarried_as (CarryOutside path segment) layer outside many = (refl, outside path segment refl)
   uncarried_as TooMany layer outside many = many refl
   uncarried_as CarryMemory layer outside many = tt
 
-pub not_carried : (tin : Triangulation) (format : Format) (text : List ℕ) (refusal : Refusal) → IsUncarried tin format text refusal → IsNotCarried tin format text refusal
-not_carried tin format text (Layer fault) is = is
-not_carried tin format text (Outside path segment) is = is
-not_carried tin format text TooManyPieces is = is
-not_carried tin format text NoMemory is = tt
-not_carried tin format text refusal is = absurd is
+-- a refusal has another fact where one follows from the other
+pub if_err : {T : Type 0} {P Q : Refusal → Type 0} (result : Result T Refusal) → ((r : Refusal) → P r → Q r) → IfErr result P → IfErr result Q
+if_err (Ok x) f h = tt
+if_err (Err r) f h = f r h

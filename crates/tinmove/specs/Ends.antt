@@ -1,35 +1,46 @@
 -- How a run ends: by its outcome, after a read fault, for want of memory, or after a write fault.
-use Rattle.std.specs.Prelude.{◌≡◌, ◌≢◌, ◌⊎◌, ℕ, List, [], ◌∷◌, codes, take, Option, None, Some}
+use Rattle.std.specs.Prelude.{◌≡◌, ◌≢◌, ◌⊎◌, ℕ, List, [], ◌∷◌, ◌++◌, codes, take, Contains, Option, None, Some}
 use Rattle.shelf_io.specs.Files.{Files}
 use Rattle.shelf_io.specs.Load.{LacksName}
 use Rattle.tin_base.specs.Triangulation.{Triangulation}
+use Rattle.job_words.specs.declared.jobs.Job.{Job}
+use Rattle.job_words.specs.declared.jobs.Job.TheVariants.{Migrate, Check, Make}
+use Rattle.job_words.specs.Jobs.{IsJobOf}
 use Rattle.tinmove.specs.declared.status.Status.{Status}
-use Rattle.tinmove.specs.declared.status.Status.TheVariants.{Same, Changed, Layer, Outside, Read, Write, Memory}
+use Rattle.tinmove.specs.declared.status.Status.TheVariants.{Same, Changed, Words, Layer, Outside, Read, Write, Memory}
 use Rattle.tinmove.specs.declared.refusal.Refusal.{Refusal}
-use Rattle.tinmove.specs.declared.refusal.Refusal.TheVariants.{NotUnderstood, TinUnread, TinLong, LayerUnread, LayerLong, NoMemory}
-use Rattle.tinmove.specs.Jobs.{Job, migrates, checks, IsJob, tin_name}
-use Rattle.tinmove.specs.Outcome.{HasTin, HasOutcome, IsJobRefused, Refuses}
+use Rattle.tinmove.specs.declared.refusal.Refusal.TheVariants.{TinUnread, TinLong, LayerUnread, LayersLong, NoMemory}
+use Rattle.tinmove.specs.Jobs.{Carriage}
+use Rattle.tinmove.specs.LayerRuns.{IsReachedLayer}
+use Rattle.tinmove.specs.Outcome.{HasWay, carriage_with, HasOutcome, IsJobRefused, Refuses}
 use Rattle.tinmove.specs.RunChanges.{end_with}
 use Rattle.report_text.specs.Reports.{Contents as Report}
 use Rattle.report_text.specs.ReportText.{report_text}
 use Rattle.tinmove.specs.SoundLine.{sound_text}
 use Rattle.tinmove.specs.Refusals.{status_of, line_of}
 
--- the job has a layer, and nothing refuses it before the layer's file
-abbrev pub IsLayerReached : Files → Job → Type 0
-IsLayerReached files (migrates carriage) = (tin : Triangulation) × HasTin files carriage.tin tin
-IsLayerReached files (checks name) = ⊥
+-- nothing refuses the migration before the file of the layer of this number
+pub record IsLayerReached (files : Files) (carriage : Carriage) (number : ℕ) : Type 0 where
+  pub tin : Triangulation
+  pub way : HasWay files carriage tin
+  pub name : List ℕ
+  pub reached : IsReachedLayer (Some files) carriage.how tin carriage.layers number name
 
 -- the refusal is that of a file that could not be read, and nothing refuses the job before that file
+abbrev pub IsReachedBy : Files → Carriage → Refusal → Type 0
+IsReachedBy files carriage TinUnread = Unit {0}
+IsReachedBy files carriage (LayerUnread layer) = IsLayerReached files carriage layer
+IsReachedBy files carriage refusal = ⊥
+
 abbrev pub IsReached : Files → Job → Refusal → Type 0
-IsReached files job TinUnread = Unit {0}
-IsReached files job LayerUnread = IsLayerReached files job
-IsReached files job refusal = ⊥
+IsReached files (Migrate tin out how inverse layers) refusal = IsReachedBy files (carriage_with tin out how inverse layers) refusal
+IsReached files (Check tin how) refusal = refusal ≡ TinUnread
+IsReached files (Make n) refusal = ⊥
 
 -- what a run makes unless a write fails
 pub data Makes (words : List (List ℕ)) (files : Files) (shelf_rose : Type 0) (status : Status) (made : Files) : Type 0 where
   by_outcome : HasOutcome words files status made → Makes words files shelf_rose status made
-  after_read_fault : shelf_rose → (job : Job) → IsJob words job → (refusal : Refusal) → IsReached files job refusal → Refuses refusal status made → Makes words files shelf_rose status made
+  after_read_fault : shelf_rose → (job : Job) → IsJobOf words job → (refusal : Refusal) → IsReached files job refusal → Refuses refusal status made → Makes words files shelf_rose status made
   out_of_memory : Refuses NoMemory status made → Makes words files shelf_rose status made
 
 -- made files that are a front of others: all whole but the last, which has a front of its bytes
@@ -51,28 +62,33 @@ abbrev pub EndsTold : List (List ℕ) → Files → Type 0 → Type 0 → Status
 EndsTold words files shelf_rose press_rose status (Some made) = Ends words files shelf_rose press_rose status made
 EndsTold words files shelf_rose press_rose status None = (made : Files) × Ends words files shelf_rose press_rose status made
 
+-- a report behind the files of some layers
+abbrev pub report_behind : Files → Report → Files
+report_behind layers report = layers ++ (codes "-", report_text report) ∷ []
+
 -- after each status but `Write`: all files of a success, or `-` alone with the line of a sound triangulation or a refusal;
 -- after `Write` a front of these. The status of a success says whether its report lists a change
 pub data Stands (status : Status) (made : Files) : Type 0 where
-  all_written : (name layer : List ℕ) → (report : Report) → status ≡ end_with report.changes → made ≡ (name, layer) ∷ (codes "-", report_text report) ∷ [] → Stands status made
+  all_written : (layers : Files) → (report : Report) → status ≡ end_with report.changes → made ≡ report_behind layers report → Stands status made
   sound_alone : status ≡ Same → (tin : Triangulation) → made ≡ (codes "-", sound_text tin) ∷ [] → Stands status made
   line_alone : (refusal : Refusal) → Refuses refusal status made → Stands status made
-  front_of_files : status ≡ Write → (name layer : List ℕ) → (report : Report) → IsFrontOf made ((name, layer) ∷ (codes "-", report_text report) ∷ []) → Stands status made
+  front_of_files : status ≡ Write → (layers : Files) → (report : Report) → IsFrontOf made (report_behind layers report) → Stands status made
   front_of_sound : status ≡ Write → (tin : Triangulation) → IsFrontOf made ((codes "-", sound_text tin) ∷ []) → Stands status made
   front_of_line : status ≡ Write → (refusal : Refusal) → IsFrontOf made ((codes "-", line_of refusal) ∷ []) → Stands status made
 
--- the layer's file is missing from the shelf's files, which are told
-abbrev pub LacksLayer : Job → Option Files → Type 0
-LacksLayer (migrates carriage) files = LacksName files carriage.layer
-LacksLayer (checks name) files = ⊥
+-- one of these names is missing from the shelf's files, which are told
+abbrev pub LacksSome : List (List ℕ) → Option Files → Type 0
+LacksSome names files = (name : List ℕ) × Contains names name × LacksName files name
 
 -- a file that the job wants is missing
 abbrev pub LacksWanted : Job → Option Files → Type 0
-LacksWanted job files = LacksName files (tin_name job) ⊎ LacksLayer job files
+LacksWanted (Migrate tin out how inverse layers) files = LacksName files tin ⊎ LacksSome layers files
+LacksWanted (Check tin how) files = LacksName files tin
+LacksWanted (Make n) files = ⊥
 
 -- the words give a job, and a file that it wants is missing
 abbrev pub LacksWantedOf : List (List ℕ) → Option Files → Type 0
-LacksWantedOf words files = (job : Job) × IsJob words job × LacksWanted job files
+LacksWantedOf words files = (job : Job) × IsJobOf words job × LacksWanted job files
 
 -- why a job is refused before anything is written: by its files, after a read fault, or for want of memory
 pub data MayRefuse (files : Files) (job : Job) (shelf_rose : Type 0) (refusal : Refusal) : Type 0 where
@@ -88,17 +104,18 @@ IsEndOfCheck Outside = ⊥
 IsEndOfCheck status = Unit {0}
 
 abbrev pub MayEnd : Job → Status → Type 0
-MayEnd (migrates carriage) status = Unit {0}
-MayEnd (checks name) status = IsEndOfCheck status
+MayEnd (Migrate tin out how inverse layers) status = Unit {0}
+MayEnd (Check tin how) status = IsEndOfCheck status
+MayEnd (Make n) status = Unit {0}
 
 -- the causes of a job's refusal that stand whether or not the shelf tells its files
 pub record HasCauses (job : Job) (files : Option Files) (shelf_rose given_passed : Type 0) (refusal : Refusal) : Type 0 where
-  pub understood : refusal ≢ NotUnderstood
+  pub understood : status_of refusal ≢ Words
   pub read : status_of refusal ≡ Read → shelf_rose ⊎ LacksWanted job files
   pub tin_long : refusal ≡ TinLong → given_passed
-  pub layer_long : refusal ≡ LayerLong → given_passed
+  pub layers_long : refusal ≡ LayersLong → given_passed
   pub may_end : MayEnd job (status_of refusal)
 
 -- a line that says that a limit on bytes is passed
 abbrev pub TellsBytes : Files → Type 0
-TellsBytes made = (made ≡ (codes "-", line_of TinLong) ∷ []) ⊎ (made ≡ (codes "-", line_of LayerLong) ∷ [])
+TellsBytes made = (made ≡ (codes "-", line_of TinLong) ∷ []) ⊎ (made ≡ (codes "-", line_of LayersLong) ∷ [])

@@ -1,37 +1,53 @@
--- What a run says of how the pieces of its layer lie to each other: after rounding as in the source, or which of them do not.
-use Rattle.std.specs.Prelude.{◌≢◌, ◌⊎◌, ℕ, ◌<◌, List, [], ◌∷◌, All, AllPairs, Contains, codes, length, slice_index_or, Option, Some, IfSome}
+-- What a run says of how the pieces of its layers lie to each other: after rounding as in the source, or which of them do not.
+use Rattle.std.specs.Prelude.{◌≡◌, ◌≢◌, ◌⊎◌, ℕ, ◌+◌, ◌<◌, List, [], ◌∷◌, ◌++◌, All, AllPairs, Contains, codes, length, slice_index_or, Option, Some, IfSome}
 use Rattle.shelf_io.specs.Files.{Files}
+use Rattle.sheet_base.specs.declared.flags.How.{How}
 use Rattle.sheet_base.specs.Sheets.{Contents}
 use Rattle.tin_base.specs.declared.pieces.Change.{Change}
 use Rattle.tin_base.specs.declared.pieces.Piece.{Piece}
 use Rattle.tin_base.specs.declared.relations.Rel.{Rel}
 use Rattle.tin_base.specs.Triangulation.{Triangulation}
-use Rattle.affine_image.specs.SheetPieces.{ArePiecesOfRun, IsSheetInside}
+use Rattle.affine_image.specs.SheetPieces.{ArePiecesOfSheet, IsSheetInside}
 use Rattle.topo_check.specs.Changes.{HadRelation, HasRelation, IsChangeOf}
+use Rattle.job_words.specs.declared.formats.Format.{Format}
 use Rattle.tinmove.specs.declared.status.Status.{Status}
 use Rattle.tinmove.specs.declared.status.Status.TheVariants.{Same, Changed}
 use Rattle.carry_map.specs.Layers.{IsBackAsPieces}
-use Rattle.tinmove.specs.Names.{IsNameIn}
+use Rattle.tinmove.specs.Names.{name_in}
 use Rattle.tinmove.specs.Jobs.{Carriage}
 use Rattle.tinmove.specs.Carrying.{IsLayerText}
 use Rattle.tinmove.specs.LayerTexts.{reads_back_of}
-use Rattle.tinmove.specs.Triangulations.{plain}
-use Rattle.tinmove.specs.Outcome.{HasLayer}
+use Rattle.tinmove.specs.LayerRuns.{IsLayerFile}
+use Rattle.tinmove.specs.Outcome.{HasWay}
 use Rattle.report_text.specs.Reports.{Contents as Report}
 use Rattle.report_text.specs.ReportText.{report_text}
 
--- the files give this sound triangulation, these bytes of the layer and their sheet, which is inside, and these pieces of all its segments
-pub record GivesPieces (files : Files) (carriage : Carriage) (tin : Triangulation) (bytes : List ℕ) (sheet : Contents) (pieces : List Piece) : Type 0 where
-  pub layer : HasLayer files carriage tin bytes
-  pub read : IsLayerText carriage.format bytes sheet
-  pub inside : IsSheetInside tin sheet
-  pub are_pieces : ArePiecesOfRun tin 0 (sheet ∷ []) pieces
+-- the layer's file in the folder is a layer again, whose segments in order are those between the rounded images of the ends of its pieces, unless the format excepts what is written of the layer's bytes
+abbrev pub HasWritten : How → Format → Triangulation → List ℕ → List ℕ → List ℕ → List Piece → Files → Type 0
+HasWritten how format tin folder name bytes own made =
+    (text : List ℕ) × Contains made (name_in folder name, text) × IsBackAsPieces tin bytes (IsLayerText how format) (reads_back_of format how bytes) text own
 
--- the layer's file in the folder is a layer again, whose segments in order are those between the rounded images of the ends of the pieces, unless the format excepts what is written of the layer's bytes
-abbrev pub HasWritten : Carriage → Triangulation → List ℕ → List Piece → Files → Type 0
-HasWritten carriage tin bytes pieces made =
-    (name : List ℕ) × (text : List ℕ) × IsNameIn carriage.out carriage.layer name × Contains made (name, text)
-    × IsBackAsPieces tin bytes (IsLayerText carriage.format) (reads_back_of carriage.format plain bytes) text pieces
+-- a layer of these bytes, of its sheet, which is inside, and of its pieces; they are in its written file
+pub record IsKeptLayer (files : Files) (how : How) (tin : Triangulation) (folder : List ℕ) (made : Option Files) (number used : ℕ) (name bytes : List ℕ) (own : List Piece) : Type 0 where
+  pub format : Format
+  pub file : IsLayerFile (Some files) name used format bytes
+  pub sheet : Contents
+  pub read : IsLayerText how format bytes sheet
+  pub inside : IsSheetInside tin sheet
+  pub are_pieces : ArePiecesOfSheet tin number sheet own
+  pub written : IfSome made (HasWritten how format tin folder name bytes own)
+
+-- the layers of these names in order, the first of them under this number and behind `used` bytes, and the pieces of all of them
+abbrev pub AreKeptLayers : Files → How → Triangulation → List ℕ → Option Files → ℕ → ℕ → List (List ℕ) → List Piece → Type 0
+AreKeptLayers files how tin folder made number used [] pieces = pieces ≡ []
+AreKeptLayers files how tin folder made number used (name ∷ names) pieces =
+    (bytes : List ℕ) × (own : List Piece) × (rest : List Piece) × IsKeptLayer files how tin folder made number used name bytes own × (pieces ≡ own ++ rest)
+    × AreKeptLayers files how tin folder made (number + 1) (used + length bytes) names rest
+
+-- the files give this way and these pieces of all layers, which stand in the written files
+pub record GivesPieces (files : Files) (carriage : Carriage) (made : Option Files) (tin : Triangulation) (pieces : List Piece) : Type 0 where
+  pub way : HasWay files carriage tin
+  pub layers : AreKeptLayers files carriage.how tin carriage.out made 0 0 carriage.layers pieces
 
 -- one relation is that of the two pieces in the source, and that of the segments between the rounded images of their ends
 abbrev pub KeepTheirRelation : Triangulation → Piece → Piece → Type 0
@@ -57,13 +73,9 @@ pub record ReportsChanges (tin : Triangulation) (pieces : List Piece) (made : Op
   pub some : report.changes ≢ []
   pub printed : IfSome made (λ made. Contains made (codes "-", report_text report))
 
--- What the status of a migration says of all pieces of its layer, each of them with each later one.
+-- What the status of a migration says of all pieces of all its layers, each of them with each later one.
 -- After `Same` each two written segments lie to each other as their pieces do in the source; after `Changed` the report names those that do not.
 abbrev pub KeepsRelations : Files → Carriage → Status → Option Files → Type 0
-KeepsRelations files carriage Same made =
-    (tin : Triangulation) × (bytes : List ℕ) × (sheet : Contents) × (pieces : List Piece) × GivesPieces files carriage tin bytes sheet pieces
-    × IfSome made (HasWritten carriage tin bytes pieces) × AllPairs (KeepTheirRelation tin) pieces
-KeepsRelations files carriage Changed made =
-    (tin : Triangulation) × (bytes : List ℕ) × (sheet : Contents) × (pieces : List Piece) × GivesPieces files carriage tin bytes sheet pieces
-    × IfSome made (HasWritten carriage tin bytes pieces) × ReportsChanges tin pieces made
+KeepsRelations files carriage Same made = (tin : Triangulation) × (pieces : List Piece) × GivesPieces files carriage made tin pieces × AllPairs (KeepTheirRelation tin) pieces
+KeepsRelations files carriage Changed made = (tin : Triangulation) × (pieces : List Piece) × GivesPieces files carriage made tin pieces × ReportsChanges tin pieces made
 KeepsRelations files carriage status made = Unit {0}

@@ -1,10 +1,9 @@
 pub mod Names
-pub mod Formats
 pub mod LayerTexts
 pub mod Jobs
-pub mod Wanted
 pub mod Triangulations
 pub mod Carrying
+pub mod LayerRuns
 pub mod RunChanges
 pub mod SoundLine
 pub mod Status
@@ -14,6 +13,7 @@ pub mod Outcome
 pub mod Kept
 pub mod Ends
 pub mod Prepared
+pub mod Wanted
 pub mod Laws
 pub mod Making
 pub mod Help

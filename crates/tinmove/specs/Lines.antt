@@ -1,9 +1,13 @@
--- The lines that say why a triangulation or a layer is refused. Places are bytes, rows and triangles are counted from 0, lines from 1.
+-- The lines that say why words, a triangulation or a layer are refused. Places are bytes, rows and triangles are counted from 0, lines from 1.
 use Rattle.std.specs.Prelude.{ℕ, List, ◌++◌, codes, decimal}
 use Rattle.mm_decimal.specs.declared.reading.NumFault.{NumFault}
 use Rattle.mm_decimal.specs.declared.reading.NumFault.TheVariants.{Form, Long, Range}
 use Rattle.sheet_base.specs.declared.faults.LayerFault.{LayerFault}
 use Rattle.sheet_base.specs.declared.faults.LayerFault.TheVariants as layers
+use Rattle.job_words.specs.declared.faults.Which.{Which}
+use Rattle.job_words.specs.declared.faults.Which.TheVariants.{Tin as WhichTin, Out as WhichOut, Layer as WhichLayer}
+use Rattle.job_words.specs.declared.faults.WordsFault.{WordsFault}
+use Rattle.job_words.specs.declared.faults.WordsFault.TheVariants.{NoMode, Parse, Size, Many, Name, Suffix, SameName, NoMemory as WordsMemory}
 use Rattle.tin_base.specs.declared.frames.Axis.{Axis}
 use Rattle.tin_base.specs.declared.frames.Axis.TheVariants.{X, Y}
 use Rattle.tin_base.specs.declared.frames.Frame.{Frame}
@@ -71,41 +75,58 @@ check_line (TurnsOver triangle) = codes "triangulation: turns over " ++ decimal 
 check_line (Meets first second frame) = codes "triangulation: meets " ++ decimal first ++ codes " " ++ decimal second ++ frame_end frame
 check_line CheckMemory = codes "no memory\n"
 
--- a number text of the layer
-abbrev pub layer_number_line : ℕ → NumFault → List ℕ
-layer_number_line at (Form place) = codes "layer 0: number form at " ++ decimal at ++ codes " place " ++ decimal place ++ codes "\n"
-layer_number_line at Long = codes "layer 0: number long at " ++ decimal at ++ codes "\n"
-layer_number_line at Range = codes "layer 0: number range at " ++ decimal at ++ codes "\n"
+-- a number text of the layer of this number
+abbrev pub layer_number_line : ℕ → ℕ → NumFault → List ℕ
+layer_number_line layer at (Form place) = codes "layer " ++ decimal layer ++ codes ": number form at " ++ decimal at ++ codes " place " ++ decimal place ++ codes "\n"
+layer_number_line layer at Long = codes "layer " ++ decimal layer ++ codes ": number long at " ++ decimal at ++ codes "\n"
+layer_number_line layer at Range = codes "layer " ++ decimal layer ++ codes ": number range at " ++ decimal at ++ codes "\n"
 
 -- a fault with a word of its own, at a place of the layer's bytes, or at one of its lines
-abbrev pub at_place : List ℕ → ℕ → List ℕ
-at_place word at = codes "layer 0: " ++ word ++ codes " at " ++ decimal at ++ codes "\n"
+abbrev pub at_place : ℕ → List ℕ → ℕ → List ℕ
+at_place layer word at = codes "layer " ++ decimal layer ++ codes ": " ++ word ++ codes " at " ++ decimal at ++ codes "\n"
 
-abbrev pub at_line : List ℕ → ℕ → List ℕ
-at_line word line = codes "layer 0: " ++ word ++ codes " at line " ++ decimal line ++ codes "\n"
+abbrev pub at_line : ℕ → List ℕ → ℕ → List ℕ
+at_line layer word line = codes "layer " ++ decimal layer ++ codes ": " ++ word ++ codes " at line " ++ decimal line ++ codes "\n"
 
--- a layer that is not read; the layer's number is 0
-abbrev pub layer_line : LayerFault → List ℕ
-layer_line (layers.Bad at) = at_place (codes "bad") at
-layer_line (layers.Deep at) = at_place (codes "deep") at
-layer_line (layers.Repeat at) = at_place (codes "repeat") at
-layer_line (layers.Shape at) = at_place (codes "shape") at
-layer_line (layers.Kind at) = at_place (codes "kind") at
-layer_line (layers.Height at) = at_place (codes "height") at
-layer_line (layers.Inexact at) = at_place (codes "inexact") at
-layer_line (layers.Ring at) = at_place (codes "ring") at
-layer_line (layers.Number at fault) = layer_number_line at fault
-layer_line layers.Binary = codes "layer 0: binary\n"
-layer_line layers.NoEof = codes "layer 0: no eof\n"
-layer_line (layers.Code line) = at_line (codes "code") line
-layer_line (layers.Odd line) = at_line (codes "odd") line
-layer_line (layers.Entity line) = at_line (codes "entity") line
-layer_line (layers.Extrusion line) = at_line (codes "extrusion") line
-layer_line (layers.Flags line) = at_line (codes "flags") line
-layer_line (layers.Count line) = at_line (codes "count") line
-layer_line (layers.Bulge line) = at_line (codes "bulge") line
-layer_line (layers.Width line) = at_line (codes "width") line
-layer_line (layers.Slope line) = at_line (codes "slope") line
-layer_line (layers.Attribs line) = at_line (codes "attribs") line
-layer_line (layers.Seed line) = at_line (codes "seed") line
-layer_line layers.NoMemory = codes "no memory\n"
+-- a layer that is not read
+abbrev pub layer_line : ℕ → LayerFault → List ℕ
+layer_line layer (layers.Bad at) = at_place layer (codes "bad") at
+layer_line layer (layers.Deep at) = at_place layer (codes "deep") at
+layer_line layer (layers.Repeat at) = at_place layer (codes "repeat") at
+layer_line layer (layers.Shape at) = at_place layer (codes "shape") at
+layer_line layer (layers.Kind at) = at_place layer (codes "kind") at
+layer_line layer (layers.Height at) = at_place layer (codes "height") at
+layer_line layer (layers.Inexact at) = at_place layer (codes "inexact") at
+layer_line layer (layers.Ring at) = at_place layer (codes "ring") at
+layer_line layer (layers.Number at fault) = layer_number_line layer at fault
+layer_line layer layers.Binary = codes "layer " ++ decimal layer ++ codes ": binary\n"
+layer_line layer layers.NoEof = codes "layer " ++ decimal layer ++ codes ": no eof\n"
+layer_line layer (layers.Code line) = at_line layer (codes "code") line
+layer_line layer (layers.Odd line) = at_line layer (codes "odd") line
+layer_line layer (layers.Entity line) = at_line layer (codes "entity") line
+layer_line layer (layers.Extrusion line) = at_line layer (codes "extrusion") line
+layer_line layer (layers.Flags line) = at_line layer (codes "flags") line
+layer_line layer (layers.Count line) = at_line layer (codes "count") line
+layer_line layer (layers.Bulge line) = at_line layer (codes "bulge") line
+layer_line layer (layers.Width line) = at_line layer (codes "width") line
+layer_line layer (layers.Slope line) = at_line layer (codes "slope") line
+layer_line layer (layers.Attribs line) = at_line layer (codes "attribs") line
+layer_line layer (layers.Seed line) = at_line layer (codes "seed") line
+layer_line layer layers.NoMemory = codes "no memory\n"
+
+-- a name of a job
+abbrev pub which_line : Which → List ℕ
+which_line WhichTin = codes "words: name of triangulation\n"
+which_line WhichOut = codes "words: name of folder\n"
+which_line (WhichLayer layer) = codes "words: name of layer " ++ decimal layer ++ codes "\n"
+
+-- words that give no job
+abbrev pub words_line : WordsFault → List ℕ
+words_line NoMode = codes "words: no mode\n"
+words_line Parse = codes "words: not understood\n"
+words_line Size = codes "words: size\n"
+words_line Many = codes "words: too many layers\n"
+words_line (Name which) = which_line which
+words_line (Suffix layer) = codes "words: suffix of layer " ++ decimal layer ++ codes "\n"
+words_line (SameName layer) = codes "words: same name at layer " ++ decimal layer ++ codes "\n"
+words_line WordsMemory = codes "no memory\n"

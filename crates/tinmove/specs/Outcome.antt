@@ -1,28 +1,32 @@
 -- What a run makes, as a relation of the words, the shelf's files, the status and the made files.
-use Rattle.std.specs.Prelude.{◌≡◌, ◌⊎◌, ℕ, ◌<◌, ◌≤◌, List, [], ◌∷◌, codes, length, None, Some}
+use Rattle.std.specs.Prelude.{◌≡◌, ℕ, ◌<◌, ◌≤◌, List, [], ◌∷◌, ◌++◌, map, codes, Bool, length, None, Some}
 use Rattle.shelf_io.specs.Files.{Files, bytes_of}
-use Rattle.carry_map.specs.declared.layers.Carried.{Carried}
+use Rattle.sheet_base.specs.declared.flags.How.{How}
 use Rattle.tin_base.specs.declared.pieces.Change.{Change}
 use Rattle.tin_base.specs.declared.pieces.Piece.{Piece}
 use Rattle.tin_base.specs.Triangulation.{Triangulation}
+use Rattle.job_words.specs.declared.jobs.Job.{Job}
+use Rattle.job_words.specs.declared.jobs.Job.TheVariants.{Migrate, Check as CheckJob, Make}
+use Rattle.job_words.specs.declared.faults.WordsFault.{WordsFault}
+use Rattle.job_words.specs.Jobs.{IsJobOf, IsWordsFault}
 use Rattle.tinmove.specs.declared.loading.TheConstants.{MOST_BYTES}
 use Rattle.tinmove.specs.declared.status.Status.{Status}
 use Rattle.tinmove.specs.declared.status.Status.TheVariants.{Same}
 use Rattle.tinmove.specs.declared.refusal.Refusal.{Refusal}
-use Rattle.tinmove.specs.declared.refusal.Refusal.TheVariants.{NotUnderstood, TinUnread, TinLong, Tin, Check, LayerUnread, LayerLong, Layer, Outside, TooManyPieces, TooManyChanges}
-use Rattle.tinmove.specs.declared.formats.Format.{Format}
-use Rattle.tinmove.specs.Names.{IsNameIn}
-use Rattle.tinmove.specs.Formats.{is_drawing}
-use Rattle.tinmove.specs.Jobs.{Carriage, Job, migrates, checks, IsJob, LacksJob}
-use Rattle.tinmove.specs.Triangulations.{IsTin, LacksTin, IsUnsound}
-use Rattle.tinmove.specs.Carrying.{LacksLayerText, IsCarried, IsOutside, HasTooMany}
-use Rattle.tinmove.specs.RunChanges.{AreListed, HasTooManyChanges, end_with}
+use Rattle.tinmove.specs.declared.refusal.Refusal.TheVariants.{Words, TinUnread, TinLong, Tin, Check, NoMaker}
+use Rattle.tinmove.specs.Names.{name_in}
+use Rattle.tinmove.specs.LayerTexts.{is_drawing}
+use Rattle.tinmove.specs.Jobs.{Carriage}
+use Rattle.tinmove.specs.Triangulations.{IsTin, LacksTin, IsUnsound, directed}
+use Rattle.tinmove.specs.LayerRuns.{Done, AreCarried, AreRefused}
+use Rattle.tinmove.specs.RunChanges.{AreListed, end_with}
 use Rattle.report_text.specs.Reports.{Contents as Report}
 use Rattle.report_text.specs.declared.rows.LayerRow.{LayerRow}
 use Rattle.report_text.specs.ReportText.{report_text}
 use Rattle.tinmove.specs.SoundLine.{sound_text}
 use Rattle.tinmove.specs.Refusals.{status_of, line_of}
 
+-- ---- the triangulation
 -- the file of this name has these bytes, and not too many
 pub record HasFile (files : Files) (name bytes : List ℕ) : Type 0 where
   pub found : bytes_of files name ≡ Some bytes
@@ -33,48 +37,40 @@ abbrev pub HasLongFile : Files → List ℕ → Type 0
 HasLongFile files name = (bytes : List ℕ) × (bytes_of files name ≡ Some bytes) × (MOST_BYTES < length bytes)
 
 -- the triangulation of the file of this name is read and sound
-abbrev pub HasTin : Files → List ℕ → Triangulation → Type 0
-HasTin files name tin = (text : List ℕ) × HasFile files name text × IsTin text tin
+abbrev pub HasTin : Files → How → List ℕ → Triangulation → Type 0
+HasTin files how name tin = (text : List ℕ) × HasFile files name text × IsTin how text tin
 
 -- The file of this name gives no sound triangulation: one row for each refusal, in the order in which they are tried.
-abbrev pub IsTinRefused : Files → List ℕ → Refusal → Type 0
-IsTinRefused files name TinUnread = bytes_of files name ≡ None
-IsTinRefused files name TinLong = HasLongFile files name
-IsTinRefused files name (Tin fault) = (text : List ℕ) × HasFile files name text × LacksTin text fault
-IsTinRefused files name (Check fault) = (text : List ℕ) × HasFile files name text × IsUnsound text fault
-IsTinRefused files name refusal = ⊥
+abbrev pub IsTinRefused : Files → How → List ℕ → Refusal → Type 0
+IsTinRefused files how name TinUnread = bytes_of files name ≡ None
+IsTinRefused files how name TinLong = HasLongFile files name
+IsTinRefused files how name (Tin fault) = (text : List ℕ) × HasFile files name text × LacksTin how text fault
+IsTinRefused files how name (Check fault) = (text : List ℕ) × HasFile files name text × IsUnsound how text fault
+IsTinRefused files how name refusal = ⊥
 
--- the triangulation is read and sound, and the layer's file has these bytes
-pub record HasLayer (files : Files) (carriage : Carriage) (tin : Triangulation) (bytes : List ℕ) : Type 0 where
-  pub ready : HasTin files carriage.tin tin
-  pub file : HasFile files carriage.layer bytes
+-- the layers are carried through this one: it is read and sound as it stands, and only then its frames are exchanged, where that is asked for
+abbrev pub HasTurned : Files → How → List ℕ → Bool → Triangulation → Type 0
+HasTurned files how name inverse tin = (stood : Triangulation) × HasTin files how name stood × (tin ≡ directed inverse stood)
 
--- The triangulation is read and sound, and the layer is not carried, or its changes are not listed: one row for each refusal, in the order in which they are tried.
--- A row speaks of what was accepted before it.
-abbrev pub IsLayerRefused : Files → Carriage → Refusal → Type 0
-IsLayerRefused files carriage LayerUnread = (tin : Triangulation) × HasTin files carriage.tin tin × (bytes_of files carriage.layer ≡ None)
-IsLayerRefused files carriage LayerLong = (tin : Triangulation) × HasTin files carriage.tin tin × HasLongFile files carriage.layer
-IsLayerRefused files carriage (Layer fault) = (tin : Triangulation) × (bytes : List ℕ) × HasLayer files carriage tin bytes × LacksLayerText carriage.format bytes fault
-IsLayerRefused files carriage (Outside path segment) = (tin : Triangulation) × (bytes : List ℕ) × HasLayer files carriage tin bytes × IsOutside tin carriage.format bytes path segment
-IsLayerRefused files carriage TooManyPieces = (tin : Triangulation) × (bytes : List ℕ) × HasLayer files carriage tin bytes × HasTooMany tin carriage.format bytes
-IsLayerRefused files carriage TooManyChanges = (tin : Triangulation) × (bytes : List ℕ) × HasLayer files carriage tin bytes × HasTooManyChanges tin carriage.format bytes
-IsLayerRefused files carriage refusal = ⊥
+abbrev pub HasWay : Files → Carriage → Triangulation → Type 0
+HasWay files carriage tin = HasTurned files carriage.how carriage.tin carriage.inverse tin
 
--- the files refuse the job so
-abbrev pub IsJobRefused : Files → Job → Refusal → Type 0
-IsJobRefused files (migrates carriage) refusal = IsTinRefused files carriage.tin refusal ⊎ IsLayerRefused files carriage refusal
-IsJobRefused files (checks name) refusal = IsTinRefused files name refusal
+-- ---- a migration
+-- the files refuse it: the triangulation, or else a layer or the changes
+pub data IsMigrationRefused (files : Files) (carriage : Carriage) (refusal : Refusal) : Type 0 where
+  by_tin : IsTinRefused files carriage.how carriage.tin refusal → IsMigrationRefused files carriage refusal
+  by_layers : (tin : Triangulation) → HasWay files carriage tin → AreRefused (Some files) carriage.how tin carriage.layers refusal → IsMigrationRefused files carriage refusal
 
 -- a layer's row of the report
-abbrev pub row_of : List ℕ → Format → Carried → LayerRow
-row_of name format carried = record {
-  paths = carried.paths;
-  segments = carried.segments;
-  pieces = carried.pieces;
-  inexact = carried.inexact;
-  dropped = carried.dropped;
-  drawing = is_drawing format;
-  name = name;
+abbrev pub row_of : Done → LayerRow
+row_of done = record {
+  paths = done.carried.paths;
+  segments = done.carried.segments;
+  pieces = done.carried.pieces;
+  inexact = done.carried.inexact;
+  dropped = done.carried.dropped;
+  drawing = is_drawing done.format;
+  name = done.name;
 }
 
 -- what the report of a run says
@@ -88,33 +84,56 @@ report_of name tin rows changes = record {
   changes = changes;
 }
 
--- the layer is carried: its file with the images in place of the points, and then the report; the status says whether this lists a change
-pub record IsMigrated (files : Files) (carriage : Carriage) (status : Status) (made : Files) : Type 0 where
-  pub tin : Triangulation
-  pub bytes : List ℕ
-  pub pieces : List Piece
-  pub carried : Carried
-  pub changes : List Change
-  pub name : List ℕ
-  pub layer : HasLayer files carriage tin bytes
-  pub is_carried : IsCarried tin carriage.format bytes pieces carried
-  pub are_listed : AreListed tin pieces changes
-  pub named : IsNameIn carriage.out carriage.layer name
-  pub status_is : status ≡ end_with changes
-  pub made_is : made ≡ (name, carried.text) ∷ (codes "-", report_text (report_of carriage.tin tin (row_of carriage.layer carriage.format carried ∷ []) changes)) ∷ []
+-- a layer's file in a folder, with the images in place of the points
+abbrev pub file_in : List ℕ → Done → List ℕ × List ℕ
+file_in folder done = (name_in folder done.name, done.carried.text)
 
--- the triangulation is sound, and its line says so
-pub record IsChecked (files : Files) (name : List ℕ) (status : Status) (made : Files) : Type 0 where
+-- all layers are carried: a file for each, in their order, and a report, which lists the changes of the pieces of all of them
+pub record IsMigrated (files : Files) (carriage : Carriage) (changes : List Change) (layers : Files) (said : List ℕ) : Type 0 where
   pub tin : Triangulation
-  pub ready : HasTin files name tin
+  pub way : HasWay files carriage tin
+  pub pieces : List Piece
+  pub done : List Done
+  pub used : ℕ
+  pub carried : AreCarried (Some files) carriage.how tin 0 0 [] carriage.layers pieces done used
+  pub listed : AreListed tin pieces changes
+  pub layers_are : layers ≡ map (file_in carriage.out) done
+  pub said_is : said ≡ report_text (report_of carriage.tin tin (map row_of done) changes)
+
+-- ---- jobs
+-- the triangulation is sound, and its line says so
+pub record IsChecked (files : Files) (how : How) (name : List ℕ) (status : Status) (made : Files) : Type 0 where
+  pub tin : Triangulation
+  pub ready : HasTin files how name tin
   pub status_is : status ≡ Same
   pub made_is : made ≡ (codes "-", sound_text tin) ∷ []
 
+-- a migration makes the layers' files and then the report; the status says whether this lists a change
+pub record IsMigrationDone (files : Files) (carriage : Carriage) (status : Status) (made : Files) : Type 0 where
+  pub changes : List Change
+  pub layers : Files
+  pub said : List ℕ
+  pub migrated : IsMigrated files carriage changes layers said
+  pub status_is : status ≡ end_with changes
+  pub made_is : made ≡ layers ++ (codes "-", said) ∷ []
+
+-- the migration that a job's words ask for
+abbrev pub carriage_with : List ℕ → List ℕ → How → Bool → List (List ℕ) → Carriage
+carriage_with tin out how inverse layers = record { tin = tin; out = out; how = how; inverse = inverse; layers = layers }
+
+-- the files refuse the job so; nothing is made yet
+abbrev pub IsJobRefused : Files → Job → Refusal → Type 0
+IsJobRefused files (Migrate tin out how inverse layers) refusal = IsMigrationRefused files (carriage_with tin out how inverse layers) refusal
+IsJobRefused files (CheckJob tin how) refusal = IsTinRefused files how tin refusal
+IsJobRefused files (Make n) refusal = refusal ≡ NoMaker
+
 -- the job is done
 abbrev pub IsJobDone : Files → Job → Status → Files → Type 0
-IsJobDone files (migrates carriage) status made = IsMigrated files carriage status made
-IsJobDone files (checks name) status made = IsChecked files name status made
+IsJobDone files (Migrate tin out how inverse layers) status made = IsMigrationDone files (carriage_with tin out how inverse layers) status made
+IsJobDone files (CheckJob tin how) status made = IsChecked files how tin status made
+IsJobDone files (Make n) status made = ⊥
 
+-- ---- the run
 -- a refusal makes one file, standard output, with its line
 pub record Refuses (refusal : Refusal) (status : Status) (made : Files) : Type 0 where
   pub status_is : status ≡ status_of refusal
@@ -123,6 +142,6 @@ pub record Refuses (refusal : Refusal) (status : Status) (made : Files) : Type 0
 -- The status and the made files of a run, where no call of the outside fails and memory does not run out.
 -- Where the words give a job, the files refuse it or it is done.
 pub data HasOutcome (words : List (List ℕ)) (files : Files) (status : Status) (made : Files) : Type 0 where
-  no_job : LacksJob words → Refuses NotUnderstood status made → HasOutcome words files status made
-  refused : (job : Job) → IsJob words job → (refusal : Refusal) → IsJobRefused files job refusal → Refuses refusal status made → HasOutcome words files status made
-  done : (job : Job) → IsJob words job → IsJobDone files job status made → HasOutcome words files status made
+  no_job : (fault : WordsFault) → IsWordsFault words fault → Refuses (Words fault) status made → HasOutcome words files status made
+  refused : (job : Job) → IsJobOf words job → (refusal : Refusal) → IsJobRefused files job refusal → Refuses refusal status made → HasOutcome words files status made
+  done : (job : Job) → IsJobOf words job → IsJobDone files job status made → HasOutcome words files status made

@@ -1,63 +1,113 @@
 -- What is ready to be written.
-use Rattle.std.specs.Prelude.{◌≡◌, ℕ, List, [], ◌∷◌, codes, string_bytes, Bool, false, Option, None, Some, IfSome, Err}
+use Rattle.std.specs.Prelude.{◌≡◌, ◌≢◌, ℕ, List, [], ◌∷◌, ◌++◌, map, codes, string_bytes, Bool, false, Option, IfSome, Err}
+use Rattle.std.specs.List.{AllByRecursion}
 use Rattle.shelf_io.specs.Files.{Files}
-use Rattle.shelf_io.specs.Load.{LacksName}
+use Rattle.shelf_io.specs.Load.{LacksName, IsLonger}
 use Rattle.carry_map.specs.Layers.{IsLayerOutside, IsLayerTooMany}
-use Rattle.carry_map.specs.declared.layers.Carried.{Carried}
 use Rattle.carry_map.specs.declared.limits.TheConstants.{MOST_PIECES}
+use Rattle.report_text.specs.Reports.{Contents as Report}
+use Rattle.report_text.specs.ReportText.{report_text}
+use Rattle.sheet_base.specs.declared.flags.How.{How}
 use Rattle.sheet_base.specs.Sheets.{Contents}
 use Rattle.sheet_base.specs.declared.faults.LayerFault.{LayerFault}
-use Rattle.tin_base.specs.declared.pieces.Change.{Change}
 use Rattle.tin_base.specs.declared.pieces.Piece.{Piece}
 use Rattle.tin_base.specs.Triangulation.{Triangulation}
 use Rattle.tin_check.specs.Faults.{IsCause}
 use Rattle.tin_file.specs.Reading.{Answers}
 use Rattle.topo_check.specs.Changes.{HasMoreThan}
+use Rattle.job_words.specs.declared.formats.Format.{Format}
+use Rattle.job_words.specs.declared.formats.Format.TheVariants.{Drawing}
+use Rattle.tinmove.specs.declared.loading.TheConstants.{MOST_BYTES}
 use Rattle.tinmove.specs.declared.listing.TheConstants.{MOST_CHANGES}
 use Rattle.tinmove.specs.declared.refusal.Refusal.{Refusal}
-use Rattle.tinmove.specs.declared.refusal.Refusal.TheVariants.{TinUnread, TinLong, Tin, Check, Layer, Outside, TooManyPieces, TooManyChanges, NoMemory}
-use Rattle.tinmove.specs.declared.formats.Format.{Format}
-use Rattle.tinmove.specs.declared.preparing.LayerFile.{LayerFile}
+use Rattle.tinmove.specs.declared.refusal.Refusal.TheVariants.{TinUnread, TinLong, Tin, Check, LayerUnread, LayersLong, NoDrawing, Layer, Outside, TooManyPieces, TooManyChanges, NoMemory}
+use Rattle.tinmove.specs.declared.carrying.LayerFile.{LayerFile}
+use Rattle.tinmove.specs.declared.carrying.Run.{Run}
 use Rattle.tinmove.specs.declared.preparing.Written.{Written}
-use Rattle.tinmove.specs.Names.{IsNameIn, HasSlash}
-use Rattle.tinmove.specs.Jobs.{Carriage}
-use Rattle.tinmove.specs.Triangulations.{IsRead, plain}
-use Rattle.tinmove.specs.Carrying.{IsLayerText, LacksLayerText, IsCarried, IsOutside, HasTooMany}
-use Rattle.tinmove.specs.RunChanges.{AreListed, HasTooManyChanges, is_some_change}
-use Rattle.report_text.specs.Reports.{Contents as Report}
-use Rattle.report_text.specs.ReportText.{report_text}
+use Rattle.tinmove.specs.Names.{HasSlash}
+use Rattle.tinmove.specs.Triangulations.{IsRead}
+use Rattle.tinmove.specs.Carrying.{IsLayerText, LacksLayerText}
+use Rattle.tinmove.specs.LayerRuns.{Done, AreCarried, IsReachedLayer, AreRefused}
+use Rattle.tinmove.specs.RunChanges.{is_some_change}
 use Rattle.tinmove.specs.SoundLine.{sound_text}
-use Rattle.tinmove.specs.Outcome.{HasFile, HasLongFile, row_of, report_of}
+use Rattle.tinmove.specs.Outcome.{HasFile, row_of, file_in}
 
--- a layer's file and then what is said, or what is said alone
-abbrev pub files_with : Option LayerFile → List ℕ → Files
-files_with None said = (codes "-", said) ∷ []
-files_with (Some file) said = (string_bytes file.name, file.text) ∷ (codes "-", said) ∷ []
+-- ---- files
+abbrev pub file_of : LayerFile → List ℕ × List ℕ
+file_of file = (string_bytes file.name, file.text)
 
+-- the layers' files and then what is said
 abbrev pub files_of : Written → Files
-files_of written = files_with written.layer written.said
+files_of written = map file_of written.layers.items ++ (codes "-", written.said) ∷ []
 
--- a layer's file stands in a folder, and a report comes with it that lists a change or not; where there is none, a sound triangulation is told of
-abbrev pub HasFormWith : Option LayerFile → List ℕ → Bool → Type 0
-HasFormWith None said changed = (tin : Triangulation) × (said ≡ sound_text tin) × (changed ≡ false)
-HasFormWith (Some file) said changed = HasSlash (string_bytes file.name) × ((report : Report) × (said ≡ report_text report) × (changed ≡ is_some_change report.changes))
+-- each file stands in a folder, and no two have the same name
+abbrev pub AreWritable : Files → Type 0
+AreWritable [] = Unit {0}
+AreWritable (file ∷ files) = HasSlash file.0 × AllByRecursion (λ other. other.0 ≢ file.0) files × AreWritable files
 
-abbrev pub HasForm : Written → Type 0
-HasForm written = HasFormWith written.layer written.said written.changed
+-- what is said: that a triangulation is sound, with no layer's file, or a report that lists a change or not
+pub data IsSaid (layers : Files) (said : List ℕ) (changed : Bool) : Type 0 where
+  sound_said : (tin : Triangulation) → layers ≡ [] → said ≡ sound_text tin → changed ≡ false → IsSaid layers said changed
+  report_said : (report : Report) → said ≡ report_text report → changed ≡ is_some_change report.changes → IsSaid layers said changed
 
+pub record HasForm (written : Written) : Type 0 where
+  pub writable : AreWritable (map file_of written.layers.items)
+  pub is_said : IsSaid (map file_of written.layers.items) written.said written.changed
+
+-- ---- the triangulation
 -- the text gives no sound triangulation, or memory ran out
-abbrev pub IsTextRefused : List ℕ → Refusal → Type 0
-IsTextRefused text (Tin fault) = Answers plain text (Err fault)
-IsTextRefused text (Check fault) = (tin : Triangulation) × IsRead text tin × IsCause tin fault
-IsTextRefused text NoMemory = Unit {0}
-IsTextRefused text refusal = ⊥
+abbrev pub IsTextRefused : How → List ℕ → Refusal → Type 0
+IsTextRefused how text (Tin fault) = Answers how text (Err fault)
+IsTextRefused how text (Check fault) = (tin : Triangulation) × IsRead how text tin × IsCause tin fault
+IsTextRefused how text NoMemory = Unit {0}
+IsTextRefused how text refusal = ⊥
 
--- a layer is carried through a triangulation: what is written is what a run makes
-abbrev pub IsCarriedOff : Carriage → Triangulation → List ℕ → Written → Type 0
-IsCarriedOff carriage tin bytes written =
-    (pieces : List Piece) × (carried : Carried) × (changes : List Change) × (file : LayerFile) × (written.layer ≡ Some file) × IsCarried tin carriage.format bytes pieces carried × AreListed tin pieces changes
-    × IsNameIn carriage.out carriage.layer (string_bytes file.name) × (file.text ≡ carried.text) × (written.changed ≡ is_some_change changes)
-    × (written.said ≡ report_text (report_of carriage.tin tin (row_of carriage.layer carriage.format carried ∷ []) changes))
+-- where the shelf tells its files, the file of this name has more bytes than `most`
+abbrev pub IsOver : Option Files → List ℕ → ℕ → Type 0
+IsOver told name most = IfSome told (IsLonger name most)
+
+-- why a file is not loaded: `unread` where it is missing or a read failed, `long` where it has more than `most` bytes
+pub data IsUnloaded (told : Option Files) (name : List ℕ) (most : ℕ) (unread long : Refusal) (shelf_rose given_passed : Type 0) (refusal : Refusal) : Type 0 where
+  missing : refusal ≡ unread → LacksName told name → IsUnloaded told name most unread long shelf_rose given_passed refusal
+  read_failed : refusal ≡ unread → shelf_rose → IsUnloaded told name most unread long shelf_rose given_passed refusal
+  too_long : refusal ≡ long → IsOver told name most → given_passed → IsUnloaded told name most unread long shelf_rose given_passed refusal
+  no_room : refusal ≡ NoMemory → IsUnloaded told name most unread long shelf_rose given_passed refusal
+
+-- why no sound triangulation is loaded: its file is not, or its text gives none
+pub data IsTinUnready (told : Option Files) (how : How) (name : List ℕ) (shelf_rose given_passed : Type 0) (refusal : Refusal) : Type 0 where
+  not_loaded : IsUnloaded told name MOST_BYTES TinUnread TinLong shelf_rose given_passed refusal → IsTinUnready told how name shelf_rose given_passed refusal
+  no_tin : (text : List ℕ) → IfSome told (λ files. HasFile files name text) → IsTextRefused how text refusal → IsTinUnready told how name shelf_rose given_passed refusal
+
+-- ---- the layers
+-- the layer of this number and text is not carried, where a format reads and refuses texts so, or memory ran out
+abbrev pub IsUncarriedAs : (List ℕ → Contents → Type 0) → (List ℕ → LayerFault → Type 0) → Triangulation → List ℕ → ℕ → ℕ → Refusal → Type 0
+IsUncarriedAs reads refuses tin text number before (Layer layer fault) = (layer ≡ number) × refuses text fault
+IsUncarriedAs reads refuses tin text number before (Outside layer path segment) = (layer ≡ number) × IsLayerOutside tin (reads text) number before MOST_PIECES path segment
+IsUncarriedAs reads refuses tin text number before TooManyPieces = IsLayerTooMany tin (reads text) number before MOST_PIECES
+IsUncarriedAs reads refuses tin text number before NoMemory = Unit {0}
+IsUncarriedAs reads refuses tin text number before refusal = ⊥
+
+-- the same of a format; a drawing is not read yet
+pub data IsUncarried (how : How) (tin : Triangulation) (format : Format) (text : List ℕ) (number before : ℕ) (refusal : Refusal) : Type 0 where
+  as_layer : IsUncarriedAs (IsLayerText how format) (LacksLayerText how format) tin text number before refusal → IsUncarried how tin format text number before refusal
+  as_drawing : format ≡ Drawing → refusal ≡ NoDrawing number → IsUncarried how tin format text number before refusal
+
+-- what a run has of the layers that were carried
+pub record Holds (folder : List ℕ) (done : List Done) (run : Run) : Type 0 where
+  pub files : map file_of run.files.items ≡ map (file_in folder) done
+  pub rows : run.rows.items ≡ map row_of done
+
+-- the layers of these names are carried, and this is what the run has of them
+pub record HasCarried (told : Option Files) (how : How) (tin : Triangulation) (folder : List ℕ) (names : List (List ℕ)) (run : Run) : Type 0 where
+  pub done : List Done
+  pub carried : AreCarried told how tin 0 0 [] names run.pieces.items done run.used
+  pub holds : Holds folder done run
+
+-- why the layers are not all carried, or their changes not listed: by the files, after a read fault, or for want of memory
+pub data AreUncarried (told : Option Files) (how : How) (tin : Triangulation) (names : List (List ℕ)) (shelf_rose : Type 0) (refusal : Refusal) : Type 0 where
+  by_layers : AreRefused told how tin names refusal → AreUncarried told how tin names shelf_rose refusal
+  by_fault : shelf_rose → (number : ℕ) → (name : List ℕ) → IsReachedLayer told how tin names number name → refusal ≡ LayerUnread number → AreUncarried told how tin names shelf_rose refusal
+  by_want : refusal ≡ NoMemory → AreUncarried told how tin names shelf_rose refusal
 
 -- the pieces have more changes than may be listed, or memory ran out
 abbrev pub IsUnlisted : Triangulation → List Piece → Refusal → Type 0
@@ -65,34 +115,14 @@ IsUnlisted tin pieces TooManyChanges = HasMoreThan tin pieces MOST_CHANGES
 IsUnlisted tin pieces NoMemory = Unit {0}
 IsUnlisted tin pieces refusal = ⊥
 
--- the layer of a text is not carried, where a format reads and refuses texts so, or memory ran out
-abbrev pub IsUncarriedAs : (List ℕ → Contents → Type 0) → (List ℕ → LayerFault → Type 0) → Triangulation → List ℕ → Refusal → Type 0
-IsUncarriedAs reads refuses tin text (Layer fault) = refuses text fault
-IsUncarriedAs reads refuses tin text (Outside path segment) = IsLayerOutside tin (reads text) 0 0 MOST_PIECES path segment
-IsUncarriedAs reads refuses tin text TooManyPieces = IsLayerTooMany tin (reads text) 0 0 MOST_PIECES
-IsUncarriedAs reads refuses tin text NoMemory = Unit {0}
-IsUncarriedAs reads refuses tin text refusal = ⊥
-
-abbrev pub IsUncarried : Triangulation → Format → List ℕ → Refusal → Type 0
-IsUncarried tin format text refusal = IsUncarriedAs (IsLayerText format) (LacksLayerText format) tin text refusal
-
--- the same, or its changes are not listed
-abbrev pub IsNotCarried : Triangulation → Format → List ℕ → Refusal → Type 0
-IsNotCarried tin format bytes (Layer fault) = LacksLayerText format bytes fault
-IsNotCarried tin format bytes (Outside path segment) = IsOutside tin format bytes path segment
-IsNotCarried tin format bytes TooManyPieces = HasTooMany tin format bytes
-IsNotCarried tin format bytes TooManyChanges = HasTooManyChanges tin format bytes
-IsNotCarried tin format bytes NoMemory = Unit {0}
-IsNotCarried tin format bytes refusal = ⊥
-
--- why a file is not loaded: `unread` where it is missing or a read failed, `long` where it has too many bytes
-pub data IsUnloaded (files : Option Files) (name : List ℕ) (unread long : Refusal) (shelf_rose given_passed : Type 0) (refusal : Refusal) : Type 0 where
-  missing : refusal ≡ unread → LacksName files name → IsUnloaded files name unread long shelf_rose given_passed refusal
-  fault : refusal ≡ unread → shelf_rose → IsUnloaded files name unread long shelf_rose given_passed refusal
-  too_long : refusal ≡ long → IfSome files (λ files. HasLongFile files name) → given_passed → IsUnloaded files name unread long shelf_rose given_passed refusal
-  no_room : refusal ≡ NoMemory → IsUnloaded files name unread long shelf_rose given_passed refusal
-
--- why no sound triangulation is loaded: its file is not, or its text gives none
-pub data IsTinUnready (files : Option Files) (name : List ℕ) (shelf_rose given_passed : Type 0) (refusal : Refusal) : Type 0 where
-  not_loaded : IsUnloaded files name TinUnread TinLong shelf_rose given_passed refusal → IsTinUnready files name shelf_rose given_passed refusal
-  no_tin : (text : List ℕ) → IfSome files (λ files. HasFile files name text) → IsTextRefused text refusal → IsTinUnready files name shelf_rose given_passed refusal
+-- the refusal is one of layers
+abbrev pub IsOfLayers : Refusal → Type 0
+IsOfLayers (LayerUnread layer) = Unit {0}
+IsOfLayers LayersLong = Unit {0}
+IsOfLayers (NoDrawing layer) = Unit {0}
+IsOfLayers (Layer layer fault) = Unit {0}
+IsOfLayers (Outside layer path segment) = Unit {0}
+IsOfLayers TooManyPieces = Unit {0}
+IsOfLayers TooManyChanges = Unit {0}
+IsOfLayers NoMemory = Unit {0}
+IsOfLayers refusal = ⊥

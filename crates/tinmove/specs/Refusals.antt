@@ -2,6 +2,8 @@
 use Rattle.std.specs.Prelude.{ℕ, List, ◌++◌, codes, decimal}
 use Rattle.carry_map.specs.declared.faults.CarryFault.{CarryFault}
 use Rattle.carry_map.specs.declared.faults.CarryFault.TheVariants.{Layer as Unread, Outside as CarryOutside, TooMany, NoMemory as CarryMemory}
+use Rattle.job_words.specs.declared.faults.WordsFault.{WordsFault}
+use Rattle.job_words.specs.declared.faults.WordsFault.TheVariants.{NoMemory as WordsMemory}
 use Rattle.sheet_base.specs.declared.faults.LayerFault.{LayerFault}
 use Rattle.sheet_base.specs.declared.faults.LayerFault.TheVariants.{NoMemory as LayerMemory}
 use Rattle.tin_check.specs.declared.faults.CheckFault.{CheckFault}
@@ -11,22 +13,27 @@ use Rattle.tin_file.specs.declared.faults.TinFault.TheVariants.{TooMany as TooMa
 use Rattle.topo_check.specs.declared.faults.ChangesFault.{ChangesFault}
 use Rattle.topo_check.specs.declared.faults.ChangesFault.TheVariants.{TooMany as TooManyListed, NoMemory as ChangesMemory}
 use Rattle.tinmove.specs.declared.status.Status.{Status}
-use Rattle.tinmove.specs.declared.status.Status.TheVariants.{Words, Tin as TinStatus, Layer as LayerStatus, Outside as OutsideStatus, Read, Memory, Limit}
+use Rattle.tinmove.specs.declared.status.Status.TheVariants.{Words as WordsStatus, Tin as TinStatus, Layer as LayerStatus, Outside as OutsideStatus, Read, Memory, Limit}
 use Rattle.tinmove.specs.declared.refusal.Refusal.{Refusal}
-use Rattle.tinmove.specs.declared.refusal.Refusal.TheVariants.{NotUnderstood, TinUnread, TinLong, Tin, Check, LayerUnread, LayerLong, Layer, Outside, TooManyPieces, TooManyChanges, NoMemory}
-use Rattle.tinmove.specs.Lines.{tin_line, check_line, layer_line}
+use Rattle.tinmove.specs.declared.refusal.Refusal.TheVariants.{Words, TinUnread, TinLong, Tin, Check, NoMaker, LayerUnread, LayersLong, NoDrawing, Layer, Outside, TooManyPieces, TooManyChanges, NoMemory}
+use Rattle.tinmove.specs.Lines.{words_line, tin_line, check_line, layer_line}
 
--- the refusal of a layer that is not carried
-abbrev pub of_carrying : CarryFault → Refusal
-of_carrying (Unread fault) = Layer fault
-of_carrying (CarryOutside path segment) = Outside path segment
-of_carrying TooMany = TooManyPieces
-of_carrying CarryMemory = NoMemory
+-- the refusal of the layer of this number, which is not carried
+abbrev pub of_carrying : ℕ → CarryFault → Refusal
+of_carrying layer (Unread fault) = Layer layer fault
+of_carrying layer (CarryOutside path segment) = Outside layer path segment
+of_carrying layer TooMany = TooManyPieces
+of_carrying layer CarryMemory = NoMemory
 
 -- the refusal of a run whose changes are not listed
 abbrev pub of_changes : ChangesFault → Refusal
 of_changes TooManyListed = TooManyChanges
 of_changes ChangesMemory = NoMemory
+
+-- want of memory says nothing of the words
+abbrev pub status_of_words : WordsFault → Status
+status_of_words WordsMemory = Memory
+status_of_words fault = WordsStatus
 
 -- too many rows pass a limit; want of memory says nothing of the text
 abbrev pub status_of_tin : TinFault → Status
@@ -45,29 +52,33 @@ status_of_layer LayerMemory = Memory
 status_of_layer fault = LayerStatus
 
 abbrev pub status_of : Refusal → Status
-status_of NotUnderstood = Words
+status_of (Words fault) = status_of_words fault
 status_of TinUnread = Read
 status_of TinLong = Limit
 status_of (Tin fault) = status_of_tin fault
 status_of (Check fault) = status_of_check fault
-status_of LayerUnread = Read
-status_of LayerLong = Limit
-status_of (Layer fault) = status_of_layer fault
-status_of (Outside path segment) = OutsideStatus
+status_of NoMaker = TinStatus
+status_of (LayerUnread layer) = Read
+status_of LayersLong = Limit
+status_of (NoDrawing layer) = LayerStatus
+status_of (Layer layer fault) = status_of_layer fault
+status_of (Outside layer path segment) = OutsideStatus
 status_of TooManyPieces = Limit
 status_of TooManyChanges = Limit
 status_of NoMemory = Memory
 
 abbrev pub line_of : Refusal → List ℕ
-line_of NotUnderstood = codes "words: not understood\n"
+line_of (Words fault) = words_line fault
 line_of TinUnread = codes "read fault: triangulation\n"
 line_of TinLong = codes "limit: bytes of triangulation\n"
 line_of (Tin fault) = tin_line fault
 line_of (Check fault) = check_line fault
-line_of LayerUnread = codes "read fault: layer 0\n"
-line_of LayerLong = codes "limit: bytes of layers\n"
-line_of (Layer fault) = layer_line fault
-line_of (Outside path segment) = codes "outside: layer 0 path " ++ decimal path ++ codes " segment " ++ decimal segment ++ codes "\n"
+line_of NoMaker = codes "triangulation: not yet\n"
+line_of (LayerUnread layer) = codes "read fault: layer " ++ decimal layer ++ codes "\n"
+line_of LayersLong = codes "limit: bytes of layers\n"
+line_of (NoDrawing layer) = codes "layer " ++ decimal layer ++ codes ": not yet\n"
+line_of (Layer layer fault) = layer_line layer fault
+line_of (Outside layer path segment) = codes "outside: layer " ++ decimal layer ++ codes " path " ++ decimal path ++ codes " segment " ++ decimal segment ++ codes "\n"
 line_of TooManyPieces = codes "limit: pieces\n"
 line_of TooManyChanges = codes "limit: changes\n"
 line_of NoMemory = codes "no memory\n"

@@ -1,24 +1,17 @@
 -- The changes of a run's pieces, and how a run that has written all ends by them.
-use Rattle.std.specs.Prelude.{ℕ, ◌≤◌, Bool, true, false, List, [], ◌∷◌, length}
-use Rattle.carry_map.specs.declared.layers.Carried.{Carried}
+use Rattle.std.specs.Prelude.{◌≤◌, Bool, true, false, List, [], ◌∷◌, length}
 use Rattle.tin_base.specs.declared.pieces.Change.{Change}
 use Rattle.tin_base.specs.declared.pieces.Piece.{Piece}
 use Rattle.tin_base.specs.Triangulation.{Triangulation}
-use Rattle.topo_check.specs.Changes.{AreChanges, HasMoreThan}
+use Rattle.topo_check.specs.Changes.{AreChanges}
 use Rattle.tinmove.specs.declared.listing.TheConstants.{MOST_CHANGES}
 use Rattle.tinmove.specs.declared.status.Status.{Status}
 use Rattle.tinmove.specs.declared.status.Status.TheVariants.{Same, Changed}
-use Rattle.tinmove.specs.declared.formats.Format.{Format}
-use Rattle.tinmove.specs.Carrying.{IsCarried}
 
 -- these are the changes of the pieces, and not too many to be listed
 pub record AreListed (tin : Triangulation) (pieces : List Piece) (changes : List Change) : Type 0 where
   pub are_changes : AreChanges tin pieces changes
   pub few : length changes ≤ MOST_CHANGES
-
--- the layer is carried, but its pieces have more changes than may be listed
-abbrev pub HasTooManyChanges : Triangulation → Format → List ℕ → Type 0
-HasTooManyChanges tin format text = (pieces : List Piece) × (carried : Carried) × IsCarried tin format text pieces carried × HasMoreThan tin pieces MOST_CHANGES
 
 -- is there a change?
 abbrev pub is_some_change : List Change → Bool

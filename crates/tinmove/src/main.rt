@@ -2,12 +2,14 @@
 //! `run` is the whole program, over the words, the shelf and the press that it is handed.
 #![tactic(auto)]
 
-mod formats;
+mod carrying;
 #[cfg(test)]
 mod geojson_tests;
 mod help;
 #[cfg(test)]
 mod help_tests;
+#[cfg(test)]
+mod job_tests;
 mod laws;
 #[cfg(test)]
 mod layer_tests;
@@ -32,7 +34,6 @@ mod tests;
 #[cfg(test)]
 mod tin_tests;
 mod triangulations;
-mod words;
 
 use run::run;
 use shelf_io::{FilePress, FileShelf};

@@ -1,17 +1,17 @@
 //! Writing what a run makes. It takes no memory.
 
-ghost use Rattle.std.specs.Prelude.{◌≡◌, ◌≢◌, ◌⊎◌, [], ◌∷◌, IfSome, false, string_bytes, codes};
-ghost use Rattle.shelf_io.specs.Count.{Rose};
-ghost use Rattle.tinmove.specs.Names.{HasSlash};
+ghost use Rattle.std.specs.Prelude.{◌≡◌, ◌≢◌, ◌⊎◌, [], ◌∷◌, map, IfSome, OnOk, OnErr, false, codes};
+ghost use Rattle.shelf_io.specs.Count.{Rose, HasCause};
 ghost use Rattle.tinmove.specs.RunChanges.{end_of};
 ghost use Rattle.tinmove.specs.Refusals.{line_of, status_of};
 ghost use Rattle.tinmove.specs.Ends.{IsFrontOf};
-ghost use Rattle.tinmove.specs.Prepared.{files_of, HasForm};
+ghost use Rattle.tinmove.specs.Prepared.{file_of, files_of, AreWritable, HasForm};
 
-use crate::preparing::{LayerFile, Written};
+use crate::carrying::LayerFile;
+use crate::preparing::Written;
 use crate::refusal::Refusal;
 use crate::status::Status;
-use shelf_io::{Press, print};
+use shelf_io::{Press, PrintFault, print};
 
 /// Writes a text to standard output alone, after which the run ends so.
 fn say<P: Press>(press: &mut P, said: &[u8], status: Status) -> Status
@@ -41,24 +41,20 @@ fn end(changed: bool) -> Status
     }
 }
 
-/// Writes a layer's file and then a text to standard output. The run ends by whether the text lists a change.
-fn publish_layer<P: Press>(press: &mut P, file: &LayerFile, said: &[u8], changed: bool) -> Status
+/// Writes the layers' files in order, none where one could not be written.
+fn publish_layers<P: Press>(press: &mut P, layers: &[LayerFile]) -> Result<(), PrintFault>
     requires free { P.at_hand press.old ≡ false }
     requires empty { IfSome (P.made press.old) (λ made. made ≡ []) }
-    requires slash { HasSlash (string_bytes file.now.name) }
-    ensures status { (result ≡ end_of changed) ⊎ (result ≡ Status.Write) }
-    ensures whole { result ≢ Status.Write → IfSome (P.made press.new) (λ made. made ≡ (string_bytes file.now.name, file.now.text) ∷ (codes "-", said.now) ∷ []) }
-    ensures front { result ≡ Status.Write → IfSome (P.made press.new) (λ made. IsFrontOf made ((string_bytes file.now.name, file.now.text) ∷ (codes "-", said.now) ∷ [])) }
-    ensures rose { result ≡ Status.Write → Rose (P.faults press.old) (P.faults press.new) }
-    ensures same { result ≢ Status.Write → P.faults press.new ≡ P.faults press.old }
+    requires writable { AreWritable (map file_of layers.now) }
+    ensures whole { OnOk result (IfSome (P.made press.new) (λ made. made ≡ map file_of layers.now)) }
+    ensures free { OnOk result (P.at_hand press.new ≡ false) }
+    ensures front { OnErr result (IfSome (P.made press.new) (λ made. IsFrontOf made (map file_of layers.now))) }
+    ensures cause { HasCause (P.faults press.old) (P.faults press.new) result }
 {
-    if print(press, file.name.as_str(), file.text.items()).is_err() {
-        return Status::Write;
+    for file in layers {
+        print(press, file.name.as_str(), file.text.items())?;
     }
-    if print(press, "-", said).is_err() {
-        return Status::Write;
-    }
-    end(changed)
+    Ok(())
 }
 
 /// Writes what a job makes, in order.
@@ -72,9 +68,12 @@ pub fn publish<P: Press>(press: &mut P, written: &Written) -> Status
     ensures rose { result ≡ Status.Write → Rose (P.faults press.old) (P.faults press.new) }
     ensures same { result ≢ Status.Write → P.faults press.new ≡ P.faults press.old }
 {
-    match &written.layer {
-        Some(file) => publish_layer(press, file, written.said.items(), written.changed),
-        None => say(press, written.said.items(), Status::Same),
+    match publish_layers(press, &written.layers) {
+        Ok(()) => match print(press, "-", written.said.items()) {
+            Ok(()) => end(written.changed),
+            Err(_) => Status::Write,
+        },
+        Err(_) => Status::Write,
     }
 }
 

@@ -1,23 +1,27 @@
 //! Why a run is refused, and the one line that says so.
 
 ghost use Rattle.std.specs.Prelude.{◌≡◌};
-ghost use Rattle.tinmove.specs.Refusals.{line_of, status_of, status_of_tin, status_of_check, status_of_layer, of_carrying, of_changes};
+ghost use Rattle.tinmove.specs.Refusals.{line_of, status_of, status_of_words, status_of_tin, status_of_check, status_of_layer, of_carrying, of_changes};
 ghost use Rattle.tinmove.specs.declared.refusal.Refusal.TheVariants.{Tin, Check, NoMemory};
 
-use crate::lines::{Line, check_line, layer_line, outside_line, said, tin_line};
+use crate::lines::{
+    Line, check_line, layer_line, not_yet_line, outside_line, said, said_number, tin_line,
+    words_line,
+};
 use crate::status::Status;
 use carry_map::CarryFault;
+use job_words::WordsFault;
 use sheet_base::LayerFault;
 use std::alloc::AllocError;
 use tin_check::CheckFault;
 use tin_file::TinFault;
 use topo_check::ChangesFault;
 
-/// Why nothing was carried.
+/// Why nothing was carried. Layers are counted from 0.
 #[derive(Clone, Copy, Debug, PartialEq, Eq)]
 pub enum Refusal {
     /// The words give no job.
-    NotUnderstood,
+    Words(WordsFault),
     /// The triangulation's file is missing or could not be read.
     TinUnread,
     /// The triangulation's file has too many bytes.
@@ -26,16 +30,20 @@ pub enum Refusal {
     Tin(TinFault),
     /// The triangulation is not sound.
     Check(CheckFault),
-    /// The layer's file is missing or could not be read.
-    LayerUnread,
-    /// The layer's file has too many bytes.
-    LayerLong,
-    /// The layer is not read.
-    Layer(LayerFault),
-    /// This segment is the first that is not wholly in the source triangles: its path, and its
-    /// number in the path, each counted from 0.
-    Outside { path: u32, segment: u32 },
-    /// The layer has too many pieces.
+    /// Nothing is made yet.
+    NoMaker,
+    /// This layer's file is missing or could not be read.
+    LayerUnread { layer: u32 },
+    /// The layers' files up to the one that was being read have too many bytes.
+    LayersLong,
+    /// This layer is a drawing, which is not read yet.
+    NoDrawing { layer: u32 },
+    /// This layer is not read.
+    Layer { layer: u32, fault: LayerFault },
+    /// This segment is the first that is not wholly in the source triangles: its layer, its path
+    /// in the layer, and its number in the path, each counted from 0.
+    Outside { layer: u32, path: u32, segment: u32 },
+    /// The layers have too many pieces.
     TooManyPieces,
     /// The pieces have too many changes.
     TooManyChanges,
@@ -67,19 +75,6 @@ impl From<CheckFault> for Refusal {
     }
 }
 
-impl From<CarryFault> for Refusal {
-    ghost from_gives = { λ fault refusal. refusal ≡ of_carrying fault };
-
-    fn from(fault: CarryFault) -> Self {
-        match fault {
-            CarryFault::Layer(fault) => Refusal::Layer(fault),
-            CarryFault::Outside { path, segment } => Refusal::Outside { path, segment },
-            CarryFault::TooMany => Refusal::TooManyPieces,
-            CarryFault::NoMemory => Refusal::NoMemory,
-        }
-    }
-}
-
 impl From<ChangesFault> for Refusal {
     ghost from_gives = { λ fault refusal. refusal ≡ of_changes fault };
 
@@ -88,6 +83,32 @@ impl From<ChangesFault> for Refusal {
             ChangesFault::TooMany => Refusal::TooManyChanges,
             ChangesFault::NoMemory => Refusal::NoMemory,
         }
+    }
+}
+
+/// The refusal of the layer of this number, which is not carried.
+pub fn uncarried(layer: u32, fault: CarryFault) -> Refusal
+    ensures { result ≡ of_carrying layer fault }
+{
+    match fault {
+        CarryFault::Layer(fault) => Refusal::Layer { layer, fault },
+        CarryFault::Outside { path, segment } => Refusal::Outside {
+            layer,
+            path,
+            segment,
+        },
+        CarryFault::TooMany => Refusal::TooManyPieces,
+        CarryFault::NoMemory => Refusal::NoMemory,
+    }
+}
+
+/// The status of words that give no job.
+fn words_status(fault: WordsFault) -> Status
+    ensures { result ≡ status_of_words fault }
+{
+    match fault {
+        WordsFault::NoMemory => Status::Memory,
+        _ => Status::Words,
     }
 }
 
@@ -128,15 +149,17 @@ impl Refusal {
         ensures { result ≡ status_of self }
     {
         match self {
-            Refusal::NotUnderstood => Status::Words,
-            Refusal::TinUnread | Refusal::LayerUnread => Status::Read,
+            Refusal::Words(fault) => words_status(fault),
+            Refusal::TinUnread | Refusal::LayerUnread { .. } => Status::Read,
             Refusal::TinLong
-            | Refusal::LayerLong
+            | Refusal::LayersLong
             | Refusal::TooManyPieces
             | Refusal::TooManyChanges => Status::Limit,
             Refusal::Tin(fault) => tin_status(fault),
             Refusal::Check(fault) => check_status(fault),
-            Refusal::Layer(fault) => layer_status(fault),
+            Refusal::NoMaker => Status::Tin,
+            Refusal::NoDrawing { .. } => Status::Layer,
+            Refusal::Layer { fault, .. } => layer_status(fault),
             Refusal::Outside { .. } => Status::Outside,
             Refusal::NoMemory => Status::Memory,
         }
@@ -147,15 +170,23 @@ impl Refusal {
         ensures { result.bytes ≡ line_of self }
     {
         match self {
-            Refusal::NotUnderstood => said("words: not understood\n"),
+            Refusal::Words(fault) => words_line(fault),
             Refusal::TinUnread => said("read fault: triangulation\n"),
             Refusal::TinLong => said("limit: bytes of triangulation\n"),
             Refusal::Tin(fault) => tin_line(fault),
             Refusal::Check(fault) => check_line(fault),
-            Refusal::LayerUnread => said("read fault: layer 0\n"),
-            Refusal::LayerLong => said("limit: bytes of layers\n"),
-            Refusal::Layer(fault) => layer_line(fault),
-            Refusal::Outside { path, segment } => outside_line(path, segment),
+            Refusal::NoMaker => said("triangulation: not yet\n"),
+            Refusal::LayerUnread { layer } => {
+                said_number("read fault: layer ", u64::from(layer), "\n")
+            }
+            Refusal::LayersLong => said("limit: bytes of layers\n"),
+            Refusal::NoDrawing { layer } => not_yet_line(layer),
+            Refusal::Layer { layer, fault } => layer_line(layer, fault),
+            Refusal::Outside {
+                layer,
+                path,
+                segment,
+            } => outside_line(layer, path, segment),
             Refusal::TooManyPieces => said("limit: pieces\n"),
             Refusal::TooManyChanges => said("limit: changes\n"),
             Refusal::NoMemory => said("no memory\n"),

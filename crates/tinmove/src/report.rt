@@ -1,28 +1,40 @@
 //! The report of a run, and the line of a check.
 
-ghost use Rattle.std.specs.Prelude.{◌≡◌, [], ◌∷◌, IfOk, string_bytes};
+ghost use Rattle.std.specs.Prelude.{◌≡◌, IfOk, string_bytes};
 ghost use Rattle.std.specs.List.{AllByRecursion};
 ghost use Rattle.report_text.specs.Reports.{IsPrintable, IsChanged};
 ghost use Rattle.report_text.specs.ReportText.{report_text};
 ghost use Rattle.tinmove.specs.SoundLine.{sound_text};
-ghost use Rattle.tinmove.specs.Outcome.{report_of, row_of};
+ghost use Rattle.tinmove.specs.LayerTexts.{is_drawing};
+ghost use Rattle.tinmove.specs.Outcome.{report_of};
+ghost use Rattle.tinmove.specs.Wanted.{row_with};
 
-use crate::formats::{Format, is_drawing};
 use carry_map::Carried;
+use job_words::Format;
 use report_text::{LayerRow, Report, write_report};
 use sheet_base::Listed;
 use shelf_io::Name;
 use std::alloc::{AllocError, Global};
 use tin_base::{Change, SoundTin};
 
+/// Whether a layer of this format is a drawing, whose extents a report names.
+fn is_drawing(format: Format) -> bool
+    ensures { result ≡ is_drawing format }
+{
+    match format {
+        Format::Wkt | Format::GeoJson => false,
+        Format::Drawing => true,
+    }
+}
+
 /// What the report says of a layer of this name and format that was carried.
-fn layer_row(
+pub fn layer_row(
     alloc: Global,
-    name: &str,
+    name: &Name,
     format: Format,
     carried: &Carried,
 ) -> Result<LayerRow, AllocError>
-    ensures { IfOk result (λ row. row ≡ row_of name.now format carried.now) }
+    ensures { IfOk result (λ row. row ≡ row_with name.now format carried.now) }
 {
     Ok(LayerRow {
         paths: carried.paths,
@@ -31,22 +43,8 @@ fn layer_row(
         inexact: carried.inexact,
         dropped: carried.dropped,
         drawing: is_drawing(format),
-        name: Name::of(alloc, name)?,
+        name: Name::of(alloc, name.text())?,
     })
-}
-
-/// The same of all layers of a run, of which there is one.
-pub fn layer_rows(
-    alloc: Global,
-    name: &str,
-    format: Format,
-    carried: &Carried,
-) -> Result<Vec<LayerRow>, AllocError>
-    ensures { IfOk result (λ rows. rows.items ≡ row_of name.now format carried.now ∷ []) }
-{
-    let mut rows = Vec::new(alloc);
-    rows.push(layer_row(alloc, name, format, carried)?)?;
-    Ok(rows)
 }
 
 /// The report on layers that were carried through the triangulation of the file of this name.

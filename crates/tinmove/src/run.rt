@@ -3,7 +3,7 @@
 ghost use Rattle.std.specs.Prelude.{◌≡◌, ◌≢◌, ◌⊎◌, ◌+◌, ◌≤◌, ℕ, List, [], IfSome, false, map, string_bytes};
 ghost use Rattle.shelf_io.specs.Count.{Rose, counted};
 ghost use Rattle.tinmove.specs.declared.loading.TheConstants.{MOST_BYTES};
-ghost use Rattle.tinmove.specs.Jobs.{Carriage, LacksJob, IsMigration, IsCheck};
+ghost use Rattle.tinmove.specs.Jobs.{Carriage, LacksJob, AsksMigration, AsksCheck};
 ghost use Rattle.tinmove.specs.Kept.{KeepsRelations};
 ghost use Rattle.tinmove.specs.Ends.{EndsTold, Stands, LacksWantedOf, TellsBytes, IsEndOfCheck};
 
@@ -11,7 +11,7 @@ use crate::preparing::prepared;
 use crate::publishing::{publish, refuse};
 use crate::refusal::Refusal;
 use crate::status::Status;
-use crate::words::read_words;
+use job_words::read_words;
 use shelf_io::{Press, Shelf};
 use std::alloc::Global;
 
@@ -29,29 +29,30 @@ pub fn run<S: Shelf, P: Press>(
     // for want of memory, or after a write fault.
     ensures ends { IfSome (S.files shelf.old) (λ files. EndsTold (map string_bytes words.now) files (Rose (S.faults shelf.old) (S.faults shelf.new)) (Rose (P.faults press.old) (P.faults press.new)) result (P.made press.new)) }
 
-    // Where a migration ends with `Same`, each two segments of the written layer lie to each other as their pieces do in
+    // Where a migration ends with `Same`, each two segments of the written layers lie to each other as their pieces do in
     // the source; where it ends with `Changed`, the report lists each two that do not, and no others.
-    ensures kept { IfSome (S.files shelf.old) (λ files. (carriage : Carriage) → IsMigration (map string_bytes words.now) carriage → KeepsRelations files carriage result (P.made press.new)) }
+    ensures kept { IfSome (S.files shelf.old) (λ files. (carriage : Carriage) → AsksMigration (map string_bytes words.now) carriage → KeepsRelations files carriage result (P.made press.new)) }
 
     // Told or not, what stands after each status.
     ensures stands { IfSome (P.made press.new) (Stands result) }
 
     // Told or not, the causes of the answers.
     ensures words { result ≡ Status.Words → LacksJob (map string_bytes words.now) }
-    ensures no_job { LacksJob (map string_bytes words.now) → (result ≡ Status.Words) ⊎ (result ≡ Status.Write) }
+    ensures no_job { LacksJob (map string_bytes words.now) → (result ≡ Status.Words) ⊎ ((result ≡ Status.Memory) ⊎ (result ≡ Status.Write)) }
     ensures read { result ≡ Status.Read → Rose (S.faults shelf.old) (S.faults shelf.new) ⊎ LacksWantedOf (map string_bytes words.now) (S.files shelf.old) }
     ensures write { result ≡ Status.Write → Rose (P.faults press.old) (P.faults press.new) }
     ensures limit { IfSome (P.made press.new) (λ made. TellsBytes made → counted (S.given shelf.old) (MOST_BYTES + 1) ≤ S.given shelf.new) }
-    ensures check { (name : List ℕ) → IsCheck (map string_bytes words.now) name → IsEndOfCheck result }
+    ensures check { (name : List ℕ) → AsksCheck (map string_bytes words.now) name → IsEndOfCheck result }
 
     // Every other status leaves the counts of faults as they were.
     ensures press_stays { result ≢ Status.Write → P.faults press.new ≡ P.faults press.old }
     ensures shelf_stays { result ≢ Status.Write → result ≢ Status.Read → S.faults shelf.new ≡ S.faults shelf.old }
 {
-    let Some(wanted) = read_words(words) else {
-        return refuse(press, Refusal::NotUnderstood);
+    let job = match read_words(alloc, words) {
+        Ok(job) => job,
+        Err(fault) => return refuse(press, Refusal::Words(fault)),
     };
-    match prepared(alloc, shelf, wanted) {
+    match prepared(alloc, shelf, &job) {
         Ok(written) => publish(press, &written),
         Err(refusal) => refuse(press, refusal),
     }

@@ -140,40 +140,6 @@ fn refusals_print_their_line(rt: HostRuntime) -> Result<(), Fail> {
 }
 
 #[test]
-fn words_that_give_no_job(rt: HostRuntime) -> Result<(), Fail> {
-    let alloc = rt.alloc();
-    for texts in [
-        ["migrate", "--tin", "t.json", "--out", "o", "p.tif"].as_slice(),
-        &["migrate", "--tin", "t.json", "--out", "o", "p.geojson.gz"],
-        &["migrate", "--tin", "t.json", "--out", "o", "p.JSON"],
-        &["migrate", "--tin", "t.json", "--out", "o", "json"],
-        &["migrate", "--tin", "", "--out", "o", "p.wkt"],
-        &["migrate", "--tin", "t\n", "--out", "o", "p.wkt"],
-        &["migrate", "--out", "o", "--tin", "t.json", "p.wkt"],
-        &["check", "--tin", "t.json", "p.wkt"],
-        &["check", "--tin", ""],
-        &["check", "--tin", "t\t"],
-        &["check", "t.json", "--tin"],
-        &["check", "--tin"],
-        &["check"],
-        &["migrate", "--tin", "t.json", "--out", "o"],
-        &["migrate", "--tin", "t.json", "--out", "o", "p.wkt", "q.wkt"],
-        &[],
-    ] {
-        let words = words(alloc, texts)?;
-        let mut shelf = MemShelf::new(alloc, 1);
-        let mut press = MemPress::new(alloc, 4096);
-        let status = run(alloc, &words, &mut shelf, &mut press);
-        assert_eq!(rt; status, Status::Words);
-        assert_eq!(rt;
-            press.made_bytes("-"),
-            Some(b"words: not understood\n".as_slice())
-        );
-    }
-    Ok(())
-}
-
-#[test]
 fn each_read_fails_once(rt: HostRuntime) -> Result<(), Fail> {
     let alloc = rt.alloc();
     let words = usual_words(alloc)?;
