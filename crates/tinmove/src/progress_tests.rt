@@ -1,0 +1,202 @@
+//! What a run says of what it is doing, and that it is the same run whether or not it is heard.
+
+use crate::progress::{ToldPress, ToldShelf};
+use crate::run::run;
+use crate::status::Status;
+use shelf_io::{MemPress, MemShelf, load, print};
+use std::alloc::{AllocError, Global};
+use std::io;
+use std::io::{ErrorKind, Write};
+use std::test::Fail;
+
+const TIN: &[u8] =
+    br#"{"file_type":"triangulation_file","format_version":"1.1","transformed_components":["horizontal"],"vertices_columns":["source_x","source_y","target_x","target_y"],"triangles_columns":["idx_vertex1","idx_vertex2","idx_vertex3"],"vertices":[[0,0,100,100],[10,0,110.002,100],[0,10,100,110]],"triangles":[[0,1,2]]}"#;
+
+/// The number of a call that no run makes.
+const NEVER: u64 = 1000;
+
+/// The words of a run over `t.json` and `p.wkt` into the folder `o`.
+fn words(alloc: Global) -> Result<Vec<String>, AllocError> {
+    let mut words = Vec::new(alloc);
+    for text in ["migrate", "--tin", "t.json", "--out", "o", "p.wkt"] {
+        words.push(String::from_str(alloc, text)?)?;
+    }
+    Ok(words)
+}
+
+/// A shelf with the files of these words, of which a call fails.
+fn shelf_of_two(alloc: Global, fail: u64) -> Result<MemShelf, AllocError> {
+    let mut shelf = MemShelf::new(alloc, 4096);
+    shelf.add("t.json", TIN)?;
+    shelf.add("p.wkt", b"POINT (5 0)")?;
+    shelf.fail_at(fail)?;
+    Ok(shelf)
+}
+
+/// A run of which nothing is said, with a call of the shelf and one of the press that fail.
+fn bare_run(alloc: Global, fails: (u64, u64)) -> Result<(Status, MemPress), AllocError> {
+    let mut shelf = shelf_of_two(alloc, fails.0)?;
+    let mut press = MemPress::new(alloc, 4096);
+    press.fail_at(fails.1)?;
+    let status = run(alloc, &words(alloc)?, &mut shelf, &mut press);
+    Ok((status, press))
+}
+
+/// How a run ended, and the shelf and the press after it.
+type Told<W> = (Status, ToldShelf<MemShelf, W>, ToldPress<MemPress, W>);
+
+/// The same run, told to these two.
+fn told_run<W: Write + Drop>(
+    alloc: Global,
+    fails: (u64, u64),
+    to: (Option<W>, Option<W>),
+) -> Result<Told<W>, AllocError> {
+    let mut shelf = ToldShelf::new(shelf_of_two(alloc, fails.0)?, to.0, Some(1));
+    let mut press = MemPress::new(alloc, 4096);
+    press.fail_at(fails.1)?;
+    let mut press = ToldPress::new(press, to.1);
+    let status = run(alloc, &words(alloc)?, &mut shelf, &mut press);
+    Ok((status, shelf, press))
+}
+
+/// What was said.
+fn said(to: &Option<Vec<u8>>) -> &[u8] {
+    match to {
+        Some(bytes) => bytes,
+        None => b"",
+    }
+}
+
+#[test]
+fn a_run_says_what_it_is_doing(rt: HostRuntime) -> Result<(), Fail> {
+    let alloc = rt.alloc();
+    let whole =
+        b"tinmove: reading t.json\ntinmove: checking the triangulation\ntinmove: reading p.wkt\ntinmove: carrying layer 0 (1 of 1), then comparing\n";
+    let unread =
+        b"tinmove: reading t.json\ntinmove: checking the triangulation\ntinmove: reading p.wkt\n";
+    // The triangulation is begun, read and ended by the calls 0 to 2 of the shelf, and the layer by 3 to 5.
+    for (fails, status, read, made) in [
+        (
+            (NEVER, NEVER),
+            Status::Same,
+            whole.as_slice(),
+            b"tinmove: writing o/p.wkt\n".as_slice(),
+        ),
+        (
+            (NEVER, 0),
+            Status::Write,
+            whole,
+            b"tinmove: writing o/p.wkt\n",
+        ),
+        ((0, NEVER), Status::Read, b"tinmove: reading t.json\n", b""),
+        ((2, NEVER), Status::Read, b"tinmove: reading t.json\n", b""),
+        ((3, NEVER), Status::Read, unread, b""),
+        ((5, NEVER), Status::Read, unread, b""),
+    ] {
+        let to = (Some(Vec::new(alloc)), Some(Vec::new(alloc)));
+        let (ended, shelf, press) = told_run(alloc, fails, to)?;
+        assert_eq!(rt; ended, status, "at {fails:?}");
+        assert_eq!(rt; said(&shelf.to), read, "at {fails:?}");
+        assert_eq!(rt; said(&press.to), made, "at {fails:?}");
+    }
+    Ok(())
+}
+
+/// A place to write to that takes nothing.
+#[derive(Drop)]
+struct Closed;
+
+impl Write for Closed {
+    fn write(&mut self, _bytes: &[u8]) -> io::Result<usize> {
+        Err(io::Error::from(ErrorKind::BrokenPipe))
+    }
+
+    fn flush(&mut self) -> io::Result<()> {
+        Ok(())
+    }
+}
+
+#[test]
+fn a_run_is_the_same_whether_or_not_it_is_heard(rt: HostRuntime) -> Result<(), Fail> {
+    let alloc = rt.alloc();
+    // Two files are begun, read and ended by six calls, and two are begun, written and ended by six.
+    for call in 0..7 {
+        for fails in [(call, NEVER), (NEVER, call)] {
+            let (status, bare) = bare_run(alloc, fails)?;
+            let heard = (Some(Vec::new(alloc)), Some(Vec::new(alloc)));
+            let (heard_status, _, heard) = told_run::<Vec<u8>>(alloc, fails, heard)?;
+            let closed = (Some(Closed), Some(Closed));
+            let (closed_status, _, closed) = told_run(alloc, fails, closed)?;
+            let (silent_status, _, silent) = told_run::<Closed>(alloc, fails, (None, None))?;
+            assert!(rt; silent.to.is_none());
+            for (told_status, told) in [
+                (heard_status, &heard.press),
+                (closed_status, &closed.press),
+                (silent_status, &silent.press),
+            ] {
+                assert_eq!(rt; told_status, status, "at {fails:?}");
+                assert_eq!(rt; told.faults(), bare.faults(), "at {fails:?}");
+                for name in ["o/p.wkt", "-"] {
+                    assert_eq!(rt;
+                        told.made_bytes(name),
+                        bare.made_bytes(name),
+                        "at {fails:?}"
+                    );
+                }
+            }
+        }
+    }
+    Ok(())
+}
+
+/// A shelf of three files, which tells what is done where so many of them are layers.
+fn shelf_of_three(
+    alloc: Global,
+    layers: Option<usize>,
+) -> Result<ToldShelf<MemShelf, Vec<u8>>, AllocError> {
+    let mut shelf = MemShelf::new(alloc, 2);
+    shelf.add("t", b"12345")?;
+    shelf.add("a", b"67")?;
+    shelf.add("b", b"")?;
+    Ok(ToldShelf::new(shelf, Some(Vec::new(alloc)), layers))
+}
+
+#[test]
+fn layers_are_counted_behind_the_triangulation(rt: HostRuntime) -> Result<(), Fail> {
+    let alloc = rt.alloc();
+    for (layers, lines) in [
+        (
+            Some(2),
+            b"tinmove: reading t\ntinmove: checking the triangulation\ntinmove: reading a\ntinmove: carrying layer 0 (1 of 2)\ntinmove: reading b\ntinmove: carrying layer 1 (2 of 2), then comparing\n".as_slice(),
+        ),
+        (
+            None,
+            b"tinmove: reading t\ntinmove: checking the triangulation\ntinmove: reading a\ntinmove: carrying layer 0\ntinmove: reading b\ntinmove: carrying layer 1\n",
+        ),
+    ] {
+        let mut shelf = shelf_of_three(alloc, layers)?;
+        for (name, text) in [("t", b"12345".as_slice()), ("a", b"67"), ("b", b"")] {
+            let bytes = load(alloc, &mut shelf, name, 9)?;
+            assert_eq!(rt; bytes.as_slice(), text);
+        }
+        assert_eq!(rt; said(&shelf.to), lines, "at {layers:?}");
+    }
+    Ok(())
+}
+
+#[test]
+fn of_standard_output_nothing_is_said(rt: HostRuntime) -> Result<(), Fail> {
+    let alloc = rt.alloc();
+    let mut press = ToldPress::new(MemPress::new(alloc, 2), Some(Vec::new(alloc)));
+    print(&mut press, "-", b"123")?;
+    assert_eq!(rt; said(&press.to), b"".as_slice());
+    print(&mut press, "o/three.wkt", b"456")?;
+    assert_eq!(rt;
+        said(&press.to),
+        b"tinmove: writing o/three.wkt\n".as_slice()
+    );
+    for (name, bytes) in [("-", b"123".as_slice()), ("o/three.wkt", b"456")] {
+        assert_eq!(rt; press.press.made_bytes(name), Some(bytes), "at {name}");
+    }
+    Ok(())
+}
