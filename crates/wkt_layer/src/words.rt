@@ -29,6 +29,7 @@ pub enum Word {
 
 impl Word {
     /// What the word of these letters is.
+    #[inline(never)]
     pub fn of(text: &[u8]) -> Word
         ensures { result ≡ word_of text.now }
     {
