@@ -2,7 +2,7 @@
 
 use crate::run::run;
 use crate::status::Status;
-use shelf_io::{MemPress, MemShelf};
+use shelf_io::{MemPress, MemShelf, Shelf};
 use std::alloc::{AllocError, Global};
 use std::test::Fail;
 
@@ -18,7 +18,7 @@ const NEAREST: &[u8] =
 const SQUARE: &[u8] =
     br#"{"file_type":"triangulation_file","format_version":"1.1","transformed_components":["horizontal"],"vertices_columns":["source_x","source_y","target_x","target_y"],"triangles_columns":["idx_vertex1","idx_vertex2","idx_vertex3"],"vertices":[[0,0,100,100],[10,0,110,100],[10,10,110.003,110.003],[0,10,100,110]],"triangles":[[0,1,2],[0,2,3]]}"#;
 
-/// Runs these words over these files.
+/// Runs these words over these files, of which no two have one name.
 fn ran(
     alloc: Global,
     texts: &[&str],
@@ -30,7 +30,9 @@ fn ran(
     }
     let mut shelf = MemShelf::new(alloc, 4096);
     for (name, bytes) in files {
-        shelf.add(name, bytes)?;
+        if shelf.begin(name) == Ok(false) {
+            shelf.add(name, bytes)?;
+        }
     }
     let mut press = MemPress::new(alloc, 4096);
     let status = run(alloc, &words, &mut shelf, &mut press);
@@ -129,12 +131,13 @@ end
     ] {
         let (status, press) = ran(alloc, texts, &files)?;
         assert_eq!(rt; status, Status::Changed);
-        assert_eq!(rt; press.made_bytes("-"), Some(report.as_slice()));
-        assert_eq!(rt; press.made_bytes("o/line.wkt"), Some(line));
-        assert_eq!(rt;
-            press.made_bytes("o/dot.wkt"),
-            Some(b"POINT (106.001 104.001)".as_slice())
-        );
+        for (name, bytes) in [
+            ("-", report.as_slice()),
+            ("o/line.wkt", line),
+            ("o/dot.wkt", b"POINT (106.001 104.001)"),
+        ] {
+            assert_eq!(rt; press.made_bytes(name), Some(bytes), "at {name}");
+        }
     }
     Ok(())
 }
@@ -164,12 +167,13 @@ end
         ],
     )?;
     assert_eq!(rt; status, Status::Same);
-    assert_eq!(rt; press.made_bytes("-"), Some(report.as_slice()));
-    assert_eq!(rt;
-        press.made_bytes("o/a.WKT"),
-        Some(b"POINT (105.001 101.000)".as_slice())
-    );
-    assert_eq!(rt; press.made_bytes("o/b.json"), Some(written));
+    for (name, bytes) in [
+        ("-", report.as_slice()),
+        ("o/a.WKT", b"POINT (105.001 101.000)"),
+        ("o/b.json", written),
+    ] {
+        assert_eq!(rt; press.made_bytes(name), Some(bytes), "at {name}");
+    }
     Ok(())
 }
 
@@ -177,6 +181,7 @@ end
 fn no_file_is_begun_before_the_last_layer_is_carried(rt: HostRuntime) -> Result<(), Fail> {
     let alloc = rt.alloc();
     let words = ["migrate", "--tin", "t.json", "--out", "o", "a.wkt", "b.wkt"];
+    let first = b"POINT (5 0)".as_slice();
     for (second, wanted, line) in [
         (
             b"POINT (5 0)\nPOINT (6 6)".as_slice(),
@@ -190,17 +195,25 @@ fn no_file_is_begun_before_the_last_layer_is_carried(rt: HostRuntime) -> Result<
             b"layer 1: number form at 9 place 1\n",
         ),
     ] {
-        let files = [
-            ("t.json", TIN),
-            ("a.wkt", b"POINT (5 0)".as_slice()),
-            ("b.wkt", second),
-        ];
-        let (status, press) = ran(alloc, &words, &files)?;
+        let (status, press) = ran(
+            alloc,
+            &words,
+            &[("t.json", TIN), ("a.wkt", first), ("b.wkt", second)],
+        )?;
         assert_eq!(rt; status, wanted, "at {line:?}");
+        let begun = press.made_bytes("o/a.wkt").is_some();
+        assert!(rt; !begun, "at {line:?}");
         assert_eq!(rt; press.made_bytes("-"), Some(line), "at {line:?}");
-        assert_eq!(rt; press.made_bytes("o/a.wkt"), None, "at {line:?}");
     }
-    let (status, press) = ran(alloc, &words, &[("t.json", TIN), ("a.wkt", b"POINT (5 0)")])?;
+    Ok(())
+}
+
+#[test]
+fn a_missing_layer_is_named(rt: HostRuntime) -> Result<(), Fail> {
+    let alloc = rt.alloc();
+    let words = ["migrate", "--tin", "t.json", "--out", "o", "a.wkt", "b.wkt"];
+    let files = [("t.json", TIN), ("a.wkt", b"POINT (5 0)")];
+    let (status, press) = ran(alloc, &words, &files)?;
     assert_eq!(rt; status, Status::Read);
     assert_eq!(rt;
         press.made_bytes("-"),
