@@ -17,7 +17,7 @@ use Rattle.job_words.specs.declared.jobs.Job.{Job}
 use Rattle.job_words.specs.declared.jobs.Job.TheVariants.{Migrate, Check as CheckJob, Make}
 use Rattle.tinmove.specs.declared.status.Status.{Status}
 use Rattle.tinmove.specs.declared.refusal.Refusal.{Refusal}
-use Rattle.tinmove.specs.declared.refusal.Refusal.TheVariants.{Words, TinUnread, TinLong, Tin, Check, NoMaker, LayerUnread, LayersLong, NoDrawing, Layer, Outside, TooManyPieces, TooManyChanges, NoMemory}
+use Rattle.tinmove.specs.declared.refusal.Refusal.TheVariants.{Words, TinUnread, TinLong, Tin, Check, LayerUnread, LayersLong, NoDrawing, Layer, Outside, TooManyPieces, TooManyChanges, NoMemory}
 use Rattle.tinmove.specs.Names.{name_in}
 use Rattle.tinmove.specs.Jobs.{Carriage, AsksMigration}
 use Rattle.tinmove.specs.Carrying.{IsLayerText}
@@ -60,7 +60,6 @@ of_refusal files carriage TinUnread made = tt
 of_refusal files carriage TinLong made = tt
 of_refusal files carriage (Tin fault) made = of_tin files carriage _ made (of_text fault)
 of_refusal files carriage (Check fault) made = of_tin files carriage _ made (of_check fault)
-of_refusal files carriage NoMaker made = tt
 of_refusal files carriage (LayerUnread layer) made = tt
 of_refusal files carriage LayersLong made = tt
 of_refusal files carriage (NoDrawing layer) made = tt
@@ -182,7 +181,8 @@ outcome_keeps words files carriage status whole made given same (done (Migrate t
     (subst (λ (c : Carriage). IsMigrationDone files c status whole) (same_carriage tin out how inverse layers carriage one) is)
 outcome_keeps words files carriage status whole made given same (done (CheckJob name how) also is) =
     let one = job_one words (CheckJob name how) (Migrate carriage.tin carriage.out carriage.how carriage.inverse carriage.layers) also given in cc
-outcome_keeps words files carriage status whole made given same (done (Make n) also is) = absurd is
+outcome_keeps words files carriage status whole made given same (done (Make n) also is) =
+    let one = job_one words (Make n) (Migrate carriage.tin carriage.out carriage.how carriage.inverse carriage.layers) also given in cc
 
 end_keeps : (words : List (List ℕ)) (files : Files) (shelf_rose press_rose : Type 0) (carriage : Carriage) (status : Status) (whole : Files) (made : Option Files) → AsksMigration words carriage
     → IfSome made (λ files. files ≡ whole) → Ends words files shelf_rose press_rose status whole → KeepsRelations files carriage status made

@@ -24,7 +24,7 @@ use Rattle.tinmove.specs.declared.loading.TheConstants.{MOST_BYTES}
 use Rattle.tinmove.specs.declared.status.Status.{Status}
 use Rattle.tinmove.specs.declared.status.Status.TheVariants.{Same}
 use Rattle.tinmove.specs.declared.refusal.Refusal.{Refusal}
-use Rattle.tinmove.specs.declared.refusal.Refusal.TheVariants.{Words, TinUnread, TinLong, Tin, Check, NoMaker, TooManyChanges}
+use Rattle.tinmove.specs.declared.refusal.Refusal.TheVariants.{Words, TinUnread, TinLong, Tin, Check, TooManyChanges}
 use Rattle.tinmove.specs.Jobs.{Carriage}
 use Rattle.tinmove.specs.Triangulations.{IsTin, LacksTin, IsUnsound, directed}
 use Rattle.tinmove.specs.RunChanges.{AreListed, end_with}
@@ -32,7 +32,7 @@ use Rattle.tinmove.specs.LayerRuns.{Done, AreCarried, IsRefusedLayer, AreRefused
 use Rattle.report_text.specs.ReportText.{report_text}
 use Rattle.tinmove.specs.SoundLine.{sound_text}
 use Rattle.tinmove.specs.Refusals.{status_of, line_of}
-use Rattle.tinmove.specs.Outcome.{HasFile, HasLongFile, HasTin, IsTinRefused, IsMigrationRefused, by_tin, by_layers, row_of, report_of, file_in, IsMigrationDone, carriage_with, IsJobRefused, IsJobDone, HasOutcome, no_job, refused, done}
+use Rattle.tinmove.specs.Outcome.{HasFile, HasLongFile, HasTin, IsTinRefused, IsMigrationRefused, by_tin, by_layers, row_of, report_of, file_in, IsMigrationDone, made_files, made_carriage, IsMakingDone, carriage_with, IsJobRefused, IsJobDone, HasOutcome, no_job, refused, done}
 use Rattle.tinmove.specs.Laws.{OutcomeIsOne}
 use Rattle.tinmove.proofs.OneLayers.{AreOneRun, run_one, refused_layer_one, refused_layer_carried}
 use Rattle.tinmove.proofs.Comparable.{run_inside}
@@ -253,9 +253,40 @@ migration_end : (files : Files) (tin out : List ℕ) (how : How) (inverse : Bool
 migration_end files tin out how inverse layers (Ok (status, made)) is = migration_done files (carriage_with tin out how inverse layers) status made is
 migration_end files tin out how inverse layers (Err refusal) is = migration_refused files (carriage_with tin out how inverse layers) refusal is
 
-make_end : (files : Files) (n : ℕ) (end : End) → IsJobEnd files (Make n) end → end ≡ Err NoMaker
-make_end files n (Ok end) is = absurd is
-make_end files n (Err refusal) is = ap Err is
+-- the last of some files, alone
+abbrev last_of : Files → Files
+last_of [] = []
+last_of (file ∷ []) = file ∷ []
+last_of (file ∷ next ∷ files) = last_of (next ∷ files)
+
+last_behind : (layers : Files) (file : List ℕ × List ℕ) → last_of (layers ++ file ∷ []) ≡ file ∷ []
+last_behind [] file = refl
+last_behind (first ∷ []) file = refl
+last_behind (first ∷ next ∷ layers) file = last_behind (next ∷ layers) file
+
+-- what is made ends as the migration of its texts does, with the last file alone
+abbrev made_alone : End → End
+made_alone (Ok end) = Ok (end.0, last_of end.1)
+made_alone (Err refusal) = Err refusal
+
+made_whole : (n : ℕ) (status : Status) (made : Files) (is : IsMakingDone n status made) → IsMigrationEnd (made_files n) made_carriage (Ok (status, is.layers ++ (codes "-", is.said) ∷ []))
+made_whole n status made is =
+    migration_done (made_files n) made_carriage status (is.layers ++ (codes "-", is.said) ∷ []) (record {
+      changes = is.changes;
+      layers = is.layers;
+      said = is.said;
+      migrated = is.migrated;
+      status_is = is.status_is;
+      made_is = refl;
+    })
+
+make_end : (files : Files) (n : ℕ) (end : End) → IsJobEnd files (Make n) end → (whole : End) × IsMigrationEnd (made_files n) made_carriage whole × (end ≡ made_alone whole)
+make_end files n (Ok (status, made)) is = (
+  Ok (status, is.layers ++ (codes "-", is.said) ∷ []),
+  made_whole n status made is,
+  ap Ok (pair_of status status made _ refl (is.made_is ∙ sym (last_behind is.layers (codes "-", is.said)))),
+)
+make_end files n (Err refusal) is = (Err refusal, migration_refused (made_files n) made_carriage refusal is, refl)
 
 job_end_one : (files : Files) (job : Job) (a b : End) → IsJobEnd files job a → IsJobEnd files job b → a ≡ b
 job_end_one files (Migrate tin out how inverse layers) a b x y =
@@ -264,7 +295,10 @@ job_end_one files (CheckJob name how) a b x y =
     let (tin, ready, is) = check_end files how name a x in
     let (other, also_ready, also) = check_end files how name b y in
     is ∙ (ap said_of (tin_end_one files how name tin other ready also_ready) ∙ sym also)
-job_end_one files (Make n) a b x y = make_end files n a x ∙ sym (make_end files n b y)
+job_end_one files (Make n) a b x y =
+    let (whole, ends, is) = make_end files n a x in
+    let (other, ends_too, also) = make_end files n b y in
+    is ∙ (ap made_alone (migration_end_one (made_files n) made_carriage whole other ends ends_too) ∙ sym also)
 
 -- ---- the run
 -- what an end makes

@@ -156,7 +156,7 @@ pub data IsWithoutTin (files : Files) (how : How) (name : List ℕ) (rose : Type
   without_read : rose → refusal ≡ TinUnread → IsWithoutTin files how name rose refusal
   without_room : status_of refusal ≡ Memory → IsWithoutTin files how name rose refusal
 
-text-refused : (files : Files) (how : How) (name text : List ℕ) (rose : Type 0) (refusal : Refusal) → HasFile files name text → IsTextRefused how text refusal → IsWithoutTin files how name rose refusal
+pub text-refused : (files : Files) (how : How) (name text : List ℕ) (rose : Type 0) (refusal : Refusal) → HasFile files name text → IsTextRefused how text refusal → IsWithoutTin files how name rose refusal
 text-refused files how name text rose (Tin why_not) file why =
     elim (want_or_fault why_not) [
       | inl want ↦ without_room want

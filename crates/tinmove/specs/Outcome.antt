@@ -1,5 +1,5 @@
 -- What a run makes, as a relation of the words, the shelf's files, the status and the made files.
-use Rattle.std.specs.Prelude.{◌≡◌, ℕ, ◌<◌, ◌≤◌, List, [], ◌∷◌, ◌++◌, map, codes, Bool, length, None, Some}
+use Rattle.std.specs.Prelude.{◌≡◌, ℕ, ◌<◌, ◌≤◌, List, [], ◌∷◌, ◌++◌, map, codes, Bool, false, length, None, Some}
 use Rattle.shelf_io.specs.Files.{Files, bytes_of}
 use Rattle.sheet_base.specs.declared.flags.How.{How}
 use Rattle.tin_base.specs.declared.pieces.Change.{Change}
@@ -13,12 +13,13 @@ use Rattle.tinmove.specs.declared.loading.TheConstants.{MOST_BYTES}
 use Rattle.tinmove.specs.declared.status.Status.{Status}
 use Rattle.tinmove.specs.declared.status.Status.TheVariants.{Same}
 use Rattle.tinmove.specs.declared.refusal.Refusal.{Refusal}
-use Rattle.tinmove.specs.declared.refusal.Refusal.TheVariants.{Words, TinUnread, TinLong, Tin, Check, NoMaker}
+use Rattle.tinmove.specs.declared.refusal.Refusal.TheVariants.{Words, TinUnread, TinLong, Tin, Check}
 use Rattle.tinmove.specs.Names.{name_in}
 use Rattle.tinmove.specs.LayerTexts.{is_drawing}
 use Rattle.tinmove.specs.Jobs.{Carriage}
 use Rattle.tinmove.specs.Triangulations.{IsTin, LacksTin, IsUnsound, directed}
 use Rattle.tinmove.specs.LayerRuns.{Done, AreCarried, AreRefused}
+use Rattle.tinmove.specs.Making.{tin_text, layer_text}
 use Rattle.tinmove.specs.RunChanges.{AreListed, end_with}
 use Rattle.report_text.specs.Reports.{Contents as Report}
 use Rattle.report_text.specs.declared.rows.LayerRow.{LayerRow}
@@ -117,21 +118,43 @@ pub record IsMigrationDone (files : Files) (carriage : Carriage) (status : Statu
   pub status_is : status ≡ end_with changes
   pub made_is : made ≡ layers ++ (codes "-", said) ∷ []
 
+-- what is made goes the way of a migration, under these names and as two files alone
+abbrev pub made_files : ℕ → Files
+made_files n = (codes "made.json", tin_text n) ∷ (codes "made.wkt", layer_text n) ∷ []
+
+abbrev pub made_carriage : Carriage
+made_carriage = record {
+  tin = codes "made.json";
+  out = [];
+  how = record { exact = false; drop_other = false; inside_only = false };
+  inverse = false;
+  layers = codes "made.wkt" ∷ [];
+}
+
+-- its report alone is written
+pub record IsMakingDone (n : ℕ) (status : Status) (made : Files) : Type 0 where
+  pub changes : List Change
+  pub layers : Files
+  pub said : List ℕ
+  pub migrated : IsMigrated (made_files n) made_carriage changes layers said
+  pub status_is : status ≡ end_with changes
+  pub made_is : made ≡ (codes "-", said) ∷ []
+
 -- the migration that a job's words ask for
 abbrev pub carriage_with : List ℕ → List ℕ → How → Bool → List (List ℕ) → Carriage
 carriage_with tin out how inverse layers = record { tin = tin; out = out; how = how; inverse = inverse; layers = layers }
 
--- the files refuse the job so; nothing is made yet
+-- the files refuse the job so; those of the maker are the texts that it makes
 abbrev pub IsJobRefused : Files → Job → Refusal → Type 0
 IsJobRefused files (Migrate tin out how inverse layers) refusal = IsMigrationRefused files (carriage_with tin out how inverse layers) refusal
 IsJobRefused files (CheckJob tin how) refusal = IsTinRefused files how tin refusal
-IsJobRefused files (Make n) refusal = refusal ≡ NoMaker
+IsJobRefused files (Make n) refusal = IsMigrationRefused (made_files n) made_carriage refusal
 
 -- the job is done
 abbrev pub IsJobDone : Files → Job → Status → Files → Type 0
 IsJobDone files (Migrate tin out how inverse layers) status made = IsMigrationDone files (carriage_with tin out how inverse layers) status made
 IsJobDone files (CheckJob tin how) status made = IsChecked files how tin status made
-IsJobDone files (Make n) status made = ⊥
+IsJobDone files (Make n) status made = IsMakingDone n status made
 
 -- ---- the run
 -- a refusal makes one file, standard output, with its line

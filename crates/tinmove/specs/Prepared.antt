@@ -115,6 +115,18 @@ IsUnlisted tin pieces TooManyChanges = HasMoreThan tin pieces MOST_CHANGES
 IsUnlisted tin pieces NoMemory = Unit {0}
 IsUnlisted tin pieces refusal = ⊥
 
+-- the refusal is one of the texts that are made
+abbrev pub IsOfMaking : Refusal → Type 0
+IsOfMaking (Tin fault) = Unit {0}
+IsOfMaking (Check fault) = Unit {0}
+IsOfMaking (NoDrawing layer) = Unit {0}
+IsOfMaking (Layer layer fault) = Unit {0}
+IsOfMaking (Outside layer path segment) = Unit {0}
+IsOfMaking TooManyPieces = Unit {0}
+IsOfMaking TooManyChanges = Unit {0}
+IsOfMaking NoMemory = Unit {0}
+IsOfMaking refusal = ⊥
+
 -- the refusal is one of layers
 abbrev pub IsOfLayers : Refusal → Type 0
 IsOfLayers (LayerUnread layer) = Unit {0}

@@ -15,7 +15,7 @@ use Rattle.topo_check.specs.declared.faults.ChangesFault.TheVariants.{TooMany as
 use Rattle.tinmove.specs.declared.status.Status.{Status}
 use Rattle.tinmove.specs.declared.status.Status.TheVariants.{Words as WordsStatus, Tin as TinStatus, Layer as LayerStatus, Outside as OutsideStatus, Read, Memory, Limit}
 use Rattle.tinmove.specs.declared.refusal.Refusal.{Refusal}
-use Rattle.tinmove.specs.declared.refusal.Refusal.TheVariants.{Words, TinUnread, TinLong, Tin, Check, NoMaker, LayerUnread, LayersLong, NoDrawing, Layer, Outside, TooManyPieces, TooManyChanges, NoMemory}
+use Rattle.tinmove.specs.declared.refusal.Refusal.TheVariants.{Words, TinUnread, TinLong, Tin, Check, LayerUnread, LayersLong, NoDrawing, Layer, Outside, TooManyPieces, TooManyChanges, NoMemory}
 use Rattle.tinmove.specs.Lines.{words_line, tin_line, check_line, layer_line}
 
 -- the refusal of the layer of this number, which is not carried
@@ -57,7 +57,6 @@ status_of TinUnread = Read
 status_of TinLong = Limit
 status_of (Tin fault) = status_of_tin fault
 status_of (Check fault) = status_of_check fault
-status_of NoMaker = TinStatus
 status_of (LayerUnread layer) = Read
 status_of LayersLong = Limit
 status_of (NoDrawing layer) = LayerStatus
@@ -73,7 +72,6 @@ line_of TinUnread = codes "read fault: triangulation\n"
 line_of TinLong = codes "limit: bytes of triangulation\n"
 line_of (Tin fault) = tin_line fault
 line_of (Check fault) = check_line fault
-line_of NoMaker = codes "triangulation: not yet\n"
 line_of (LayerUnread layer) = codes "read fault: layer " ++ decimal layer ++ codes "\n"
 line_of LayersLong = codes "limit: bytes of layers\n"
 line_of (NoDrawing layer) = codes "layer " ++ decimal layer ++ codes ": not yet\n"

@@ -18,7 +18,8 @@ use Rattle.tinmove.specs.Jobs.{Carriage}
 use Rattle.tinmove.specs.Carrying.{IsCarried}
 use Rattle.tinmove.specs.LayerRuns.{Done}
 use Rattle.tinmove.specs.RunChanges.{AreListed, is_some_change}
-use Rattle.tinmove.specs.Outcome.{row_of, file_in, report_of}
+use Rattle.tinmove.specs.Outcome.{row_of, file_in, report_of, made_files, made_carriage}
+use Rattle.tinmove.specs.Ends.{MayRefuse}
 use Rattle.tinmove.specs.Prepared.{file_of, IsUncarried}
 
 abbrev pub carriage_of : Migration → Carriage
@@ -26,6 +27,10 @@ carriage_of migration = record { tin = migration.tin.now; out = migration.out.no
 
 abbrev pub job_of : Migration → Job
 job_of migration = Migrate migration.tin.now migration.out.now migration.how migration.inverse migration.layers.now
+
+-- why what is made is refused: by its texts, or for want of memory
+abbrev pub MayNotBeMade : ℕ → Refusal → Type 0
+MayNotBeMade n refusal = MayRefuse (made_files n) (Migrate made_carriage.tin made_carriage.out made_carriage.how made_carriage.inverse made_carriage.layers) ⊥ refusal
 
 -- the layer of this number, name and bytes is carried behind what the run had, and is the last that it has now
 pub record AddsLayer (how : How) (tin : Triangulation) (folder : List ℕ) (number : ℕ) (name bytes : List ℕ) (before now : Run) : Type 0 where

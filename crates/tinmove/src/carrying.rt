@@ -62,6 +62,25 @@ pub struct Run {
     pub used: u64,
 }
 
+impl Run {
+    ghost use Rattle.std.specs.Prelude.{◌≡◌, []};
+
+    /// A run that has no layer yet.
+    pub fn new(alloc: Global) -> Run
+        ensures files { result.files.items ≡ [] }
+        ensures rows { result.rows.items ≡ [] }
+        ensures pieces { result.pieces.items ≡ [] }
+        ensures used { result.used ≡ 0 }
+    {
+        Run {
+            files: Vec::new(alloc),
+            rows: Vec::new(alloc),
+            pieces: Vec::new(alloc),
+            used: 0,
+        }
+    }
+}
+
 /// The name of the file into which a layer is written.
 fn written_name(alloc: Global, out: &str, layer: &str) -> Result<String, AllocError>
     ensures { IfOk result (λ name. string_bytes name ≡ name_in out.now layer.now) }
@@ -160,9 +179,10 @@ fn add_layer(run: &mut Run, file: LayerFile, row: LayerRow) -> Result<(), AllocE
 }
 
 /// Carries the layer of this number, name and bytes behind those that the run has.
-fn carry_next(
+pub fn carry_next(
     alloc: Global,
-    migration: Migration<'_>,
+    folder: &Name,
+    how: How,
     index: &TinIndex,
     number: u32,
     name: &Name,
@@ -172,25 +192,17 @@ fn carry_next(
     requires suffix { HasFormat name.now }
     requires within { run.old.used + length bytes.now ≤ MOST_BYTES }
     requires room { vec_len run.old.pieces ≤ MOST_PIECES }
-    ensures ok { OnOk result (AddsLayer migration.entry.how index.now migration.entry.out.now number name.now bytes.now run.old run.new) }
+    ensures ok { OnOk result (AddsLayer how index.now folder.now number name.now bytes.now run.old run.new) }
     ensures room { vec_len run.new.pieces ≤ MOST_PIECES }
-    ensures refused { IfErr result (λ refusal. AddsNone migration.entry.how index.now number name.now bytes.now (length run.old.pieces.items) refusal) }
+    ensures refused { IfErr result (λ refusal. AddsNone how index.now number name.now bytes.now (length run.old.pieces.items) refusal) }
 {
     let format = known_format(name.text());
-    let carried = match carried_layer(
-        alloc,
-        format,
-        index,
-        bytes,
-        migration.how,
-        number,
-        &mut run.pieces,
-    ) {
+    let carried = match carried_layer(alloc, format, index, bytes, how, number, &mut run.pieces) {
         Ok(carried) => carried,
         Err(refusal) => return Err(refusal),
     };
     let row = layer_row(alloc, name, format, &carried)?;
-    let file = layer_file(alloc, migration.out, name, carried.text)?;
+    let file = layer_file(alloc, folder, name, carried.text)?;
     add_layer(run, file, row)?;
     run.used += bytes.len() as u64;
     Ok(())
@@ -213,12 +225,7 @@ pub fn carried_layers<S: Shelf>(
     ensures same { OnOk result (S.faults shelf.new ≡ S.faults shelf.old) }
     ensures same_err { IfErr result (λ refusal. status_of refusal ≢ ReadStatus → S.faults shelf.new ≡ S.faults shelf.old) }
 {
-    let mut run = Run {
-        files: Vec::new(alloc),
-        rows: Vec::new(alloc),
-        pieces: Vec::new(alloc),
-        used: 0,
-    };
+    let mut run = Run::new(alloc);
     for (number, name) in migration.layers.iter().enumerate() {
         let layer = number as u32;
         let bytes = match loaded(
@@ -232,7 +239,16 @@ pub fn carried_layers<S: Shelf>(
             Ok(bytes) => bytes,
             Err(refusal) => return Err(refusal),
         };
-        match carry_next(alloc, migration, index, layer, name, &bytes, &mut run) {
+        match carry_next(
+            alloc,
+            migration.out,
+            migration.how,
+            index,
+            layer,
+            name,
+            &bytes,
+            &mut run,
+        ) {
             Ok(()) => {}
             Err(refusal) => return Err(refusal),
         }

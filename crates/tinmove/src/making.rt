@@ -1,7 +1,8 @@
 //! A triangulation and a layer that are made and not read: squares of ten metres, each cut along its diagonal.
 
-ghost use Rattle.std.specs.Prelude.{◌≡◌, ◌+◌, ◌*◌, ◌<◌, ◌≤◌, ◌++◌, ◌∷◌, [], decimal, pos, map, OnOk, IfOk};
+ghost use Rattle.std.specs.Prelude.{◌≡◌, ◌+◌, ◌*◌, ◌<◌, ◌≤◌, ◌++◌, ◌∷◌, ◌^◌, [], decimal, length, pos, map, vec_len, OnOk, IfOk};
 ghost use Rattle.std.specs.List.{flat_map, join_with_byte};
+ghost use Rattle.tinmove.specs.declared.making.TheConstants.{VERTEX_MOST, TRIANGLE_MOST};
 ghost use Rattle.mm_decimal.specs.Writing.{written};
 ghost use Rattle.tinmove.specs.Making.{below, corner_number as number_of, target_x as x_of, target_y as y_of, vertex_row, triangle_row, cell_rows, vertex_rows, triangle_rows, tin_front, tin_between, tin_end, tin_text, layer_line, layer_text, ended_rows};
 
@@ -24,12 +25,19 @@ const VERTEX_ROOM: usize = 32;
 /// More bytes than the rows of a cell's two triangles have.
 const CELL_ROOM: usize = 48;
 
+/// The most bytes of a corner's row and its comma, whatever its numbers are.
+const VERTEX_MOST: usize = 94;
+
+/// The most bytes of a triangle's row and its comma, whatever its numbers are.
+const TRIANGLE_MOST: usize = 65;
+
 /// More bytes than a line of the layer has.
 const LINE_ROOM: usize = 48;
 
 // Adds a text at the end.
 fn put(out: &mut Vec<u8>, text: &str) -> Result<(), AllocError>
-    ensures { OnOk result (out.new.items ≡ out.old.items ++ text.now) }
+    ensures text { OnOk result (out.new.items ≡ out.old.items ++ text.now) }
+    ensures short { OnOk result (vec_len out.new ≡ vec_len out.old + length text.now) }
 {
     out.extend_from_slice(text.as_bytes())?;
     Ok(())
@@ -37,7 +45,8 @@ fn put(out: &mut Vec<u8>, text: &str) -> Result<(), AllocError>
 
 // Adds a number in digits, and a text behind it.
 fn put_number(out: &mut Vec<u8>, number: u32, behind: &str) -> Result<(), AllocError>
-    ensures { OnOk result (out.new.items ≡ out.old.items ++ (decimal number ++ behind.now)) }
+    ensures text { OnOk result (out.new.items ≡ out.old.items ++ (decimal number ++ behind.now)) }
+    ensures short { OnOk result (vec_len out.new ≤ vec_len out.old + (20 + length behind.now)) }
 {
     let mut digits = Buffer::new();
     put(out, digits.format(number))?;
@@ -47,7 +56,8 @@ fn put_number(out: &mut Vec<u8>, number: u32, behind: &str) -> Result<(), AllocE
 
 // Adds millimetres as metres, and a text behind them.
 fn put_metres(out: &mut Vec<u8>, mm: u32, behind: &str) -> Result<(), AllocError>
-    ensures { OnOk result (out.new.items ≡ out.old.items ++ (written (pos mm) ++ behind.now)) }
+    ensures text { OnOk result (out.new.items ≡ out.old.items ++ (written (pos mm) ++ behind.now)) }
+    ensures short { OnOk result (vec_len out.new ≤ vec_len out.old + (24 + length behind.now)) }
 {
     let mut digits = [0; 24];
     let length = write_mm(i64::from(mm), &mut digits);
@@ -80,7 +90,8 @@ fn target_y(i: u32, j: u32) -> u32
 fn put_vertex(out: &mut Vec<u8>, i: u32, j: u32) -> Result<(), AllocError>
     requires column { i ≤ MOST_CELLS }
     requires line { j ≤ MOST_CELLS }
-    ensures { OnOk result (out.new.items ≡ out.old.items ++ (vertex_row i j ++ COMMA ∷ [])) }
+    ensures text { OnOk result (out.new.items ≡ out.old.items ++ (vertex_row i j ++ COMMA ∷ [])) }
+    ensures short { OnOk result (vec_len out.new ≤ vec_len out.old + VERTEX_MOST) }
 {
     put(out, "[")?;
     put_number(out, 10 * i, ",")?;
@@ -94,7 +105,8 @@ fn put_vertex(out: &mut Vec<u8>, i: u32, j: u32) -> Result<(), AllocError>
 fn put_vertex_line(out: &mut Vec<u8>, n: u32, j: u32) -> Result<(), AllocError>
     requires most { n ≤ MOST_CELLS }
     requires line { j ≤ n }
-    ensures { OnOk result (out.new.items ≡ out.old.items ++ ended_rows (map (λ i. vertex_row i j) (below (n + 1)))) }
+    ensures text { OnOk result (out.new.items ≡ out.old.items ++ ended_rows (map (λ i. vertex_row i j) (below (n + 1)))) }
+    ensures short { OnOk result (vec_len out.new ≤ vec_len out.old + VERTEX_MOST * 513) }
 {
     for i in 0..n + 1 {
         put_vertex(out, i, j)?;
@@ -105,7 +117,8 @@ fn put_vertex_line(out: &mut Vec<u8>, n: u32, j: u32) -> Result<(), AllocError>
 // Adds the rows of all corners, with a comma behind each.
 fn put_vertices(out: &mut Vec<u8>, n: u32) -> Result<(), AllocError>
     requires most { n ≤ MOST_CELLS }
-    ensures { OnOk result (out.new.items ≡ out.old.items ++ ended_rows (vertex_rows n)) }
+    ensures text { OnOk result (out.new.items ≡ out.old.items ++ ended_rows (vertex_rows n)) }
+    ensures short { OnOk result (vec_len out.new ≤ vec_len out.old + VERTEX_MOST * 513 * 513) }
 {
     for j in 0..n + 1 {
         put_vertex_line(out, n, j)?;
@@ -126,7 +139,8 @@ fn corner_number(n: u32, i: u32, j: u32) -> u32
 // Adds the row of a triangle, with a comma behind it.
 #[tactic(auto, unfolding(crate::specs::Making::triangle_row))]
 fn put_triangle(out: &mut Vec<u8>, first: u32, second: u32, third: u32) -> Result<(), AllocError>
-    ensures { OnOk result (out.new.items ≡ out.old.items ++ (triangle_row first second third ++ COMMA ∷ [])) }
+    ensures text { OnOk result (out.new.items ≡ out.old.items ++ (triangle_row first second third ++ COMMA ∷ [])) }
+    ensures short { OnOk result (vec_len out.new ≤ vec_len out.old + TRIANGLE_MOST) }
 {
     put(out, "[")?;
     put_number(out, first, ",")?;
@@ -140,7 +154,8 @@ fn put_cell(out: &mut Vec<u8>, n: u32, i: u32, j: u32) -> Result<(), AllocError>
     requires most { n ≤ MOST_CELLS }
     requires column { i < n }
     requires line { j < n }
-    ensures { OnOk result (out.new.items ≡ out.old.items ++ ended_rows (cell_rows n i j)) }
+    ensures text { OnOk result (out.new.items ≡ out.old.items ++ ended_rows (cell_rows n i j)) }
+    ensures short { OnOk result (vec_len out.new ≤ vec_len out.old + TRIANGLE_MOST * 2) }
 {
     let first = corner_number(n, i, j);
     let opposite = corner_number(n, i + 1, j + 1);
@@ -153,7 +168,8 @@ fn put_cell(out: &mut Vec<u8>, n: u32, i: u32, j: u32) -> Result<(), AllocError>
 fn put_cell_line(out: &mut Vec<u8>, n: u32, j: u32) -> Result<(), AllocError>
     requires most { n ≤ MOST_CELLS }
     requires line { j < n }
-    ensures { OnOk result (out.new.items ≡ out.old.items ++ ended_rows (flat_map (λ i. cell_rows n i j) (below n))) }
+    ensures text { OnOk result (out.new.items ≡ out.old.items ++ ended_rows (flat_map (λ i. cell_rows n i j) (below n))) }
+    ensures short { OnOk result (vec_len out.new ≤ vec_len out.old + TRIANGLE_MOST * 1024) }
 {
     for i in 0..n {
         put_cell(out, n, i, j)?;
@@ -164,7 +180,8 @@ fn put_cell_line(out: &mut Vec<u8>, n: u32, j: u32) -> Result<(), AllocError>
 // Adds the rows of all triangles, with a comma behind each.
 fn put_triangles(out: &mut Vec<u8>, n: u32) -> Result<(), AllocError>
     requires most { n ≤ MOST_CELLS }
-    ensures { OnOk result (out.new.items ≡ out.old.items ++ ended_rows (triangle_rows n)) }
+    ensures text { OnOk result (out.new.items ≡ out.old.items ++ ended_rows (triangle_rows n)) }
+    ensures short { OnOk result (vec_len out.new ≤ vec_len out.old + TRIANGLE_MOST * 524288) }
 {
     for j in 0..n {
         put_cell_line(out, n, j)?;
@@ -175,7 +192,8 @@ fn put_triangles(out: &mut Vec<u8>, n: u32) -> Result<(), AllocError>
 // Adds what stands before the first list.
 #[tactic(auto, unfolding(crate::specs::Making::tin_front))]
 fn put_front(out: &mut Vec<u8>) -> Result<(), AllocError>
-    ensures { OnOk result (out.new.items ≡ out.old.items ++ tin_front) }
+    ensures text { OnOk result (out.new.items ≡ out.old.items ++ tin_front) }
+    ensures short { OnOk result (vec_len out.new ≤ vec_len out.old + 300) }
 {
     put(
         out,
@@ -186,7 +204,8 @@ fn put_front(out: &mut Vec<u8>) -> Result<(), AllocError>
 // Adds what stands between both lists.
 #[tactic(auto, unfolding(crate::specs::Making::tin_between))]
 fn put_between(out: &mut Vec<u8>) -> Result<(), AllocError>
-    ensures { OnOk result (out.new.items ≡ out.old.items ++ tin_between) }
+    ensures text { OnOk result (out.new.items ≡ out.old.items ++ tin_between) }
+    ensures short { OnOk result (vec_len out.new ≤ vec_len out.old + 20) }
 {
     put(out, r#"],"triangles":["#)
 }
@@ -194,7 +213,8 @@ fn put_between(out: &mut Vec<u8>) -> Result<(), AllocError>
 // Adds what ends the file.
 #[tactic(auto, unfolding(crate::specs::Making::tin_end))]
 fn put_end(out: &mut Vec<u8>) -> Result<(), AllocError>
-    ensures { OnOk result (out.new.items ≡ out.old.items ++ tin_end) }
+    ensures text { OnOk result (out.new.items ≡ out.old.items ++ tin_end) }
+    ensures short { OnOk result (vec_len out.new ≤ vec_len out.old + 2) }
 {
     put(out, "]}")
 }
@@ -211,7 +231,8 @@ fn tin_room(n: u32) -> usize
 pub fn make_tin(alloc: Global, n: u32) -> Result<Vec<u8>, AllocError>
     requires some { 1 ≤ n }
     requires most { n ≤ MOST_CELLS }
-    ensures { IfOk result (λ text. text.items ≡ tin_text n) }
+    ensures text { IfOk result (λ text. text.items ≡ tin_text n) }
+    ensures short { IfOk result (λ text. vec_len text ≤ 2 ^ 26) }
 {
     let mut out = Vec::with_capacity(alloc, tin_room(n))?;
     put_front(&mut out)?;
@@ -229,7 +250,8 @@ pub fn make_tin(alloc: Global, n: u32) -> Result<Vec<u8>, AllocError>
 fn put_line(out: &mut Vec<u8>, n: u32, k: u32) -> Result<(), AllocError>
     requires most { n ≤ MOST_CELLS }
     requires line { k < n }
-    ensures { OnOk result (out.new.items ≡ out.old.items ++ layer_line n k) }
+    ensures text { OnOk result (out.new.items ≡ out.old.items ++ layer_line n k) }
+    ensures short { OnOk result (vec_len out.new ≤ vec_len out.old + 128) }
 {
     put(out, "LINESTRING (0 ")?;
     put_number(out, 10 * k + 2, ".5, ")?;
@@ -242,7 +264,8 @@ fn put_line(out: &mut Vec<u8>, n: u32, k: u32) -> Result<(), AllocError>
 pub fn make_layer(alloc: Global, n: u32) -> Result<Vec<u8>, AllocError>
     requires some { 1 ≤ n }
     requires most { n ≤ MOST_CELLS }
-    ensures { IfOk result (λ text. text.items ≡ layer_text n) }
+    ensures text { IfOk result (λ text. text.items ≡ layer_text n) }
+    ensures short { IfOk result (λ text. vec_len text ≤ 2 ^ 26) }
 {
     let mut out = Vec::with_capacity(alloc, LINE_ROOM * n as usize)?;
     for k in 0..n {

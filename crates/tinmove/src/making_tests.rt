@@ -2,6 +2,10 @@
 //! are worked out by hand.
 
 use crate::making::{make_layer, make_tin};
+use crate::run::run;
+use crate::status::Status;
+use shelf_io::{MemPress, MemShelf};
+use std::alloc::{AllocError, Global};
 use std::test::Fail;
 
 const FRONT: &[u8] =
@@ -62,5 +66,51 @@ fn the_greatest_texts_are_written(rt: HostRuntime) -> Result<(), Fail> {
     let layer = make_layer(rt.alloc(), 512)?;
     assert_eq!(rt; layer.len(), 17_698);
     assert!(rt; layer.ends_with(b"\nLINESTRING (0 5112.5, 5120 5097.5)\n"));
+    Ok(())
+}
+
+/// What `make` prints with this size.
+fn made(alloc: Global, size: &str) -> Result<(Status, MemPress), AllocError> {
+    let mut words = Vec::new(alloc);
+    words.push(String::from_str(alloc, "make")?)?;
+    words.push(String::from_str(alloc, size)?)?;
+    let mut shelf = MemShelf::new(alloc, 4096);
+    let mut press = MemPress::new(alloc, 4096);
+    let status = run(alloc, &words, &mut shelf, &mut press);
+    Ok((status, press))
+}
+
+#[test]
+fn one_cell_is_made(rt: HostRuntime) -> Result<(), Fail> {
+    let (status, press) = made(rt.alloc(), "1")?;
+    let report = b"tinmove report 1
+triangulation corners 4 triangles 2 inexact 0 name made.json
+layer 0 paths 1 segments 1 pieces 2 inexact 0 dropped 0 name made.wkt
+changes 0
+end
+";
+    assert_eq!(rt; status, Status::Same);
+    assert_eq!(rt; press.made_bytes("-"), Some(report.as_slice()));
+    assert_eq!(rt; press.made_bytes("made.wkt"), None);
+    Ok(())
+}
+
+#[test]
+fn many_cells_are_made(rt: HostRuntime) -> Result<(), Fail> {
+    let (_, press) = made(rt.alloc(), "24")?;
+    let front = b"tinmove report 1
+triangulation corners 625 triangles 1152 inexact 0 name made.json
+layer 0 paths 24 segments 24 pieces ";
+    assert!(rt; press.made_bytes("-").unwrap_or(b"").starts_with(front));
+    Ok(())
+}
+
+#[test]
+fn two_makers_print_the_same(rt: HostRuntime) -> Result<(), Fail> {
+    let alloc = rt.alloc();
+    let (status, press) = made(alloc, "3")?;
+    let (again, other) = made(alloc, "3")?;
+    assert_eq!(rt; status, again);
+    assert_eq!(rt; other.made_bytes("-"), press.made_bytes("-"));
     Ok(())
 }

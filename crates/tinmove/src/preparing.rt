@@ -1,6 +1,6 @@
 //! What a job writes.
 
-ghost use Rattle.std.specs.Prelude.{◌≡◌, ◌≢◌, ◌+◌, ◌≤◌, IfOk, IfErr, IfSome, OnOk, false};
+ghost use Rattle.std.specs.Prelude.{◌≡◌, ◌≢◌, ◌+◌, ◌≤◌, [], Some, IfOk, IfErr, IfSome, OnOk, false};
 ghost use Rattle.std.specs.List.{AllByRecursion};
 ghost use Rattle.shelf_io.specs.Count.{Rose, counted};
 ghost use Rattle.report_text.specs.Reports.{IsPrintable};
@@ -12,21 +12,25 @@ ghost use Rattle.tinmove.specs.declared.status.Status.TheVariants.{Read as ReadS
 ghost use Rattle.tinmove.specs.Jobs.{MayBeTaken};
 ghost use Rattle.tinmove.specs.Refusals.{status_of};
 ghost use Rattle.tinmove.specs.RunChanges.{end_of};
-ghost use Rattle.tinmove.specs.Outcome.{IsJobDone};
+ghost use Rattle.tinmove.specs.Outcome.{IsJobDone, HasTurned, IsMakingDone, made_files, made_carriage};
+ghost use Rattle.tinmove.specs.declared.making.TheConstants.{MOST_CELLS};
 ghost use Rattle.tinmove.specs.Ends.{MayEnd, MayRefuse, HasCauses};
-ghost use Rattle.tinmove.specs.Prepared.{files_of, HasForm, IsUnlisted};
-ghost use Rattle.tinmove.specs.Wanted.{carriage_of, job_of, IsReported};
+ghost use Rattle.tinmove.specs.Prepared.{files_of, HasForm, IsUnlisted, HasCarried, AreUncarried, IsOfMaking};
+ghost use Rattle.tinmove.specs.Wanted.{carriage_of, job_of, IsReported, MayNotBeMade};
 
-use crate::carrying::{LayerFile, Migration, Run, carried_layers};
+use crate::carrying::{LayerFile, Migration, Run, carried_layers, carry_next};
 use crate::listing::{known, listed_changes};
 use crate::loading::{loaded_tin, loaded_way};
+use crate::making::{make_layer, make_tin};
 use crate::refusal::Refusal;
 use crate::report::{run_report, sound_line};
+use crate::triangulations::sound_tin;
 use job_words::Job;
 use sheet_base::{How, Listed};
 use shelf_io::{Name, Shelf};
 use std::alloc::Global;
 use tin_base::SoundTin;
+use tin_index::TinIndex;
 
 /// What a run writes: the layers' files, where there are some, and then what is said on standard output.
 #[derive(Drop)]
@@ -124,6 +128,83 @@ fn checked<S: Shelf>(
     }
 }
 
+/// How a run reads without options.
+fn plainly() -> How
+    ensures { result ≡ made_carriage.how }
+{
+    How {
+        exact: false,
+        drop_other: false,
+        inside_only: false,
+    }
+}
+
+/// The index of the made triangulation of n by n cells.
+fn made_way(alloc: Global, n: u32) -> Result<TinIndex, Refusal>
+    requires some { 1 ≤ n }
+    requires most { n ≤ MOST_CELLS }
+    ensures ok { IfOk result (λ tin. HasTurned (made_files n) made_carriage.how made_carriage.tin made_carriage.inverse tin) }
+    ensures refused { IfErr result (λ refusal. MayNotBeMade n refusal) }
+    ensures of_making { IfErr result IsOfMaking }
+{
+    let text = make_tin(alloc, n)?;
+    match sound_tin(alloc, &text, plainly()) {
+        Ok(tin) => match TinIndex::build(alloc, tin) {
+            Ok(index) => Ok(index),
+            Err(_) => Err(Refusal::NoMemory),
+        },
+        Err(refusal) => Err(refusal),
+    }
+}
+
+/// The made layer of n lines, carried.
+fn made_run(alloc: Global, n: u32, index: &TinIndex) -> Result<Run, Refusal>
+    requires some { 1 ≤ n }
+    requires most { n ≤ MOST_CELLS }
+    ensures ok { IfOk result (λ run. HasCarried (Some (made_files n)) made_carriage.how index.now [] made_carriage.layers run) }
+    ensures refused { IfErr result (λ refusal. AreUncarried (Some (made_files n)) made_carriage.how index.now made_carriage.layers ⊥ refusal) }
+    ensures of_making { IfErr result IsOfMaking }
+{
+    let text = make_layer(alloc, n)?;
+    let name = Name::of(alloc, "made.wkt")?;
+    let folder = Name::of(alloc, "")?;
+    let mut run = Run::new(alloc);
+    match carry_next(alloc, &folder, plainly(), index, 0, &name, &text, &mut run) {
+        Ok(()) => Ok(run),
+        Err(refusal) => Err(refusal),
+    }
+}
+
+/// What is written where a triangulation and a layer are to be made: the report on them alone.
+fn made(alloc: Global, n: u32) -> Result<Written, Refusal>
+    requires some { 1 ≤ n }
+    requires most { n ≤ MOST_CELLS }
+    ensures ok { IfOk result (λ written. IsMakingDone n (end_of written.changed) (files_of written)) }
+    ensures form { IfOk result (λ written. HasForm written) }
+    ensures refused { IfErr result (λ refusal. MayNotBeMade n refusal) }
+    ensures of_making { IfErr result IsOfMaking }
+{
+    let index = match made_way(alloc, n) {
+        Ok(index) => index,
+        Err(refusal) => return Err(refusal),
+    };
+    let run = match made_run(alloc, n, &index) {
+        Ok(run) => run,
+        Err(refusal) => return Err(refusal),
+    };
+    let name = Name::of(alloc, "made.json")?;
+    let tin = index.tin();
+    known(tin);
+    match reported(alloc, &name, tin, run) {
+        Ok(written) => Ok(Written {
+            layers: Vec::new(alloc),
+            said: written.said,
+            changed: written.changed,
+        }),
+        Err(refusal) => Err(refusal),
+    }
+}
+
 /// What the job asks to be written.
 pub fn prepared<S: Shelf>(alloc: Global, shelf: &mut S, job: &Job) -> Result<Written, Refusal>
     requires { IsKept job.now }
@@ -154,6 +235,9 @@ pub fn prepared<S: Shelf>(alloc: Global, shelf: &mut S, job: &Job) -> Result<Wri
             migrated(alloc, shelf, migration)
         }
         Job::Check { tin, how } => checked(alloc, shelf, tin, *how),
-        Job::Make { .. } => Err(Refusal::NoMaker),
+        Job::Make { n } => match made(alloc, *n) {
+            Ok(written) => Ok(written),
+            Err(refusal) => Err(refusal),
+        },
     }
 }

@@ -30,8 +30,6 @@ pub enum Refusal {
     Tin(TinFault),
     /// The triangulation is not sound.
     Check(CheckFault),
-    /// Nothing is made yet.
-    NoMaker,
     /// This layer's file is missing or could not be read.
     LayerUnread { layer: u32 },
     /// The layers' files up to the one that was being read have too many bytes.
@@ -157,7 +155,6 @@ impl Refusal {
             | Refusal::TooManyChanges => Status::Limit,
             Refusal::Tin(fault) => tin_status(fault),
             Refusal::Check(fault) => check_status(fault),
-            Refusal::NoMaker => Status::Tin,
             Refusal::NoDrawing { .. } => Status::Layer,
             Refusal::Layer { fault, .. } => layer_status(fault),
             Refusal::Outside { .. } => Status::Outside,
@@ -175,7 +172,6 @@ impl Refusal {
             Refusal::TinLong => said("limit: bytes of triangulation\n"),
             Refusal::Tin(fault) => tin_line(fault),
             Refusal::Check(fault) => check_line(fault),
-            Refusal::NoMaker => said("triangulation: not yet\n"),
             Refusal::LayerUnread { layer } => {
                 said_number("read fault: layer ", u64::from(layer), "\n")
             }

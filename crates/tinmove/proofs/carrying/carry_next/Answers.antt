@@ -23,7 +23,7 @@ returns-clause-ok c =
       suffix = subst (λ (name : List ℕ). format_of name ≡ Some c.known_format-format.result) c.text.ensures c.known_format-format.ensures;
       carried =
           rw added.pieces c.in-Ok.ensures.ok;
-      files = one_more_file c.args.run.now.files.items c.add_layer.new.run.files.items c.in_ok-file.file c.args.migration.out.now done added.files c.in_ok-file.ensures;
+      files = one_more_file c.args.run.now.files.items c.add_layer.new.run.files.items c.in_ok-file.file c.args.folder.now done added.files c.in_ok-file.ensures;
       rows = added.rows ∙ ap (λ (row : LayerRow). c.args.run.now.rows.items ++ row ∷ []) c.in_ok-row.ensures;
       used = ap (λ u. u + length c.args.bytes.now) added.used;
     }

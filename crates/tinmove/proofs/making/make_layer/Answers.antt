@@ -1,7 +1,10 @@
-use Rattle.std.proofs.Common.{[]}
+use Rattle.std.proofs.Common.{arith, []}
 use Rattle.tinmove.specs.Making.{layer_line}
 use Rattle.tinmove.proofs.MadeRows.{one_more_text}
 use Rattle.tinmove.proofs.making.make_layer.Goals as goal
 
 pub loop-k-preserved : goal.loop-k-preserved
-loop-k-preserved c = one_more_text (λ k. layer_line c.args.n k) [] _ _ _ c.loop-k.invariant c.in_ok-put_line.ensures
+loop-k-preserved c =
+    let here = c.loop-k.invariant in
+    let put = c.in_ok-put_line.ensures in
+    record { text = one_more_text (λ k. layer_line c.args.n k) [] _ _ _ here.text put.text; short = omega (arith, here.short, put.short) }

@@ -1,7 +1,11 @@
-use Rattle.std.proofs.Common.{◌≡◌, ◌++◌}
+use Rattle.tinmove.specs.declared.making.TheConstants.{TRIANGLE_MOST}
+use Rattle.std.proofs.Common.{◌≤◌, ◌*◌, ◌+◌, vec_len, ◌≡◌, ◌++◌}
 use Rattle.std.specs.List.{flat_map}
 use Rattle.tinmove.specs.Making.{below, cell_rows, ended_rows}
 use Rattle.tinmove.proofs.making.put_triangles.Given as goal
 
 abbrev pub invariant-loop-j : goal.invariant-loop-j
-invariant-loop-j l = l.out.items ≡ l.initial.out.items ++ ended_rows (flat_map (λ j. flat_map (λ i. cell_rows l.n i j) (below l.n)) (below l.j))
+invariant-loop-j l = record {
+  text : l.out.items ≡ l.initial.out.items ++ ended_rows (flat_map (λ j. flat_map (λ i. cell_rows l.n i j) (below l.n)) (below l.j));
+  short : vec_len l.out ≤ vec_len l.initial.out + TRIANGLE_MOST * 1024 * l.j;
+}

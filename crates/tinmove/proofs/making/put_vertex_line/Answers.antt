@@ -1,6 +1,10 @@
+use Rattle.std.proofs.Common.{arith}
 use Rattle.tinmove.specs.Making.{vertex_row}
 use Rattle.tinmove.proofs.MadeRows.{one_more_row}
 use Rattle.tinmove.proofs.making.put_vertex_line.Goals as goal
 
 pub loop-i-preserved : goal.loop-i-preserved
-loop-i-preserved c = one_more_row (λ i. vertex_row i c.args.j) c.args.out.now.items _ _ _ c.loop-i.invariant c.in_ok-put_vertex.ensures
+loop-i-preserved c =
+    let here = c.loop-i.invariant in
+    let put = c.in_ok-put_vertex.ensures in
+    record { text = one_more_row (λ i. vertex_row i c.args.j) c.args.out.now.items _ _ _ here.text put.text; short = omega (arith, here.short, put.short) }
