@@ -1,0 +1,147 @@
+-- The entities of a drawing, read so far.
+use Rattle.std.proofs.Common.{◌≡◌, ℕ, suc, ◌+◌, ◌*◌, ◌-◌, ◌≤◌, ◌<◌, ◌^◌, List, [], ◌∷◌, ◌++◌, length, drop, get_or, Bool, true, false, cond, refl, ap, sym, ◌∙◌, subst, arith, Result, Ok, Err, Option, None, Some, pos}
+use Rattle.std.specs.Prelude.{OnOk}
+use Rattle.std.proofs.lemmas.List.{append_assoc, append-nil, length-drop, drop_all}
+use Rattle.std.proofs.lemmas.List.Sums.{prefix_len-le-length}
+use Rattle.sheet_base.specs.Sheets.{Contents}
+use Rattle.sheet_base.specs.declared.flags.How.{How}
+use Rattle.sheet_base.specs.declared.faults.LayerFault.{LayerFault}
+use Rattle.sheet_base.specs.declared.faults.LayerFault.TheVariants.{NoEof}
+use Rattle.sheet_base.specs.declared.paths.PathKind.{PathKind}
+use Rattle.dxf_pairs.specs.declared.pairs.Pair.{Pair}
+use Rattle.dxf_layer.specs.declared.entities.Where.{Where}
+use Rattle.dxf_layer.specs.declared.entities.Where.TheVariants.{Outside, Begun, Header, Entities, Other}
+use Rattle.dxf_layer.specs.declared.walking.Place.{Place as Held}
+use Rattle.dxf_layer.specs.declared.walking.Place.TheVariants.{Free, Staying, Reading}
+use Rattle.dxf_layer.specs.Fields.{and_then}
+use Rattle.dxf_layer.specs.Entities.{is_no_head, begins_entity, behind, entity_of, entities_from, entities_of}
+use Rattle.dxf_layer.specs.Shapes.{Shape, with_shape, with_shapes}
+use Rattle.dxf_layer.specs.Walks.{Place, free, staying, reading, Step, step, visited, walk_end, walked}
+use Rattle.dxf_layer.specs.Held.{HoldsAtMost, GrowsBy, GrowsAlong, Stands, GoesTo, AddsAs, room_before}
+
+abbrev pub behind_shapes : List Shape → Result (List Shape) LayerFault → Result (List Shape) LayerFault
+behind_shapes done rest = and_then (λ more. Ok (done ++ more)) rest
+
+pub record IsWalkedTo (bytes : List ℕ) (how : How) (seed : Option Pair) (pairs : List Pair) (section : Where) (place : Held) (number : ℕ) (before now : Contents) : Type 0 where
+  pub shapes : List Shape
+  pub spot : Place
+  pub stands : Stands place now (with_shapes before shapes) spot
+  pub whole : walked bytes how seed free (entities_of bytes pairs) ≡ behind_shapes shapes (walked bytes how seed spot (entities_from bytes section (drop number pairs)))
+  pub room : HoldsAtMost (2 * number + room_before (drop number pairs)) now
+
+none_done : (r : Result (List Shape) LayerFault) → behind_shapes [] r ≡ r
+none_done (Ok shapes) = refl
+none_done (Err fault) = refl
+
+pub nothing_walked : (bytes : List ℕ) (how : How) (seed : Option Pair) (pairs : List Pair) (before : Contents) → HoldsAtMost 0 before → IsWalkedTo bytes how seed pairs Outside Free 0 before before
+nothing_walked bytes how seed pairs before room = record {
+  shapes = [];
+  spot = free;
+  stands = record { held = refl; shows = tt };
+  whole = sym (none_done (walked bytes how seed free (entities_of bytes pairs)));
+  room = record { points = omega (arith, room.points); paths = omega (arith, room.paths); inexact = omega (arith, room.inexact); dropped = omega (arith, room.dropped) };
+}
+
+-- the walk over what is left is the visit of its first pair, and the walk from there
+abbrev pub onward : List ℕ → How → Option Pair → Where → List Pair → Result Step LayerFault → Result (List Shape) LayerFault
+onward bytes how seed section pairs here = and_then (λ (step : Step). behind_shapes step.shapes (walked bytes how seed step.next (entities_from bytes section pairs))) here
+
+pub visit_goes : (bytes : List ℕ) (how : How) (seed : Option Pair) (section : Where) (spot : Place) (head : Pair) (pairs : List Pair)
+    → walked bytes how seed spot (entities_from bytes section (head ∷ pairs)) ≡ onward bytes how seed (behind bytes section head) pairs (visited bytes how seed section spot (head ∷ pairs))
+visit_goes bytes how seed section spot head pairs = by_test (begins_entity section head) refl where
+  by_test : (begins : Bool) → begins_entity section head ≡ begins
+      → walked bytes how seed spot (entities_from bytes section (head ∷ pairs)) ≡ onward bytes how seed (behind bytes section head) pairs (visited bytes how seed section spot (head ∷ pairs))
+  by_test true is = rw is refl
+  by_test false is = rw is (sym (none_done (walked bytes how seed spot (entities_from bytes (behind bytes section head) pairs))))
+
+more_done : (done here : List Shape) (r : Result (List Shape) LayerFault) → behind_shapes done (behind_shapes here r) ≡ behind_shapes (done ++ here) r
+more_done done here (Ok shapes) = ap Ok (sym (append_assoc done here shapes))
+more_done done here (Err fault) = refl
+
+with_more : (before : Contents) (done here : List Shape) → with_shapes (with_shapes before done) here ≡ with_shapes before (done ++ here)
+with_more before [] here = refl
+with_more before (shape ∷ done) here = with_more (with_shape before shape) done here
+
+-- one pair more is visited
+pub pair_walked : (bytes : List ℕ) (how : How) (seed : Option Pair) (pairs : List Pair) (section : Where) (place next : Held) (number : ℕ) (before now new : Contents) (head : Pair)
+    → (so_far : IsWalkedTo bytes how seed pairs section place number before now) → drop number pairs ≡ head ∷ drop (number + 1) pairs
+    → GoesTo (visited bytes how seed section so_far.spot (drop number pairs)) (with_shapes before so_far.shapes) next new → GrowsAlong (drop number pairs) now new
+    → IsWalkedTo bytes how seed pairs (behind bytes section head) next (number + 1) before new
+pair_walked bytes how seed pairs section place next number before now new head so_far split goes grown =
+    by_visit (visited bytes how seed section so_far.spot (head ∷ drop (number + 1) pairs)) refl (subst (λ left. GoesTo (visited bytes how seed section so_far.spot left) (with_shapes before so_far.shapes) next new) split goes) where
+      by_visit : (here : Result Step LayerFault) → visited bytes how seed section so_far.spot (head ∷ drop (number + 1) pairs) ≡ here → GoesTo here (with_shapes before so_far.shapes) next new
+          → IsWalkedTo bytes how seed pairs (behind bytes section head) next (number + 1) before new
+      by_visit (Err fault) is there = absurd there
+      by_visit (Ok here) is there =
+          let rest = walked bytes how seed here.next (entities_from bytes (behind bytes section head) (drop (number + 1) pairs)) in
+          let first : walked bytes how seed so_far.spot (entities_from bytes section (drop number pairs)) ≡ behind_shapes here.shapes rest =
+          ap (λ left. walked bytes how seed so_far.spot (entities_from bytes section left)) split ∙ (visit_goes bytes how seed section so_far.spot head (drop (number + 1) pairs)
+          ∙ ap (onward bytes how seed (behind bytes section head) (drop (number + 1) pairs)) is) in
+          let size : drop 1 (drop number pairs) ≡ drop (number + 1) pairs = ap (λ (left : List Pair). drop 1 left) split in
+          let count : (2 * number + 2) + room_before (drop 1 (drop number pairs)) ≡ 2 * (number + 1) + room_before (drop (number + 1) pairs) = ap (λ left. (2 * number + 2) + room_before left) size ∙ omega arith in
+          record {
+            shapes = so_far.shapes ++ here.shapes;
+            spot = here.next;
+            stands = subst (λ c. Stands next new c here.next) (with_more before so_far.shapes here.shapes) there;
+            whole = so_far.whole ∙ (ap (behind_shapes so_far.shapes) first ∙ more_done so_far.shapes here.shapes rest);
+            room = subst (λ n. HoldsAtMost n new) count (grown (2 * number) so_far.room);
+          }
+
+no_room : (section : Where) (head : Pair) (pairs : List Pair) → begins_entity section head ≡ true → room_before (head ∷ pairs) ≡ 0
+no_room Outside head pairs begins = absurd (cc)
+no_room Begun head pairs begins = absurd (cc)
+no_room Header head pairs begins = absurd (cc)
+no_room Other head pairs begins = absurd (cc)
+no_room Entities head pairs begins = rw begins refl
+
+grows_by : (section : Where) (pairs : List Pair) (d : Pair) (size : ℕ) (before now : Contents) → 0 < length pairs → begins_entity section (get_or pairs 0 d) ≡ true → size ≡ room_before (drop 1 pairs)
+    → GrowsBy (size + 2) before now → GrowsAlong pairs before now
+grows_by section [] d size before now some begins size_is grown = absurd (omega arith)
+grows_by section (head ∷ pairs) d size before now some begins size_is grown = λ count room.
+    let none : room_before (head ∷ pairs) ≡ 0 = no_room section head pairs begins in
+    let at : count + (size + 2) ≡ (count + 2) + room_before (drop 1 (head ∷ pairs)) = omega (arith, size_is) in
+    let here : HoldsAtMost count before = subst (λ n. HoldsAtMost n before) (omega (arith, none)) room in
+    subst (λ n. HoldsAtMost n now) at (grown count here)
+
+pub grows_along : (section : Where) (pairs : List Pair) (d : Pair) (size : ℕ) (before now : Contents) (result : Result Held LayerFault) → 0 < length pairs → begins_entity section (get_or pairs 0 d) ≡ true
+    → size ≡ room_before (drop 1 pairs) → OnOk result (GrowsBy (size + 2) before now) → OnOk result (GrowsAlong pairs before now)
+grows_along section pairs d size before now (Ok place) some begins size_is grown = grows_by section pairs d size before now some begins size_is grown
+grows_along section pairs d size before now (Err fault) some begins size_is grown = grown
+
+abbrev pub no_pair : Pair
+no_pair = record { code = pos 0; start = 0; value = 0; value_end = 0; end = 0; line = 0 }
+
+pub room_short : (n : ℕ) (pairs : List Pair) → room_before (drop n pairs) ≤ length pairs
+room_short n pairs = omega (arith, prefix_len-le-length is_no_head (drop n pairs), length-drop n pairs)
+
+-- the code's end, at which no polyline is open
+abbrev pub IsClosed : Held → Type 0
+IsClosed Free = Unit {0}
+IsClosed Staying = Unit {0}
+IsClosed (Reading kind first) = ⊥
+
+at_end : (place : Held) (now before : Contents) (spot : Place) (shapes : List Shape) → IsClosed place → Stands place now (with_shapes before shapes) spot → AddsAs before (behind_shapes shapes (walk_end spot)) now
+at_end Free now before free shapes closed stands = stands.held ∙ ap (with_shapes before) (sym (append-nil shapes))
+at_end Free now before staying shapes closed stands = absurd stands.shows
+at_end Free now before (reading kind vertices) shapes closed stands = absurd stands.shows
+at_end Staying now before free shapes closed stands = absurd stands.shows
+at_end Staying now before staying shapes closed stands = stands.held ∙ ap (with_shapes before) (sym (append-nil shapes))
+at_end Staying now before (reading kind vertices) shapes closed stands = absurd stands.shows
+at_end (Reading kind first) now before spot shapes closed stands = absurd closed
+
+pub all_walked : (bytes : List ℕ) (how : How) (seed : Option Pair) (pairs : List Pair) (section : Where) (place : Held) (number : ℕ) (before now : Contents) → IsWalkedTo bytes how seed pairs section place number before now
+    → length pairs ≤ number → IsClosed place → AddsAs before (walked bytes how seed free (entities_of bytes pairs)) now
+all_walked bytes how seed pairs section place number before now so_far past closed =
+    let none : drop number pairs ≡ [] = drop_all number pairs past in
+    rw (so_far.whole, none) (at_end place now before so_far.spot so_far.shapes closed so_far.stands)
+
+open_end : (kind : PathKind) (first : ℕ) (now before : Contents) (spot : Place) (shapes : List Shape) → Stands (Reading kind first) now (with_shapes before shapes) spot → behind_shapes shapes (walk_end spot) ≡ Err NoEof
+open_end kind first now before free shapes stands = absurd stands.shows
+open_end kind first now before staying shapes stands = absurd stands.shows
+open_end kind first now before (reading other vertices) shapes stands = refl
+
+pub ends_open : (bytes : List ℕ) (how : How) (seed : Option Pair) (pairs : List Pair) (section : Where) (kind : PathKind) (first number : ℕ) (before now : Contents) → IsWalkedTo bytes how seed pairs section (Reading kind first) number before now
+    → length pairs ≤ number → walked bytes how seed free (entities_of bytes pairs) ≡ Err NoEof
+ends_open bytes how seed pairs section kind first number before now so_far past =
+    let none : drop number pairs ≡ [] = drop_all number pairs past in
+    rw (so_far.whole, none) (open_end kind first now before so_far.spot so_far.shapes so_far.stands)

@@ -1,0 +1,8 @@
+use Rattle.std.proofs.Common.{◌∙◌, sym}
+use Rattle.dxf_layer.specs.declared.entities.Where.TheVariants.{Outside}
+use Rattle.dxf_layer.proofs.SeedForm.{seed_is}
+use Rattle.dxf_layer.proofs.counting.first_handle.Goals as goal
+
+pub handle_number-requires : goal.handle_number-requires
+handle_number-requires c =
+    rw c.value_in.ensures (seed_is c.args.page.now.bytes.now Outside c.args.page.now.pairs.now c.in-Some.pair (sym c.seed_of.ensures ∙ c.in-Some.is))

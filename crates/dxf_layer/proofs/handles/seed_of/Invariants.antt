@@ -1,0 +1,6 @@
+use Rattle.std.proofs.Common.{◌≡◌, drop}
+use Rattle.dxf_layer.specs.Handles.{seed_from, seed_of}
+use Rattle.dxf_layer.proofs.handles.seed_of.Given as goal
+
+abbrev pub invariant-loop-number : goal.invariant-loop-number
+invariant-loop-number l = seed_from l.bytes l.place (drop l.number l.pairs) ≡ seed_of l.bytes l.pairs

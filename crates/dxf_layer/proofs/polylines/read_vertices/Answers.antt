@@ -1,0 +1,27 @@
+use Rattle.std.proofs.Common.{arith, ◌+◌, ◌-◌, ◌^◌, length, take, drop}
+use Rattle.dxf_layer.specs.Held.{seen}
+use Rattle.dxf_layer.proofs.Growing.{holds_more}
+use Rattle.dxf_layer.proofs.Vertices.{nothing_read, one_read, none_read, at_some}
+use Rattle.dxf_layer.proofs.polylines.read_vertices.Goals as goal
+
+pub loop-at-init : goal.loop-at-init
+loop-at-init c = nothing_read c.args.bytes.now c.args.exact c.args.fields.now (seen c.args.drawing.now)
+
+pub add_vertex-requires : goal.add_vertex-requires
+add_vertex-requires c =
+    holds_more (2 ^ 30 + c.loop-at.at) (2 ^ 31) (seen c.loop-at.drawing) (c.loop-at.invariant.grown (2 ^ 30) c.requires.room) (omega (arith, c.loop-at.invariant.inside, c.requires.few))
+
+pub loop-at-preserved-in-Ok-Some : goal.loop-at-preserved-in-Ok-Some
+loop-at-preserved-in-Ok-Some c =
+    one_read c.args.bytes.now c.args.exact c.args.fields.now c.loop-at.at (seen c.args.drawing.now) (seen c.loop-at.drawing) (seen c.add_vertex.new.drawing) c.in-Ok-Some.field-0 c.in-Ok-Some.vertex
+    c.loop-at.invariant c.loop-at-test.true c.in-Ok-Some.ensures.first c.in-Ok-Some.field-0-is
+    (at_some 2 (length (take (length c.args.fields.now - c.loop-at.at) (drop c.loop-at.at c.args.fields.now))) c.in-Ok-Some.field-0 c.in-Ok-Some.vertex c.in-Ok-Some.field-0-is c.in-Ok-Some.ensures.two) c.in_ok-add_vertex-in-Ok-Some.ensures.added c.in_ok-add_vertex-in-Ok-Some.ensures.grown
+
+pub loop-at-preserved : goal.loop-at-preserved
+loop-at-preserved c =
+    none_read c.args.bytes.now c.args.exact c.args.fields.now c.loop-at.at (seen c.args.drawing.now) (seen c.loop-at.drawing) c.loop-at.invariant c.loop-at-test.true
+    c.in-Ok-None.field-0 c.in-Ok-None.ensures.first c.in-Ok-None.field-0-is
+
+pub returns-clause-grown : goal.returns-clause-grown
+returns-clause-grown c =
+    λ count room. holds_more (count + c.loop-at.at) (count + length c.args.fields.now) (seen c.loop-at.drawing) (c.loop-at.invariant.grown count room) (omega (arith, c.loop-at.invariant.inside))

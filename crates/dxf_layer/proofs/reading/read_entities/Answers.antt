@@ -1,0 +1,35 @@
+use Rattle.std.proofs.Common.{◌≡◌, ◌∙◌, sym, subst, arith, ◌^◌, ◌*◌, ◌+◌, ◌-◌, List, get_or, take, drop, length}
+use Rattle.std.proofs.lemmas.List.{drop_more}
+use Rattle.dxf_pairs.specs.declared.pairs.Pair.{Pair}
+use Rattle.dxf_layer.specs.Shapes.{with_shapes}
+use Rattle.dxf_layer.specs.Walks.{visited}
+use Rattle.dxf_layer.specs.Held.{seen, room_before, GoesTo, GrowsAlong}
+use Rattle.dxf_layer.proofs.Growing.{holds_more}
+use Rattle.dxf_layer.proofs.Vertices.{rest_is}
+use Rattle.dxf_layer.proofs.Visits.{IsWalkedTo, nothing_walked, pair_walked, no_pair, room_short}
+use Rattle.dxf_layer.proofs.reading.read_entities.Goals as goal
+
+pub loop-number-init : goal.loop-number-init
+loop-number-init c = nothing_walked c.args.source.now.bytes.now c.args.source.now.how c.args.source.now.seed c.args.pairs.now (seen c.args.drawing.now) c.requires.room
+
+pub visit-requires-clause-room : goal.visit-requires-clause-room
+visit-requires-clause-room c =
+    holds_more (2 * c.loop-number.number + room_before (drop c.loop-number.number c.args.pairs.now)) (2 ^ 30) (seen c.loop-number.drawing) c.loop-number.invariant.room
+    (omega (arith, room_short c.loop-number.number c.args.pairs.now, c.requires.few, c.loop-number-test.true))
+
+pub loop-number-preserved : goal.loop-number-preserved
+loop-number-preserved c =
+    let pairs = c.args.pairs.now in
+    let number = c.loop-number.number in
+    let bytes = c.args.source.now.bytes.now in
+    let how = c.args.source.now.how in
+    let seed = c.args.source.now.seed in
+    let so_far = c.loop-number.invariant in
+    let goes : GoesTo (visited bytes how seed c.loop-number.section so_far.spot (drop number pairs)) (with_shapes (seen c.args.drawing.now) so_far.shapes) c.in-Ok.next (seen c.visit.new.drawing) =
+    subst (λ left. GoesTo (visited bytes how seed c.loop-number.section so_far.spot left) (with_shapes (seen c.args.drawing.now) so_far.shapes) c.in-Ok.next (seen c.visit.new.drawing)) (rest_is pairs number)
+    (c.in-Ok.ensures.goes (with_shapes (seen c.args.drawing.now) so_far.shapes) so_far.spot so_far.stands) in
+    let grown : GrowsAlong (drop number pairs) (seen c.loop-number.drawing) (seen c.visit.new.drawing) =
+    subst (λ left. GrowsAlong left (seen c.loop-number.drawing) (seen c.visit.new.drawing)) (rest_is pairs number) c.in-Ok.ensures.grown in
+    subst (λ section. IsWalkedTo bytes how seed pairs section c.in-Ok.next (number + 1) (seen c.args.drawing.now) (seen c.visit.new.drawing)) (sym c.behind-section.ensures)
+    (pair_walked bytes how seed pairs c.loop-number.section c.loop-number.place c.in-Ok.next number (seen c.args.drawing.now) (seen c.loop-number.drawing) (seen c.visit.new.drawing) (get_or pairs number no_pair)
+    so_far (drop_more pairs number no_pair c.loop-number-test.true) goes grown)

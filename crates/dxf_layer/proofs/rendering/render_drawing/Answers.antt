@@ -1,0 +1,35 @@
+use Rattle.std.proofs.Common.{◌≡◌, List, sym, subst, Ok, Err}
+use Rattle.std.specs.Prelude.{IfOk, Result}
+use Rattle.sheet_base.specs.Splices.{spliced, DoKeep}
+use Rattle.sheet_base.proofs.Splicing.{splices_keep}
+use Rattle.dxf_pairs.specs.declared.faults.PairFault.{PairFault}
+use Rattle.dxf_pairs.specs.declared.pairs.Pair.{Pair}
+use Rattle.dxf_layer.specs.Rendering.{text_by, text_of, drawing_text}
+use Rattle.dxf_layer.proofs.Whole.{sheet_in_order}
+use Rattle.dxf_layer.proofs.rendering.render_drawing.Goals as goal
+
+pub render_page-requires-clause-order : goal.render_page-requires-clause-order
+render_page-requires-clause-order c =
+    sheet_in_order c.args.bytes.now c.args.how c.in-Ok.pairs.items c.args.sheet.now c.in-Ok.ensures.tile c.in-Ok.ensures.ok c.requires.sheet
+
+-- what holds of a value holds of another fact's
+if_ok_more : {X E : Type 0} (r : Result X E) (P Q : X → Type 0) → ((x : X) → P x → Q x) → IfOk r P → IfOk r Q
+if_ok_more (Ok x) P Q on is = on x is
+if_ok_more (Err e) P Q on is = is
+
+pub returns-in-Ok : goal.returns-in-Ok
+returns-in-Ok c =
+    let bytes = c.args.bytes.now in
+    let sheet = c.args.sheet.now in
+    let images = c.args.images.now in
+    let made =
+        subst (λ (pairs : List Pair). IfOk c.render_page.result (λ out. out.items ≡ spliced bytes (text_of (record { bytes = bytes; pairs = pairs; sheet = sheet; images = images })) sheet.edits))
+        c.deref.ensures.value c.render_page.ensures in
+    let whole =
+        subst (λ (found : Result (List Pair) PairFault). IfOk c.render_page.result (λ out. out.items ≡ spliced bytes (text_by found bytes sheet images) sheet.edits)) (sym c.in-Ok.ensures.ok) made in
+    record {
+      spliced = whole;
+      rest =
+          if_ok_more c.render_page.result (λ out. out.items ≡ spliced bytes (drawing_text bytes sheet images) sheet.edits) (λ out. DoKeep bytes 0 sheet.edits out.items)
+          (λ out is. subst (DoKeep bytes 0 sheet.edits) (sym is) (splices_keep bytes (drawing_text bytes sheet images) sheet.edits)) whole;
+    }

@@ -1,0 +1,12 @@
+use Rattle.std.proofs.Common.{length, drop}
+use Rattle.sheet_base.proofs.Splicing.{IsSpliced}
+use Rattle.dxf_layer.specs.Paged.{read_of}
+use Rattle.dxf_layer.specs.Rendering.{text_of}
+use Rattle.dxf_layer.proofs.Taking.{AreCounted}
+use Rattle.dxf_layer.proofs.rendering.render_page.Given as goal
+
+abbrev pub invariant-loop-edit : goal.invariant-loop-edit
+invariant-loop-edit l = record {
+  counted : AreCounted (read_of l.page) l.edit-items (length l.page.bytes.now) l.edit-index l.number l.next;
+  written : IsSpliced l.page.bytes.now (text_of (read_of l.page)) l.edit-items (drop l.edit-index l.edit-items) l.from l.out.items;
+}

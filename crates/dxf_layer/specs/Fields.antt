@@ -1,0 +1,88 @@
+-- The fields of an entity, looked up by code, and what their values are compared with.
+use Rattle.std.specs.Prelude.{◌≡◌, ℕ, ◌*◌, ℤ, pos, Bool, true, false, ◌&&◌, not, if◌then◌else◌, List, [], ◌∷◌, filter, take_while, int_lt, Option, None, Some, Result, Ok, Err}
+use Rattle.std.specs.Ordering.{int_eq}
+use Rattle.mm_decimal.specs.Measured.{measured}
+use Rattle.mm_decimal.specs.declared.reading.MmRead.{MmRead}
+use Rattle.mm_decimal.specs.declared.reading.NumFault.{NumFault}
+use Rattle.sheet_base.specs.declared.faults.LayerFault.{LayerFault}
+use Rattle.sheet_base.specs.declared.faults.LayerFault.TheVariants.{Count, Number, Inexact}
+use Rattle.dxf_pairs.specs.declared.pairs.Pair.{Pair}
+use Rattle.dxf_pairs.specs.Groups.{value_in}
+use Rattle.dxf_layer.specs.declared.fields.Read.{Read}
+use Rattle.dxf_layer.specs.Entities.{Entity, has_code}
+
+-- the fault, or else what is made of the value
+abbrev pub and_then : {A B : Type 0} → (A → Result B LayerFault) → Result A LayerFault → Result B LayerFault
+and_then f (Ok value) = f value
+and_then f (Err fault) = Err fault
+
+-- the fields of an entity are its pairs before the first code of 1000 or more
+abbrev pub fields_of : Entity → List Pair
+fields_of entity = take_while (λ pair. int_lt pair.code (pos 1000)) entity.pairs
+
+-- one field or none; a second one is refused at its line
+abbrev pub at_most_one : List Pair → Result (Option Pair) LayerFault
+at_most_one [] = Ok None
+at_most_one (pair ∷ []) = Ok (Some pair)
+at_most_one (pair ∷ second ∷ pairs) = Err (Count second.line)
+
+-- the field of the code, looked up
+abbrev pub field : ℤ → Entity → Result (Option Pair) LayerFault
+field code entity = at_most_one (filter (has_code code) (fields_of entity))
+
+abbrev pub there : Entity → Option Pair → Result Pair LayerFault
+there entity None = Err (Count entity.head.line)
+there entity (Some pair) = Ok pair
+
+-- the field of the code, which is wanted: where it is missing, the entity is refused
+abbrev pub wanted : ℤ → Entity → Result Pair LayerFault
+wanted code entity = and_then (there entity) (field code entity)
+
+abbrev pub read_of : Bool → Pair → Result MmRead NumFault → Result Read LayerFault
+read_of exact pair (Err fault) = Err (Number pair.value fault)
+read_of exact pair (Ok read) =
+    if exact && not read.exact then Err (Inexact pair.value)
+    else Ok (record { pair = pair; mm = read.mm; lost = not read.exact })
+
+-- the coordinate of a field
+abbrev pub coordinate : List ℕ → Bool → Pair → Result Read LayerFault
+coordinate bytes exact pair = read_of exact pair (measured (value_in bytes pair))
+
+-- the coordinate of a wanted field
+abbrev pub coordinate_at : List ℕ → Bool → ℤ → Entity → Result Read LayerFault
+coordinate_at bytes exact code entity = and_then (coordinate bytes exact) (wanted code entity)
+
+abbrev pub is_exactly : ℤ → Result MmRead NumFault → Bool
+is_exactly mm (Ok read) = read.exact && int_eq read.mm mm
+is_exactly mm (Err fault) = false
+
+-- the value is a numeral of just this number
+abbrev pub equals : List ℕ → ℕ → Pair → Bool
+equals bytes number pair = is_exactly (pos (1000 * number)) (measured (value_in bytes pair))
+
+-- the field, where it is there, equals this number
+abbrev pub is_there_as : List ℕ → ℕ → Option Pair → Bool
+is_there_as bytes number None = false
+is_there_as bytes number (Some pair) = equals bytes number pair
+
+-- the field is there and not zero
+abbrev pub is_not_zero : List ℕ → Option Pair → Bool
+is_not_zero bytes None = false
+is_not_zero bytes (Some pair) = not (equals bytes 0 pair)
+
+abbrev pub line_unless_zero : List ℕ → Option Pair → Result (Option ℕ) LayerFault
+line_unless_zero bytes None = Ok None
+line_unless_zero bytes (Some pair) = if equals bytes 0 pair then Ok None else Ok (Some pair.line)
+
+-- the line of the field of the code, where it is there and not zero
+abbrev pub not_zero_at : List ℕ → ℤ → Entity → Result (Option ℕ) LayerFault
+not_zero_at bytes code entity = and_then (line_unless_zero bytes) (field code entity)
+
+abbrev pub refused_at : (ℕ → LayerFault) → Result (Option ℕ) LayerFault → Result (Unit {0}) LayerFault
+refused_at fault (Ok None) = Ok tt
+refused_at fault (Ok (Some line)) = Err (fault line)
+refused_at fault (Err other) = Err other
+
+-- the field of the code is missing or zero, or else this fault at its line
+abbrev pub zero_at : List ℕ → (ℕ → LayerFault) → ℤ → Entity → Result (Unit {0}) LayerFault
+zero_at bytes fault code entity = refused_at fault (not_zero_at bytes code entity)

@@ -1,0 +1,120 @@
+-- What the code has read so far, as contents. Only private functions speak of it.
+use Rattle.std.specs.Prelude.{◌≡◌, ◌≢◌, ℕ, ◌+◌, ◌*◌, ◌≤◌, List, [], ◌∷◌, ◌++◌, length, map, sum_by, drop, Bool, Option, None, Some, Result, Ok, Err, ⊤}
+use Rattle.std.specs.List.{prefix_len}
+use Rattle.sheet_base.specs.declared.edits.Edit.{Edit}
+use Rattle.sheet_base.specs.declared.paths.PathRow.{PathRow}
+use Rattle.sheet_base.specs.declared.paths.PathKind.{PathKind}
+use Rattle.sheet_base.specs.declared.faults.LayerFault.{LayerFault}
+use Rattle.sheet_base.specs.declared.faults.LayerFault.TheVariants.{NoMemory}
+use Rattle.sheet_base.specs.Sheets.{Contents}
+use Rattle.dxf_pairs.specs.declared.pairs.Pair.{Pair}
+use Rattle.dxf_layer.specs.Entities.{is_no_head}
+use Rattle.dxf_layer.specs.Fields.{and_then}
+use Rattle.dxf_layer.specs.declared.drawing.Drawing.{Drawing}
+use Rattle.dxf_layer.specs.declared.drawing.Spot.{Spot}
+use Rattle.dxf_layer.specs.declared.drawing.Vertex.{Vertex}
+use Rattle.sheet_base.specs.declared.edits.What.TheVariants as edits
+use Rattle.dxf_layer.specs.declared.walking.Place.{Place as Held}
+use Rattle.dxf_layer.specs.declared.walking.Place.TheVariants as held
+use Rattle.dxf_layer.specs.Shapes.{Shape, point_of, lost_of, with_shape, with_shapes}
+use Rattle.dxf_layer.specs.Polylines.{vertices_in, vertex_edits, own_shape}
+use Rattle.dxf_layer.specs.Walks.{Place, free, staying, reading, Step}
+
+abbrev pub seen : Drawing → Contents
+seen drawing = record { paths = drawing.paths.items; points = drawing.points.items; edits = drawing.edits.items; inexact = drawing.inexact; dropped = drawing.dropped }
+
+abbrev pub with_point : Contents → Spot → Contents
+with_point before spot = record { paths = before.paths; points = before.points ++ point_of spot ∷ []; edits = before.edits; inexact = before.inexact + lost_of spot; dropped = before.dropped }
+
+abbrev pub with_edits : Contents → List Edit → Contents
+with_edits before edits = record { paths = before.paths; points = before.points; edits = before.edits ++ edits; inexact = before.inexact; dropped = before.dropped }
+
+abbrev pub with_rows : Contents → List PathRow → Contents
+with_rows before rows = record { paths = before.paths ++ rows; points = before.points; edits = before.edits; inexact = before.inexact; dropped = before.dropped }
+
+-- vertices in fields, without their path
+abbrev pub with_vertices : Contents → List Vertex → Contents
+with_vertices before vertices = record {
+  paths = before.paths;
+  points = before.points ++ map (λ vertex. point_of vertex.spot) vertices;
+  edits = before.edits ++ vertex_edits (length before.points) vertices;
+  inexact = before.inexact + sum_by (λ vertex. lost_of vertex.spot) vertices;
+  dropped = before.dropped;
+}
+
+-- the lists and counts are no longer than so
+pub record HoldsAtMost (count : ℕ) (contents : Contents) : Type 0 where
+  pub points : length contents.points ≤ count
+  pub paths : length contents.paths ≤ count
+  pub inexact : contents.inexact ≤ 2 * count
+  pub dropped : contents.dropped ≤ count
+
+-- and grow by no more than that
+abbrev pub GrowsBy : ℕ → Contents → Contents → Type 0
+GrowsBy more before now = (count : ℕ) → HoldsAtMost count before → HoldsAtMost (count + more) now
+
+-- what was read is added, or the first fault is answered; want of memory may come always
+abbrev pub AddsAs : Contents → Result (List Shape) LayerFault → Contents → Type 0
+AddsAs before (Ok shapes) now = now ≡ with_shapes before shapes
+AddsAs before (Err fault) now = ⊥
+
+abbrev pub RefusesBy : {A : Type 0} → Result A LayerFault → LayerFault → Type 0
+RefusesBy wanted fault = fault ≢ NoMemory → wanted ≡ Err fault
+
+abbrev pub Reads : Result (List Shape) LayerFault → Contents → Result (Unit {0}) LayerFault → Contents → Type 0
+Reads wanted before (Ok done) now = AddsAs before wanted now
+Reads wanted before (Err fault) now = RefusesBy wanted fault
+
+-- the same of vertices in fields
+abbrev pub AddsVertices : Contents → Result (List Vertex) LayerFault → Contents → Type 0
+AddsVertices before (Ok vertices) now = now ≡ with_vertices before vertices
+AddsVertices before (Err fault) now = ⊥
+
+abbrev pub ReadsVertices : Result (List Vertex) LayerFault → Contents → Result (Unit {0}) LayerFault → Contents → Type 0
+ReadsVertices wanted before (Ok done) now = AddsVertices before wanted now
+ReadsVertices wanted before (Err fault) now = RefusesBy wanted fault
+
+-- a vertex with an entity of its own, which copies replace
+abbrev pub with_own_vertex : Contents → Vertex → Contents
+with_own_vertex before vertex =
+    with_edits (with_point before vertex.spot) (record { start = vertex.start; end = vertex.past; what = edits.Vertex (length before.points) } ∷ [])
+
+-- the vertices so far of a polyline that is read stand behind what was read before it, without their path
+abbrev pub with_pending : Contents → Place → Contents
+with_pending before free = before
+with_pending before staying = before
+with_pending before (reading kind vertices) = with_shape before (own_shape None vertices)
+
+abbrev pub Shows : Held → Place → ℕ → Type 0
+Shows held.Free free first = ⊤
+Shows held.Staying staying first = ⊤
+Shows (held.Reading kind begin) (reading other vertices) first = (kind ≡ other) × (begin ≡ first)
+Shows place spot first = ⊥
+
+-- the code stands at this place of the walk, behind what was read before
+pub record Stands (place : Held) (now before : Contents) (spot : Place) : Type 0 where
+  pub held : now ≡ with_pending before spot
+  pub shows : Shows place spot (length before.points)
+
+-- The code goes where the walk goes, or answers its fault.
+abbrev pub GoesTo : Result Step LayerFault → Contents → Held → Contents → Type 0
+GoesTo (Ok here) before next now = Stands next now (with_shapes before here.shapes) here.next
+GoesTo (Err fault) before next now = ⊥
+
+abbrev pub Goes : Result Step LayerFault → Contents → Result Held LayerFault → Contents → Type 0
+Goes wanted before (Ok next) now = GoesTo wanted before next now
+Goes wanted before (Err fault) now = RefusesBy wanted fault
+
+-- the vertices in fields, by the one with which they begin
+abbrev pub vertices_by : List ℕ → Bool → List Pair → Result (Option Vertex) LayerFault → Result (List Vertex) LayerFault
+vertices_by bytes exact fields (Ok (Some vertex)) = and_then (λ more. Ok (vertex ∷ more)) (vertices_in bytes exact (drop 2 fields))
+vertices_by bytes exact fields (Ok None) = vertices_in bytes exact (drop 1 fields)
+vertices_by bytes exact fields (Err fault) = Err fault
+
+-- the room for what is read of the pairs before the next head
+abbrev pub room_before : List Pair → ℕ
+room_before pairs = prefix_len is_no_head pairs
+
+-- what is read at the first of the pairs has room beside the pairs up to the next head
+abbrev pub GrowsAlong : List Pair → Contents → Contents → Type 0
+GrowsAlong pairs before now = (count : ℕ) → HoldsAtMost (count + room_before pairs) before → HoldsAtMost ((count + 2) + room_before (drop 1 pairs)) now

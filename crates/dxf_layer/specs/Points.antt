@@ -1,0 +1,92 @@
+-- Points, inserts, texts and lines of a drawing (AutoCAD DXF reference, entities).
+use Rattle.std.specs.Prelude.{ℕ, ℤ, pos, ◌+◌, Bool, true, false, ◌||◌, if◌then◌else◌, List, [], ◌∷◌, ◌++◌, Option, None, Some, Result, Ok, Err}
+use Rattle.std.specs.Ordering.{int_eq}
+use Rattle.mm_decimal.specs.Measured.{measured}
+use Rattle.mm_decimal.specs.declared.reading.MmRead.{MmRead}
+use Rattle.mm_decimal.specs.declared.reading.NumFault.{NumFault}
+use Rattle.sheet_base.specs.declared.edits.Edit.{Edit}
+use Rattle.sheet_base.specs.declared.edits.What.TheVariants.{Lines}
+use Rattle.sheet_base.specs.declared.paths.PathKind.TheVariants as paths
+use Rattle.sheet_base.specs.declared.faults.LayerFault.{LayerFault}
+use Rattle.sheet_base.specs.declared.faults.LayerFault.TheVariants.{Attribs, Slope}
+use Rattle.dxf_pairs.specs.declared.pairs.Pair.{Pair}
+use Rattle.dxf_pairs.specs.Groups.{value_in}
+use Rattle.dxf_layer.specs.Entities.{Entity, entity_end}
+use Rattle.dxf_layer.specs.Fields.{and_then, field, coordinate_at, is_not_zero, zero_at}
+use Rattle.dxf_layer.specs.Handles.{handle}
+use Rattle.dxf_layer.specs.declared.drawing.Spot.{Spot}
+use Rattle.dxf_layer.specs.Shapes.{Shape, point_of, lost_of, spot_edits}
+
+-- the point of the wanted fields of two codes, the first read before the second
+abbrev pub spot_at : List ℕ → Bool → ℤ → ℤ → Entity → Result Spot LayerFault
+spot_at bytes exact x y entity =
+    and_then (λ east. and_then (λ north. Ok (record { x = east; y = north })) (coordinate_at bytes exact y entity)) (coordinate_at bytes exact x entity)
+
+-- a dot, whose values are replaced
+abbrev pub dot_of : Spot → Shape
+dot_of spot = record { kind = Some paths.Dot; points = point_of spot ∷ []; lost = lost_of spot; dropped = 0; edits = λ path first. spot_edits first spot }
+
+-- a point
+abbrev pub point_shapes : List ℕ → Bool → Entity → Result (List Shape) LayerFault
+point_shapes bytes exact entity = and_then (λ spot. Ok (dot_of spot ∷ [])) (spot_at bytes exact (pos 10) (pos 20) entity)
+
+-- an insert, which has no attributes
+abbrev pub insert_shapes : List ℕ → Bool → Entity → Result (List Shape) LayerFault
+insert_shapes bytes exact entity = and_then (λ none. point_shapes bytes exact entity) (zero_at bytes Attribs (pos 66) entity)
+
+-- the second point of a text, where its first or its second justification is not zero
+abbrev pub second_by : List ℕ → Bool → Entity → Option Pair → Option Pair → Result (Option Spot) LayerFault
+second_by bytes exact entity across along =
+    if is_not_zero bytes across || is_not_zero bytes along then and_then (λ spot. Ok (Some spot)) (spot_at bytes exact (pos 11) (pos 21) entity) else Ok None
+
+abbrev pub second_spot : List ℕ → Bool → Entity → Result (Option Spot) LayerFault
+second_spot bytes exact entity =
+    and_then (λ across. and_then (λ along. second_by bytes exact entity across along) (field (pos 73) entity)) (field (pos 72) entity)
+
+abbrev pub dots_of : Option Spot → List Shape
+dots_of None = []
+dots_of (Some spot) = dot_of spot ∷ []
+
+-- a text
+abbrev pub text_shapes : List ℕ → Bool → Entity → Result (List Shape) LayerFault
+text_shapes bytes exact entity =
+    and_then (λ spot. and_then (λ second. Ok (dot_of spot ∷ dots_of second)) (second_spot bytes exact entity)) (spot_at bytes exact (pos 10) (pos 20) entity)
+
+-- the millimetres of a height, of which a missing one is 0 and one that is no numeral has none
+abbrev pub height_of : Result MmRead NumFault → Option ℤ
+height_of (Ok read) = Some read.mm
+height_of (Err fault) = None
+
+abbrev pub height : List ℕ → Option Pair → Option ℤ
+height bytes None = Some (pos 0)
+height bytes (Some pair) = height_of (measured (value_in bytes pair))
+
+abbrev pub are_level : Option ℤ → Option ℤ → Bool
+are_level (Some first) (Some second) = int_eq first second
+are_level first second = false
+
+-- both ends of a line have one height
+abbrev pub level : List ℕ → Entity → Result (Unit {0}) LayerFault
+level bytes entity =
+    and_then (λ first. and_then (λ second. if are_level (height bytes first) (height bytes second) then Ok tt else Err (Slope entity.head.line)) (field (pos 31) entity))
+    (field (pos 30) entity)
+
+-- a line between two points; copies of the entity take its place
+abbrev pub line_of : Entity → Spot → Spot → Shape
+line_of entity begin end = record {
+  kind = Some paths.Line;
+  points = point_of begin ∷ point_of end ∷ [];
+  lost = lost_of begin + lost_of end;
+  dropped = 0;
+  edits = λ path first. record { start = entity.head.start; end = entity_end entity; what = Lines path } ∷ [];
+}
+
+-- the ends of a line that is level
+abbrev pub line_ends : List ℕ → Bool → Option Pair → Entity → Result (Spot × Spot) LayerFault
+line_ends bytes exact seed entity =
+    and_then (λ own. and_then (λ begin. and_then (λ end. and_then (λ is. Ok (begin, end)) (level bytes entity))
+    (spot_at bytes exact (pos 11) (pos 21) entity)) (spot_at bytes exact (pos 10) (pos 20) entity)) (handle seed entity)
+
+-- a line
+abbrev pub line_shapes : List ℕ → Bool → Option Pair → Entity → Result (List Shape) LayerFault
+line_shapes bytes exact seed entity = and_then (λ ends. Ok (line_of entity ends.0 ends.1 ∷ [])) (line_ends bytes exact seed entity)

@@ -1,0 +1,137 @@
+-- Polylines of a drawing, with their vertices in fields (LWPOLYLINE) or in entities of their own (POLYLINE).
+use Rattle.std.specs.Prelude.{ℕ, ◌+◌, pos, nat_lt, Bool, true, false, ◌&&◌, ◌||◌, not, if◌then◌else◌, List, [], ◌∷◌, ◌++◌, length, map, sum_by, take_while, Option, None, Some, Result, Ok, Err}
+use Rattle.plane_base.specs.declared.shapes.Pt.{Pt}
+use Rattle.sheet_base.specs.declared.edits.Edit.{Edit}
+use Rattle.sheet_base.specs.declared.edits.What.TheVariants as edits
+use Rattle.sheet_base.specs.declared.paths.PathKind.{PathKind}
+use Rattle.sheet_base.specs.declared.paths.PathKind.TheVariants as paths
+use Rattle.sheet_base.specs.declared.paths.PathRow.{PathRow}
+use Rattle.sheet_base.specs.declared.faults.LayerFault.{LayerFault}
+use Rattle.sheet_base.specs.declared.faults.LayerFault.TheVariants.{Bulge, Count, Flags, Width}
+use Rattle.dxf_pairs.specs.declared.pairs.Pair.{Pair}
+use Rattle.dxf_layer.specs.Entities.{Entity, has_code, entity_end, past_pairs}
+use Rattle.dxf_layer.specs.Fields.{and_then, fields_of, field, wanted, coordinate, equals, zero_at}
+use Rattle.dxf_layer.specs.Handles.{handle}
+use Rattle.dxf_layer.specs.Points.{spot_at}
+use Rattle.dxf_layer.specs.declared.drawing.Vertex.{Vertex}
+use Rattle.dxf_layer.specs.Shapes.{Shape, point_of, lost_of, spot_edits, value_edit}
+
+-- the flags of a plane polyline: 0 and 128 of an open one, 1 and 129 of a closed one
+abbrev pub kind_by : List ℕ → Option Pair → Result PathKind LayerFault
+kind_by bytes None = Ok paths.Line
+kind_by bytes (Some pair) =
+    if equals bytes 0 pair || equals bytes 128 pair then Ok paths.Line
+    else if equals bytes 1 pair || equals bytes 129 pair then Ok paths.Loop
+    else Err (Flags pair.line)
+
+abbrev pub kind_of : List ℕ → Entity → Result PathKind LayerFault
+kind_of bytes entity = and_then (kind_by bytes) (field (pos 70) entity)
+
+-- without vertices there is no path
+abbrev pub kind_with : PathKind → List Vertex → Option PathKind
+kind_with kind [] = None
+kind_with kind (vertex ∷ vertices) = Some kind
+
+abbrev pub rows_from : PathKind → ℕ → ℕ → List PathRow
+rows_from kind first past = if nat_lt first past then record { kind = kind; first = first; past = past } ∷ [] else []
+
+-- the codes of a vertex's group besides its two numbers
+abbrev pub is_group_code : Pair → Bool
+is_group_code pair = has_code (pos 40) pair || has_code (pos 41) pair || has_code (pos 42) pair || has_code (pos 91) pair
+
+-- a field of a vertex's group: widths and bulges are zero
+abbrev pub fault_in_group : List ℕ → Pair → Option LayerFault
+fault_in_group bytes pair =
+    if equals bytes 0 pair then None
+    else if has_code (pos 40) pair || has_code (pos 41) pair then Some (Width pair.line)
+    else if has_code (pos 42) pair then Some (Bulge pair.line)
+    else None
+
+abbrev pub first_fault : Option LayerFault → Result ℕ LayerFault → Result ℕ LayerFault
+first_fault None rest = rest
+first_fault (Some fault) rest = Err fault
+
+-- the place past a vertex's group, with which these fields begin, behind this place
+abbrev pub past_group : List ℕ → ℕ → List Pair → Result ℕ LayerFault
+past_group bytes past [] = Ok past
+past_group bytes past (pair ∷ pairs) = if is_group_code pair then first_fault (fault_in_group bytes pair) (past_group bytes pair.end pairs) else Ok past
+
+-- the vertex of two fields of codes 10 and 20, and of its group among the fields behind them
+abbrev pub vertex_of : List ℕ → Bool → Pair → Pair → List Pair → Result Vertex LayerFault
+vertex_of bytes exact x y behind =
+    and_then (λ east. and_then (λ north. and_then (λ past. Ok (record { spot = record { x = east; y = north }; start = x.start; past = past })) (past_group bytes y.end behind))
+    (coordinate bytes exact y)) (coordinate bytes exact x)
+
+abbrev pub begins_vertex : Pair → Pair → Bool
+begins_vertex pair next = has_code (pos 10) pair && has_code (pos 20) next
+
+abbrev pub is_number : Pair → Bool
+is_number pair = has_code (pos 10) pair || has_code (pos 20) pair
+
+-- the vertices in fields, in order: each field 10 is directly followed by a field 20, and each field 20 follows one
+abbrev pub vertices_in : List ℕ → Bool → List Pair → Result (List Vertex) LayerFault
+vertices_in bytes exact [] = Ok []
+vertices_in bytes exact (pair ∷ []) = if is_number pair then Err (Count pair.line) else Ok []
+vertices_in bytes exact (pair ∷ next ∷ pairs) =
+    if begins_vertex pair next
+    then and_then (λ vertex. and_then (λ more. Ok (vertex ∷ more)) (vertices_in bytes exact pairs)) (vertex_of bytes exact pair next pairs)
+    else if is_number pair then Err (Count pair.line)
+    else vertices_in bytes exact (next ∷ pairs)
+
+-- the edits of vertices in fields: their values, and room for the crossings behind each
+abbrev pub vertex_edits : ℕ → List Vertex → List Edit
+vertex_edits point [] = []
+vertex_edits point (vertex ∷ vertices) =
+    spot_edits point vertex.spot ++ (record { start = vertex.past; end = vertex.past; what = edits.Vertices point } ∷ vertex_edits (point + 1) vertices)
+
+abbrev pub as_count : List ℕ → ℕ → Pair → Result Pair LayerFault
+as_count bytes number pair = if equals bytes number pair then Ok pair else Err (Count pair.line)
+
+-- field 90, which counts the vertices
+abbrev pub count_of : List ℕ → ℕ → Entity → Result Pair LayerFault
+count_of bytes number entity = and_then (as_count bytes number) (wanted (pos 90) entity)
+
+-- a polyline in one entity
+abbrev pub light_shape : PathKind → List Vertex → Pair → Shape
+light_shape kind vertices count = record {
+  kind = kind_with kind vertices;
+  points = map (λ vertex. point_of vertex.spot) vertices;
+  lost = sum_by (λ vertex. lost_of vertex.spot) vertices;
+  dropped = 0;
+  edits = λ path first. vertex_edits first vertices ++ value_edit (edits.Tally first (first + length vertices)) count ∷ [];
+}
+
+abbrev pub light_shapes : List ℕ → Bool → Entity → Result (List Shape) LayerFault
+light_shapes bytes exact entity =
+    and_then (λ kind. and_then (λ vertices. and_then (λ count. Ok (light_shape kind vertices count ∷ [])) (count_of bytes (length vertices) entity))
+    (vertices_in bytes exact (fields_of entity))) (kind_of bytes entity)
+
+-- a vertex's entity has no width, no bulge and no flags
+abbrev pub plain : List ℕ → Entity → Result (Unit {0}) LayerFault
+plain bytes entity =
+    and_then (λ begin. and_then (λ end. and_then (λ bulge. zero_at bytes Flags (pos 70) entity) (zero_at bytes Bulge (pos 42) entity)) (zero_at bytes Width (pos 41) entity))
+    (zero_at bytes Width (pos 40) entity)
+
+-- the vertex of an entity of its own
+abbrev pub entity_vertex : List ℕ → Bool → Option Pair → Entity → Result Vertex LayerFault
+entity_vertex bytes exact seed entity =
+    and_then (λ own. and_then (λ spot. and_then (λ is. Ok (record { spot = spot; start = entity.head.start; past = entity_end entity })) (plain bytes entity))
+    (spot_at bytes exact (pos 10) (pos 20) entity)) (handle seed entity)
+
+-- copies of each vertex take its place
+abbrev pub copy_edits : ℕ → List Vertex → List Edit
+copy_edits point [] = []
+copy_edits point (vertex ∷ vertices) = record { start = vertex.start; end = vertex.past; what = edits.Vertex point } ∷ copy_edits (point + 1) vertices
+
+abbrev pub own_shape : Option PathKind → List Vertex → Shape
+own_shape kind vertices = record {
+  kind = kind;
+  points = map (λ vertex. point_of vertex.spot) vertices;
+  lost = sum_by (λ vertex. lost_of vertex.spot) vertices;
+  dropped = 0;
+  edits = λ path first. copy_edits first vertices;
+}
+
+-- a polyline with vertices of their own
+abbrev pub heavy_shape : PathKind → List Vertex → Shape
+heavy_shape kind vertices = own_shape (kind_with kind vertices) vertices

@@ -1,0 +1,67 @@
+-- What is read of an entity: a path or none, its points, and the edits.
+use Rattle.std.specs.Prelude.{ℕ, ◌+◌, Bool, nat_le, if◌then◌else◌, List, [], ◌∷◌, ◌++◌, length, Option, None, Some}
+use Rattle.plane_base.specs.declared.shapes.Pt.{Pt}
+use Rattle.sheet_base.specs.declared.edits.Edit.{Edit}
+use Rattle.sheet_base.specs.declared.edits.What.{What}
+use Rattle.sheet_base.specs.declared.edits.What.TheVariants.{X, Y}
+use Rattle.sheet_base.specs.declared.paths.PathKind.{PathKind}
+use Rattle.sheet_base.specs.declared.paths.PathRow.{PathRow}
+use Rattle.sheet_base.specs.Sheets.{Contents}
+use Rattle.dxf_pairs.specs.declared.pairs.Pair.{Pair}
+use Rattle.dxf_layer.specs.declared.drawing.Spot.{Spot}
+
+-- the path's kind, where there is one, its points, how many of their numbers lost digits, how many entities are left out, and the edits by the numbers of the path and of its first point
+pub record Shape : Type 0 where
+  pub kind : Option PathKind
+  pub points : List Pt
+  pub lost : ℕ
+  pub dropped : ℕ
+  pub edits : ℕ → ℕ → List Edit
+
+-- the value of a field is replaced
+abbrev pub value_edit : What → Pair → Edit
+value_edit what pair = record { start = pair.value; end = pair.value_end; what = what }
+
+abbrev pub point_of : Spot → Pt
+point_of spot = record { x = spot.x.mm; y = spot.y.mm }
+
+abbrev pub lost_count : Bool → ℕ
+lost_count lost = if lost then 1 else 0
+
+-- how many numbers of a point lost digits
+abbrev pub lost_of : Spot → ℕ
+lost_of spot = lost_count spot.x.lost + lost_count spot.y.lost
+
+-- the values of the point of this number are replaced
+abbrev pub spot_edits : ℕ → Spot → List Edit
+spot_edits point spot = value_edit (X point) spot.x.pair ∷ value_edit (Y point) spot.y.pair ∷ []
+
+-- the path of a shape's points, where it has one
+abbrev pub rows_of : Option PathKind → ℕ → ℕ → List PathRow
+rows_of None first past = []
+rows_of (Some kind) first past = record { kind = kind; first = first; past = past } ∷ []
+
+-- an edit among others in order of the text, before those that start at the same place
+abbrev pub edit_among : Edit → List Edit → List Edit
+edit_among edit [] = edit ∷ []
+edit_among edit (other ∷ edits) = if nat_le edit.start other.start then edit ∷ other ∷ edits else other ∷ edit_among edit edits
+
+abbrev pub in_order : List Edit → List Edit
+in_order [] = []
+in_order (edit ∷ edits) = edit_among edit (in_order edits)
+
+-- what is read so far, with a shape behind it: its path and its points have the next numbers, and the edits are in order of the shapes
+abbrev pub with_shape : Contents → Shape → Contents
+with_shape before shape =
+    let first = length before.points in
+    record {
+      paths = before.paths ++ rows_of shape.kind first (first + length shape.points);
+      points = before.points ++ shape.points;
+      edits = before.edits ++ shape.edits (length before.paths) first;
+      inexact = before.inexact + shape.lost;
+      dropped = before.dropped + shape.dropped;
+    }
+
+abbrev pub with_shapes : Contents → List Shape → Contents
+with_shapes before [] = before
+with_shapes before (shape ∷ shapes) = with_shapes (with_shape before shape) shapes

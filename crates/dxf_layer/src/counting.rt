@@ -1,0 +1,124 @@
+//! The handles that copies take.
+
+ghost use Rattle.std.specs.Prelude.{◌≡◌, ◌<◌, ◌≤◌, ◌^◌, length, filter, nat_lt, pos, true};
+ghost use Rattle.sheet_base.specs.Splices.{AreInOrder};
+ghost use Rattle.dxf_layer.specs.Entities.{has_code};
+ghost use Rattle.dxf_layer.specs.Handles.{is_handle};
+ghost use Rattle.dxf_layer.specs.Told.{told};
+ghost use Rattle.dxf_layer.specs.Paged.{read_of};
+ghost use Rattle.dxf_layer.specs.Rendering.{digit_of, handle_number, number_at, has_handle, taken_by, entity_at, taken, first_handle, next_behind};
+
+use crate::entities::{Entity, has_code, value_in};
+use crate::fields::fields_of;
+use crate::handles::seed_of;
+use crate::pages::{Page, number_at};
+use crate::texts::{first_entity, path_images, run_of};
+use dxf_pairs::Pair;
+use sheet_base::{Edit, What};
+
+/// The number of a hexadecimal digit.
+fn digit_of(byte: u8) -> u64
+    ensures { result ≡ digit_of byte }
+{
+    match byte {
+        0..=57 => u64::from(byte.saturating_sub(48)),
+        58..=70 => u64::from(byte - 55),
+        _ => u64::from(byte.saturating_sub(87)),
+    }
+}
+
+/// The number of a handle.
+fn handle_number(text: &[u8]) -> u64
+    requires { is_handle text.now ≡ true }
+    ensures number { result ≡ handle_number text.now }
+    ensures small { result < 2 ^ 60 }
+{
+    let mut number: u64 = 0;
+    for byte in text {
+        number = 16 * number + digit_of(*byte);
+    }
+    number
+}
+
+/// The number of the next handle, where the drawing gives one.
+pub fn first_handle(page: &Page) -> u64
+    ensures number { result ≡ first_handle (read_of page.now) }
+    ensures small { result < 2 ^ 60 }
+{
+    match seed_of(page.bytes, page.pairs) {
+        Some(pair) => handle_number(value_in(page.bytes, &pair)),
+        None => 0,
+    }
+}
+
+/// Whether one of the fields has the code.
+fn has_field(code: i32, fields: &[Pair]) -> bool
+    ensures { result ≡ nat_lt 0 (length (filter (has_code code) fields.now)) }
+{
+    for pair in fields {
+        if has_code(code, pair) {
+            return true;
+        }
+    }
+    false
+}
+
+/// Whether an entity has a handle.
+fn has_handle(entity: &Entity) -> bool
+    ensures { result ≡ has_handle (told entity.now) }
+{
+    has_field(5, fields_of(entity))
+}
+
+/// How many new handles so many copies take of the entity that starts here.
+fn taken_by(page: &Page, place: u32, number: usize, copies: usize) -> u64
+    requires number { number ≡ number_at (read_of page.now) place }
+    requires within { number ≤ length page.now.pairs.now }
+    ensures { result ≡ taken_by (entity_at (read_of page.now) place) copies }
+{
+    match first_entity(place, &page.pairs[number..]) {
+        Some(entity) if has_handle(&entity) && copies > 0 => copies as u64 - 1,
+        _ => 0,
+    }
+}
+
+/// How many new handles an edit takes, before which so many pairs stand.
+pub fn taken(page: &Page, edit: Edit, number: usize) -> u64
+    requires number { number ≡ number_at (read_of page.now) edit.start }
+    requires within { number ≤ length page.now.pairs.now }
+    ensures { result ≡ taken (read_of page.now) edit }
+{
+    if edit.start >= edit.end {
+        return 0;
+    }
+    match edit.what {
+        What::Lines { path } => {
+            let copies = path_images(page.sheet, page.images, path)
+                .len()
+                .saturating_sub(1);
+            taken_by(page, edit.start, number, copies)
+        }
+        What::Vertex { point } => {
+            taken_by(page, edit.start, number, run_of(page.images, point).len())
+        }
+        _ => 0,
+    }
+}
+
+/// The next handle behind all edits.
+pub fn handle_behind(page: &Page, first: u64) -> u64
+    requires first { first ≡ first_handle (read_of page.now) }
+    requires small { first < 2 ^ 60 }
+    requires short { length page.now.bytes.now ≤ 2 ^ 26 }
+    requires few { length page.now.images.now.points < 2 ^ 32 }
+    requires order { AreInOrder 0 page.now.sheet.now.edits (length page.now.bytes.now) }
+    ensures { result ≡ next_behind (read_of page.now) }
+{
+    let mut next = first;
+    let mut number = 0;
+    for edit in page.sheet.edits() {
+        number = number_at(page, edit.start, number);
+        next += taken(page, *edit, number);
+    }
+    next
+}

@@ -1,0 +1,21 @@
+//! Layers in ASCII DXF: points, inserts, texts, lines and polylines of the sections ENTITIES.
+#![tactic(auto)]
+
+mod copies;
+mod counting;
+mod drawing;
+mod entities;
+mod fields;
+mod handles;
+mod pages;
+mod points;
+mod polylines;
+mod reading;
+mod rendering;
+#[cfg(test)]
+mod tests;
+mod texts;
+mod walking;
+
+pub use reading::read_drawing;
+pub use rendering::render_drawing;

@@ -1,0 +1,252 @@
+//! Points, inserts, texts and lines.
+
+ghost use Rattle.std.specs.Prelude.{◌≡◌, ◌+◌, ◌^◌, OnOk, [], ◌∷◌};
+ghost use Rattle.sheet_base.specs.declared.faults.LayerFault.TheVariants.{Attribs};
+ghost use Rattle.dxf_layer.specs.Told.{told};
+ghost use Rattle.dxf_layer.specs.Shapes.{with_shape, with_shapes};
+ghost use Rattle.dxf_layer.specs.Points.{spot_at, dot_of, dots_of, point_shapes, insert_shapes, second_spot, text_shapes, height, level, line_of, line_ends, line_shapes};
+ghost use Rattle.dxf_layer.specs.Held.{seen, HoldsAtMost, GrowsBy, Reads};
+
+use crate::drawing::{Drawing, Spot};
+use crate::entities::{Entity, value_in};
+use crate::fields::{coordinate_at, field, is_not_zero, not_zero_at};
+use crate::handles::check_handle;
+use dxf_pairs::Pair;
+use mm_decimal::read_mm;
+use sheet_base::{Edit, LayerFault, PathKind, What};
+use std::alloc::AllocError;
+
+/// The point of the fields of two codes.
+pub fn spot_at(
+    bytes: &[u8],
+    exact: bool,
+    east: i32,
+    north: i32,
+    entity: &Entity,
+) -> Result<Spot, LayerFault>
+    ensures { result ≡ spot_at bytes.now exact east north (told entity.now) }
+{
+    let x = match coordinate_at(bytes, exact, east, entity) {
+        Ok(x) => x,
+        Err(fault) => return Err(fault),
+    };
+    match coordinate_at(bytes, exact, north, entity) {
+        Ok(y) => Ok(Spot { x, y }),
+        Err(fault) => Err(fault),
+    }
+}
+
+/// Adds a dot.
+fn add_dot(drawing: &mut Drawing, spot: &Spot) -> Result<(), AllocError>
+    requires { HoldsAtMost (2 ^ 30 + 1) (seen drawing.old) }
+    ensures added { OnOk result (seen drawing.new ≡ with_shape (seen drawing.old) (dot_of spot.now)) }
+    ensures grown { OnOk result (GrowsBy 1 (seen drawing.old) (seen drawing.new)) }
+{
+    let point = drawing.point();
+    drawing.add_point(spot)?;
+    drawing.add_spot_edits(point, spot)?;
+    drawing.add_path(PathKind::Dot, point, point + 1)?;
+    Ok(())
+}
+
+/// Reads a point.
+pub fn read_point(
+    bytes: &[u8],
+    exact: bool,
+    entity: &Entity,
+    drawing: &mut Drawing,
+) -> Result<(), LayerFault>
+    requires { HoldsAtMost (2 ^ 30) (seen drawing.old) }
+    ensures reads { Reads (point_shapes bytes.now exact (told entity.now)) (seen drawing.old) result (seen drawing.new) }
+    ensures grown { OnOk result (GrowsBy 2 (seen drawing.old) (seen drawing.new)) }
+{
+    match spot_at(bytes, exact, 10, 20, entity) {
+        Ok(spot) => {
+            add_dot(drawing, &spot)?;
+            Ok(())
+        }
+        Err(fault) => Err(fault),
+    }
+}
+
+/// Reads an insert, which has no attributes.
+pub fn read_insert(
+    bytes: &[u8],
+    exact: bool,
+    entity: &Entity,
+    drawing: &mut Drawing,
+) -> Result<(), LayerFault>
+    requires { HoldsAtMost (2 ^ 30) (seen drawing.old) }
+    ensures reads { Reads (insert_shapes bytes.now exact (told entity.now)) (seen drawing.old) result (seen drawing.new) }
+    ensures grown { OnOk result (GrowsBy 2 (seen drawing.old) (seen drawing.new)) }
+{
+    match not_zero_at(bytes, 66, entity) {
+        Ok(None) => read_point(bytes, exact, entity, drawing),
+        Ok(Some(line)) => Err(LayerFault::Attribs { line }),
+        Err(fault) => Err(fault),
+    }
+}
+
+/// The second point of a text, which is there where the text is justified.
+fn second_spot(bytes: &[u8], exact: bool, entity: &Entity) -> Result<Option<Spot>, LayerFault>
+    ensures { result ≡ second_spot bytes.now exact (told entity.now) }
+{
+    let across = match field(72, entity) {
+        Ok(pair) => pair,
+        Err(fault) => return Err(fault),
+    };
+    let along = match field(73, entity) {
+        Ok(pair) => pair,
+        Err(fault) => return Err(fault),
+    };
+    if is_not_zero(bytes, across) || is_not_zero(bytes, along) {
+        match spot_at(bytes, exact, 11, 21, entity) {
+            Ok(spot) => Ok(Some(spot)),
+            Err(fault) => Err(fault),
+        }
+    } else {
+        Ok(None)
+    }
+}
+
+/// Adds a text's one or two dots.
+fn add_dots(drawing: &mut Drawing, spot: &Spot, second: Option<Spot>) -> Result<(), AllocError>
+    requires { HoldsAtMost (2 ^ 30) (seen drawing.old) }
+    ensures added { OnOk result (seen drawing.new ≡ with_shapes (seen drawing.old) (dot_of spot.now ∷ dots_of second)) }
+    ensures grown { OnOk result (GrowsBy 2 (seen drawing.old) (seen drawing.new)) }
+{
+    add_dot(drawing, spot)?;
+    if let Some(other) = second {
+        add_dot(drawing, &other)?;
+    }
+    Ok(())
+}
+
+/// Reads a text.
+pub fn read_text(
+    bytes: &[u8],
+    exact: bool,
+    entity: &Entity,
+    drawing: &mut Drawing,
+) -> Result<(), LayerFault>
+    requires { HoldsAtMost (2 ^ 30) (seen drawing.old) }
+    ensures reads { Reads (text_shapes bytes.now exact (told entity.now)) (seen drawing.old) result (seen drawing.new) }
+    ensures grown { OnOk result (GrowsBy 2 (seen drawing.old) (seen drawing.new)) }
+{
+    let spot = match spot_at(bytes, exact, 10, 20, entity) {
+        Ok(spot) => spot,
+        Err(fault) => return Err(fault),
+    };
+    match second_spot(bytes, exact, entity) {
+        Ok(second) => {
+            add_dots(drawing, &spot, second)?;
+            Ok(())
+        }
+        Err(fault) => Err(fault),
+    }
+}
+
+/// The millimetres of a height, of which a missing one is 0.
+fn height(bytes: &[u8], pair: Option<Pair>) -> Option<i64>
+    ensures { result ≡ height bytes.now pair }
+{
+    match pair {
+        Some(pair) => match read_mm(value_in(bytes, &pair)) {
+            Ok(read) => Some(read.mm),
+            Err(_) => None,
+        },
+        None => Some(0),
+    }
+}
+
+/// Refuses a line whose ends have different heights.
+fn check_level(bytes: &[u8], entity: &Entity) -> Result<(), LayerFault>
+    ensures { result ≡ level bytes.now (told entity.now) }
+{
+    let first = match field(30, entity) {
+        Ok(pair) => pair,
+        Err(fault) => return Err(fault),
+    };
+    let second = match field(31, entity) {
+        Ok(pair) => pair,
+        Err(fault) => return Err(fault),
+    };
+    match (height(bytes, first), height(bytes, second)) {
+        (Some(low), Some(high)) if low == high => Ok(()),
+        _ => Err(LayerFault::Slope {
+            line: u64::from(entity.head.line),
+        }),
+    }
+}
+
+/// The ends of a line that is level, and has a next handle where it has one.
+fn line_ends(
+    bytes: &[u8],
+    exact: bool,
+    seed: Option<Pair>,
+    entity: &Entity,
+) -> Result<(Spot, Spot), LayerFault>
+    ensures { result ≡ line_ends bytes.now exact seed (told entity.now) }
+{
+    match check_handle(seed, entity) {
+        Ok(()) => (),
+        Err(fault) => return Err(fault),
+    }
+    let begin = match spot_at(bytes, exact, 10, 20, entity) {
+        Ok(spot) => spot,
+        Err(fault) => return Err(fault),
+    };
+    let end = match spot_at(bytes, exact, 11, 21, entity) {
+        Ok(spot) => spot,
+        Err(fault) => return Err(fault),
+    };
+    match check_level(bytes, entity) {
+        Ok(()) => Ok((begin, end)),
+        Err(fault) => Err(fault),
+    }
+}
+
+/// Adds a line between two points, whose entity is replaced.
+fn add_line(
+    drawing: &mut Drawing,
+    entity: &Entity,
+    begin: &Spot,
+    end: &Spot,
+) -> Result<(), AllocError>
+    requires { HoldsAtMost (2 ^ 30) (seen drawing.old) }
+    ensures added { OnOk result (seen drawing.new ≡ with_shape (seen drawing.old) (line_of (told entity.now) begin.now end.now)) }
+    ensures grown { OnOk result (GrowsBy 2 (seen drawing.old) (seen drawing.new)) }
+{
+    let first = drawing.point();
+    let path = drawing.path();
+    drawing.add_edit(Edit {
+        start: entity.head.start,
+        end: entity.end(),
+        what: What::Lines { path },
+    })?;
+    drawing.add_point(begin)?;
+    drawing.add_point(end)?;
+    drawing.add_path(PathKind::Line, first, first + 2)?;
+    Ok(())
+}
+
+/// Reads a line.
+pub fn read_line(
+    bytes: &[u8],
+    exact: bool,
+    seed: Option<Pair>,
+    entity: &Entity,
+    drawing: &mut Drawing,
+) -> Result<(), LayerFault>
+    requires { HoldsAtMost (2 ^ 30) (seen drawing.old) }
+    ensures reads { Reads (line_shapes bytes.now exact seed (told entity.now)) (seen drawing.old) result (seen drawing.new) }
+    ensures grown { OnOk result (GrowsBy 2 (seen drawing.old) (seen drawing.new)) }
+{
+    match line_ends(bytes, exact, seed, entity) {
+        Ok((begin, end)) => {
+            add_line(drawing, entity, &begin, &end)?;
+            Ok(())
+        }
+        Err(fault) => Err(fault),
+    }
+}

@@ -1,0 +1,306 @@
+//! Polylines, with their vertices in fields or in entities of their own.
+
+ghost use Rattle.std.specs.Prelude.{◌≡◌, ◌^◌, ◌+◌, ◌≤◌, ◌<◌, [], ◌∷◌, length, OnOk, IfOk, IfSome};
+ghost use Rattle.dxf_layer.specs.Told.{told};
+ghost use Rattle.dxf_layer.specs.Polylines.{kind_of, is_group_code, fault_in_group, past_group, vertex_of, begins_vertex, is_number, vertices_in, count_of, rows_from, light_shapes, plain, entity_vertex};
+ghost use Rattle.dxf_layer.specs.Held.{seen, with_rows, with_vertices, with_own_vertex, HoldsAtMost, GrowsBy, Reads, ReadsVertices, vertices_by};
+
+use crate::drawing::{Drawing, Spot, Vertex, value_edit};
+use crate::entities::{Entity, has_code};
+use crate::fields::{coordinate, equals, field, fields_of, not_zero_at, wanted};
+use crate::handles::check_handle;
+use crate::points::spot_at;
+use dxf_pairs::Pair;
+use sheet_base::{Edit, LayerFault, PathKind, What};
+use std::alloc::AllocError;
+
+/// The kind of a polyline by its flags.
+pub fn kind_of(bytes: &[u8], entity: &Entity) -> Result<PathKind, LayerFault>
+    ensures { result ≡ kind_of bytes.now (told entity.now) }
+{
+    let pair = match field(70, entity) {
+        Ok(Some(pair)) => pair,
+        Ok(None) => return Ok(PathKind::Line),
+        Err(fault) => return Err(fault),
+    };
+    if equals(bytes, 0, &pair) || equals(bytes, 128, &pair) {
+        Ok(PathKind::Line)
+    } else if equals(bytes, 1, &pair) || equals(bytes, 129, &pair) {
+        Ok(PathKind::Loop)
+    } else {
+        Err(LayerFault::Flags {
+            line: u64::from(pair.line),
+        })
+    }
+}
+
+/// Whether the pair belongs to a vertex's group.
+fn is_group_code(pair: &Pair) -> bool
+    ensures { result ≡ is_group_code pair.now }
+{
+    has_code(40, pair) || has_code(41, pair) || has_code(42, pair) || has_code(91, pair)
+}
+
+/// The fault of a field in a vertex's group: a width or a bulge.
+fn fault_in_group(bytes: &[u8], pair: &Pair) -> Option<LayerFault>
+    ensures { result ≡ fault_in_group bytes.now pair.now }
+{
+    let line = u64::from(pair.line);
+    if equals(bytes, 0, pair) {
+        None
+    } else if has_code(40, pair) || has_code(41, pair) {
+        Some(LayerFault::Width { line })
+    } else if has_code(42, pair) {
+        Some(LayerFault::Bulge { line })
+    } else {
+        None
+    }
+}
+
+/// The place past a vertex's group, with which the pairs begin. Refuses a width or a bulge.
+fn past_group(bytes: &[u8], past: u32, pairs: &[Pair]) -> Result<u32, LayerFault>
+    ensures { result ≡ past_group bytes.now past pairs.now }
+{
+    let mut past = past;
+    for pair in pairs {
+        if !is_group_code(pair) {
+            return Ok(past);
+        }
+        if let Some(fault) = fault_in_group(bytes, pair) {
+            return Err(fault);
+        }
+        past = pair.end;
+    }
+    Ok(past)
+}
+
+/// The vertex of two fields and of its group, with which the other fields begin.
+fn vertex_of(
+    bytes: &[u8],
+    exact: bool,
+    x: &Pair,
+    y: &Pair,
+    behind: &[Pair],
+) -> Result<Vertex, LayerFault>
+    ensures { result ≡ vertex_of bytes.now exact x.now y.now behind.now }
+{
+    let east = match coordinate(bytes, exact, x) {
+        Ok(read) => read,
+        Err(fault) => return Err(fault),
+    };
+    let north = match coordinate(bytes, exact, y) {
+        Ok(read) => read,
+        Err(fault) => return Err(fault),
+    };
+    match past_group(bytes, y.end, behind) {
+        Ok(past) => Ok(Vertex {
+            spot: Spot { x: east, y: north },
+            start: x.start,
+            past,
+        }),
+        Err(fault) => Err(fault),
+    }
+}
+
+/// Adds a vertex in fields, with room behind it.
+fn add_vertex(drawing: &mut Drawing, vertex: &Vertex) -> Result<(), AllocError>
+    requires { HoldsAtMost (2 ^ 31) (seen drawing.old) }
+    ensures added { OnOk result (seen drawing.new ≡ with_vertices (seen drawing.old) (vertex.now ∷ [])) }
+    ensures grown { OnOk result (GrowsBy 1 (seen drawing.old) (seen drawing.new)) }
+{
+    let point = drawing.point();
+    drawing.add_point(&vertex.spot)?;
+    drawing.add_spot_edits(point, &vertex.spot)?;
+    drawing.add_edit(Edit {
+        start: vertex.past,
+        end: vertex.past,
+        what: What::Vertices { point },
+    })?;
+    Ok(())
+}
+
+/// Whether the two fields are the numbers of a vertex.
+fn begins_vertex(pair: &Pair, next: &Pair) -> bool
+    ensures { result ≡ begins_vertex pair.now next.now }
+{
+    has_code(10, pair) && has_code(20, next)
+}
+
+/// Whether the field is a number of a vertex.
+fn is_number(pair: &Pair) -> bool
+    ensures { result ≡ is_number pair.now }
+{
+    has_code(10, pair) || has_code(20, pair)
+}
+
+/// The vertex with which the fields begin, where they begin with one. Refuses a number alone.
+fn first_vertex(bytes: &[u8], exact: bool, fields: &[Pair]) -> Result<Option<Vertex>, LayerFault>
+    requires { 0 < length fields.now }
+    ensures first { vertices_in bytes.now exact fields.now ≡ vertices_by bytes.now exact fields.now result }
+    ensures two { IfOk result (λ vertex. IfSome vertex (λ v. 2 ≤ length fields.now)) }
+{
+    if fields.len() >= 2 && begins_vertex(&fields[0], &fields[1]) {
+        match vertex_of(bytes, exact, &fields[0], &fields[1], &fields[2..]) {
+            Ok(vertex) => Ok(Some(vertex)),
+            Err(fault) => Err(fault),
+        }
+    } else if is_number(&fields[0]) {
+        Err(LayerFault::Count {
+            line: u64::from(fields[0].line),
+        })
+    } else {
+        Ok(None)
+    }
+}
+
+/// Reads the vertices in fields, in order.
+fn read_vertices(
+    bytes: &[u8],
+    exact: bool,
+    fields: &[Pair],
+    drawing: &mut Drawing,
+) -> Result<(), LayerFault>
+    requires room { HoldsAtMost (2 ^ 30) (seen drawing.old) }
+    requires few { length fields.now ≤ 2 ^ 29 }
+    ensures reads { ReadsVertices (vertices_in bytes.now exact fields.now) (seen drawing.old) result (seen drawing.new) }
+    ensures grown { OnOk result (GrowsBy (length fields.now) (seen drawing.old) (seen drawing.new)) }
+{
+    let mut at = 0;
+    while at < fields.len() {
+        match first_vertex(bytes, exact, &fields[at..]) {
+            Ok(Some(vertex)) => {
+                add_vertex(drawing, &vertex)?;
+                at += 2;
+            }
+            Ok(None) => at += 1,
+            Err(fault) => return Err(fault),
+        }
+    }
+    Ok(())
+}
+
+/// The field 90 of a polyline, which counts its vertices.
+fn counted(bytes: &[u8], number: u32, entity: &Entity) -> Result<Pair, LayerFault>
+    ensures { result ≡ count_of bytes.now number (told entity.now) }
+{
+    match wanted(90, entity) {
+        Ok(pair) if equals(bytes, number, &pair) => Ok(pair),
+        Ok(pair) => Err(LayerFault::Count {
+            line: u64::from(pair.line),
+        }),
+        Err(fault) => Err(fault),
+    }
+}
+
+/// Adds the path of the points from a number on, where there are some.
+pub fn add_path_from(drawing: &mut Drawing, kind: PathKind, first: u32) -> Result<(), AllocError>
+    requires room { HoldsAtMost (2 ^ 31) (seen drawing.old) }
+    ensures added { OnOk result (seen drawing.new ≡ with_rows (seen drawing.old) (rows_from kind first (length (seen drawing.old).points))) }
+    ensures grown { OnOk result (GrowsBy 1 (seen drawing.old) (seen drawing.new)) }
+{
+    let past = drawing.point();
+    if first < past {
+        drawing.add_path(kind, first, past)?;
+    }
+    Ok(())
+}
+
+/// Reads a polyline in one entity.
+pub fn read_light(
+    bytes: &[u8],
+    exact: bool,
+    entity: &Entity,
+    drawing: &mut Drawing,
+) -> Result<(), LayerFault>
+    requires room { HoldsAtMost (2 ^ 30) (seen drawing.old) }
+    requires few { length entity.now.pairs.now ≤ 2 ^ 29 }
+    ensures reads { Reads (light_shapes bytes.now exact (told entity.now)) (seen drawing.old) result (seen drawing.new) }
+    ensures grown { OnOk result (GrowsBy (length entity.now.pairs.now + 1) (seen drawing.old) (seen drawing.new)) }
+{
+    let kind = match kind_of(bytes, entity) {
+        Ok(kind) => kind,
+        Err(fault) => return Err(fault),
+    };
+    let first = drawing.point();
+    match read_vertices(bytes, exact, fields_of(entity), drawing) {
+        Ok(()) => (),
+        Err(fault) => return Err(fault),
+    }
+    let past = drawing.point();
+    let count = match counted(bytes, past - first, entity) {
+        Ok(pair) => pair,
+        Err(fault) => return Err(fault),
+    };
+    drawing.add_edit(value_edit(What::Tally { first, past }, &count))?;
+    add_path_from(drawing, kind, first)?;
+    Ok(())
+}
+
+/// Refuses a vertex's entity that has a width, a bulge or flags.
+fn check_plain(bytes: &[u8], entity: &Entity) -> Result<(), LayerFault>
+    ensures { result ≡ plain bytes.now (told entity.now) }
+{
+    match not_zero_at(bytes, 40, entity) {
+        Ok(None) => (),
+        Ok(Some(line)) => return Err(LayerFault::Width { line }),
+        Err(fault) => return Err(fault),
+    }
+    match not_zero_at(bytes, 41, entity) {
+        Ok(None) => (),
+        Ok(Some(line)) => return Err(LayerFault::Width { line }),
+        Err(fault) => return Err(fault),
+    }
+    match not_zero_at(bytes, 42, entity) {
+        Ok(None) => (),
+        Ok(Some(line)) => return Err(LayerFault::Bulge { line }),
+        Err(fault) => return Err(fault),
+    }
+    match not_zero_at(bytes, 70, entity) {
+        Ok(None) => Ok(()),
+        Ok(Some(line)) => Err(LayerFault::Flags { line }),
+        Err(fault) => Err(fault),
+    }
+}
+
+/// The vertex of an entity of its own.
+pub fn entity_vertex(
+    bytes: &[u8],
+    exact: bool,
+    seed: Option<Pair>,
+    entity: &Entity,
+) -> Result<Vertex, LayerFault>
+    ensures { result ≡ entity_vertex bytes.now exact seed (told entity.now) }
+{
+    match check_handle(seed, entity) {
+        Ok(()) => (),
+        Err(fault) => return Err(fault),
+    }
+    let spot = match spot_at(bytes, exact, 10, 20, entity) {
+        Ok(spot) => spot,
+        Err(fault) => return Err(fault),
+    };
+    match check_plain(bytes, entity) {
+        Ok(()) => Ok(Vertex {
+            spot,
+            start: entity.head.start,
+            past: entity.end(),
+        }),
+        Err(fault) => Err(fault),
+    }
+}
+
+/// Adds a vertex with an entity of its own, which is replaced.
+pub fn add_own_vertex(drawing: &mut Drawing, vertex: &Vertex) -> Result<(), AllocError>
+    requires { HoldsAtMost (2 ^ 30) (seen drawing.old) }
+    ensures added { OnOk result (seen drawing.new ≡ with_own_vertex (seen drawing.old) vertex.now) }
+    ensures grown { OnOk result (GrowsBy 2 (seen drawing.old) (seen drawing.new)) }
+{
+    let point = drawing.point();
+    drawing.add_point(&vertex.spot)?;
+    drawing.add_edit(Edit {
+        start: vertex.start,
+        end: vertex.past,
+        what: What::Vertex { point },
+    })?;
+    Ok(())
+}

@@ -1,0 +1,309 @@
+//! The entities of a drawing in order.
+
+ghost use Rattle.std.specs.Prelude.{◌≡◌, ◌^◌, ◌+◌, ◌≤◌, List, [], length, OnOk, None};
+ghost use Rattle.std.specs.List.{list_all};
+ghost use Rattle.sheet_base.specs.Sheets.{Contents};
+ghost use Rattle.dxf_layer.specs.Told.{told};
+ghost use Rattle.dxf_layer.specs.Entities.{is_kind as has_kind};
+ghost use Rattle.dxf_layer.specs.declared.drawing.Vertex.{Vertex};
+ghost use Rattle.dxf_layer.specs.Shapes.{with_shape};
+ghost use Rattle.dxf_layer.specs.Polylines.{own_shape};
+ghost use Rattle.dxf_layer.specs.Walks.{any_has_code, is_extrusion, is_upright, repeated, upright, other_kind, shapes_of, is_read_alone as are_read_alone, polyline_step, alone_step, by_kind, step_free, step_staying, step_reading, step, Place as Spot};
+ghost use Rattle.dxf_layer.specs.Held.{seen, HoldsAtMost, GrowsBy, Reads, Stands, Goes};
+
+use crate::drawing::Drawing;
+use crate::entities::{Entity, ends_section, has_code, value_in};
+use crate::fields::{equals, field, fields_of, is_there_as};
+use crate::points::{read_insert, read_line, read_point, read_text};
+use crate::polylines::{add_own_vertex, add_path_from, entity_vertex, kind_of, read_light};
+use dxf_pairs::Pair;
+use sheet_base::{Edit, How, LayerFault, PathKind, What};
+
+/// Where the next entity stands: by itself, behind a polyline that stays, or behind one that is read
+/// and whose points begin at this number.
+#[derive(Clone, Copy, Debug, PartialEq, Eq)]
+pub enum Place {
+    Free,
+    Staying,
+    Reading { kind: PathKind, first: u32 },
+}
+
+/// What is read of a drawing's bytes, and how.
+#[derive(Clone, Copy)]
+pub struct Source<'a> {
+    pub bytes: &'a [u8],
+    pub how: How,
+    pub seed: Option<Pair>,
+}
+
+/// Whether the entity is of this kind.
+fn is_kind(bytes: &[u8], kind: &[u8], entity: &Entity) -> bool
+    ensures { result ≡ has_kind bytes.now kind.now (told entity.now) }
+{
+    value_in(bytes, &entity.head) == kind
+}
+
+/// Whether the pair belongs to an extrusion.
+fn is_extrusion(pair: &Pair) -> bool
+    ensures { result ≡ is_extrusion pair.now }
+{
+    has_code(210, pair) || has_code(220, pair) || has_code(230, pair)
+}
+
+/// Whether the pair allows the direction upwards.
+fn is_upright(bytes: &[u8], pair: &Pair) -> bool
+    ensures { result ≡ is_upright bytes.now pair.now }
+{
+    if has_code(230, pair) {
+        equals(bytes, 1, pair)
+    } else if is_extrusion(pair) {
+        equals(bytes, 0, pair)
+    } else {
+        true
+    }
+}
+
+/// Whether one of the pairs has the code.
+fn has_any(code: i32, pairs: &[Pair]) -> bool
+    ensures { result ≡ any_has_code code pairs.now }
+{
+    pairs.iter().any(|other| other.code == code)
+}
+
+/// The first field of an extrusion that repeats the code of one before it.
+fn repeated(fields: &[Pair]) -> Option<Pair>
+    ensures { result ≡ repeated [] fields.now }
+{
+    for (number, pair) in fields.iter().enumerate() {
+        if is_extrusion(pair) && has_any(pair.code, &fields[..number]) {
+            return Some(*pair);
+        }
+    }
+    None
+}
+
+/// Whether all fields allow the direction upwards.
+fn are_upright(bytes: &[u8], fields: &[Pair]) -> bool
+    ensures { result ≡ list_all (is_upright bytes.now) fields.now }
+{
+    for pair in fields {
+        if !is_upright(bytes, pair) {
+            return false;
+        }
+    }
+    true
+}
+
+/// Refuses an entity that is extruded in another direction than upwards.
+fn check_upright(bytes: &[u8], entity: &Entity) -> Result<(), LayerFault>
+    ensures { result ≡ upright bytes.now (told entity.now) }
+{
+    let fields = fields_of(entity);
+    if !are_upright(bytes, fields) {
+        return Err(LayerFault::Extrusion {
+            line: u64::from(entity.head.line),
+        });
+    }
+    match repeated(fields) {
+        Some(pair) => Err(LayerFault::Count {
+            line: u64::from(pair.line),
+        }),
+        None => Ok(()),
+    }
+}
+
+/// Leaves an entity of another kind out, or refuses it.
+fn leave_out(how: How, entity: &Entity, drawing: &mut Drawing) -> Result<Place, LayerFault>
+    requires { HoldsAtMost (2 ^ 30) (seen drawing.old) }
+    ensures goes { Goes (other_kind how (told entity.now)) (seen drawing.old) result (seen drawing.new) }
+    ensures grown { OnOk result (GrowsBy 2 (seen drawing.old) (seen drawing.new)) }
+{
+    if !how.drop_other {
+        return Err(LayerFault::Entity {
+            line: u64::from(entity.head.line),
+        });
+    }
+    drawing.add_edit(Edit {
+        start: entity.head.start,
+        end: entity.end(),
+        what: What::Drop,
+    })?;
+    drawing.dropped += 1;
+    Ok(Place::Free)
+}
+
+/// Reads an entity that is no polyline with vertices of their own.
+fn read_alone(source: &Source, entity: &Entity, drawing: &mut Drawing) -> Result<(), LayerFault>
+    requires room { HoldsAtMost (2 ^ 30) (seen drawing.old) }
+    requires few { length entity.now.pairs.now ≤ 2 ^ 29 }
+    ensures reads { Reads (shapes_of source.now.bytes.now source.now.how source.now.seed (told entity.now)) (seen drawing.old) result (seen drawing.new) }
+    ensures grown { OnOk result (GrowsBy (length entity.now.pairs.now + 2) (seen drawing.old) (seen drawing.new)) }
+{
+    let exact = source.how.exact;
+    if is_kind(source.bytes, b"POINT".as_slice(), entity) {
+        read_point(source.bytes, exact, entity, drawing)
+    } else if is_kind(source.bytes, b"LINE".as_slice(), entity) {
+        read_line(source.bytes, exact, source.seed, entity, drawing)
+    } else if is_kind(source.bytes, b"LWPOLYLINE".as_slice(), entity) {
+        read_light(source.bytes, exact, entity, drawing)
+    } else if is_kind(source.bytes, b"TEXT".as_slice(), entity) {
+        read_text(source.bytes, exact, entity, drawing)
+    } else {
+        read_insert(source.bytes, exact, entity, drawing)
+    }
+}
+
+/// Whether entities of this kind are read by themselves.
+fn is_read_alone(bytes: &[u8], entity: &Entity) -> bool
+    ensures { result ≡ are_read_alone bytes.now (told entity.now) }
+{
+    is_kind(bytes, b"POINT".as_slice(), entity)
+        || is_kind(bytes, b"LINE".as_slice(), entity)
+        || is_kind(bytes, b"LWPOLYLINE".as_slice(), entity)
+        || is_kind(bytes, b"TEXT".as_slice(), entity)
+        || is_kind(bytes, b"INSERT".as_slice(), entity)
+}
+
+/// Begins a polyline whose vertices are entities of their own.
+fn begin_polyline(bytes: &[u8], entity: &Entity, first: u32) -> Result<Place, LayerFault>
+    ensures { (before : Contents) → first ≡ length before.points → Goes (polyline_step bytes.now (told entity.now)) before result before }
+{
+    match check_upright(bytes, entity) {
+        Ok(()) => (),
+        Err(fault) => return Err(fault),
+    }
+    match kind_of(bytes, entity) {
+        Ok(kind) => Ok(Place::Reading { kind, first }),
+        Err(fault) => Err(fault),
+    }
+}
+
+/// Reads an upright entity that stands by itself.
+fn step_alone(source: &Source, entity: &Entity, drawing: &mut Drawing) -> Result<Place, LayerFault>
+    requires room { HoldsAtMost (2 ^ 30) (seen drawing.old) }
+    requires few { length entity.now.pairs.now ≤ 2 ^ 29 }
+    ensures goes { Goes (alone_step source.now.bytes.now source.now.how source.now.seed (told entity.now)) (seen drawing.old) result (seen drawing.new) }
+    ensures grown { OnOk result (GrowsBy (length entity.now.pairs.now + 2) (seen drawing.old) (seen drawing.new)) }
+{
+    match check_upright(source.bytes, entity) {
+        Ok(()) => (),
+        Err(fault) => return Err(fault),
+    }
+    match read_alone(source, entity, drawing) {
+        Ok(()) => Ok(Place::Free),
+        Err(fault) => Err(fault),
+    }
+}
+
+/// Reads an entity that does not stay, by its kind.
+fn step_by_kind(
+    source: &Source,
+    entity: &Entity,
+    drawing: &mut Drawing,
+) -> Result<Place, LayerFault>
+    requires room { HoldsAtMost (2 ^ 30) (seen drawing.old) }
+    requires few { length entity.now.pairs.now ≤ 2 ^ 29 }
+    ensures goes { Goes (by_kind source.now.bytes.now source.now.how source.now.seed (told entity.now)) (seen drawing.old) result (seen drawing.new) }
+    ensures grown { OnOk result (GrowsBy (length entity.now.pairs.now + 2) (seen drawing.old) (seen drawing.new)) }
+{
+    if is_kind(source.bytes, b"POLYLINE".as_slice(), entity) {
+        begin_polyline(source.bytes, entity, drawing.point())
+    } else if is_read_alone(source.bytes, entity) {
+        step_alone(source, entity, drawing)
+    } else {
+        leave_out(source.how, entity, drawing)
+    }
+}
+
+/// Reads an entity that stands by itself.
+fn step_free(source: &Source, entity: &Entity, drawing: &mut Drawing) -> Result<Place, LayerFault>
+    requires room { HoldsAtMost (2 ^ 30) (seen drawing.old) }
+    requires few { length entity.now.pairs.now ≤ 2 ^ 29 }
+    ensures goes { Goes (step_free source.now.bytes.now source.now.how source.now.seed (told entity.now)) (seen drawing.old) result (seen drawing.new) }
+    ensures grown { OnOk result (GrowsBy (length entity.now.pairs.now + 2) (seen drawing.old) (seen drawing.new)) }
+{
+    if ends_section(source.bytes, &entity.head) {
+        return Ok(Place::Free);
+    }
+    match field(67, entity) {
+        Ok(paper) => {
+            if !is_there_as(source.bytes, 1, paper) {
+                step_by_kind(source, entity, drawing)
+            } else if is_kind(source.bytes, b"POLYLINE".as_slice(), entity) {
+                Ok(Place::Staying)
+            } else {
+                Ok(Place::Free)
+            }
+        }
+        Err(fault) => Err(fault),
+    }
+}
+
+/// Reads an entity behind a polyline that stays.
+fn step_staying(
+    source: &Source,
+    entity: &Entity,
+    drawing: &mut Drawing,
+) -> Result<Place, LayerFault>
+    requires room { HoldsAtMost (2 ^ 30) (seen drawing.old) }
+    requires few { length entity.now.pairs.now ≤ 2 ^ 29 }
+    ensures goes { Goes (step_staying source.now.bytes.now source.now.how source.now.seed (told entity.now)) (seen drawing.old) result (seen drawing.new) }
+    ensures grown { OnOk result (GrowsBy (length entity.now.pairs.now + 2) (seen drawing.old) (seen drawing.new)) }
+{
+    if is_kind(source.bytes, b"VERTEX".as_slice(), entity) {
+        Ok(Place::Staying)
+    } else if is_kind(source.bytes, b"SEQEND".as_slice(), entity) {
+        Ok(Place::Free)
+    } else {
+        step_free(source, entity, drawing)
+    }
+}
+
+/// Reads an entity behind a polyline that is read and whose points begin at this number.
+fn step_reading(
+    source: &Source,
+    kind: PathKind,
+    first: u32,
+    entity: &Entity,
+    drawing: &mut Drawing,
+) -> Result<Place, LayerFault>
+    requires room { HoldsAtMost (2 ^ 30) (seen drawing.old) }
+    ensures goes { (before : Contents) → (vertices : List Vertex) → first ≡ length before.points → seen drawing.old ≡ with_shape before (own_shape None vertices)
+        → Goes (step_reading source.now.bytes.now source.now.how source.now.seed kind vertices (told entity.now)) before result (seen drawing.new) }
+    ensures grown { OnOk result (GrowsBy 2 (seen drawing.old) (seen drawing.new)) }
+{
+    if is_kind(source.bytes, b"VERTEX".as_slice(), entity) {
+        match entity_vertex(source.bytes, source.how.exact, source.seed, entity) {
+            Ok(vertex) => add_own_vertex(drawing, &vertex)?,
+            Err(fault) => return Err(fault),
+        }
+        Ok(Place::Reading { kind, first })
+    } else if is_kind(source.bytes, b"SEQEND".as_slice(), entity) {
+        add_path_from(drawing, kind, first)?;
+        Ok(Place::Free)
+    } else {
+        Err(LayerFault::Count {
+            line: u64::from(entity.head.line),
+        })
+    }
+}
+
+/// Reads an entity, and answers where the next one stands.
+pub fn step(
+    source: &Source,
+    place: Place,
+    entity: &Entity,
+    drawing: &mut Drawing,
+) -> Result<Place, LayerFault>
+    requires room { HoldsAtMost (2 ^ 30) (seen drawing.old) }
+    requires few { length entity.now.pairs.now ≤ 2 ^ 29 }
+    ensures goes { (before : Contents) → (spot : Spot) → Stands place (seen drawing.old) before spot
+        → Goes (step source.now.bytes.now source.now.how source.now.seed spot (told entity.now)) before result (seen drawing.new) }
+    ensures grown { OnOk result (GrowsBy (length entity.now.pairs.now + 2) (seen drawing.old) (seen drawing.new)) }
+{
+    match place {
+        Place::Free => step_free(source, entity, drawing),
+        Place::Staying => step_staying(source, entity, drawing),
+        Place::Reading { kind, first } => step_reading(source, kind, first, entity, drawing),
+    }
+}
