@@ -1,9 +1,7 @@
 -- What is read of an entity of each kind is whole, and its edits lie in the entity, apart from each other.
 use Rattle.std.proofs.Common.{◌≡◌, ℕ, ◌+◌, ◌≤◌, ◌<◌, ℤ, pos, List, [], ◌∷◌, ◌++◌, length, map, Bool, true, false, cond, refl, ap, sym, ◌∙◌, subst, arith, inl, inr, Result, Ok, Err, Option, None, Some}
-use Rattle.std.specs.Prelude.{◌⊎◌, ◌||◌, ⊤, int_lt}
-use Rattle.std.specs.List.{prefix_len}
+use Rattle.std.specs.Prelude.{◌⊎◌, ◌||◌, ⊤}
 use Rattle.std.proofs.lemmas.Int.{ints}
-use Rattle.std.proofs.lemmas.List.{length-map}
 use Rattle.sheet_base.specs.declared.edits.Edit.{Edit}
 use Rattle.sheet_base.specs.declared.edits.What.{What}
 use Rattle.sheet_base.specs.declared.edits.What.TheVariants.{X, Y, Tally, Lines}
@@ -14,15 +12,15 @@ use Rattle.sheet_base.specs.declared.faults.LayerFault.TheVariants.{Attribs, Cou
 use Rattle.dxf_pairs.specs.declared.pairs.Pair.{Pair}
 use Rattle.dxf_layer.specs.declared.drawing.Spot.{Spot}
 use Rattle.dxf_layer.specs.declared.drawing.Vertex.{Vertex}
-use Rattle.dxf_layer.specs.Entities.{Entity, past_pairs, entity_end}
+use Rattle.dxf_layer.specs.Entities.{Entity, entity_end}
 use Rattle.dxf_layer.specs.Fields.{and_then, fields_of, field, wanted, zero_at, equals, is_not_zero}
 use Rattle.dxf_layer.specs.Shapes.{Shape, value_edit, spot_edits, point_of}
 use Rattle.dxf_layer.specs.Points.{spot_at, dot_of, dots_of, point_shapes, insert_shapes, second_by, second_spot, text_shapes, line_of, line_ends, line_shapes}
 use Rattle.dxf_layer.specs.Polylines.{kind_by, kind_of, kind_with, as_count, count_of, vertices_in, vertex_edits, light_shape, light_shapes}
 use Rattle.dxf_layer.proofs.Apart.{IsApart, IsApartFromAll, AreApart, AreWithin, StandApart, wider}
-use Rattle.dxf_layer.proofs.Members.{Went, went, Follow, by_past, follow_earlier, IsIn, Lies, lies, one_before, IsField, wanted_is, HasFields, spot_fields}
+use Rattle.dxf_layer.proofs.Members.{went, Follow, Lies, lies, one_before, IsField, wanted_is, spot_fields}
 use Rattle.dxf_layer.proofs.VertexOrder.{AreOff, ordered}
-use Rattle.dxf_layer.proofs.Shaped.{IsWholeBy, AreWhole, IsClear, AreClear, within_clear, AreGood, none_good, all_good, one_good}
+use Rattle.dxf_layer.proofs.Shaped.{IsWholeBy, IsClear, within_clear, AreGood, all_good, one_good}
 
 -- two choices, both of which have a property
 pub either : {A : Type 0} (P : A → Type 0) (test : Bool) (one other : A) → P one → P other → P (cond test one other)

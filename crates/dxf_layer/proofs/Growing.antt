@@ -1,7 +1,6 @@
 -- How much is read at most.
-use Rattle.std.proofs.Common.{◌≡◌, ℕ, ◌+◌, ◌≤◌, List, length, Bool, arith, Result, Ok, Err}
+use Rattle.std.proofs.Common.{ℕ, ◌+◌, ◌≤◌, List, length, Bool, arith, Result, Ok, Err}
 use Rattle.std.specs.Prelude.{OnOk, take_while}
-use Rattle.std.specs.List.{prefix_len}
 use Rattle.std.proofs.lemmas.List.Sums.{prefix_len-le-length}
 use Rattle.std.proofs.lemmas.List.Folds.{length-prefix_len}
 use Rattle.sheet_base.specs.declared.edits.Edit.{Edit}

@@ -1,8 +1,8 @@
 -- A polyline in one entity, read whole.
-use Rattle.std.proofs.Common.{◌≡◌, ℕ, ◌+◌, ◌-◌, ◌≤◌, List, [], ◌∷◌, ◌++◌, length, map, Bool, true, false, refl, ap, sym, ◌∙◌, subst, arith, pos, Result, Ok, Err, Option, None, Some}
+use Rattle.std.proofs.Common.{◌≡◌, ℕ, ◌+◌, ◌-◌, ◌≤◌, List, [], ◌∷◌, ◌++◌, length, map, Bool, true, false, refl, ap, sym, ◌∙◌, subst, arith, Result, Ok, Err}
 use Rattle.std.specs.Prelude.{nat_lt}
 use Rattle.std.proofs.lemmas.Bool.Decides.{nat_tests}
-use Rattle.std.proofs.lemmas.List.{append-nil, append_assoc, length-append, length-map}
+use Rattle.std.proofs.lemmas.List.{append_assoc, length-append, length-map}
 use Rattle.sheet_base.specs.Sheets.{Contents}
 use Rattle.sheet_base.specs.declared.faults.LayerFault.{LayerFault}
 use Rattle.sheet_base.specs.declared.paths.PathKind.{PathKind}
@@ -12,7 +12,7 @@ use Rattle.dxf_pairs.specs.declared.pairs.Pair.{Pair}
 use Rattle.dxf_layer.specs.declared.drawing.Vertex.{Vertex}
 use Rattle.dxf_layer.specs.Entities.{Entity}
 use Rattle.dxf_layer.specs.Fields.{and_then, fields_of}
-use Rattle.dxf_layer.specs.Shapes.{Shape, point_of, value_edit, rows_of, with_shape, with_shapes}
+use Rattle.dxf_layer.specs.Shapes.{Shape, point_of, value_edit, rows_of, with_shape}
 use Rattle.dxf_layer.specs.Polylines.{kind_of, kind_with, rows_from, vertices_in, vertex_edits, count_of, light_shape, light_shapes}
 use Rattle.dxf_layer.specs.Held.{with_vertices, with_edits, with_rows, AddsAs, AddsVertices}
 use Rattle.dxf_layer.proofs.Vertices.{same_contents}

@@ -1,10 +1,8 @@
 -- Fields found so far.
-use Rattle.std.proofs.Common.{suc, arith, subst, ◌-◌, ◌≡◌, List, [], ◌∷◌, ◌++◌, ◌<◌, ◌+◌, ℕ, ℤ, length, take, drop, get_or, Bool, true, false, cond, refl, ◌∙◌, ap, sym, Option, None, Some, Result, Ok, Err}
+use Rattle.std.proofs.Common.{suc, arith, subst, ◌-◌, ◌≡◌, List, [], ◌∷◌, ◌++◌, ◌<◌, ℕ, length, take, drop, get_or, Bool, true, refl, ◌∙◌, ap, Option, None, Some, Err}
 use Rattle.std.specs.Prelude.{filter, is_some, slice_get}
 use Rattle.std.proofs.Math.Seq.{split_at}
-use Rattle.std.proofs.lemmas.List.{take-append-drop}
-use Rattle.std.proofs.lemmas.List.Elements.{filter_more, filter-append}
-use Rattle.sheet_base.specs.declared.faults.LayerFault.{LayerFault}
+use Rattle.std.proofs.lemmas.List.Elements.{filter-append}
 use Rattle.sheet_base.specs.declared.faults.LayerFault.TheVariants.{Count}
 use Rattle.dxf_pairs.specs.declared.pairs.Pair.{Pair}
 use Rattle.dxf_layer.specs.Fields.{at_most_one}

@@ -1,8 +1,7 @@
 -- Fields that are looked up are pairs of the entity, and pairs follow each other.
-use Rattle.std.proofs.Common.{◌≡◌, inl, inr, ℕ, zero, suc, ◌+◌, ◌≤◌, ◌<◌, ℤ, pos, List, [], ◌∷◌, ◌++◌, length, take, Bool, true, false, cond, refl, ap, sym, ◌∙◌, subst, arith, Result, Ok, Err, Option, None, Some}
-use Rattle.std.specs.Prelude.{◌⊎◌, filter, take_while, int_lt, ◌&&◌, not}
+use Rattle.std.proofs.Common.{◌≡◌, inl, inr, ℕ, zero, suc, ◌+◌, ◌≤◌, ◌<◌, ℤ, pos, List, [], ◌∷◌, take, Bool, true, false, cond, refl, ap, sym, ◌∙◌, subst, arith, Result, Ok, Err, Option, None, Some}
+use Rattle.std.specs.Prelude.{◌⊎◌, filter, int_lt, ◌&&◌, not}
 use Rattle.std.specs.List.{prefix_len}
-use Rattle.std.specs.Ordering.{int_eq}
 use Rattle.std.proofs.lemmas.Bool.Decides.{Decides-int_eq}
 use Rattle.sheet_base.specs.declared.faults.LayerFault.{LayerFault}
 use Rattle.sheet_base.specs.declared.faults.LayerFault.TheVariants.{Inexact}

@@ -1,6 +1,6 @@
 -- Worked rows, by computing.
-use Rattle.std.proofs.Common.{◌≡◌, ℕ, List, [], ◌∷◌, true, false, refl, pos}
-use Rattle.std.specs.Prelude.{codes, Result, Err, Ok}
+use Rattle.std.proofs.Common.{◌≡◌, [], ◌∷◌, true, false, refl, pos}
+use Rattle.std.specs.Prelude.{codes, Err, Ok}
 use Rattle.sheet_base.specs.declared.flags.How.{How}
 use Rattle.sheet_base.specs.declared.faults.LayerFault.TheVariants as faults
 use Rattle.sheet_base.specs.declared.edits.What.TheVariants as edits

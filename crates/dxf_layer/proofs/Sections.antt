@@ -1,6 +1,6 @@
 -- Where the entities of a drawing and its next handle stand.
-use Rattle.std.proofs.Common.{◌≡◌, ℕ, zero, suc, ◌+◌, ◌≤◌, ◌<◌, ℤ, pos, List, [], ◌∷◌, length, take, Bool, true, false, cond, refl, ap, sym, ◌∙◌, subst, arith, inl, inr, Option, None, Some}
-use Rattle.std.specs.Prelude.{◌⊎◌, ◌||◌, ◌&&◌, ⊤, codes, int_lt, take_while, not}
+use Rattle.std.proofs.Common.{◌≡◌, ℕ, zero, suc, ◌≤◌, pos, List, [], ◌∷◌, take, Bool, true, false, cond, refl, ap, sym, ◌∙◌, subst, arith, inl, inr, None, Some}
+use Rattle.std.specs.Prelude.{◌⊎◌, ◌||◌, ◌&&◌, ⊤, codes, int_lt, take_while}
 use Rattle.std.specs.List.{prefix_len}
 use Rattle.std.specs.Str.{bytes_eq}
 use Rattle.std.proofs.lemmas.List.Sums.{take_while-cons}
@@ -10,7 +10,6 @@ use Rattle.dxf_pairs.specs.Groups.{value_in}
 use Rattle.dxf_layer.specs.declared.entities.Where.{Where}
 use Rattle.dxf_layer.specs.declared.entities.Where.TheVariants.{Outside, Begun, Header, Entities, Other}
 use Rattle.dxf_layer.specs.Entities.{Entity, has_code, is_no_head, is_kind, ends_section, behind, begins_entity, entity_of, entities_from, entity_end, past_pairs}
-use Rattle.dxf_layer.specs.Fields.{fields_of}
 use Rattle.dxf_layer.specs.Handles.{is_handle, as_seed, names_seed, seed_from}
 use Rattle.dxf_layer.proofs.Members.{Follow, by_past, IsIn, lies}
 use Rattle.dxf_layer.proofs.Shaped.{IsClear}

@@ -1,5 +1,5 @@
 -- The next handle of a drawing is a handle.
-use Rattle.std.proofs.Common.{◌≡◌, ℕ, pos, List, [], ◌∷◌, Bool, true, false, ◌&&◌, cond, refl, Option, None, Some}
+use Rattle.std.proofs.Common.{◌≡◌, ℕ, pos, List, [], ◌∷◌, Bool, true, false, ◌&&◌, cond, refl, None, Some}
 use Rattle.dxf_pairs.specs.declared.pairs.Pair.{Pair}
 use Rattle.dxf_pairs.specs.Groups.{value_in}
 use Rattle.dxf_layer.specs.declared.entities.Where.{Where}

@@ -1,12 +1,12 @@
 -- Shapes whose paths are whole, and whose edits lie between two places, apart from each other and clear of a span.
-use Rattle.std.proofs.Common.{◌≡◌, ℕ, ◌+◌, ◌≤◌, ◌<◌, List, [], ◌∷◌, ◌++◌, length, Bool, true, false, cond, refl, ap, sym, ◌∙◌, subst, arith, inl, inr, Option, None, Some}
+use Rattle.std.proofs.Common.{◌≡◌, ℕ, ◌+◌, ◌≤◌, ◌<◌, List, [], ◌∷◌, ◌++◌, length, refl, ap, sym, ◌∙◌, subst, arith, inl, inr, Option, None, Some}
 use Rattle.std.specs.Prelude.{◌⊎◌, ⊤}
 use Rattle.std.proofs.lemmas.List.{append-nil, append_assoc, length-append}
 use Rattle.sheet_base.specs.declared.edits.Edit.{Edit}
 use Rattle.sheet_base.specs.declared.paths.PathKind.{PathKind}
 use Rattle.sheet_base.specs.declared.paths.PathKind.TheVariants.{Dot, Line, Loop}
 use Rattle.sheet_base.specs.declared.paths.PathRow.{PathRow}
-use Rattle.sheet_base.specs.Sheets.{Contents, IsPathFrom, AreTiled}
+use Rattle.sheet_base.specs.Sheets.{Contents, AreTiled}
 use Rattle.dxf_layer.specs.Shapes.{Shape, rows_of, with_shape, with_shapes}
 use Rattle.dxf_layer.proofs.Apart.{AreWithin, StandApart, wider, no_edits, both_apart}
 

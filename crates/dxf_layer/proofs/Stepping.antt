@@ -1,7 +1,7 @@
 -- The code's steps are those of the walk.
-use Rattle.std.proofs.Common.{◌≡◌, ℕ, ◌+◌, List, [], ◌∷◌, ◌++◌, length, map, refl, ap, sym, ◌∙◌, arith, Result, Ok, Err, Option, None, Some}
+use Rattle.std.proofs.Common.{◌≡◌, ℕ, ◌+◌, List, [], ◌∷◌, ◌++◌, length, map, refl, ap, ◌∙◌, arith, Result, Ok, Err, None}
 use Rattle.std.specs.Prelude.{sum_by}
-use Rattle.std.proofs.lemmas.List.{append-nil, append_assoc, length-append, length-map, map-append}
+use Rattle.std.proofs.lemmas.List.{append_assoc, length-append, length-map, map-append}
 use Rattle.std.proofs.lemmas.List.Sums.{sum_by-append}
 use Rattle.sheet_base.specs.Sheets.{Contents}
 use Rattle.sheet_base.specs.declared.faults.LayerFault.{LayerFault}

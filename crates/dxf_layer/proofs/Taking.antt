@@ -1,16 +1,15 @@
 -- How many handles edits in order take.
-use Rattle.std.proofs.Common.{◌≡◌, ℕ, suc, zero, ◌+◌, ◌*◌, ◌-◌, ◌^◌, ◌≤◌, ◌<◌, List, [], ◌∷◌, length, get_or, take, drop, Bool, true, false, cond, arith, refl, ap, ◌∙◌, subst, Option, None, Some}
+use Rattle.std.proofs.Common.{◌≡◌, ℕ, suc, zero, ◌+◌, ◌*◌, ◌-◌, ◌^◌, ◌≤◌, ◌<◌, List, [], ◌∷◌, length, take, drop, Bool, true, false, cond, arith, refl, subst, Option, None, Some}
 use Rattle.std.specs.Prelude.{filter, sum_by, nat_lt, slice_index_or}
 use Rattle.std.specs.List.{prefix_len}
 use Rattle.std.proofs.lemmas.Bool.Decides.{nat_tests}
-use Rattle.std.proofs.lemmas.List.{length-take, length-drop, drop_more}
+use Rattle.std.proofs.lemmas.List.{length-take, length-drop}
 use Rattle.std.proofs.lemmas.List.Sums.{sum_by-cons, sum_by_more, prefix_len-le-length}
-use Rattle.plane_base.specs.declared.shapes.Pt.{Pt}
 use Rattle.sheet_base.specs.declared.edits.Edit.{Edit}
 use Rattle.sheet_base.specs.declared.edits.What.{What}
 use Rattle.sheet_base.specs.declared.edits.What.TheVariants as edits
 use Rattle.sheet_base.specs.declared.paths.PathRow.{PathRow}
-use Rattle.sheet_base.specs.Fitting.{Runs, run_begin}
+use Rattle.sheet_base.specs.Fitting.{Runs}
 use Rattle.sheet_base.specs.Splices.{AreInOrder}
 use Rattle.sheet_base.proofs.Splicing.{no_edit, next_edit}
 use Rattle.dxf_pairs.specs.declared.pairs.Pair.{Pair}

@@ -1,8 +1,7 @@
 -- The edits of vertices in fields are in order of the fields, and apart from that of their number.
-use Rattle.std.proofs.Common.{◌≡◌, ℕ, ◌+◌, ◌≤◌, ◌<◌, ℤ, pos, List, [], ◌∷◌, ◌++◌, length, Bool, true, false, cond, refl, ap, sym, ◌∙◌, subst, arith, inl, inr, Result, Ok, Err, Option, None, Some}
+use Rattle.std.proofs.Common.{◌≡◌, ℕ, ◌+◌, ◌≤◌, ◌<◌, ℤ, pos, List, [], ◌∷◌, Bool, true, false, cond, refl, ap, sym, ◌∙◌, subst, arith, inl, inr, Result, Ok, Err, Option, None, Some}
 use Rattle.std.proofs.lemmas.Int.{ints}
-use Rattle.std.specs.Prelude.{◌⊎◌, ◌&&◌, ◌||◌, ⊤}
-use Rattle.std.specs.Ordering.{int_eq}
+use Rattle.std.specs.Prelude.{◌⊎◌, ◌&&◌, ⊤}
 use Rattle.std.proofs.lemmas.Bool.Decides.{Decides-int_eq}
 use Rattle.sheet_base.specs.declared.edits.Edit.{Edit}
 use Rattle.sheet_base.specs.declared.edits.What.{What}
@@ -16,8 +15,8 @@ use Rattle.dxf_layer.specs.Entities.{has_code}
 use Rattle.dxf_layer.specs.Fields.{and_then, coordinate}
 use Rattle.dxf_layer.specs.Shapes.{value_edit}
 use Rattle.dxf_layer.specs.Polylines.{is_group_code, fault_in_group, first_fault, past_group, vertex_of, begins_vertex, is_number, vertices_in, vertex_edits}
-use Rattle.dxf_layer.proofs.Apart.{IsApart, IsApartFromAll, StandApart, wider, no_edits, both_apart}
-use Rattle.dxf_layer.proofs.Members.{Went, went, Follow, by_past, IsIn, Lies, lies, coordinate_is}
+use Rattle.dxf_layer.proofs.Apart.{IsApart, StandApart, wider, no_edits, both_apart}
+use Rattle.dxf_layer.proofs.Members.{went, Follow, by_past, IsIn, Lies, lies, coordinate_is}
 
 -- what is read of one vertex
 pub record IsVertex (bytes : List ℕ) (x y : Pair) (pairs : List Pair) (vertex : Vertex) : Type 0 where

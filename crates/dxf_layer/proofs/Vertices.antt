@@ -13,7 +13,7 @@ use Rattle.dxf_layer.specs.declared.drawing.Vertex.{Vertex}
 use Rattle.dxf_layer.specs.Fields.{and_then}
 use Rattle.dxf_layer.specs.Shapes.{point_of, lost_of}
 use Rattle.dxf_layer.specs.Polylines.{vertices_in, vertex_edits}
-use Rattle.dxf_layer.specs.Held.{with_vertices, vertices_by, HoldsAtMost, GrowsBy}
+use Rattle.dxf_layer.specs.Held.{with_vertices, vertices_by, GrowsBy}
 
 abbrev pub behind_all : List Vertex → Result (List Vertex) LayerFault → Result (List Vertex) LayerFault
 behind_all done rest = and_then (λ more. Ok (done ++ more)) rest

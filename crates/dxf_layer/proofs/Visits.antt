@@ -1,5 +1,5 @@
 -- The entities of a drawing, read so far.
-use Rattle.std.proofs.Common.{◌≡◌, ℕ, suc, ◌+◌, ◌*◌, ◌-◌, ◌≤◌, ◌<◌, ◌^◌, List, [], ◌∷◌, ◌++◌, length, drop, get_or, Bool, true, false, cond, refl, ap, sym, ◌∙◌, subst, arith, Result, Ok, Err, Option, None, Some, pos}
+use Rattle.std.proofs.Common.{◌≡◌, ℕ, ◌+◌, ◌*◌, ◌≤◌, ◌<◌, List, [], ◌∷◌, ◌++◌, length, drop, get_or, Bool, true, false, refl, ap, sym, ◌∙◌, subst, arith, Result, Ok, Err, Option, pos}
 use Rattle.std.specs.Prelude.{OnOk}
 use Rattle.std.proofs.lemmas.List.{append_assoc, append-nil, length-drop, drop_all}
 use Rattle.std.proofs.lemmas.List.Sums.{prefix_len-le-length}
@@ -14,9 +14,9 @@ use Rattle.dxf_layer.specs.declared.entities.Where.TheVariants.{Outside, Begun, 
 use Rattle.dxf_layer.specs.declared.walking.Place.{Place as Held}
 use Rattle.dxf_layer.specs.declared.walking.Place.TheVariants.{Free, Staying, Reading}
 use Rattle.dxf_layer.specs.Fields.{and_then}
-use Rattle.dxf_layer.specs.Entities.{is_no_head, begins_entity, behind, entity_of, entities_from, entities_of}
+use Rattle.dxf_layer.specs.Entities.{is_no_head, begins_entity, behind, entities_from, entities_of}
 use Rattle.dxf_layer.specs.Shapes.{Shape, with_shape, with_shapes}
-use Rattle.dxf_layer.specs.Walks.{Place, free, staying, reading, Step, step, visited, walk_end, walked}
+use Rattle.dxf_layer.specs.Walks.{Place, free, staying, reading, Step, visited, walk_end, walked}
 use Rattle.dxf_layer.specs.Held.{HoldsAtMost, GrowsBy, GrowsAlong, Stands, GoesTo, AddsAs, room_before}
 
 abbrev pub behind_shapes : List Shape → Result (List Shape) LayerFault → Result (List Shape) LayerFault

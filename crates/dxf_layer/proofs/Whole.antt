@@ -1,5 +1,5 @@
 -- What is read of a drawing makes a sheet whose edits are in order.
-use Rattle.std.proofs.Common.{◌≡◌, ℕ, ◌+◌, ◌≤◌, ◌<◌, List, [], ◌∷◌, ◌++◌, length, refl, ap, sym, ◌∙◌, subst, arith, inl, inr, Result, Ok, Err, Option, None, Some}
+use Rattle.std.proofs.Common.{◌≡◌, ℕ, ◌+◌, ◌≤◌, List, [], ◌∷◌, length, refl, ap, sym, ◌∙◌, subst, arith, inl, inr, Result, Ok, Err, Option, None, Some}
 use Rattle.std.specs.Prelude.{take_while}
 use Rattle.sheet_base.specs.declared.edits.Edit.{Edit}
 use Rattle.sheet_base.specs.declared.edits.What.TheVariants.{NextHandle}
@@ -13,15 +13,15 @@ use Rattle.dxf_pairs.specs.Laws.{AreTiles, Tile}
 use Rattle.dxf_layer.specs.declared.entities.Where.TheVariants.{Outside}
 use Rattle.dxf_layer.specs.Entities.{Entity, is_no_head, entities_of, past_pairs}
 use Rattle.dxf_layer.specs.Fields.{and_then}
-use Rattle.dxf_layer.specs.Handles.{seed_of, seed_edits}
+use Rattle.dxf_layer.specs.Handles.{seed_of}
 use Rattle.dxf_layer.specs.Shapes.{Shape, value_edit, in_order, with_shapes}
 use Rattle.dxf_layer.specs.Walks.{free, walked}
 use Rattle.dxf_layer.specs.Drawings.{begun, sheet_of, from_pairs, drawing_sheet}
 use Rattle.dxf_layer.specs.Held.{AddsAs}
-use Rattle.dxf_layer.proofs.Apart.{IsApart, IsApartFromAll, AreWithin, StandApart, wider, sorted_in_order}
-use Rattle.dxf_layer.proofs.Members.{Follow, tiles_follow, by_past, Lies, lies}
+use Rattle.dxf_layer.proofs.Apart.{IsApart, IsApartFromAll, AreWithin, StandApart, sorted_in_order}
+use Rattle.dxf_layer.proofs.Members.{Follow, tiles_follow, Lies, lies}
 use Rattle.dxf_layer.proofs.Shaped.{IsClear, AreClear, AreGood, IsTiled, whole_tiles, edits_with, edits_are}
-use Rattle.dxf_layer.proofs.Sections.{AreSpread, AreAside, spread, all_aside, seed_in, seed_aside}
+use Rattle.dxf_layer.proofs.Sections.{AreSpread, spread, all_aside, seed_in, seed_aside}
 use Rattle.dxf_layer.proofs.Ordered.{walk_good}
 
 tiles_short : (start line : ℕ) (pairs : List Pair) (past : ℕ) → AreTiles start line pairs past → start + length pairs ≤ past

@@ -1,5 +1,5 @@
 -- The sections of a drawing and their entities (AutoCAD DXF reference, structure of a DXF file).
-use Rattle.std.specs.Prelude.{ℕ, ℤ, pos, codes, Bool, true, false, ◌&&◌, ◌||◌, not, if◌then◌else◌, List, [], ◌∷◌, take_while}
+use Rattle.std.specs.Prelude.{ℕ, ℤ, pos, codes, Bool, false, ◌&&◌, ◌||◌, not, if◌then◌else◌, List, [], ◌∷◌, take_while}
 use Rattle.std.specs.Str.{bytes_eq}
 use Rattle.std.specs.Ordering.{int_eq}
 use Rattle.dxf_pairs.specs.declared.pairs.Pair.{Pair}

@@ -1,5 +1,5 @@
 -- The next handle of a drawing: the value of the pair of code 5 that directly follows the first pair `9 $HANDSEED` in a section HEADER.
-use Rattle.std.specs.Prelude.{ℕ, ℤ, pos, Bool, true, false, ◌&&◌, nat_le, if◌then◌else◌, codes, List, [], ◌∷◌, length, Option, None, Some, Result, Ok, Err}
+use Rattle.std.specs.Prelude.{ℕ, pos, Bool, false, ◌&&◌, nat_le, if◌then◌else◌, codes, List, [], ◌∷◌, length, Option, None, Some, Result, Ok, Err}
 use Rattle.std.specs.List.{list_all}
 use Rattle.std.specs.Char.{is_ascii_hexdigit}
 use Rattle.sheet_base.specs.declared.edits.Edit.{Edit}

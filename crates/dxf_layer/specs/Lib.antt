@@ -10,3 +10,4 @@ pub mod Told
 pub mod Held
 pub mod Rendering
 pub mod Paged
+pub mod ReadBack

@@ -1,6 +1,5 @@
 -- Polylines of a drawing, with their vertices in fields (LWPOLYLINE) or in entities of their own (POLYLINE).
-use Rattle.std.specs.Prelude.{ℕ, ◌+◌, pos, nat_lt, Bool, true, false, ◌&&◌, ◌||◌, not, if◌then◌else◌, List, [], ◌∷◌, ◌++◌, length, map, sum_by, take_while, Option, None, Some, Result, Ok, Err}
-use Rattle.plane_base.specs.declared.shapes.Pt.{Pt}
+use Rattle.std.specs.Prelude.{ℕ, ◌+◌, pos, nat_lt, Bool, ◌&&◌, ◌||◌, if◌then◌else◌, List, [], ◌∷◌, ◌++◌, length, map, sum_by, Option, None, Some, Result, Ok, Err}
 use Rattle.sheet_base.specs.declared.edits.Edit.{Edit}
 use Rattle.sheet_base.specs.declared.edits.What.TheVariants as edits
 use Rattle.sheet_base.specs.declared.paths.PathKind.{PathKind}
@@ -9,7 +8,7 @@ use Rattle.sheet_base.specs.declared.paths.PathRow.{PathRow}
 use Rattle.sheet_base.specs.declared.faults.LayerFault.{LayerFault}
 use Rattle.sheet_base.specs.declared.faults.LayerFault.TheVariants.{Bulge, Count, Flags, Width}
 use Rattle.dxf_pairs.specs.declared.pairs.Pair.{Pair}
-use Rattle.dxf_layer.specs.Entities.{Entity, has_code, entity_end, past_pairs}
+use Rattle.dxf_layer.specs.Entities.{Entity, has_code, entity_end}
 use Rattle.dxf_layer.specs.Fields.{and_then, fields_of, field, wanted, coordinate, equals, zero_at}
 use Rattle.dxf_layer.specs.Handles.{handle}
 use Rattle.dxf_layer.specs.Points.{spot_at}

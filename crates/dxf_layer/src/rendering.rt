@@ -110,7 +110,7 @@ fn push_text(
 }
 
 /// The bytes of the page with the text of each edit in the place of its span.
-fn render_page(alloc: Global, page: &Page) -> Result<Vec<u8>, AllocError>
+pub fn render_page(alloc: Global, page: &Page) -> Result<Vec<u8>, AllocError>
     requires short { length page.now.bytes.now ≤ 2 ^ 26 }
     requires few { length page.now.images.now.points < 2 ^ 32 }
     requires order { AreInOrder 0 page.now.sheet.now.edits (length page.now.bytes.now) }

@@ -1,6 +1,9 @@
 //! Drawings whose sheets and faults were worked out by hand.
 
-use crate::{read_drawing, render_drawing};
+use crate::pages::Page;
+use crate::read_drawing;
+use crate::rendering::render_page;
+use dxf_pairs::read_pairs;
 use mm_decimal::NumFault;
 use plane_base::Pt;
 use sheet_base::{Edit, How, Images, LayerFault, Listed, PathKind, PathRow, What};
@@ -485,7 +488,14 @@ fn writes_a_split_line(rt: HostRuntime) -> Result<(), Fail> {
         },
     ];
     let images = images(rt.alloc(), points.as_slice(), [0, 2].as_slice())?;
-    let out = render_drawing(rt.alloc(), LINES, how, &sheet, &images)?;
+    let pairs = read_pairs(rt.alloc(), LINES)?;
+    let page = Page {
+        bytes: LINES,
+        pairs: &pairs,
+        sheet: &sheet,
+        images: &images,
+    };
+    let out = render_page(rt.alloc(), &page)?;
     assert_eq!(rt; out.as_slice(), LINES_CARRIED);
     Ok(())
 }
@@ -512,7 +522,14 @@ fn writes_a_split_loop(rt: HostRuntime) -> Result<(), Fail> {
         },
     ];
     let images = images(rt.alloc(), points.as_slice(), [0, 2].as_slice())?;
-    let out = render_drawing(rt.alloc(), LOOP, PLAIN, &sheet, &images)?;
+    let pairs = read_pairs(rt.alloc(), LOOP)?;
+    let page = Page {
+        bytes: LOOP,
+        pairs: &pairs,
+        sheet: &sheet,
+        images: &images,
+    };
+    let out = render_page(rt.alloc(), &page)?;
     assert_eq!(rt; out.as_slice(), LOOP_CARRIED);
     Ok(())
 }

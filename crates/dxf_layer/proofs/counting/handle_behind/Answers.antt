@@ -1,4 +1,4 @@
-use Rattle.std.proofs.Common.{◌∙◌, arith, subst, sym}
+use Rattle.std.proofs.Common.{arith}
 use Rattle.dxf_layer.specs.Paged.{read_of}
 use Rattle.dxf_layer.proofs.Taking.{number_within, one_counted, counts_small, passed_before}
 use Rattle.dxf_layer.proofs.counting.handle_behind.Goals as goal

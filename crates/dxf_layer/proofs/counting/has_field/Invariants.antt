@@ -1,4 +1,4 @@
-use Rattle.std.proofs.Common.{◌≡◌, [], drop}
+use Rattle.std.proofs.Common.{◌≡◌, drop}
 use Rattle.std.specs.Prelude.{filter}
 use Rattle.dxf_layer.specs.Entities.{has_code}
 use Rattle.dxf_layer.proofs.counting.has_field.Given as goal

@@ -1,4 +1,4 @@
-use Rattle.std.proofs.Common.{◌∙◌, sym, ap, FitsSigned, w32, rules}
+use Rattle.std.proofs.Common.{◌∙◌, sym, FitsSigned, w32, rules}
 use Rattle.std.proofs.lemmas.Int.{to_z-of_z}
 use Rattle.dxf_layer.specs.Entities.{has_code}
 use Rattle.dxf_layer.proofs.Lists.{second_found}

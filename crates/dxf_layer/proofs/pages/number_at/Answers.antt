@@ -1,6 +1,5 @@
-use Rattle.std.proofs.Common.{◌≡◌, arith, true, false, get_or, length}
+use Rattle.std.proofs.Common.{◌≡◌, arith, true, false, get_or}
 use Rattle.std.specs.Prelude.{nat_lt}
-use Rattle.std.specs.List.{prefix_len}
 use Rattle.std.proofs.lemmas.List.Sums.{prefix_len-le-length}
 use Rattle.std.proofs.lemmas.Bool.Decides.{nat_tests}
 use Rattle.dxf_layer.specs.Rendering.{starts_before}

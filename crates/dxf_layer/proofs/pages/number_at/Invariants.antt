@@ -1,4 +1,4 @@
-use Rattle.std.proofs.Common.{◌≡◌, ◌≤◌, ◌-◌, length}
+use Rattle.std.proofs.Common.{◌≤◌, ◌-◌, length}
 use Rattle.dxf_layer.specs.Paged.{read_of}
 use Rattle.dxf_layer.specs.Rendering.{number_at}
 use Rattle.dxf_layer.proofs.pages.number_at.Given as goal

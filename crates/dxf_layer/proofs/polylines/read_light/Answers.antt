@@ -1,8 +1,7 @@
-use Rattle.std.proofs.Common.{◌≡◌, ◌∙◌, ap, sym, subst, arith, ◌+◌, ◌-◌, ◌≤◌, length, pos, ◌^◌, Ok, Err}
+use Rattle.std.proofs.Common.{◌≡◌, ◌∙◌, sym, subst, arith, ◌+◌, ◌-◌, ◌≤◌, length, pos, ◌^◌, Ok, Err}
 use Rattle.std.specs.Prelude.{int_lt}
 use Rattle.dxf_pairs.specs.declared.pairs.Pair.{Pair}
 use Rattle.dxf_layer.specs.Told.{told}
-use Rattle.dxf_layer.specs.Fields.{fields_of}
 use Rattle.dxf_layer.specs.Polylines.{vertices_in, count_of}
 use Rattle.dxf_layer.specs.Held.{seen, HoldsAtMost, AddsVertices}
 use Rattle.dxf_layer.proofs.Growing.{holds_more, edited_holds, taken_short}

@@ -1,6 +1,5 @@
-use Rattle.std.proofs.Common.{◌≡◌, ◌∙◌, ap, sym, subst, arith, length}
-use Rattle.sheet_base.specs.Sheets.{Contents, AreTiled}
-use Rattle.sheet_base.specs.Splices.{AreInOrder}
+use Rattle.std.proofs.Common.{◌≡◌, ◌∙◌, ap, arith}
+use Rattle.sheet_base.specs.Sheets.{Contents}
 use Rattle.dxf_layer.specs.Shapes.{in_order}
 use Rattle.dxf_layer.specs.Held.{seen}
 use Rattle.dxf_layer.proofs.Whole.{few_pairs, read_whole}

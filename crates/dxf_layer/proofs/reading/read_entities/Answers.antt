@@ -1,6 +1,5 @@
-use Rattle.std.proofs.Common.{◌≡◌, ◌∙◌, sym, subst, arith, ◌^◌, ◌*◌, ◌+◌, ◌-◌, List, get_or, take, drop, length}
+use Rattle.std.proofs.Common.{sym, subst, arith, ◌^◌, ◌*◌, ◌+◌, get_or, drop}
 use Rattle.std.proofs.lemmas.List.{drop_more}
-use Rattle.dxf_pairs.specs.declared.pairs.Pair.{Pair}
 use Rattle.dxf_layer.specs.Shapes.{with_shapes}
 use Rattle.dxf_layer.specs.Walks.{visited}
 use Rattle.dxf_layer.specs.Held.{seen, room_before, GoesTo, GrowsAlong}

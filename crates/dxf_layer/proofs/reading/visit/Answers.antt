@@ -1,4 +1,4 @@
-use Rattle.std.proofs.Common.{◌≡◌, List, ◌∙◌, ap, sym, ◌-◌, length, take, drop}
+use Rattle.std.proofs.Common.{◌≡◌, List, ◌∙◌, ap, sym, length, drop}
 use Rattle.std.specs.Prelude.{take_while}
 use Rattle.std.proofs.lemmas.List.Folds.{length-prefix_len}
 use Rattle.dxf_pairs.specs.declared.pairs.Pair.{Pair}

@@ -1,4 +1,4 @@
-use Rattle.std.proofs.Common.{◌≡◌, ◌++◌, drop, length, true}
+use Rattle.std.proofs.Common.{◌≡◌, ◌++◌, drop, true}
 use Rattle.dxf_layer.specs.Told.{told}
 use Rattle.dxf_layer.specs.Rendering.{vertex_copies}
 use Rattle.dxf_layer.proofs.Copying.{IsFirst, vertices_left}

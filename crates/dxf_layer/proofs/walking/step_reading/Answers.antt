@@ -3,7 +3,7 @@ use Rattle.std.specs.Prelude.{codes}
 use Rattle.dxf_layer.specs.Told.{told}
 use Rattle.dxf_layer.specs.Entities.{is_kind}
 use Rattle.dxf_layer.specs.Polylines.{entity_vertex}
-use Rattle.dxf_layer.specs.Held.{seen, with_own_vertex}
+use Rattle.dxf_layer.specs.Held.{with_own_vertex}
 use Rattle.dxf_layer.proofs.Stepping.{own_behind}
 use Rattle.dxf_layer.proofs.walking.step_reading.Goals as goal
 

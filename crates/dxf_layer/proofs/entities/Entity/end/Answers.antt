@@ -1,4 +1,4 @@
-use Rattle.std.proofs.Common.{◌≡◌, ◌∙◌, ap, sym}
+use Rattle.std.proofs.Common.{◌∙◌, ap, sym}
 use Rattle.std.specs.Option.{option_copied}
 use Rattle.dxf_layer.proofs.Lists.{last_end}
 use Rattle.dxf_layer.proofs.entities.Entity.end.Goals as goal
