@@ -79,7 +79,7 @@ last_stays front some =
     subst (λ (n : ℕ). is_blank (get_or front n 0) ≡ false) same (rw turned at stops)
 
 -- the parts of a line
-parts : (line : List ℕ) (front : List ℕ) (count : ℕ) → front ≡ without_blanks_before line → count ≡ length front - suffix_len is_blank front
+pub parts : (line : List ℕ) (front : List ℕ) (count : ℕ) → front ≡ without_blanks_before line → count ≡ length front - suffix_len is_blank front
     → IsBetweenBlanks line (take count front) (take (prefix_len is_blank line) line) (drop count front)
 parts line front count front_is count_is =
     let size : length (take count front) ≡ count = length-take-le count front (omega arith) in

@@ -5,3 +5,5 @@ mod PairSteps
 mod Standing
 mod Between
 mod Following
+mod FirstLines
+mod InLines

@@ -29,7 +29,7 @@ Stand bytes start (text ∷ texts) =
     (start + length text ≤ length bytes) × (between start (start + length text) bytes ≡ text) × Stand bytes (min (start + length text + 1) (length bytes)) texts
 
 -- a text in front of others in what stands from a place on
-in_front : (bytes : List ℕ) (start : ℕ) (text more : List ℕ) → start ≤ length bytes → text ++ more ≡ drop start bytes
+pub in_front : (bytes : List ℕ) (start : ℕ) (text more : List ℕ) → start ≤ length bytes → text ++ more ≡ drop start bytes
     → (start + length text ≤ length bytes) × (between start (start + length text) bytes ≡ text) × (more ≡ drop (start + length text) bytes)
 in_front bytes start text more within is =
     let size = length-drop start bytes in
@@ -84,12 +84,12 @@ some_text [] code has = absurd (none-some code has)
 some_text (byte ∷ text) code has = omega arith
 
 -- what is read of two lines and more
-record AreRead (first second : Line) (code : ℤ) (more : List Pair) (has : Option ℤ) (rest : Result (List Pair) PairFault) (pairs : List Pair) : Type 0 where
-  code_is : has ≡ Some code
-  pairs_are : pairs ≡ pair_of code first second ∷ more
-  rest_is : ((is_last code (value_of second.text) ≡ true) × (more ≡ [])) ⊎ ((is_last code (value_of second.text) ≡ false) × (rest ≡ Ok more))
+pub record AreRead (first second : Line) (code : ℤ) (more : List Pair) (has : Option ℤ) (rest : Result (List Pair) PairFault) (pairs : List Pair) : Type 0 where
+  pub code_is : has ≡ Some code
+  pub pairs_are : pairs ≡ pair_of code first second ∷ more
+  pub rest_is : ((is_last code (value_of second.text) ≡ true) × (more ≡ [])) ⊎ ((is_last code (value_of second.text) ≡ false) × (rest ≡ Ok more))
 
-two_ok : (first second : Line) (has : Option ℤ) (rest : Result (List Pair) PairFault) (pairs : List Pair) → of_two first second has rest ≡ Ok pairs
+pub two_ok : (first second : Line) (has : Option ℤ) (rest : Result (List Pair) PairFault) (pairs : List Pair) → of_two first second has rest ≡ Ok pairs
     → (code : ℤ) × (more : List Pair) × AreRead first second code more has rest pairs
 two_ok first second None rest pairs is = absurd (cc)
 two_ok first second (Some code) rest pairs is = by (is_last code (value_of second.text)) refl rest is
@@ -100,12 +100,12 @@ two_ok first second (Some code) rest pairs is = by (is_last code (value_of secon
     by false ends (Ok more) is = (code, more, record { code_is = refl; pairs_are = cc; rest_is = inr (ends, refl) })
     by false ends (Err fault) is = absurd (cc)
 
-no_one : (line : Line) (has : Option ℤ) (pairs : List Pair) → of_one line has ≡ Ok pairs → ⊥
+pub no_one : (line : Line) (has : Option ℤ) (pairs : List Pair) → of_one line has ≡ Ok pairs → ⊥
 no_one line None pairs is = cc
 no_one line (Some code) pairs is = cc
 
 -- the pairs of a drawing are read of its lines
-read_of_lines : (bytes : List ℕ) (pairs : List Pair) → drawing bytes ≡ Ok pairs → reading (placed (length bytes) 0 1 (lines_of bytes)) ≡ Ok pairs
+pub read_of_lines : (bytes : List ℕ) (pairs : List Pair) → drawing bytes ≡ Ok pairs → reading (placed (length bytes) 0 1 (lines_of bytes)) ≡ Ok pairs
 read_of_lines bytes pairs is = by (starts_with nat_eq bytes BINARY.now) is
   where
     by : (binary : Bool) → (if binary then Err Binary else reading (placed (length bytes) 0 1 (lines_of bytes))) ≡ Ok pairs → reading (placed (length bytes) 0 1 (lines_of bytes)) ≡ Ok pairs
@@ -113,18 +113,18 @@ read_of_lines bytes pairs is = by (starts_with nat_eq bytes BINARY.now) is
     by false is = is
 
 -- a line's places
-abbrev past_of : ℕ → ℕ → List ℕ → ℕ
+abbrev pub past_of : ℕ → ℕ → List ℕ → ℕ
 past_of size start text = min (start + length text + 1) size
 
-abbrev line_of : ℕ → ℕ → ℕ → List ℕ → Line
+abbrev pub line_of : ℕ → ℕ → ℕ → List ℕ → Line
 line_of size start number text = record { text = text; number = number; start = start; end = past_of size start text }
 
 -- what is read of the lines behind two lines
-abbrev reading_behind : List ℕ → ℕ → ℕ → List ℕ → List ℕ → List (List ℕ) → Result (List Pair) PairFault
+abbrev pub reading_behind : List ℕ → ℕ → ℕ → List ℕ → List ℕ → List (List ℕ) → Result (List Pair) PairFault
 reading_behind bytes start line first second texts = reading (placed (length bytes) (past_of (length bytes) (past_of (length bytes) start first) second) (line + 1 + 1) texts)
 
 -- the pair of two lines
-abbrev pair_here : List ℕ → ℕ → ℕ → List ℕ → List ℕ → ℤ → Pair
+abbrev pub pair_here : List ℕ → ℕ → ℕ → List ℕ → List ℕ → ℤ → Pair
 pair_here bytes start line first second code = pair_of code (line_of (length bytes) start line first) (line_of (length bytes) (past_of (length bytes) start first) (line + 1) second)
 
 -- the pair of two lines in front of those that stand behind it
@@ -160,7 +160,7 @@ tiles_from bytes start line (first ∷ second ∷ texts) pairs stand is =
         rw are (past, inside, tile_first bytes start line first second code has stand.0 stand.2.0 more past (rw two_on at tail))
 
 -- the bytes of a pair's value are the value of its line
-value_stands : (bytes : List ℕ) (start line : ℕ) (first second : List ℕ) (code : ℤ)
+pub value_stands : (bytes : List ℕ) (start line : ℕ) (first second : List ℕ) (code : ℤ)
     → between (past_of (length bytes) start first) (past_of (length bytes) start first + length second) bytes ≡ second
     → value_in bytes (pair_here bytes start line first second code) ≡ value_of second
 value_stands bytes start line first second code is =

@@ -5,3 +5,4 @@ pub mod Pairs
 pub mod Groups
 pub mod Laws
 pub mod CodeLines
+pub mod InLines

@@ -1,6 +1,7 @@
 //! Laws of the definitions.
 
 ghost use Rattle.dxf_pairs.specs.CodeLines.{ValuesAreBetweenBlanks, CodesAreWholeNumbers};
+ghost use Rattle.dxf_pairs.specs.InLines.{GroupsFollow, PairsAreInLines};
 ghost use Rattle.dxf_pairs.specs.Laws.{LinesFollow, PairsTile, PairsAreWithin, PairsAreTheGroups};
 
 /// The pairs of a drawing stand one behind the other without a gap, from the first byte on: each
@@ -28,4 +29,12 @@ pub fn codes_are_whole_numbers()
 /// edit of whole lines edits the list of lines.
 pub fn lines_follow()
     ensures { LinesFollow }
+{}
+
+/// Each pair of a drawing but the last is two lines of the bytes, with its value between blanks on
+/// the second, and the last ends the drawing. With another value in its place, such a pair in front
+/// of a text is that group in front of the groups of the text.
+pub fn pairs_are_in_lines()
+    ensures stand { PairsAreInLines }
+    ensures follow { GroupsFollow }
 {}

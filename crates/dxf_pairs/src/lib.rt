@@ -14,7 +14,9 @@ mod tests;
 
 pub use codes::MOST_CODE;
 pub use faults::PairFault;
-pub use laws::{codes_are_whole_numbers, lines_follow, pairs_are_the_groups, pairs_tile};
+pub use laws::{
+    codes_are_whole_numbers, lines_follow, pairs_are_in_lines, pairs_are_the_groups, pairs_tile,
+};
 pub use line_ends::LINE_FEED;
 pub use pairs::Pair;
 pub use reading::{BINARY, LAST_VALUE, read_pairs};

@@ -1,8 +1,8 @@
 //! Texts whose pairs and faults were written down by hand.
 
 use crate::{
-    Pair, PairFault, codes_are_whole_numbers, lines_follow, pairs_are_the_groups, pairs_tile,
-    read_pairs,
+    Pair, PairFault, codes_are_whole_numbers, lines_follow, pairs_are_in_lines,
+    pairs_are_the_groups, pairs_tile, read_pairs,
 };
 use std::alloc::Global;
 use std::test::Fail;
@@ -130,6 +130,7 @@ fn reads_sections(rt: HostRuntime) -> Result<(), Fail> {
     codes_are_whole_numbers();
     lines_follow();
     pairs_tile();
+    pairs_are_in_lines();
     pairs_are_the_groups();
     Ok(())
 }
