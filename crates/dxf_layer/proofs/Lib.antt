@@ -19,3 +19,13 @@ pub mod Fronts
 pub mod Numbers
 pub mod SeedForm
 pub mod Taking
+pub mod EditedPairs
+pub mod SplicedPairs
+pub mod ValueTexts
+pub mod CopiedPairs
+pub mod PairPlaces
+pub mod VertexPlaces
+pub mod EntityPlaces
+pub mod ShapeEdits
+pub mod WalkedEdits
+pub mod WrittenPairs

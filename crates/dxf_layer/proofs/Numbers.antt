@@ -16,7 +16,7 @@ digit_small byte is = grind (arith, nat_tests)
 pub handle_short : (text : List ℕ) → is_handle text ≡ true → length text ≤ 15
 handle_short text is = grind (arith, nat_tests)
 
-handle_digits : (text : List ℕ) → is_handle text ≡ true → list_all is_ascii_hexdigit text ≡ true
+pub handle_digits : (text : List ℕ) → is_handle text ≡ true → list_all is_ascii_hexdigit text ≡ true
 handle_digits text is = grind (arith, nat_tests)
 
 pub digit_at : (text : List ℕ) (i : ℕ) → is_handle text ≡ true → i < length text → digit_of (get_or text i 0) < 16

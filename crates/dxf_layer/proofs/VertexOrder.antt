@@ -24,7 +24,7 @@ pub record IsVertex (bytes : List ℕ) (x y : Pair) (pairs : List Pair) (vertex 
   pub north : vertex.spot.y.pair ≡ y
   pub past : past_group bytes y.end pairs ≡ Ok vertex.past
 
-vertex_is : (bytes : List ℕ) (exact : Bool) (x y : Pair) (pairs : List Pair) (vertex : Vertex) → vertex_of bytes exact x y pairs ≡ Ok vertex → IsVertex bytes x y pairs vertex
+pub vertex_is : (bytes : List ℕ) (exact : Bool) (x y : Pair) (pairs : List Pair) (vertex : Vertex) → vertex_of bytes exact x y pairs ≡ Ok vertex → IsVertex bytes x y pairs vertex
 vertex_is bytes exact x y pairs vertex is =
     let east = went (λ (e : Read). and_then (λ (n : Read). and_then (λ (past : ℕ). Ok (record { spot = record { x = e; y = n }; start = x.start; past = past })) (past_group bytes y.end pairs)) (coordinate bytes exact y)) (coordinate bytes exact x) vertex is in
     let north = went (λ (n : Read). and_then (λ (past : ℕ). Ok (record { spot = record { x = east.value; y = n }; start = x.start; past = past })) (past_group bytes y.end pairs)) (coordinate bytes exact y) vertex east.gives in
@@ -70,7 +70,7 @@ none_ordered bytes from past order = record {
       record { below = omega (arith, same); inside = omega (arith, same); apart = λ n. no_edits upto past; before = λ tally is_in code. absurd is_in };
 }
 
-no_fault : (fault : Option LayerFault) (rest : Result ℕ LayerFault) (upto : ℕ) → first_fault fault rest ≡ Ok upto → rest ≡ Ok upto
+pub no_fault : (fault : Option LayerFault) (rest : Result ℕ LayerFault) (upto : ℕ) → first_fault fault rest ≡ Ok upto → rest ≡ Ok upto
 no_fault None rest upto is = is
 no_fault (Some fault) rest upto is = absurd (cc)
 
@@ -116,7 +116,7 @@ skipped bytes pair fields from past vertices follow rest =
 other_code : (a b : ℤ) (p q : Pair) → p ≡ q → p.code ≡ a → q.code ≡ b → (a ≡ b → ⊥) → ⊥
 other_code a b p q same first second other = other (sym first ∙ (ap (λ (r : Pair). r.code) same ∙ second))
 
-both_true : (a b : Bool) → (a && b) ≡ true → (a ≡ true) × (b ≡ true)
+pub both_true : (a b : Bool) → (a && b) ≡ true → (a ≡ true) × (b ≡ true)
 both_true true true is = (refl, refl)
 both_true true false is = absurd (cc)
 both_true false b is = absurd (cc)

@@ -47,7 +47,7 @@ kept_group read pair =
 abbrev pub groups_for : Reading → Pair → List Group
 groups_for read pair = flat_map (λ (edit : Edit). groups_of (text_of read edit)) (filter (begins_at pair) read.sheet.edits) ++ kept_group read pair
 
--- A law that is not proved yet: the groups of a written drawing are those that stand for its pairs, one behind the other.
+-- A law: the groups of a written drawing are those that stand for its pairs, one behind the other.
 abbrev pub GroupsAreWritten : Type 0
 GroupsAreWritten =
     (how : How) (bytes : List ℕ) (pairs : List Pair) (sheet : Contents) (images : Runs) → drawing bytes ≡ Ok pairs → drawing_sheet how bytes ≡ Ok sheet → DoFit sheet images

@@ -7,6 +7,7 @@ mod drawing;
 mod entities;
 mod fields;
 mod handles;
+mod laws;
 mod pages;
 mod points;
 mod polylines;
@@ -17,5 +18,6 @@ mod tests;
 mod texts;
 mod walking;
 
+pub use laws::written_pairs;
 pub use reading::read_drawing;
 pub use rendering::render_drawing;

@@ -1,8 +1,8 @@
 //! Drawings whose sheets and faults were worked out by hand.
 
 use crate::pages::Page;
-use crate::read_drawing;
 use crate::rendering::render_page;
+use crate::{read_drawing, written_pairs};
 use dxf_pairs::read_pairs;
 use mm_decimal::NumFault;
 use plane_base::Pt;
@@ -497,6 +497,7 @@ fn writes_a_split_line(rt: HostRuntime) -> Result<(), Fail> {
     };
     let out = render_page(rt.alloc(), &page)?;
     assert_eq!(rt; out.as_slice(), LINES_CARRIED);
+    written_pairs();
     Ok(())
 }
 

@@ -12,8 +12,13 @@ taken-next-requires-clause-within c = rw c.number_at-number.ensures (number_with
 
 pub overflow_add-next : goal.overflow_add-next
 overflow_add-next c =
-    omega (arith, c.taken-next.ensures, c.requires.first, counts_small (read_of c.args.page.now) c.edits-edit-items.result.now c.loop-edit.edit-index c.loop-edit.number c.loop-edit.next c.requires.few c.requires.short
-    (rw (← c.requires.first) c.requires.small) c.loop-edit-test.true c.loop-edit.invariant)
+    omega (
+      arith,
+      c.taken-next.ensures,
+      c.requires.first,
+      counts_small (read_of c.args.page.now) c.edits-edit-items.result.now c.loop-edit.edit-index c.loop-edit.number c.loop-edit.next c.requires.few c.requires.short
+          (rw (← c.requires.first) c.requires.small) c.loop-edit-test.true c.loop-edit.invariant,
+    )
 
 pub loop-edit-preserved : goal.loop-edit-preserved
 loop-edit-preserved c =

@@ -16,16 +16,23 @@ push_text-requires-clause-within c = rw c.number_at-number.ensures (number_withi
 
 pub push_text-requires-clause-next : goal.push_text-requires-clause-next
 push_text-requires-clause-next c =
-    omega (arith, counts_small (read_of c.args.page.now) c.edits-edit-items.result.now c.loop-edit.edit-index c.loop-edit.number c.loop-edit.next c.requires.few c.requires.short
-    (rw (← c.first_handle-first.ensures.number) c.first_handle-first.ensures.small) c.loop-edit-test.true c.loop-edit.invariant.counted)
+    omega (
+      arith,
+      counts_small (read_of c.args.page.now) c.edits-edit-items.result.now c.loop-edit.edit-index c.loop-edit.number c.loop-edit.next c.requires.few c.requires.short
+          (rw (← c.first_handle-first.ensures.number) c.first_handle-first.ensures.small) c.loop-edit-test.true c.loop-edit.invariant.counted,
+    )
 
 pub taken-next-requires-clause-within : goal.taken-next-requires-clause-within
 taken-next-requires-clause-within c = rw c.number_at-number.ensures (number_within (read_of c.args.page.now) _)
 
 pub overflow_add-next : goal.overflow_add-next
 overflow_add-next c =
-    omega (arith, c.taken-next.ensures, counts_small (read_of c.args.page.now) c.edits-edit-items.result.now c.loop-edit.edit-index c.loop-edit.number c.loop-edit.next c.requires.few c.requires.short
-    (rw (← c.first_handle-first.ensures.number) c.first_handle-first.ensures.small) c.loop-edit-test.true c.loop-edit.invariant.counted)
+    omega (
+      arith,
+      c.taken-next.ensures,
+      counts_small (read_of c.args.page.now) c.edits-edit-items.result.now c.loop-edit.edit-index c.loop-edit.number c.loop-edit.next c.requires.few c.requires.short
+          (rw (← c.first_handle-first.ensures.number) c.first_handle-first.ensures.small) c.loop-edit-test.true c.loop-edit.invariant.counted,
+    )
 
 pub loop-edit-preserved : goal.loop-edit-preserved
 loop-edit-preserved c =
