@@ -1,5 +1,7 @@
 //! Drawings whose sheets and faults were worked out by hand.
 
+ghost use Rattle.std.specs.Prelude.{◌<◌, ◌^◌, length, IfOk};
+
 use crate::pages::Page;
 use crate::rendering::render_page;
 use crate::{read_drawing, written_pairs};
@@ -24,8 +26,14 @@ const LINES: &[u8] =
 const LOOP: &[u8] =
     b"0\r\nSECTION\r\n2\r\nENTITIES\r\n0\r\nLWPOLYLINE\r\n90\r\n2\r\n70\r\n1\r\n10\r\n10\r\n20\r\n0\r\n10\r\n0\r\n20\r\n10\r\n0\r\nENDSEC\r\n0\r\nEOF\r\n";
 
+/// No drawing here is longer.
+const LONGEST: usize = 1 << 16;
+
 /// The fault of a short drawing.
 fn fault(alloc: Global, text: &[u8], how: How) -> Option<LayerFault> {
+    if text.len() > LONGEST {
+        return None;
+    }
     read_drawing(alloc, text, how).err()
 }
 
@@ -453,7 +461,10 @@ fn reads_a_closed_polyline(rt: HostRuntime) -> Result<(), Fail> {
 }
 
 /// Images of these points, each with the place of its own.
-fn images(alloc: Global, points: &[Pt], run: &[u32]) -> Result<Images, Fail> {
+fn images(alloc: Global, points: &[Pt], run: &[u32]) -> Result<Images, Fail>
+    requires { length points.now < 2 ^ 32 }
+    ensures { IfOk result (λ images. length images.points < 2 ^ 32) }
+{
     let points = Listed::of(Vec::from_slice(alloc, points)?);
     let run = Listed::of(Vec::from_slice(alloc, run)?);
     Ok(Images::of(points, run))
