@@ -29,18 +29,18 @@ use Rattle.dxf_layer.proofs.PairPlaces.{entity_is, stands_whole, tiles_behind, l
 use Rattle.dxf_layer.proofs.VertexPlaces.{IsProper, vertices_stand}
 
 -- the pairs of an entity behind its head
-record AreOfEntity (bytes : List ℕ) (start line : ℕ) (pairs body : List Pair) : Type 0 where
-  body_lines : AreBody bytes body
-  tiles : AreTiles start line body (past_pairs start body)
-  starts : StartsAt (past_pairs start body) pairs
-  proper : IsProper body pairs
+pub record AreOfEntity (bytes : List ℕ) (start line : ℕ) (pairs body : List Pair) : Type 0 where
+  pub body_lines : AreBody bytes body
+  pub tiles : AreTiles start line body (past_pairs start body)
+  pub starts : StartsAt (past_pairs start body) pairs
+  pub proper : IsProper body pairs
 
 no_body : (bytes : List ℕ) (start line past : ℕ) (pair : Pair) (pairs : List Pair) → AreTiles start line (pair ∷ pairs) past → has_code (pos 0) pair ≡ true → AreOfEntity bytes start line (pair ∷ pairs) (take_while is_no_head (pair ∷ pairs))
 no_body bytes start line past pair pairs tiles head =
     let none : take_while is_no_head (pair ∷ pairs) ≡ [] = take_while-cons is_no_head pair pairs ∙ rw head refl in
     subst (AreOfEntity bytes start line (pair ∷ pairs)) (sym none) (record { body_lines = tt; tiles = refl; starts = inl tiles.0; proper = tt })
 
-of_entity : (bytes : List ℕ) (start line past : ℕ) (pairs : List Pair) → AreTiles start line pairs past → AreInLines bytes pairs → AreOfEntity bytes start line pairs (take_while is_no_head pairs)
+pub of_entity : (bytes : List ℕ) (start line past : ℕ) (pairs : List Pair) → AreTiles start line pairs past → AreInLines bytes pairs → AreOfEntity bytes start line pairs (take_while is_no_head pairs)
 of_entity bytes start line past [] tiles lines = absurd lines
 of_entity bytes start line past (pair ∷ []) tiles lines = by_test (has_code (pos 0) pair) refl where
   by_test : (head : Bool) → has_code (pos 0) pair ≡ head → AreOfEntity bytes start line (pair ∷ []) (take_while is_no_head (pair ∷ []))

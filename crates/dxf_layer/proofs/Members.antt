@@ -74,7 +74,7 @@ one_before from a b (pair ∷ pairs) past follow (inl a_is) (inr b_in) other = i
 one_before from a b (pair ∷ pairs) past follow (inr a_in) (inl b_is) other = inr (omega (arith, ap (λ (p : Pair). p.end) b_is, (lies pair.end a pairs past follow.4 a_in).begins))
 one_before from a b (pair ∷ pairs) past follow (inr a_in) (inr b_in) other = one_before pair.end a b pairs past follow.4 a_in b_in other
 
-in_taken : (n : ℕ) (pair : Pair) (pairs : List Pair) → IsIn pair (take n pairs) → IsIn pair pairs
+pub in_taken : (n : ℕ) (pair : Pair) (pairs : List Pair) → IsIn pair (take n pairs) → IsIn pair pairs
 in_taken zero pair pairs is_in = absurd is_in
 in_taken (suc n) pair [] is_in = absurd is_in
 in_taken (suc n) pair (other ∷ pairs) (inl is) = inl is

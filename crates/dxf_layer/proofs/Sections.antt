@@ -28,7 +28,7 @@ abbrev pub AreAside : ℕ → ℕ → List ℕ → List Entity → Type 0
 AreAside low high bytes [] = ⊤
 AreAside low high bytes (entity ∷ entities) = IsAside low high bytes entity × AreAside low high bytes entities
 
-front_follows : (n from : ℕ) (pairs : List Pair) (past : ℕ) → Follow from pairs past → Follow from (take n pairs) (past_pairs from (take n pairs))
+pub front_follows : (n from : ℕ) (pairs : List Pair) (past : ℕ) → Follow from pairs past → Follow from (take n pairs) (past_pairs from (take n pairs))
 front_follows zero from pairs past follow = omega arith
 front_follows (suc n) from [] past follow = omega arith
 front_follows (suc n) from (pair ∷ pairs) past follow = (follow.0, follow.1, follow.2, follow.3, front_follows n pair.end pairs past follow.4)
@@ -38,7 +38,7 @@ front_within zero from pairs past follow = by_past from pairs past follow
 front_within (suc n) from [] past follow = follow
 front_within (suc n) from (pair ∷ pairs) past follow = (follow.0, follow.1, follow.2, follow.3, front_within n pair.end pairs past follow.4)
 
-laid : (head : Pair) (from past : ℕ) (pairs : List Pair) → Follow from (head ∷ pairs) past → IsLaid (entity_of head pairs)
+pub laid : (head : Pair) (from past : ℕ) (pairs : List Pair) → Follow from (head ∷ pairs) past → IsLaid (entity_of head pairs)
 laid head from past pairs follow =
     let n = prefix_len is_no_head pairs in
     let front : Follow head.end (take n pairs) (past_pairs head.end (take n pairs)) = front_follows n head.end pairs past follow.4 in
@@ -48,12 +48,12 @@ laid head from past pairs follow =
       fields = front_within (prefix_len (λ (pair : Pair). int_lt pair.code (pos 1000)) (take n pairs)) head.end (take n pairs) (past_pairs head.end (take n pairs)) front;
     }
 
-spread_earlier : (less from : ℕ) (entities : List Entity) (past : ℕ) → less ≤ from → AreSpread from entities past → AreSpread less entities past
+pub spread_earlier : (less from : ℕ) (entities : List Entity) (past : ℕ) → less ≤ from → AreSpread from entities past → AreSpread less entities past
 spread_earlier less from [] past below spread = omega (arith, spread)
 spread_earlier less from (entity ∷ entities) past below spread = (omega (arith, spread.0), spread.1, spread.2)
 
 -- what begins an entity is a head
-begins_head : (place : Where) (pair : Pair) → has_code (pos 0) pair ≡ false → begins_entity place pair ≡ false
+pub begins_head : (place : Where) (pair : Pair) → has_code (pos 0) pair ≡ false → begins_entity place pair ≡ false
 begins_head Outside pair is = refl
 begins_head Begun pair is = refl
 begins_head Header pair is = refl

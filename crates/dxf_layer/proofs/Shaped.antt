@@ -65,15 +65,15 @@ edits_are before (shape ∷ shapes) =
     ∙ (ap (λ n. (before.edits ++ here) ++ edits_with (path_behind (length before.paths) first shape) n shapes) f
     ∙ append_assoc before.edits here (edits_with (path_behind (length before.paths) first shape) (first + length shape.points) shapes)))
 
-abbrev paths_past : ℕ → ℕ → List Shape → ℕ
+abbrev pub paths_past : ℕ → ℕ → List Shape → ℕ
 paths_past path first [] = path
 paths_past path first (shape ∷ shapes) = paths_past (path_behind path first shape) (first + length shape.points) shapes
 
-abbrev points_past : ℕ → List Shape → ℕ
+abbrev pub points_past : ℕ → List Shape → ℕ
 points_past first [] = first
 points_past first (shape ∷ shapes) = points_past (first + length shape.points) shapes
 
-edits_both : (path first : ℕ) (shapes more : List Shape) → edits_with path first (shapes ++ more) ≡ edits_with path first shapes ++ edits_with (paths_past path first shapes) (points_past first shapes) more
+pub edits_both : (path first : ℕ) (shapes more : List Shape) → edits_with path first (shapes ++ more) ≡ edits_with path first shapes ++ edits_with (paths_past path first shapes) (points_past first shapes) more
 edits_both path first [] more = refl
 edits_both path first (shape ∷ shapes) more =
     ap (λ rest. shape.edits path first ++ rest) (edits_both (path_behind path first shape) (first + length shape.points) shapes more)

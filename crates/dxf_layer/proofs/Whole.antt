@@ -39,7 +39,7 @@ pairs_follow bytes pairs tile = later tile.0 (length bytes) 0 pairs tile.1 (tile
   later past more from (pair ∷ pairs) above follow = (follow.0, follow.1, follow.2, follow.3, later past more pair.end pairs above follow.4)
 
 -- all entities stand in order between the first byte and the last
-entities_spread : (bytes : List ℕ) (pairs : List Pair) (size : ℕ) → Follow 0 pairs size → AreSpread 0 (entities_of bytes pairs) size
+pub entities_spread : (bytes : List ℕ) (pairs : List Pair) (size : ℕ) → Follow 0 pairs size → AreSpread 0 (entities_of bytes pairs) size
 entities_spread bytes pairs size follow = from_start (past_pairs 0 (take_while is_no_head pairs)) (entities_of bytes pairs) (spread bytes pairs Outside 0 size follow) where
   from_start : (from : ℕ) (entities : List Entity) → AreSpread from entities size → AreSpread 0 entities size
   from_start from [] spread = omega arith

@@ -8,6 +8,7 @@ mod entities;
 mod fields;
 mod handles;
 mod laws;
+mod layer;
 mod pages;
 mod points;
 mod polylines;
@@ -18,6 +19,7 @@ mod tests;
 mod texts;
 mod walking;
 
-pub use laws::written_pairs;
+pub use laws::{drawings_read_back, written_pairs};
+pub use layer::Dxf;
 pub use reading::read_drawing;
 pub use rendering::render_drawing;

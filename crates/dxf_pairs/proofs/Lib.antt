@@ -2,8 +2,8 @@ mod CodeTexts
 mod Cuts
 mod LineLists
 mod PairSteps
-mod Standing
-mod Between
+pub mod Standing
+pub mod Between
 mod Following
 mod FirstLines
 mod InLines

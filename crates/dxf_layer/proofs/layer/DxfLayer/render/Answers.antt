@@ -1,0 +1,21 @@
+use Rattle.std.proofs.Common.{◌≡◌, sym, subst, Ok, Err}
+use Rattle.std.specs.Prelude.{IfOk, Result}
+use Rattle.sheet_base.specs.Splices.{spliced}
+use Rattle.sheet_base.specs.ReadBack.{IsReadBack}
+use Rattle.dxf_layer.specs.Drawings.{drawing_sheet}
+use Rattle.dxf_layer.specs.Rendering.{drawing_text}
+use Rattle.dxf_layer.specs.ReadBack.{DoesReadBack}
+use Rattle.dxf_layer.proofs.layer.DxfLayer.render.Goals as goal
+
+-- what holds of a value holds of another fact's
+if_ok_more : {X E : Type 0} (r : Result X E) (P Q : X → Type 0) → ((x : X) → P x → Q x) → IfOk r P → IfOk r Q
+if_ok_more (Ok x) P Q on is = on x is
+if_ok_more (Err e) P Q on is = is
+
+pub returns-clause-back : goal.returns-clause-back
+returns-clause-back c =
+    if_ok_more c.render_drawing.result (λ out. out.items ≡ spliced c.args.bytes.now (drawing_text c.args.bytes.now c.args.sheet.now c.args.images.now) c.args.sheet.now.edits)
+    (λ out. DoesReadBack c.args.how c.args.bytes.now c.args.sheet.now c.args.images.now → IsReadBack (λ text back. drawing_sheet c.args.how text ≡ Ok back) c.args.sheet.now c.args.images.now out.items)
+    (λ out is short. subst (IsReadBack (λ text back. drawing_sheet c.args.how text ≡ Ok back) c.args.sheet.now c.args.images.now) (sym is)
+    (c.drawings_read_back.ensures c.args.how c.args.bytes.now c.args.sheet.now c.args.images.now c.requires.sheet c.requires.fits short))
+    c.render_drawing.ensures.spliced
