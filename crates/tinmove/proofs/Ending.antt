@@ -23,7 +23,7 @@ use Rattle.tinmove.specs.declared.preparing.Written.{Written}
 use Rattle.tinmove.specs.declared.status.Status.{Status}
 use Rattle.tinmove.specs.declared.status.Status.TheVariants.{Words as WordsStatus, Write, Memory}
 use Rattle.tinmove.specs.declared.refusal.Refusal.{Refusal}
-use Rattle.tinmove.specs.declared.refusal.Refusal.TheVariants.{Words, TinUnread, TinLong, Tin, Check, LayerUnread, LayersLong, NoDrawing, Layer, Outside, TooManyPieces, TooManyChanges, NoMemory}
+use Rattle.tinmove.specs.declared.refusal.Refusal.TheVariants.{Words, TinUnread, TinLong, Tin, Check, LayerUnread, LayersLong, Layer, Outside, TooManyPieces, TooManyChanges, NoMemory}
 use Rattle.tinmove.specs.Jobs.{LacksJob, AsksCheck}
 use Rattle.report_text.specs.Reports.{Contents as Report}
 use Rattle.report_text.specs.ReportText.{report_text, title}
@@ -71,7 +71,6 @@ never-write (Tin fault) = not_write _ (of_text fault)
 never-write (Check fault) = not_write _ (of_check fault)
 never-write (LayerUnread layer) = λ e. cc
 never-write LayersLong = λ e. cc
-never-write (NoDrawing layer) = λ e. cc
 never-write (Layer layer fault) = layer_not_write _ (of_layer fault)
 never-write (Outside layer path segment) = λ e. cc
 never-write TooManyPieces = λ e. cc
@@ -159,7 +158,6 @@ memory-line (Tin fault) is = text-memory fault is
 memory-line (Check fault) is = check-memory fault is
 memory-line (LayerUnread layer) is = cc
 memory-line LayersLong is = cc
-memory-line (NoDrawing layer) is = cc
 memory-line (Layer layer fault) is = layer-memory layer fault is
 memory-line (Outside layer path segment) is = cc
 memory-line TooManyPieces is = cc
@@ -385,7 +383,6 @@ tells_long (Words fault) passed made front tells tin layer = absurd (front-none 
 tells_long TinUnread passed made front tells tin layer = absurd (front-none _ made (at-first _ 114 refl (λ e. omega (arith, e))) front tells)
 tells_long (Tin fault) passed made front tells tin layer = absurd (front-none _ made (text-none fault) front tells)
 tells_long (Check fault) passed made front tells tin layer = absurd (front-none _ made (check-none fault) front tells)
-tells_long (NoDrawing number) passed made front tells tin layer = absurd (front-none _ made (a-line _ refl) front tells)
 tells_long (LayerUnread number) passed made front tells tin layer = absurd (front-none _ made (at-first _ 114 refl (λ e. omega (arith, e))) front tells)
 tells_long (Layer number fault) passed made front tells tin layer = absurd (front-none _ made (layer-none number fault) front tells)
 tells_long (Outside number path segment) passed made front tells tin layer = absurd (front-none _ made (at-first _ 111 refl (λ e. omega (arith, e))) front tells)

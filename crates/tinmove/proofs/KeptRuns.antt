@@ -17,7 +17,7 @@ use Rattle.job_words.specs.declared.jobs.Job.{Job}
 use Rattle.job_words.specs.declared.jobs.Job.TheVariants.{Migrate, Check as CheckJob, Make}
 use Rattle.tinmove.specs.declared.status.Status.{Status}
 use Rattle.tinmove.specs.declared.refusal.Refusal.{Refusal}
-use Rattle.tinmove.specs.declared.refusal.Refusal.TheVariants.{Words, TinUnread, TinLong, Tin, Check, LayerUnread, LayersLong, NoDrawing, Layer, Outside, TooManyPieces, TooManyChanges, NoMemory}
+use Rattle.tinmove.specs.declared.refusal.Refusal.TheVariants.{Words, TinUnread, TinLong, Tin, Check, LayerUnread, LayersLong, Layer, Outside, TooManyPieces, TooManyChanges, NoMemory}
 use Rattle.tinmove.specs.Names.{name_in}
 use Rattle.tinmove.specs.Jobs.{Carriage, AsksMigration}
 use Rattle.tinmove.specs.Carrying.{IsLayerText}
@@ -62,7 +62,6 @@ of_refusal files carriage (Tin fault) made = of_tin files carriage _ made (of_te
 of_refusal files carriage (Check fault) made = of_tin files carriage _ made (of_check fault)
 of_refusal files carriage (LayerUnread layer) made = tt
 of_refusal files carriage LayersLong made = tt
-of_refusal files carriage (NoDrawing layer) made = tt
 of_refusal files carriage (Layer layer fault) made = of_unread files carriage _ made (of_layer fault)
 of_refusal files carriage (Outside layer path segment) made = tt
 of_refusal files carriage TooManyPieces made = tt

@@ -9,11 +9,10 @@ use Rattle.tin_base.specs.declared.pieces.Piece.{Piece}
 use Rattle.tin_base.specs.Triangulation.{Triangulation}
 use Rattle.tin_base.specs.Soundness.{IsSound}
 use Rattle.job_words.specs.declared.formats.Format.{Format}
-use Rattle.job_words.specs.declared.formats.Format.TheVariants.{Drawing}
 use Rattle.job_words.specs.Formats.{format_of}
 use Rattle.tinmove.specs.declared.loading.TheConstants.{MOST_BYTES}
 use Rattle.tinmove.specs.declared.refusal.Refusal.{Refusal}
-use Rattle.tinmove.specs.declared.refusal.Refusal.TheVariants.{LayerUnread, LayersLong, Layer, NoDrawing, Outside, TooManyPieces}
+use Rattle.tinmove.specs.declared.refusal.Refusal.TheVariants.{LayerUnread, LayersLong, Layer, Outside, TooManyPieces}
 use Rattle.tinmove.specs.Carrying.{LacksLayerText, IsCarried, IsOutside, HasTooMany}
 use Rattle.tinmove.specs.LayerRuns.{Done, IsLayerFile, IsLongLayer, IsNextCarried, AreCarried, IsNextRefused, IsRefusedLayer}
 use Rattle.tinmove.proofs.OneReading.{fault_one}
@@ -42,7 +41,6 @@ module _ (files : Files) (how : How) (tin : Triangulation) (sound : IsSound tin)
 
   -- ---- a layer that is not carried
   data IsTextEnd (number : ℕ) (before : ℕ) (format : Format) (bytes : List ℕ) (refusal : Refusal) : Type 0 where
-    drawing_end : format ≡ Drawing → refusal ≡ NoDrawing number → IsTextEnd number before format bytes refusal
     faulty_end : (why : LayerFault) → refusal ≡ Layer number why → LacksLayerText how format bytes why → IsTextEnd number before format bytes refusal
     outside_end : (path segment : ℕ) → refusal ≡ Outside number path segment → IsOutside how tin format bytes number before path segment → IsTextEnd number before format bytes refusal
     many_end : refusal ≡ TooManyPieces → HasTooMany how tin format bytes number before → IsTextEnd number before format bytes refusal
@@ -55,44 +53,22 @@ module _ (files : Files) (how : How) (tin : Triangulation) (sound : IsSound tin)
   next_end : (number used before : ℕ) (name : List ℕ) (refusal : Refusal) → IsNextRefused (Some files) how tin number used before name refusal → IsNextEnd number used before name refusal
   next_end number used before name (LayerUnread layer) (is, lacks) = unread_end (ap LayerUnread is) lacks
   next_end number used before name LayersLong long = long_end refl long
-  next_end number used before name (NoDrawing layer) (is, bytes, file) = read_end Drawing bytes file (drawing_end refl (ap NoDrawing is))
   next_end number used before name (Layer layer why) (is, format, bytes, file, lacks) = read_end format bytes file (faulty_end why (ap (λ n. Layer n why) is) lacks)
   next_end number used before name (Outside layer path segment) (is, format, bytes, file, outside) = read_end format bytes file (outside_end path segment (ap (λ n. Outside n path segment) is) outside)
   next_end number used before name TooManyPieces (format, bytes, file, many) = read_end format bytes file (many_end refl many)
   next_end number used before name refusal is = absurd is
 
-  drawing_lacks : (format : Format) (bytes : List ℕ) (why : LayerFault) → format ≡ Drawing → LacksLayerText how format bytes why → ⊥
-  drawing_lacks format bytes why is lacks = subst (λ (f : Format). LacksLayerText how f bytes why) is lacks
-
-  drawing_outside : (format : Format) (bytes : List ℕ) (number before path segment : ℕ) → format ≡ Drawing → IsOutside how tin format bytes number before path segment → ⊥
-  drawing_outside format bytes number before path segment is outside = let (sheet, reads, first) = subst (λ (f : Format). IsOutside how tin f bytes number before path segment) is outside in reads
-
-  drawing_many : (format : Format) (bytes : List ℕ) (number before : ℕ) → format ≡ Drawing → HasTooMany how tin format bytes number before → ⊥
-  drawing_many format bytes number before is many = let (sheet, reads, first) = subst (λ (f : Format). HasTooMany how tin f bytes number before) is many in reads
-
-  drawing_carried : (format : Format) (bytes : List ℕ) (number : ℕ) (before after : List Piece) (carried : Carried) → format ≡ Drawing → IsCarried how tin format bytes number before after carried → ⊥
-  drawing_carried format bytes number before after carried is done =
-      let it = subst (λ (f : Format). IsCarried how tin f bytes number before after carried) is done in
-      let layer = it.layer in layer.read
-
   same_outside : (number path segment way count : ℕ) → (path ≡ way) × (segment ≡ count) → Outside number path segment ≡ Outside number way count
   same_outside number path segment way count same = ap (λ k. Outside number k segment) same.0 ∙ ap (λ k. Outside number way k) same.1
 
   text_end_one : (number before : ℕ) (format : Format) (bytes : List ℕ) (a b : Refusal) → IsTextEnd number before format bytes a → IsTextEnd number before format bytes b → a ≡ b
-  text_end_one number before format bytes a b (drawing_end d is) (drawing_end e also) = is ∙ sym also
-  text_end_one number before format bytes a b (drawing_end d is) (faulty_end why also y) = absurd (drawing_lacks format bytes why d y)
-  text_end_one number before format bytes a b (drawing_end d is) (outside_end path segment also y) = absurd (drawing_outside format bytes number before path segment d y)
-  text_end_one number before format bytes a b (drawing_end d is) (many_end also y) = absurd (drawing_many format bytes number before d y)
-  text_end_one number before format bytes a b (faulty_end why is x) (drawing_end e also) = absurd (drawing_lacks format bytes why e x)
   text_end_one number before format bytes a b (faulty_end why is x) (faulty_end other also y) = is ∙ (ap (λ f. Layer number f) (fault_one how format bytes why other x y) ∙ sym also)
   text_end_one number before format bytes a b (faulty_end why is x) (outside_end path segment also y) = absurd (lacks_outside how tin format bytes number [] why path segment before x y)
   text_end_one number before format bytes a b (faulty_end why is x) (many_end also y) = absurd (lacks_many how tin format bytes number [] why before x y)
-  text_end_one number before format bytes a b (outside_end path segment is x) (drawing_end e also) = absurd (drawing_outside format bytes number before path segment e x)
   text_end_one number before format bytes a b (outside_end path segment is x) (faulty_end why also y) = absurd (lacks_outside how tin format bytes number [] why path segment before y x)
   text_end_one number before format bytes a b (outside_end path segment is x) (outside_end way count also y) =
       is ∙ (same_outside number path segment way count (outside_one how tin format bytes number before path segment way count x y) ∙ sym also)
   text_end_one number before format bytes a b (outside_end path segment is x) (many_end also y) = absurd (outside_many how tin format bytes number before path segment x y)
-  text_end_one number before format bytes a b (many_end is x) (drawing_end e also) = absurd (drawing_many format bytes number before e x)
   text_end_one number before format bytes a b (many_end is x) (faulty_end why also y) = absurd (lacks_many how tin format bytes number [] why before y x)
   text_end_one number before format bytes a b (many_end is x) (outside_end path segment also y) = absurd (outside_many how tin format bytes number before path segment y x)
   text_end_one number before format bytes a b (many_end is x) (many_end also y) = is ∙ sym also
@@ -113,7 +89,6 @@ module _ (files : Files) (how : How) (tin : Triangulation) (sound : IsSound tin)
   -- ---- a layer that is carried
   text_end_carried : (number : ℕ) (before : List Piece) (format : Format) (bytes : List ℕ) (after : List Piece) (carried : Carried) (a : Refusal) → IsTextEnd number (length before) format bytes a
       → IsCarried how tin format bytes number before after carried → ⊥
-  text_end_carried number before format bytes after carried a (drawing_end d is) y = drawing_carried format bytes number before after carried d y
   text_end_carried number before format bytes after carried a (faulty_end why is x) y = lacks_carried how tin format bytes number before why after carried x y
   text_end_carried number before format bytes after carried a (outside_end path segment is x) y = outside_carried how tin format bytes number (length before) path segment before after carried x y
   text_end_carried number before format bytes after carried a (many_end is x) y = many_carried how tin format bytes number before after carried x y

@@ -13,12 +13,11 @@ use Rattle.tin_base.specs.Triangulation.{Triangulation}
 use Rattle.tin_check.specs.declared.faults.CheckFault.TheVariants.{Flat, TurnsOver, Meets, NoMemory as CheckMemory}
 use Rattle.topo_check.specs.Changes.{AreAllComparable}
 use Rattle.job_words.specs.declared.formats.Format.{Format}
-use Rattle.job_words.specs.declared.formats.Format.TheVariants.{Drawing}
 use Rattle.job_words.specs.Formats.{format_of}
 use Rattle.tinmove.specs.declared.loading.TheConstants.{MOST_BYTES}
 use Rattle.tinmove.specs.declared.status.Status.TheVariants.{Memory, Read as ReadStatus}
 use Rattle.tinmove.specs.declared.refusal.Refusal.{Refusal}
-use Rattle.tinmove.specs.declared.refusal.Refusal.TheVariants.{TinUnread, Tin, Check, LayerUnread, LayersLong, NoDrawing, Layer, Outside, TooManyPieces, TooManyChanges, NoMemory}
+use Rattle.tinmove.specs.declared.refusal.Refusal.TheVariants.{TinUnread, Tin, Check, LayerUnread, LayersLong, Layer, Outside, TooManyPieces, TooManyChanges, NoMemory}
 use Rattle.report_text.specs.ReportText.{report_text}
 use Rattle.tinmove.specs.declared.carrying.LayerFile.{LayerFile}
 use Rattle.tinmove.specs.declared.carrying.Run.{Run}
@@ -32,7 +31,7 @@ use Rattle.tinmove.specs.Outcome.{HasFile, IsTinRefused, HasTurned, by_tin, by_l
 use Rattle.job_words.specs.declared.jobs.Job.{Job}
 use Rattle.job_words.specs.declared.jobs.Job.TheVariants.{Migrate, Check as CheckJob}
 use Rattle.tinmove.specs.Ends.{LacksSome, MayRefuse, by_the_files, unread, no_room}
-use Rattle.tinmove.specs.Prepared.{file_of, files_of, AreWritable, report_said, HasForm, IsTextRefused, IsUnloaded, missing, read_failed, too_long, no_room as no_memory, IsTinUnready, not_loaded, no_tin, IsUncarriedAs, as_layer, as_drawing, Holds, HasCarried, AreUncarried, by_layers as by_the_layers, by_fault, by_want, IsUnlisted}
+use Rattle.tinmove.specs.Prepared.{file_of, files_of, AreWritable, report_said, HasForm, IsTextRefused, IsUnloaded, missing, read_failed, too_long, no_room as no_memory, IsTinUnready, not_loaded, no_tin, IsUncarriedAs, Holds, HasCarried, AreUncarried, by_layers as by_the_layers, by_fault, by_want, IsUnlisted}
 use Rattle.tinmove.specs.Wanted.{AddsLayer, AddsNone, IsReported}
 use Rattle.tinmove.proofs.Faults.{want_or_fault}
 use Rattle.tinmove.proofs.LayerLists.{one_more, names_done, rows_printable, files_writable}
@@ -120,12 +119,7 @@ module _ (told : Option Files) (how : How) (tin : Triangulation) (names : List (
   pub uncarried_at : (i : ℕ) (name folder bytes : List ℕ) (run : Run) (rose : Type 0) (refusal : Refusal) → i < length names → name ≡ get_or names i name → HasCarried told how tin folder (take i names) run
       → IfSome told (Loads name bytes) → run.used + length bytes ≤ MOST_BYTES → AddsNone how tin i name bytes (length run.pieces.items) refusal → AreUncarried told how tin names rose refusal
   uncarried_at i name folder bytes run rose refusal within is has found few none =
-      elim none.why [
-        | as_layer why ↦ uncarried_rows i name folder bytes run rose none.format refusal within is has (file_at i name bytes run.used none.format none.suffix found few) why
-        | as_drawing drawing so ↦
-            let file : IsLayerFile told name run.used Drawing bytes = subst (λ (f : Format). IsLayerFile told name run.used f bytes) drawing (file_at i name bytes run.used none.format none.suffix found few) in
-            subst (λ (r : Refusal). AreUncarried told how tin names rose r) (sym so) (by_the_layers (refused_at i name folder run (NoDrawing i) within is has (refl, bytes, file)))
-      ]
+      uncarried_rows i name folder bytes run rose none.format refusal within is has (file_at i name bytes run.used none.format none.suffix found few) none.why
 
   -- it is carried
   pub carried_at : (i : ℕ) (name folder bytes : List ℕ) (before now : Run) → i < length names → name ≡ get_or names i name → HasCarried told how tin folder (take i names) before

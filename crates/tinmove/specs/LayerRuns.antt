@@ -8,12 +8,11 @@ use Rattle.tin_base.specs.declared.pieces.Piece.{Piece}
 use Rattle.tin_base.specs.Triangulation.{Triangulation}
 use Rattle.topo_check.specs.Changes.{HasMoreThan}
 use Rattle.job_words.specs.declared.formats.Format.{Format}
-use Rattle.job_words.specs.declared.formats.Format.TheVariants.{Drawing}
 use Rattle.job_words.specs.Formats.{format_of}
 use Rattle.tinmove.specs.declared.loading.TheConstants.{MOST_BYTES}
 use Rattle.tinmove.specs.declared.listing.TheConstants.{MOST_CHANGES}
 use Rattle.tinmove.specs.declared.refusal.Refusal.{Refusal}
-use Rattle.tinmove.specs.declared.refusal.Refusal.TheVariants.{LayerUnread, LayersLong, Layer, NoDrawing, Outside, TooManyPieces, TooManyChanges}
+use Rattle.tinmove.specs.declared.refusal.Refusal.TheVariants.{LayerUnread, LayersLong, Layer, Outside, TooManyPieces, TooManyChanges}
 use Rattle.tinmove.specs.Carrying.{LacksLayerText, IsCarried, IsOutside, HasTooMany}
 
 -- a layer that was carried: its name among the words, its format, and what was made of it
@@ -51,7 +50,6 @@ AreCarried told how tin number used before (name ∷ names) after done total =
 abbrev pub IsNextRefused : Option Files → How → Triangulation → ℕ → ℕ → ℕ → List ℕ → Refusal → Type 0
 IsNextRefused told how tin number used before name (LayerUnread layer) = (layer ≡ number) × LacksName told name
 IsNextRefused told how tin number used before name LayersLong = IsLongLayer told name used
-IsNextRefused told how tin number used before name (NoDrawing layer) = (layer ≡ number) × (bytes : List ℕ) × IsLayerFile told name used Drawing bytes
 IsNextRefused told how tin number used before name (Layer layer fault) =
     (layer ≡ number) × (format : Format) × (bytes : List ℕ) × IsLayerFile told name used format bytes × LacksLayerText how format bytes fault
 IsNextRefused told how tin number used before name (Outside layer path segment) =

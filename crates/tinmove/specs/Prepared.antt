@@ -16,11 +16,10 @@ use Rattle.tin_check.specs.Faults.{IsCause}
 use Rattle.tin_file.specs.Reading.{Answers}
 use Rattle.topo_check.specs.Changes.{HasMoreThan}
 use Rattle.job_words.specs.declared.formats.Format.{Format}
-use Rattle.job_words.specs.declared.formats.Format.TheVariants.{Drawing}
 use Rattle.tinmove.specs.declared.loading.TheConstants.{MOST_BYTES}
 use Rattle.tinmove.specs.declared.listing.TheConstants.{MOST_CHANGES}
 use Rattle.tinmove.specs.declared.refusal.Refusal.{Refusal}
-use Rattle.tinmove.specs.declared.refusal.Refusal.TheVariants.{TinUnread, TinLong, Tin, Check, LayerUnread, LayersLong, NoDrawing, Layer, Outside, TooManyPieces, TooManyChanges, NoMemory}
+use Rattle.tinmove.specs.declared.refusal.Refusal.TheVariants.{TinUnread, TinLong, Tin, Check, LayerUnread, LayersLong, Layer, Outside, TooManyPieces, TooManyChanges, NoMemory}
 use Rattle.tinmove.specs.declared.carrying.LayerFile.{LayerFile}
 use Rattle.tinmove.specs.declared.carrying.Run.{Run}
 use Rattle.tinmove.specs.declared.preparing.Written.{Written}
@@ -87,10 +86,9 @@ IsUncarriedAs reads refuses tin text number before TooManyPieces = IsLayerTooMan
 IsUncarriedAs reads refuses tin text number before NoMemory = Unit {0}
 IsUncarriedAs reads refuses tin text number before refusal = ⊥
 
--- the same of a format; a drawing is not read yet
-pub data IsUncarried (how : How) (tin : Triangulation) (format : Format) (text : List ℕ) (number before : ℕ) (refusal : Refusal) : Type 0 where
-  as_layer : IsUncarriedAs (IsLayerText how format) (LacksLayerText how format) tin text number before refusal → IsUncarried how tin format text number before refusal
-  as_drawing : format ≡ Drawing → refusal ≡ NoDrawing number → IsUncarried how tin format text number before refusal
+-- the same of a format
+abbrev pub IsUncarried : How → Triangulation → Format → List ℕ → ℕ → ℕ → Refusal → Type 0
+IsUncarried how tin format text number before refusal = IsUncarriedAs (IsLayerText how format) (LacksLayerText how format) tin text number before refusal
 
 -- what a run has of the layers that were carried
 pub record Holds (folder : List ℕ) (done : List Done) (run : Run) : Type 0 where
@@ -119,7 +117,6 @@ IsUnlisted tin pieces refusal = ⊥
 abbrev pub IsOfMaking : Refusal → Type 0
 IsOfMaking (Tin fault) = Unit {0}
 IsOfMaking (Check fault) = Unit {0}
-IsOfMaking (NoDrawing layer) = Unit {0}
 IsOfMaking (Layer layer fault) = Unit {0}
 IsOfMaking (Outside layer path segment) = Unit {0}
 IsOfMaking TooManyPieces = Unit {0}
@@ -131,7 +128,6 @@ IsOfMaking refusal = ⊥
 abbrev pub IsOfLayers : Refusal → Type 0
 IsOfLayers (LayerUnread layer) = Unit {0}
 IsOfLayers LayersLong = Unit {0}
-IsOfLayers (NoDrawing layer) = Unit {0}
 IsOfLayers (Layer layer fault) = Unit {0}
 IsOfLayers (Outside layer path segment) = Unit {0}
 IsOfLayers TooManyPieces = Unit {0}

@@ -15,7 +15,7 @@ use Rattle.topo_check.specs.declared.faults.ChangesFault.TheVariants.{TooMany as
 use Rattle.tinmove.specs.declared.status.Status.{Status}
 use Rattle.tinmove.specs.declared.status.Status.TheVariants.{Words as WordsStatus, Tin as TinStatus, Layer as LayerStatus, Outside as OutsideStatus, Read, Memory, Limit}
 use Rattle.tinmove.specs.declared.refusal.Refusal.{Refusal}
-use Rattle.tinmove.specs.declared.refusal.Refusal.TheVariants.{Words, TinUnread, TinLong, Tin, Check, LayerUnread, LayersLong, NoDrawing, Layer, Outside, TooManyPieces, TooManyChanges, NoMemory}
+use Rattle.tinmove.specs.declared.refusal.Refusal.TheVariants.{Words, TinUnread, TinLong, Tin, Check, LayerUnread, LayersLong, Layer, Outside, TooManyPieces, TooManyChanges, NoMemory}
 use Rattle.tinmove.specs.Lines.{words_line, tin_line, check_line, layer_line}
 
 -- the refusal of the layer of this number, which is not carried
@@ -59,7 +59,6 @@ status_of (Tin fault) = status_of_tin fault
 status_of (Check fault) = status_of_check fault
 status_of (LayerUnread layer) = Read
 status_of LayersLong = Limit
-status_of (NoDrawing layer) = LayerStatus
 status_of (Layer layer fault) = status_of_layer fault
 status_of (Outside layer path segment) = OutsideStatus
 status_of TooManyPieces = Limit
@@ -74,7 +73,6 @@ line_of (Tin fault) = tin_line fault
 line_of (Check fault) = check_line fault
 line_of (LayerUnread layer) = codes "read fault: layer " ++ decimal layer ++ codes "\n"
 line_of LayersLong = codes "limit: bytes of layers\n"
-line_of (NoDrawing layer) = codes "layer " ++ decimal layer ++ codes ": not yet\n"
 line_of (Layer layer fault) = layer_line layer fault
 line_of (Outside layer path segment) = codes "outside: layer " ++ decimal layer ++ codes " path " ++ decimal path ++ codes " segment " ++ decimal segment ++ codes "\n"
 line_of TooManyPieces = codes "limit: pieces\n"

@@ -20,6 +20,7 @@ use crate::loading::{MOST_BYTES, loaded};
 use crate::refusal::{Refusal, uncarried};
 use crate::report::layer_row;
 use carry_map::{Carried, MOST_PIECES, carry_layer};
+use dxf_layer::Dxf;
 use gj_layer::GeoJson;
 use job_words::{Format, format_of, last_part};
 use report_text::LayerRow;
@@ -136,7 +137,10 @@ fn carried_layer(
             Ok(carried) => Ok(carried),
             Err(refusal) => Err(refusal),
         },
-        Format::Drawing => Err(Refusal::NoDrawing { layer: number }),
+        Format::Drawing => match carried_as::<Dxf>(alloc, index, bytes, how, number, pieces) {
+            Ok(carried) => Ok(carried),
+            Err(refusal) => Err(refusal),
+        },
     }
 }
 

@@ -300,21 +300,3 @@ fn a_layer_stands_whole_behind_a_write_fault_in_the_next(rt: HostRuntime) -> Res
     assert_eq!(rt; press.made_bytes("-"), None);
     Ok(())
 }
-
-#[test]
-fn a_drawing_is_not_read_yet(rt: HostRuntime) -> Result<(), Fail> {
-    let alloc = rt.alloc();
-    let words = ["migrate", "--tin", "t.json", "--out", "o", "a.wkt", "b.dxf"];
-    let files = [
-        ("t.json", TIN),
-        ("a.wkt", b"POINT (5 0)".as_slice()),
-        ("b.dxf", b"0\nEOF\n"),
-    ];
-    let (status, press) = ran(alloc, &words, &files)?;
-    assert_eq!(rt; status, Status::Layer);
-    assert_eq!(rt;
-        press.made_bytes("-"),
-        Some(b"layer 1: not yet\n".as_slice())
-    );
-    Ok(())
-}

@@ -4,7 +4,7 @@ ghost use Rattle.std.specs.Prelude.{◌≡◌, ◌≤◌, ◌+◌, ◌++◌, len
 ghost use Rattle.tin_file.specs.Keys.{key_of};
 ghost use Rattle.tinmove.specs.Lines.{tin_line as tin_line_of, check_line as check_line_of, number_line as number_line_of, rows_end as rows_end_of, frame_end as frame_end_of, layer_line as layer_line_of, layer_number_line as layer_number_line_of, at_place, at_line, words_line as words_line_of, which_line as which_line_of};
 ghost use Rattle.tinmove.specs.Refusals.{line_of};
-ghost use Rattle.tinmove.specs.declared.refusal.Refusal.TheVariants.{Outside, NoDrawing};
+ghost use Rattle.tinmove.specs.declared.refusal.Refusal.TheVariants.{Outside};
 
 use arrayvec::ArrayString;
 use itoa::Buffer;
@@ -308,13 +308,6 @@ pub fn layer_line(layer: u32, fault: LayerFault) -> Line
         LayerFault::Seed { line } => drawing_line(layer, "seed", line),
         LayerFault::NoMemory => said("no memory\n"),
     }
-}
-
-/// The line of a layer that is a drawing.
-pub fn not_yet_line(layer: u32) -> Line
-    ensures { result.bytes ≡ line_of (NoDrawing layer) }
-{
-    said_number("layer ", u64::from(layer), ": not yet\n")
 }
 
 /// The line of a segment that is outside.

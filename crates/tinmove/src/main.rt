@@ -4,6 +4,8 @@
 
 mod carrying;
 #[cfg(test)]
+mod drawing_tests;
+#[cfg(test)]
 mod geojson_tests;
 mod help;
 #[cfg(test)]

@@ -5,8 +5,7 @@ ghost use Rattle.tinmove.specs.Refusals.{line_of, status_of, status_of_words, st
 ghost use Rattle.tinmove.specs.declared.refusal.Refusal.TheVariants.{Tin, Check, NoMemory};
 
 use crate::lines::{
-    Line, check_line, layer_line, not_yet_line, outside_line, said, said_number, tin_line,
-    words_line,
+    Line, check_line, layer_line, outside_line, said, said_number, tin_line, words_line,
 };
 use crate::status::Status;
 use carry_map::CarryFault;
@@ -34,8 +33,6 @@ pub enum Refusal {
     LayerUnread { layer: u32 },
     /// The layers' files up to the one that was being read have too many bytes.
     LayersLong,
-    /// This layer is a drawing, which is not read yet.
-    NoDrawing { layer: u32 },
     /// This layer is not read.
     Layer { layer: u32, fault: LayerFault },
     /// This segment is the first that is not wholly in the source triangles: its layer, its path
@@ -155,7 +152,6 @@ impl Refusal {
             | Refusal::TooManyChanges => Status::Limit,
             Refusal::Tin(fault) => tin_status(fault),
             Refusal::Check(fault) => check_status(fault),
-            Refusal::NoDrawing { .. } => Status::Layer,
             Refusal::Layer { fault, .. } => layer_status(fault),
             Refusal::Outside { .. } => Status::Outside,
             Refusal::NoMemory => Status::Memory,
@@ -176,7 +172,6 @@ impl Refusal {
                 said_number("read fault: layer ", u64::from(layer), "\n")
             }
             Refusal::LayersLong => said("limit: bytes of layers\n"),
-            Refusal::NoDrawing { layer } => not_yet_line(layer),
             Refusal::Layer { layer, fault } => layer_line(layer, fault),
             Refusal::Outside {
                 layer,
