@@ -97,11 +97,15 @@ end
 
 #[test]
 fn many_cells_are_made(rt: HostRuntime) -> Result<(), Fail> {
-    let (_, press) = made(rt.alloc(), "24")?;
-    let front = b"tinmove report 1
+    let (status, press) = made(rt.alloc(), "24")?;
+    let report = b"tinmove report 1
 triangulation corners 625 triangles 1152 inexact 0 name made.json
-layer 0 paths 24 segments 24 pieces ";
-    assert!(rt; press.made_bytes("-").unwrap_or(b"").starts_with(front));
+layer 0 paths 24 segments 24 pieces 1304 inexact 0 dropped 0 name made.wkt
+changes 0
+end
+";
+    assert_eq!(rt; status, Status::Same);
+    assert_eq!(rt; press.made_bytes("-"), Some(report.as_slice()));
     Ok(())
 }
 
