@@ -1,132 +1,11 @@
 #!/bin/sh
 # Reads a layer of well-known text (524,288 lines of two points, 17.8 MB) to its sheet, carries it through one triangle, and
-# writes it. Prints, in microseconds of processor time, where each part ends: reading (Wkt::read), then reading and carrying
-# (carry), then reading, carrying and writing (carry_layer, whose last part is Wkt::render); and the peak of memory, of reading
-# alone and of all, as a multiple of the layer. All holds the pieces, too. It builds a program over the crates of this
-# repository in a folder of its own. No part of the gate.
+# writes it: how fast, and in how much memory, as layer_frame.sh says. No part of the gate.
 set -eu
 lines=${1:-524288}
-top=$(CDPATH='' cd -- "$(dirname -- "$0")/.." && pwd)
-folder=$(mktemp -d)
-trap 'rm -rf "$folder"' EXIT
-mkdir -p "$folder/crates/wkt_bench/src"
-names='integer_ring text_places mm_decimal frac128 plane_base jtext tin_base tin_check tin_index sheet_base affine_image
-    tin_file seg_walk carry_map wkt_layer'
-for name in $names; do
-    cp -r "$top/crates/$name" "$folder/crates/$name"
-    grep "^$name:" "$top/crates.txt" >> "$folder/crates.txt"
-done
-{
-    printf 'wkt_bench: %s ' "$(echo $names)"
-    echo 'indexmap smallvec memchr thiserror anyhow'
-} >> "$folder/crates.txt"
-cat > "$folder/crates/wkt_bench/src/main.rt" <<'END'
-//! Reads the layer `made.wkt`, carries it through the triangulation `made.json`, and writes it, and prints how long each takes.
-#![tactic(auto)]
-
-use carry_map::{MOST_PIECES, carry, carry_layer};
-use sheet_base::{How, Layer};
-use std::alloc::Global;
-use std::fs;
-use std::time::CpuClock;
-use tin_check::check_tin;
-use tin_file::{MOST_BYTES, read_tin};
-use tin_index::TinIndex;
-use wkt_layer::Wkt;
-
-fn how() -> How {
-    How {
-        exact: false,
-        drop_other: false,
-        inside_only: false,
-    }
-}
-
-fn index_of(alloc: Global, text: &[u8]) -> Option<TinIndex> {
-    if text.len() as u64 > MOST_BYTES as u64 {
-        return None;
-    }
-    let tin = read_tin(alloc, text, how()).ok()?;
-    let sound = check_tin(alloc, tin).ok()?;
-    TinIndex::build(alloc, sound).ok()
-}
-
-/// The processor time of this thread, in microseconds.
-fn now(rt: &HostRuntime) -> u128 {
-    match rt.thread_cpu_time() {
-        Ok(time) => time.as_micros(),
-        Err(_) => 0,
-    }
-}
-
-/// Reads the layer to its sheet, and tells how many points it has.
-fn read(alloc: Global, bytes: &[u8]) -> usize {
-    if bytes.len() > 1 << 26 {
-        return 0;
-    }
-    match Wkt::read(alloc, bytes, how()) {
-        Ok(sheet) => sheet.points().len(),
-        Err(_) => 0,
-    }
-}
-
-/// Reads the layer and carries its sheet, and tells how many images there are.
-fn read_and_carry(alloc: Global, bytes: &[u8], index: &TinIndex) -> usize {
-    if bytes.len() > 1 << 26 {
-        return 0;
-    }
-    let Ok(sheet) = Wkt::read(alloc, bytes, how()) else {
-        return 0;
-    };
-    let mut pieces = Vec::new(alloc);
-    match carry(alloc, index, &sheet, 0, MOST_PIECES, &mut pieces) {
-        Ok(images) => images.points().len(),
-        Err(_) => 0,
-    }
-}
-
-/// Reads the layer, carries its sheet and writes it, and tells how many bytes it then has.
-fn read_carry_and_render(alloc: Global, bytes: &[u8], index: &TinIndex) -> usize {
-    if bytes.len() > 1 << 26 {
-        return 0;
-    }
-    let mut pieces = Vec::new(alloc);
-    match carry_layer::<Wkt>(alloc, index, bytes, how(), 0, MOST_PIECES, &mut pieces) {
-        Ok(carried) => carried.text.items().len(),
-        Err(_) => 0,
-    }
-}
-
-/// Says how long each of the three takes.
-fn measure(rt: &HostRuntime, bytes: &[u8], index: &TinIndex) -> anyhow::Result<()> {
-    let start = now(rt);
-    let points = read(rt.alloc(), bytes);
-    let first = now(rt);
-    let images = read_and_carry(rt.alloc(), bytes, index);
-    let second = now(rt);
-    let written = read_carry_and_render(rt.alloc(), bytes, index);
-    let third = now(rt);
-    println!(rt; "points {points} images {images} written {written}")?;
-    println!(rt; "times {start} {first} {second} {third}")?;
-    Ok(())
-}
-
-fn main(rt: HostRuntime) -> anyhow::Result<()> {
-    let bytes = fs::read(&rt, "made.wkt")?;
-    let text = fs::read(&rt, "made.json")?;
-    if let Some(index) = index_of(rt.alloc(), &text) {
-        measure(&rt, &bytes, &index)?;
-    } else {
-        let points = read(rt.alloc(), &bytes);
-        println!(rt; "points {points}")?;
-    }
-    Ok(())
-}
-END
-# The run that builds the program finds no layer, and is not counted.
-(cd "$folder/crates/wkt_bench" && rt run > "$folder/log" 2>&1) || true
-program="$folder/crates/wkt_bench/out/wkt_bench"
-[ -x "$program" ] || { tail -n 40 "$folder/log"; exit 1; }
+rounds=${2:-5}
+. "$(dirname -- "$0")/layer_frame.sh"
+build Wkt made.wkt wkt_layer
 # Lines of up to 0.5 m in the square of 5 m that lies in the triangle.
 awk -v lines="$lines" 'BEGIN {
     for (i = 0; i < lines; i++) {
@@ -135,22 +14,6 @@ awk -v lines="$lines" 'BEGIN {
         printf "LINESTRING (%d.%03d %d.%03d, %d.%d %d.%d)\n", x / 1000, x % 1000, y / 1000, y % 1000,
             x / 1000, x % 1000 / 100, y / 1000, y % 1000 / 100
     }
-}' > "$folder/made.wkt"
-cat > "$folder/run.py" <<'END'
-import os, resource, subprocess, sys
-size = os.path.getsize("made.wkt")
-subprocess.run([sys.argv[1]], check=True)
-peak = resource.getrusage(resource.RUSAGE_CHILDREN).ru_maxrss
-print("bytes %d, most memory: %d KiB, %.1f times the layer" % (size, peak, peak * 1024 / size))
-END
-cd "$folder"
-echo 'reading alone'
-echo '{}' > made.json
-python3 run.py "$program"
-echo 'reading, carrying and writing'
-printf '%s' '{"file_type":"triangulation_file","format_version":"1.1",' \
-    '"transformed_components":["horizontal"],' \
-    '"vertices_columns":["source_x","source_y","target_x","target_y"],' \
-    '"triangles_columns":["idx_vertex1","idx_vertex2","idx_vertex3"],' \
-    '"vertices":[[0,0,100,100],[10,0,110.002,100],[0,10,100,110]],"triangles":[[0,1,2]]}' > made.json
-python3 run.py "$program"
+}' > "$folder/$layer"
+measure_reading
+measure_all 'reading, carrying and writing' '[0,0,100,100],[10,0,110.002,100],[0,10,100,110]' '[0,1,2]'
