@@ -1,4 +1,4 @@
-//! Runs in memory over the words of whole jobs: several layers, the options, and words that give no job.
+//! Runs in memory over the words of whole jobs: several layers and the options.
 
 use crate::run::run;
 use crate::status::Status;
@@ -19,7 +19,7 @@ const SQUARE: &[u8] =
     br#"{"file_type":"triangulation_file","format_version":"1.1","transformed_components":["horizontal"],"vertices_columns":["source_x","source_y","target_x","target_y"],"triangles_columns":["idx_vertex1","idx_vertex2","idx_vertex3"],"vertices":[[0,0,100,100],[10,0,110,100],[10,10,110.003,110.003],[0,10,100,110]],"triangles":[[0,1,2],[0,2,3]]}"#;
 
 /// Runs these words over these files, of which no two have one name.
-fn ran(
+pub fn ran(
     alloc: Global,
     texts: &[&str],
     files: &[(&str, &[u8])],
@@ -37,65 +37,6 @@ fn ran(
     let mut press = MemPress::new(alloc, 4096);
     let status = run(alloc, &words, &mut shelf, &mut press);
     Ok((status, press))
-}
-
-#[test]
-fn words_that_give_no_job(rt: HostRuntime) -> Result<(), Fail> {
-    let alloc = rt.alloc();
-    for (texts, line) in [
-        ([].as_slice(), b"words: no mode\n".as_slice()),
-        (&["carry", "--tin", "t.json"], b"words: no mode\n"),
-        (&["--help"], b"words: no mode\n"),
-        (&["check", "--tin"], b"words: not understood\n"),
-        (&["check", "t.json", "--tin"], b"words: not understood\n"),
-        (
-            &["check", "--tin", "t", "p.wkt"],
-            b"words: not understood\n",
-        ),
-        (
-            &["check", "--tin", "t", "--tin", "t"],
-            b"words: not understood\n",
-        ),
-        (
-            &["check", "--tin", "t", "--inverse"],
-            b"words: not understood\n",
-        ),
-        (
-            &["migrate", "--tin", "t", "--out", "o"],
-            b"words: not understood\n",
-        ),
-        (
-            &[
-                "migrate", "--tin", "t", "--out", "o", "--exact", "--exact", "a.wkt",
-            ],
-            b"words: not understood\n",
-        ),
-        (&["make", "0"], b"words: size\n"),
-        (&["make", "513"], b"words: size\n"),
-        (&["make", "01"], b"words: size\n"),
-        (&["check", "--tin", ""], b"words: name of triangulation\n"),
-        (
-            &["migrate", "--tin", "t", "--out", "", "a.wkt"],
-            b"words: name of folder\n",
-        ),
-        (
-            &["migrate", "--tin", "t", "--out", "o", "a.wkt", "b\n.wkt"],
-            b"words: name of layer 1\n",
-        ),
-        (
-            &["migrate", "--tin", "t", "--out", "o", "a.tif"],
-            b"words: suffix of layer 0\n",
-        ),
-        (
-            &["migrate", "--tin", "t", "--out", "o", "a/x.wkt", "b/x.wkt"],
-            b"words: same name at layer 1\n",
-        ),
-    ] {
-        let (status, press) = ran(alloc, texts, &[])?;
-        assert_eq!(rt; status, Status::Words, "at {line:?}");
-        assert_eq!(rt; press.made_bytes("-"), Some(line), "at {line:?}");
-    }
-    Ok(())
 }
 
 #[test]

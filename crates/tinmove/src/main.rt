@@ -13,6 +13,7 @@ mod help_tests;
 #[cfg(test)]
 mod job_tests;
 mod laws;
+mod layer_lines;
 #[cfg(test)]
 mod layer_tests;
 mod lines;
@@ -39,6 +40,8 @@ mod tests;
 #[cfg(test)]
 mod tin_tests;
 mod triangulations;
+#[cfg(test)]
+mod words_tests;
 
 use help::{Help, USAGE, help_of};
 use job_words::{Job, read_words};

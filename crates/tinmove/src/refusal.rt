@@ -4,9 +4,8 @@ ghost use Rattle.std.specs.Prelude.{◌≡◌};
 ghost use Rattle.tinmove.specs.Refusals.{line_of, status_of, status_of_words, status_of_tin, status_of_check, status_of_layer, of_carrying, of_changes};
 ghost use Rattle.tinmove.specs.declared.refusal.Refusal.TheVariants.{Tin, Check, NoMemory};
 
-use crate::lines::{
-    Line, check_line, layer_line, outside_line, said, said_number, tin_line, words_line,
-};
+use crate::layer_lines::{layer_line, outside_line};
+use crate::lines::{Line, check_line, said, said_number, tin_line, words_line};
 use crate::status::Status;
 use carry_map::CarryFault;
 use job_words::WordsFault;
