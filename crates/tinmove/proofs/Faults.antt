@@ -7,7 +7,7 @@ use Rattle.tin_check.specs.declared.faults.CheckFault.TheVariants.{Flat, TurnsOv
 use Rattle.tin_file.specs.declared.faults.TinFault.{TinFault}
 use Rattle.tin_file.specs.declared.faults.TinFault.TheVariants.{Json, Deep, Key, Version, Fallback, NoHorizontal, TooMany, Row, Number, Inexact, Index, Span, NoMemory}
 use Rattle.tinmove.specs.declared.status.Status.{Status}
-use Rattle.tinmove.specs.declared.status.Status.TheVariants.{Tin as TinStatus, Layer as LayerStatus, Write, Memory, Limit}
+use Rattle.tinmove.specs.declared.status.Status.TheVariants.{Tin as TinStatus, Layer as LayerStatus, Read, Write, Memory, Limit}
 use Rattle.tinmove.specs.Refusals.{status_of_tin, status_of_check, status_of_layer}
 
 -- the statuses of a triangulation that is refused
@@ -41,6 +41,11 @@ pub not_write : (status : Status) → IsOfTin status → status ≢ Write
 not_write status (refused is) = rw is (λ e. cc)
 not_write status (limited is) = rw is (λ e. cc)
 not_write status (wanted is) = rw is (λ e. cc)
+
+pub not_read : (status : Status) → IsOfTin status → status ≢ Read
+not_read status (refused is) = rw is (λ e. cc)
+not_read status (limited is) = rw is (λ e. cc)
+not_read status (wanted is) = rw is (λ e. cc)
 
 -- want of memory, or a fault of the text
 pub want_or_fault : (fault : TinFault) → (status_of_tin fault ≡ Memory) ⊎ (fault ≢ NoMemory)
@@ -91,3 +96,7 @@ of_layer layers.NoMemory = without_room refl
 pub layer_not_write : (status : Status) → IsOfLayer status → status ≢ Write
 layer_not_write status (unread is) = rw is (λ e. cc)
 layer_not_write status (without_room is) = rw is (λ e. cc)
+
+pub layer_not_read : (status : Status) → IsOfLayer status → status ≢ Read
+layer_not_read status (unread is) = rw is (λ e. cc)
+layer_not_read status (without_room is) = rw is (λ e. cc)

@@ -15,4 +15,6 @@ pub mod Readied
 pub mod Made
 pub mod Fronts
 pub mod Ending
+pub mod LimitsTold
+pub mod WordsEnd
 pub mod KeptRuns

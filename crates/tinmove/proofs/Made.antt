@@ -1,5 +1,5 @@
 -- What is made, from the steps of making it.
-use Rattle.std.proofs.Common.{◌≡◌, ◌≤◌, ◌+◌, ℕ, List, [], map, codes, length, Option, None, Some, IfSome, refl, sym, ◌∙◌, ap, subst, arith}
+use Rattle.std.proofs.Common.{◌≡◌, ◌≢◌, ◌≤◌, ◌+◌, ℕ, List, [], map, codes, length, Option, None, Some, IfSome, refl, sym, ◌∙◌, ap, subst, arith}
 use Rattle.std.specs.List.{AllByRecursion}
 use Rattle.shelf_io.specs.Files.{Files}
 use Rattle.shelf_io.specs.Load.{Loads}
@@ -13,7 +13,10 @@ use Rattle.topo_check.specs.Changes.{AreAllComparable}
 use Rattle.job_words.specs.Kept.{IsName}
 use Rattle.tinmove.specs.declared.loading.TheConstants.{MOST_BYTES}
 use Rattle.tinmove.specs.declared.refusal.Refusal.{Refusal}
-use Rattle.tinmove.specs.declared.refusal.Refusal.TheVariants.{Tin, Check, TooManyChanges, NoMemory}
+use Rattle.tinmove.specs.declared.status.Status.TheVariants.{Read}
+use Rattle.tinmove.specs.declared.refusal.Refusal.TheVariants.{Tin, Check, Layer, Outside, TooManyPieces, TooManyChanges, NoMemory}
+use Rattle.tinmove.specs.Refusals.{status_of}
+use Rattle.tinmove.proofs.Faults.{of_text, of_check, of_layer, not_read, layer_not_read}
 use Rattle.tinmove.specs.declared.carrying.LayerFile.{LayerFile}
 use Rattle.tinmove.specs.declared.carrying.Run.{Run}
 use Rattle.tinmove.specs.declared.preparing.Written.{Written}
@@ -142,9 +145,23 @@ made_form tin run written final is none said changed = record {
   is_said = report_said (report_of (codes "made.json") tin run.rows.items is.changes) (said ∙ is.said) (changed ∙ is.changed);
 }
 
--- a job that makes is refused as what it makes is
+-- a job that makes is refused as what it makes is, whatever files there are
 pub making_refused : (told : Option Files) (n : ℕ) (rose : Type 0) (refusal : Refusal) → MayNotBeMade n refusal → IfSome told (λ files. MayRefuse files (Make n) rose refusal)
 making_refused None n rose refusal why = tt
 making_refused (Some files) n rose refusal (by_the_files is) = by_the_files is
 making_refused (Some files) n rose refusal (unread none reached) = absurd none
 making_refused (Some files) n rose refusal (no_room is) = no_room is
+
+pub making_refused_over : (files : Files) (n : ℕ) (refusal : Refusal) → MayNotBeMade n refusal → MayRefuse files (Make n) ⊥ refusal
+making_refused_over files n refusal why = making_refused (Some files) n ⊥ refusal why
+
+-- what is made is not read
+pub never_read : (refusal : Refusal) → IsOfMaking refusal → status_of refusal ≢ Read
+never_read (Tin fault) of = not_read _ (of_text fault)
+never_read (Check fault) of = not_read _ (of_check fault)
+never_read (Layer layer fault) of = layer_not_read _ (of_layer fault)
+never_read (Outside layer path segment) of = λ e. cc
+never_read TooManyPieces of = λ e. cc
+never_read TooManyChanges of = λ e. cc
+never_read NoMemory of = λ e. cc
+never_read refusal of = absurd of

@@ -86,6 +86,11 @@ LacksWanted (Migrate tin out how inverse layers) files = LacksName files tin ⊎
 LacksWanted (Check tin how) files = LacksName files tin
 LacksWanted (Make n) files = ⊥
 
+-- a job that wants no file
+abbrev pub IsWithoutFile : Job → Type 0
+IsWithoutFile (Make n) = Unit {0}
+IsWithoutFile job = ⊥
+
 -- the words give a job, and a file that it wants is missing
 abbrev pub LacksWantedOf : List (List ℕ) → Option Files → Type 0
 LacksWantedOf words files = (job : Job) × IsJobOf words job × LacksWanted job files

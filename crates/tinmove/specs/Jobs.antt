@@ -1,7 +1,7 @@
 -- What the words of the command line ask for.
-use Rattle.std.specs.Prelude.{ℕ, Bool, List}
+use Rattle.std.specs.Prelude.{◌⊎◌, ℕ, Bool, List}
 use Rattle.sheet_base.specs.declared.flags.How.{How}
-use Rattle.job_words.specs.declared.jobs.Job.TheVariants.{Migrate, Check}
+use Rattle.job_words.specs.declared.jobs.Job.TheVariants.{Migrate, Check, Make}
 use Rattle.job_words.specs.declared.faults.WordsFault.{WordsFault}
 use Rattle.job_words.specs.Jobs.{IsJobOf, IsWordsFault}
 use Rattle.job_words.specs.Kept.{IsMigration as AreNames}
@@ -22,6 +22,10 @@ AsksMigration words carriage = IsJobOf words (Migrate carriage.tin carriage.out 
 abbrev pub AsksCheck : List (List ℕ) → List ℕ → Type 0
 AsksCheck words name = (how : How) × IsJobOf words (Check name how)
 
+-- the words ask for what is made of n by n cells
+abbrev pub AsksMaking : List (List ℕ) → ℕ → Type 0
+AsksMaking words n = IsJobOf words (Make n)
+
 -- the names of a migration may be taken
 abbrev pub MayBeTaken : Carriage → Type 0
 MayBeTaken carriage = AreNames carriage.tin carriage.out carriage.layers
@@ -29,3 +33,7 @@ MayBeTaken carriage = AreNames carriage.tin carriage.out carriage.layers
 -- the words give no job, but this fault
 abbrev pub LacksJob : List (List ℕ) → Type 0
 LacksJob words = (fault : WordsFault) × IsWordsFault words fault
+
+-- the words want no file of the shelf: they give no job, or ask for what is made
+abbrev pub WantNoFile : List (List ℕ) → Type 0
+WantNoFile words = LacksJob words ⊎ ((n : ℕ) × AsksMaking words n)

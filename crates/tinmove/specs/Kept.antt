@@ -18,7 +18,7 @@ use Rattle.tinmove.specs.Jobs.{Carriage}
 use Rattle.tinmove.specs.Carrying.{IsLayerText}
 use Rattle.tinmove.specs.LayerTexts.{reads_back_of}
 use Rattle.tinmove.specs.LayerRuns.{IsLayerFile}
-use Rattle.tinmove.specs.Outcome.{HasWay}
+use Rattle.tinmove.specs.Outcome.{HasWay, made_files, made_carriage}
 use Rattle.report_text.specs.Reports.{Contents as Report}
 use Rattle.report_text.specs.ReportText.{report_text}
 
@@ -73,9 +73,17 @@ pub record ReportsChanges (tin : Triangulation) (pieces : List Piece) (made : Op
   pub some : report.changes ≢ []
   pub printed : IfSome made (λ made. Contains made (codes "-", report_text report))
 
--- What the status of a migration says of all pieces of all its layers, each of them with each later one.
+-- What the status of a migration says of all pieces of all its layers, each of them with each later one, where the layers' files are among `layers` and the report among `made`.
 -- After `Same` each two written segments lie to each other as their pieces do in the source; after `Changed` the report names those that do not.
+abbrev pub KeepsRelationsIn : Files → Carriage → Status → Option Files → Option Files → Type 0
+KeepsRelationsIn files carriage Same layers made = (tin : Triangulation) × (pieces : List Piece) × GivesPieces files carriage layers tin pieces × AllPairs (KeepTheirRelation tin) pieces
+KeepsRelationsIn files carriage Changed layers made = (tin : Triangulation) × (pieces : List Piece) × GivesPieces files carriage layers tin pieces × ReportsChanges tin pieces made
+KeepsRelationsIn files carriage status layers made = Unit {0}
+
+-- both are made
 abbrev pub KeepsRelations : Files → Carriage → Status → Option Files → Type 0
-KeepsRelations files carriage Same made = (tin : Triangulation) × (pieces : List Piece) × GivesPieces files carriage made tin pieces × AllPairs (KeepTheirRelation tin) pieces
-KeepsRelations files carriage Changed made = (tin : Triangulation) × (pieces : List Piece) × GivesPieces files carriage made tin pieces × ReportsChanges tin pieces made
-KeepsRelations files carriage status made = Unit {0}
+KeepsRelations files carriage status made = KeepsRelationsIn files carriage status made made
+
+-- The same of the triangulation and the layer that are made, as of a migration of these two files. Only its report is made; `layers` has the layer's file that would stand before it.
+abbrev pub KeepsMadeRelations : ℕ → Status → Option Files → Type 0
+KeepsMadeRelations n status made = (layers : Files) × KeepsRelationsIn (made_files n) made_carriage status (Some layers) made

@@ -3,6 +3,7 @@
 ghost use Rattle.std.specs.Prelude.{◌≡◌, ◌≢◌, ◌+◌, ◌≤◌, [], Some, IfOk, IfErr, IfSome, OnOk, false};
 ghost use Rattle.std.specs.List.{AllByRecursion};
 ghost use Rattle.shelf_io.specs.Count.{Rose, counted};
+ghost use Rattle.shelf_io.specs.Files.{Files};
 ghost use Rattle.report_text.specs.Reports.{IsPrintable};
 ghost use Rattle.topo_check.specs.Changes.{AreAllComparable};
 ghost use Rattle.job_words.specs.declared.jobs.Job.TheVariants.{Check as CheckJob};
@@ -14,7 +15,7 @@ ghost use Rattle.tinmove.specs.Refusals.{status_of};
 ghost use Rattle.tinmove.specs.RunChanges.{end_of};
 ghost use Rattle.tinmove.specs.Outcome.{IsJobDone, HasTurned, IsMakingDone, made_files, made_carriage};
 ghost use Rattle.tinmove.specs.declared.making.TheConstants.{MOST_CELLS};
-ghost use Rattle.tinmove.specs.Ends.{MayEnd, MayRefuse, HasCauses};
+ghost use Rattle.tinmove.specs.Ends.{MayEnd, MayRefuse, HasCauses, IsWithoutFile};
 ghost use Rattle.tinmove.specs.Prepared.{files_of, HasForm, IsUnlisted, HasCarried, AreUncarried, IsOfMaking};
 ghost use Rattle.tinmove.specs.Wanted.{carriage_of, job_of, IsReported, MayNotBeMade};
 
@@ -212,6 +213,12 @@ pub fn prepared<S: Shelf>(alloc: Global, shelf: &mut S, job: &Job) -> Result<Wri
     ensures may_end { IfOk result (λ written. MayEnd job.now (end_of written.changed)) }
     ensures form { IfOk result (λ written. HasForm written) }
     ensures refused { IfErr result (λ refusal. IfSome (S.files shelf.old) (λ files. MayRefuse files job.now (Rose (S.faults shelf.old) (S.faults shelf.new)) refusal)) }
+
+    // What wants no file goes as it does over any files, and no read fails.
+    ensures untold { IfOk result (λ written. IsWithoutFile job.now → (files : Files) → IsJobDone files job.now (end_of written.changed) (files_of written)) }
+    ensures untold_refused { IfErr result (λ refusal. IsWithoutFile job.now → (files : Files) → MayRefuse files job.now ⊥ refusal) }
+    ensures unread { IfErr result (λ refusal. IsWithoutFile job.now → status_of refusal ≢ ReadStatus) }
+
     ensures causes { IfErr result (λ refusal. HasCauses job.now (S.files shelf.old) (Rose (S.faults shelf.old) (S.faults shelf.new)) (counted (S.given shelf.old) (MOST_BYTES + 1) ≤ S.given shelf.new) refusal) }
     ensures later { S.faults shelf.old ≤ S.faults shelf.new }
     ensures same { OnOk result (S.faults shelf.new ≡ S.faults shelf.old) }

@@ -2,9 +2,10 @@
 
 ghost use Rattle.std.specs.Prelude.{◌≡◌, ◌≢◌, ◌⊎◌, ◌+◌, ◌≤◌, ℕ, List, [], IfSome, false, map, string_bytes};
 ghost use Rattle.shelf_io.specs.Count.{Rose, counted};
+ghost use Rattle.shelf_io.specs.Files.{Files};
 ghost use Rattle.tinmove.specs.declared.loading.TheConstants.{MOST_BYTES};
-ghost use Rattle.tinmove.specs.Jobs.{Carriage, LacksJob, AsksMigration, AsksCheck};
-ghost use Rattle.tinmove.specs.Kept.{KeepsRelations};
+ghost use Rattle.tinmove.specs.Jobs.{Carriage, LacksJob, AsksMigration, AsksCheck, AsksMaking, WantNoFile};
+ghost use Rattle.tinmove.specs.Kept.{KeepsRelations, KeepsMadeRelations};
 ghost use Rattle.tinmove.specs.Ends.{EndsTold, Stands, LacksWantedOf, TellsBytes, IsEndOfCheck};
 
 use crate::preparing::prepared;
@@ -32,6 +33,12 @@ pub fn run<S: Shelf, P: Press>(
     // Where a migration ends with `Same`, each two segments of the written layers lie to each other as their pieces do in
     // the source; where it ends with `Changed`, the report lists each two that do not, and no others.
     ensures kept { IfSome (S.files shelf.old) (λ files. (carriage : Carriage) → AsksMigration (map string_bytes words.now) carriage → KeepsRelations files carriage result (P.made press.new)) }
+
+    // Told or not, where the words give no job or ask for what is made, a run ends so over any files, and never by a read
+    // fault; and what is said of a migration holds of what is made, whose layer is not written.
+    ensures untold { WantNoFile (map string_bytes words.now) → (files : Files) → EndsTold (map string_bytes words.now) files ⊥ (Rose (P.faults press.old) (P.faults press.new)) result (P.made press.new) }
+    ensures unread { WantNoFile (map string_bytes words.now) → result ≢ Status.Read }
+    ensures kept_made { (n : ℕ) → AsksMaking (map string_bytes words.now) n → KeepsMadeRelations n result (P.made press.new) }
 
     // Told or not, what stands after each status.
     ensures stands { IfSome (P.made press.new) (Stands result) }

@@ -1,11 +1,13 @@
-use Rattle.std.proofs.Common.{map, string_bytes, refl}
+use Rattle.std.proofs.Common.{inr, [], map, string_bytes, refl}
 use Rattle.tinmove.specs.declared.refusal.Refusal.TheVariants.{Words}
 use Rattle.tinmove.specs.RunChanges.{end_of}
 use Rattle.tinmove.specs.Refusals.{status_of}
 use Rattle.tinmove.specs.Prepared.{files_of}
-use Rattle.tinmove.proofs.Ending.{line_file, never-write, ends_so, never-write-end, makes_refusal, makes_no_job, makes_files, told, told_always, stands_refused, stands_done, limit_told, limit_done, check_job, end_as, no_job_end, words_end}
+use Rattle.tinmove.proofs.Ending.{line_file, never-write, ends_so, never-write-end, makes_refusal, makes_no_job, makes_files, told, told_always, stands_refused, stands_done}
+use Rattle.tinmove.proofs.LimitsTold.{limit_told, limit_done}
+use Rattle.tinmove.proofs.WordsEnd.{check_job, end_as, no_job_end, words_end, wants_none, words_unread, end_unread, unread_as}
 use Rattle.tinmove.proofs.OneOutcome.{job_or_fault}
-use Rattle.tinmove.proofs.KeptRuns.{run_keeps}
+use Rattle.tinmove.proofs.KeptRuns.{run_keeps, made_keeps}
 use Rattle.tinmove.proofs.run.run.Goals as goal
 
 pub returns-in-Err-clause-ends : goal.returns-in-Err-clause-ends
@@ -18,6 +20,19 @@ returns-in-Err-clause-ends g c =
 pub returns-in-Err-clause-kept : goal.returns-in-Err-clause-kept
 returns-in-Err-clause-kept g c =
     run_keeps (map string_bytes c.args.words.now) (g.S.Shelf.files c.args.shelf.now) _ _ c.refuse.result (g.P.Press.made c.refuse.new.press) (returns-in-Err-clause-ends g c)
+
+pub returns-in-Err-clause-untold : goal.returns-in-Err-clause-untold
+returns-in-Err-clause-untold g c = λ none files.
+    let e = c.refuse.ensures in
+    ends_so (map string_bytes c.args.words.now) files ⊥ _ (line_file (Words c.in-Err.fault)) (status_of (Words c.in-Err.fault)) c.refuse.result (g.P.Press.made c.refuse.new.press) (never-write (Words c.in-Err.fault))
+    (makes_no_job (map string_bytes c.args.words.now) files ⊥ c.in-Err.fault (c.in-Err.ensures.refused c.in-Err.fault refl)) (record { status = e.status; all = e.whole; front = e.front; rose = e.rose })
+
+pub returns-in-Err-clause-unread : goal.returns-in-Err-clause-unread
+returns-in-Err-clause-unread g c = λ none. unread_as (status_of (Words c.in-Err.fault)) c.refuse.result c.refuse.ensures.status (words_unread c.in-Err.fault)
+
+pub returns-in-Err-clause-kept_made : goal.returns-in-Err-clause-kept_made
+returns-in-Err-clause-kept_made g c = λ n asks.
+    made_keeps (map string_bytes c.args.words.now) [] ⊥ _ n c.refuse.result (g.P.Press.made c.refuse.new.press) asks (returns-in-Err-clause-untold g c (inr (n, asks)) [])
 
 pub returns-in-Err-clause-stands : goal.returns-in-Err-clause-stands
 returns-in-Err-clause-stands g c =
@@ -48,6 +63,22 @@ pub returns-in-Ok-prepared-clause-kept : goal.returns-in-Ok-prepared-clause-kept
 returns-in-Ok-prepared-clause-kept g c =
     run_keeps (map string_bytes c.args.words.now) (g.S.Shelf.files c.args.shelf.now) _ _ c.publish.result (g.P.Press.made c.publish.new.press) (returns-in-Ok-prepared-clause-ends g c)
 
+pub returns-in-Ok-prepared-clause-untold : goal.returns-in-Ok-prepared-clause-untold
+returns-in-Ok-prepared-clause-untold g c = λ none files.
+    let e = c.publish.ensures in
+    ends_so (map string_bytes c.args.words.now) files ⊥ _ (files_of c.in-Ok-prepared.written) (end_of c.in-Ok-prepared.written.changed) c.publish.result (g.P.Press.made c.publish.new.press)
+    (never-write-end c.in-Ok-prepared.written.changed)
+    (makes_files (map string_bytes c.args.words.now) files ⊥ c.in-Ok.job (end_of c.in-Ok-prepared.written.changed) (files_of c.in-Ok-prepared.written) c.in-Ok.ensures.job
+    (c.in-Ok-prepared.ensures.untold (wants_none (map string_bytes c.args.words.now) c.in-Ok.job c.in-Ok.ensures.job none) files))
+    (record { status = e.status; all = e.whole; front = e.front; rose = e.rose })
+
+pub returns-in-Ok-prepared-clause-unread : goal.returns-in-Ok-prepared-clause-unread
+returns-in-Ok-prepared-clause-unread g c = λ none. unread_as (end_of c.in-Ok-prepared.written.changed) c.publish.result c.publish.ensures.status (end_unread c.in-Ok-prepared.written.changed)
+
+pub returns-in-Ok-prepared-clause-kept_made : goal.returns-in-Ok-prepared-clause-kept_made
+returns-in-Ok-prepared-clause-kept_made g c = λ n asks.
+    made_keeps (map string_bytes c.args.words.now) [] ⊥ _ n c.publish.result (g.P.Press.made c.publish.new.press) asks (returns-in-Ok-prepared-clause-untold g c (inr (n, asks)) [])
+
 pub returns-in-Ok-prepared-clause-stands : goal.returns-in-Ok-prepared-clause-stands
 returns-in-Ok-prepared-clause-stands g c =
     let e = c.publish.ensures in
@@ -76,6 +107,24 @@ returns-clause-ends g c =
 pub returns-clause-kept : goal.returns-clause-kept
 returns-clause-kept g c =
     run_keeps (map string_bytes c.args.words.now) (g.S.Shelf.files c.args.shelf.now) _ _ c.refuse-in-Err-prepared.result (g.P.Press.made c.refuse-in-Err-prepared.new.press) (returns-clause-ends g c)
+
+pub returns-clause-untold : goal.returns-clause-untold
+returns-clause-untold g c = λ none files.
+    let e = c.refuse-in-Err-prepared.ensures in
+    ends_so (map string_bytes c.args.words.now) files ⊥ _ (line_file c.in-Err-prepared.refusal) (status_of c.in-Err-prepared.refusal) c.refuse-in-Err-prepared.result (g.P.Press.made c.refuse-in-Err-prepared.new.press)
+    (never-write c.in-Err-prepared.refusal)
+    (makes_refusal (map string_bytes c.args.words.now) files ⊥ c.in-Ok.job c.in-Err-prepared.refusal c.in-Ok.ensures.job
+    (c.in-Err-prepared.ensures.untold_refused (wants_none (map string_bytes c.args.words.now) c.in-Ok.job c.in-Ok.ensures.job none) files))
+    (record { status = e.status; all = e.whole; front = e.front; rose = e.rose })
+
+pub returns-clause-unread : goal.returns-clause-unread
+returns-clause-unread g c = λ none.
+    unread_as (status_of c.in-Err-prepared.refusal) c.refuse-in-Err-prepared.result c.refuse-in-Err-prepared.ensures.status
+    (c.in-Err-prepared.ensures.unread (wants_none (map string_bytes c.args.words.now) c.in-Ok.job c.in-Ok.ensures.job none))
+
+pub returns-clause-kept_made : goal.returns-clause-kept_made
+returns-clause-kept_made g c = λ n asks.
+    made_keeps (map string_bytes c.args.words.now) [] ⊥ _ n c.refuse-in-Err-prepared.result (g.P.Press.made c.refuse-in-Err-prepared.new.press) asks (returns-clause-untold g c (inr (n, asks)) [])
 
 pub returns-clause-stands : goal.returns-clause-stands
 returns-clause-stands g c =
