@@ -1,0 +1,8 @@
+-- A grid as contracts see it.
+use Rattle.std.specs.Prelude.{ℕ, List}
+use Rattle.plane_base.specs.declared.shapes.Rect.{Rect}
+
+-- the boxes in order of their numbers, and how many levels they stand on
+pub record Boxes : Type 0 where
+  pub boxes : List Rect
+  pub levels : ℕ
