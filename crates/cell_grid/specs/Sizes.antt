@@ -1,0 +1,20 @@
+-- Boxes by size: the level of a box is a matter of its longer side alone.
+use Rattle.std.specs.Prelude.{ℕ, ◌-◌, ◌<◌, max, ◌-ℤ◌, unsigned_abs, List, All}
+use Rattle.std.specs.Int.{w64, leading_zeros}
+use Rattle.plane_base.specs.declared.shapes.Rect.{Rect}
+
+-- the longer of the two sides
+abbrev pub longer_side : Rect → ℕ
+longer_side rect = max (unsigned_abs (rect.x1 -ℤ rect.x0)) (unsigned_abs (rect.y1 -ℤ rect.y0))
+
+-- how many binary digits a number below 2 ^ 64 has, none where it is 0
+abbrev pub binary_digits : ℕ → ℕ
+binary_digits n = 64 - leading_zeros w64 n
+
+-- the level on which a box stands
+unfoldable pub level_of : Rect → ℕ
+level_of rect = binary_digits (longer_side rect)
+
+-- each of the boxes is of one of so many levels
+abbrev pub AreOfLevels : ℕ → List Rect → Type 0
+AreOfLevels count boxes = All (λ rect. level_of rect < count) boxes
