@@ -1,13 +1,11 @@
 -- One pair more, and the pairs of one piece more.
-use Rattle.std.proofs.Common.{◌≡◌, ℕ, pos, Result, Err, suc, ◌+◌, ◌<◌, ◌≤◌, List, [], ◌∷◌, ◌++◌, length, take, drop, get_or, Option, None, Some, refl, sym, ◌∙◌, ap, subst, append_assoc, add-one, drop-cons, length-append, length-drop, All, ◌-◌, arith}
+use Rattle.std.proofs.Common.{◌≡◌, ℕ, Result, Err, zero, suc, ◌+◌, ◌<◌, ◌≤◌, List, [], ◌∷◌, ◌++◌, length, take, drop, get_or, Option, None, Some, refl, sym, ◌∙◌, ap, subst, append_assoc, add-one, drop-cons, length-drop, ◌-◌, arith}
 use Rattle.std.specs.Result.{IsErrAnd, IsErrOf}
 use Rattle.std.proofs.lemmas.List.{take_more, take-append-drop, drop_all, take_all, get_or-drop}
-use Rattle.plane_base.specs.declared.shapes.Pt.{Pt}
-use Rattle.tin_base.specs.declared.pieces.Place.{Place}
 use Rattle.tin_base.specs.declared.pieces.Piece.{Piece}
 use Rattle.tin_base.specs.declared.pieces.Change.{Change}
 use Rattle.tin_base.specs.Triangulation.{Triangulation}
-use Rattle.topo_check.specs.Changes.{AreComparable, AreAllComparable, IsChangeOf, Pair, pair, with_each, pairs, put, AreChangesOf, HaveMoreThan, DoAdd, DoPassMost}
+use Rattle.topo_check.specs.Changes.{IsChangeOf, Pair, pair, with_each, pairs, put, no_piece, piece_at, AreChangesOf, HaveMoreThan, DoAdd, DoPassMost}
 
 append_nil : {X : Type 0} → (xs : List X) → xs ++ [] ≡ xs
 append_nil [] = refl
@@ -42,29 +40,110 @@ next tin p others i before now q d change h e added is = λ done k.
     (subst (λ (ps : List Pair). AreChangesOf tin ps (now ++ put change [])) (append_assoc done (with_each p (take i others)) (pair p q ∷ []))
     (one_more tin (done ++ with_each p (take i others)) now p q change (added done k) is))
 
-pub kept_none : (tin : Triangulation) (p : Piece) (others : List Piece) (i most : ℕ) (before now : List Change) (q d : Piece) → i < length others → q ≡ get_or others i d → IsKept tin p others i most before now → IsChangeOf tin p q None → IsKept tin p others (i + 1) most before now
-kept_none tin p others i most before now q d h e kept is =
-    record { added = λ done k. subst (λ (cs : List Change). AreChangesOf tin (done ++ with_each p (take (i + 1) others)) cs) (append_nil now) (next tin p others i before now q d None h e kept.added is done k); within = kept.within }
-
-pub kept_some : (tin : Triangulation) (p : Piece) (others : List Piece) (i most : ℕ) (before now : List Change) (q d : Piece) (change : Change) → i < length others → q ≡ get_or others i d → IsKept tin p others i most before now → IsChangeOf tin p q (Some change) → length now < most → IsKept tin p others (i + 1) most before (now ++ change ∷ [])
-kept_some tin p others i most before now q d change h e kept is room =
-    record { added = next tin p others i before now q d (Some change) h e kept.added is; within = omega (arith, length-append now (change ∷ [])) }
-
 -- what others are left
 rest_of : (done : List Pair) (p : Piece) (others : List Piece) (i : ℕ) → (done ++ with_each p (take i others)) ++ with_each p (drop i others) ≡ done ++ with_each p others
 rest_of done p others i =
     append_assoc done (with_each p (take i others)) (with_each p (drop i others)) ∙ ap (λ (ps : List Pair). done ++ ps) (sym (map_append p (take i others) (drop i others)) ∙ ap (λ (qs : List Piece). with_each p qs) (take-append-drop i others))
 
-pub passed : (tin : Triangulation) (p : Piece) (others : List Piece) (i most : ℕ) (before now : List Change) (q d : Piece) (change : Change) → i < length others → q ≡ get_or others i d → IsKept tin p others i most before now → IsChangeOf tin p q (Some change) → most ≤ length now → DoPassMost tin (with_each p others) before most
+pub passed : (tin : Triangulation) (p : Piece) (others : List Piece) (i most : ℕ) (before now : List Change) (q d : Piece) (change : Option Change) → i < length others → q ≡ get_or others i d → IsKept tin p others i most before now → IsChangeOf tin p q change → most < length (now ++ put change []) → DoPassMost tin (with_each p others) before most
 passed tin p others i most before now q d change h e kept is full = λ done k.
     record {
       front = done ++ with_each p (take (i + 1) others);
       rest = with_each p (drop (i + 1) others);
-      changes = now ++ change ∷ [];
+      changes = now ++ put change [];
       is_front = rest_of done p others (i + 1);
-      are_changes = next tin p others i before now q d (Some change) h e kept.added is done k;
-      more = omega (arith, length-append now (change ∷ []));
+      are_changes = next tin p others i before now q d change h e kept.added is done k;
+      more = full;
     }
+
+-- ---- others that have no change add none
+stretch : (tin : Triangulation) (p : Piece) (others : List Piece) (i n most : ℕ) (before now : List Change) → ((k : ℕ) → i ≤ k → k < i + n → IsChangeOf tin p (get_or others k no_piece) None) → i + n ≤ length others → IsKept tin p others i most before now → IsKept tin p others (i + n) most before now
+stretch tin p others i zero most before now none few kept = subst (λ (k : ℕ). IsKept tin p others k most before now) (same i) kept
+  where
+    same : (i : ℕ) → i ≡ i + 0
+    same i = omega arith
+stretch tin p others i (suc n) most before now none few kept =
+    let here = stretch tin p others i n most before now (λ k le less. none k le (omega (arith, less))) (omega (arith, few)) kept in
+    subst (λ (k : ℕ). IsKept tin p others k most before now) (same i n) (record {
+      added = subst (λ (cs : List Change). DoAdd tin (with_each p (take ((i + n) + 1) others)) before cs) (append_nil now)
+          (next tin p others (i + n) before now (get_or others (i + n) no_piece) no_piece None (omega (arith, few)) refl here.added (none (i + n) (omega arith) (omega arith)));
+      within = here.within;
+    })
+  where
+    same : (i n : ℕ) → (i + n) + 1 ≡ i + suc n
+    same i n = omega arith
+
+skipped : (tin : Triangulation) (p : Piece) (others : List Piece) (i j most : ℕ) (before now : List Change) → i ≤ j → j ≤ length others → ((k : ℕ) → i ≤ k → k < j → IsChangeOf tin p (get_or others k no_piece) None) → IsKept tin p others i most before now → IsKept tin p others j most before now
+skipped tin p others i j most before now le few none kept =
+    subst (λ (k : ℕ). IsKept tin p others k most before now) (same i j le) (stretch tin p others i (j - i) most before now (λ k h less. none k h (omega (arith, less, le))) (omega (arith, le, few)) kept)
+  where
+    same : (i j : ℕ) → i ≤ j → i + (j - i) ≡ j
+    same i j h = omega (arith, h)
+
+-- ---- the pieces behind one, by their numbers: those below `from` are done
+pub record AreDoneBelow (tin : Triangulation) (pieces : List Piece) (first from most : ℕ) (before now : List Change) : Type 0 where
+  pub above : first + 1 ≤ from
+  pub few : from ≤ length pieces
+  pub kept : IsKept tin (piece_at pieces first) (drop (first + 1) pieces) (from - (first + 1)) most before now
+
+pub none_below : (tin : Triangulation) (pieces : List Piece) (first most : ℕ) (before : List Change) → first < length pieces → length before ≤ most → AreDoneBelow tin pieces first (first + 1) most before before
+none_below tin pieces first most before h within = record {
+  above = omega arith;
+  few = omega (arith, h);
+  kept = subst (λ (k : ℕ). IsKept tin (piece_at pieces first) (drop (first + 1) pieces) k most before before) (same first)
+      (record { added = λ done k. subst (λ (ps : List Pair). AreChangesOf tin ps before) (sym (append_nil done)) k; within = within });
+}
+  where
+    same : (first : ℕ) → 0 ≡ (first + 1) - (first + 1)
+    same first = omega arith
+
+-- the other of a number among those behind
+other_at : (pieces : List Piece) (first number : ℕ) → first + 1 ≤ number → piece_at pieces number ≡ get_or (drop (first + 1) pieces) (number - (first + 1)) no_piece
+other_at pieces first number h = ap (λ (k : ℕ). piece_at pieces k) (same first number h) ∙ sym (get_or-drop (first + 1) pieces (number - (first + 1)) no_piece)
+  where
+    same : (first number : ℕ) → first + 1 ≤ number → number ≡ (first + 1) + (number - (first + 1))
+    same first number h = omega (arith, h)
+
+-- up to a number, where none from `from` on and below it has a change
+up_to : (tin : Triangulation) (pieces : List Piece) (first from to most : ℕ) (before now : List Change) → AreDoneBelow tin pieces first from most before now → from ≤ to → to ≤ length pieces
+    → ((number : ℕ) → from ≤ number → number < to → IsChangeOf tin (piece_at pieces first) (piece_at pieces number) None) → AreDoneBelow tin pieces first to most before now
+up_to tin pieces first from to most before now done le few none = record {
+  above = omega (arith, done.above, le);
+  few = few;
+  kept = skipped tin (piece_at pieces first) (drop (first + 1) pieces) (from - (first + 1)) (to - (first + 1)) most before now (omega (arith, done.above, le)) (omega (arith, length-drop (first + 1) pieces, few))
+      (λ k h less. subst (λ (q : Piece). IsChangeOf tin (piece_at pieces first) q None) (sym (get_or-drop (first + 1) pieces k no_piece)) (none ((first + 1) + k) (omega (arith, h, done.above)) (omega (arith, less)))) done.kept;
+}
+
+pub one_done : (tin : Triangulation) (pieces : List Piece) (first from number most : ℕ) (before now later : List Change) (change : Option Change) → AreDoneBelow tin pieces first from most before now → from ≤ number → number < length pieces
+    → ((other : ℕ) → from ≤ other → other < number → IsChangeOf tin (piece_at pieces first) (piece_at pieces other) None) → IsChangeOf tin (piece_at pieces first) (piece_at pieces number) change
+    → later ≡ now ++ put change [] → length later ≤ most → AreDoneBelow tin pieces first (number + 1) most before later
+one_done tin pieces first from number most before now later change done le within none is e room =
+    let here = up_to tin pieces first from number most before now done le (omega (arith, within)) none in
+    record {
+      above = omega (arith, done.above, le);
+      few = omega (arith, within);
+      kept = subst (λ (k : ℕ). IsKept tin (piece_at pieces first) (drop (first + 1) pieces) k most before later) (same first number here.above) (record {
+        added = subst (λ (cs : List Change). DoAdd tin (with_each (piece_at pieces first) (take ((number - (first + 1)) + 1) (drop (first + 1) pieces))) before cs) (sym e)
+            (next tin (piece_at pieces first) (drop (first + 1) pieces) (number - (first + 1)) before now (piece_at pieces number) no_piece change (omega (arith, length-drop (first + 1) pieces, within, here.above)) (other_at pieces first number here.above) here.kept.added is);
+        within = room;
+      });
+    }
+  where
+    same : (first number : ℕ) → first + 1 ≤ number → (number - (first + 1)) + 1 ≡ (number + 1) - (first + 1)
+    same first number h = omega (arith, h)
+
+pub one_passed : (tin : Triangulation) (pieces : List Piece) (first from number most : ℕ) (before now : List Change) (change : Option Change) → AreDoneBelow tin pieces first from most before now → from ≤ number → number < length pieces
+    → ((other : ℕ) → from ≤ other → other < number → IsChangeOf tin (piece_at pieces first) (piece_at pieces other) None) → IsChangeOf tin (piece_at pieces first) (piece_at pieces number) change
+    → most < length (now ++ put change []) → DoPassMost tin (with_each (piece_at pieces first) (drop (first + 1) pieces)) before most
+one_passed tin pieces first from number most before now change done le within none is full =
+    let here = up_to tin pieces first from number most before now done le (omega (arith, within)) none in
+    passed tin (piece_at pieces first) (drop (first + 1) pieces) (number - (first + 1)) most before now (piece_at pieces number) no_piece change (omega (arith, length-drop (first + 1) pieces, within, here.above)) (other_at pieces first number here.above) here.kept is full
+
+pub all_behind : (tin : Triangulation) (pieces : List Piece) (first from most : ℕ) (before now : List Change) → AreDoneBelow tin pieces first from most before now
+    → ((number : ℕ) → from ≤ number → number < length pieces → IsChangeOf tin (piece_at pieces first) (piece_at pieces number) None) → DoAdd tin (with_each (piece_at pieces first) (drop (first + 1) pieces)) before now
+all_behind tin pieces first from most before now done none =
+    let here = up_to tin pieces first from (length pieces) most before now done done.few (omega arith) none in
+    subst (λ (qs : List Piece). DoAdd tin (with_each (piece_at pieces first) qs) before now) (take_all (length pieces - (first + 1)) (drop (first + 1) pieces) (omega (arith, length-drop (first + 1) pieces))) here.kept.added
 
 -- ---- the pieces so far: what the changes of the pairs behind are is all that is left
 pub record AreDone (tin : Triangulation) (pieces : List Piece) (i most : ℕ) (changes : List Change) : Type 0 where
@@ -105,43 +184,6 @@ too_many tin pieces i most before p d h e a pass =
 pub all_done : (tin : Triangulation) (pieces : List Piece) (i most : ℕ) (changes : List Change) → length pieces ≤ i → AreDone tin pieces i most changes → AreChangesOf tin (pairs pieces) changes
 all_done tin pieces i most changes h a =
     subst (λ (ps : List Pair). AreChangesOf tin ps changes) (sym (append_nil a.done) ∙ ap (λ (ps : List Piece). a.done ++ pairs ps) (sym (drop_all i pieces h)) ∙ a.all) a.are_changes
-
--- ---- the pieces behind one
-pub behind : (pieces : List Piece) (k : ℕ) → take (length pieces - k) (drop k pieces) ≡ drop k pieces
-behind pieces k = take_all (length pieces - k) (drop k pieces) (omega (arith, length-drop k pieces))
-
-pub comparable_behind : (tin : Triangulation) (pieces : List Piece) (i k : ℕ) (d : Piece) → AreAllComparable tin pieces → i < length pieces → All (λ q. AreComparable tin (get_or pieces i d) q) (take (length pieces - k) (drop k pieces))
-comparable_behind tin pieces i k d h hi = subst (λ (qs : List Piece). All (λ q. AreComparable tin (get_or pieces i d) q) qs) (sym (behind pieces k)) (λ j e hj. subst (λ (q : Piece). AreComparable tin (get_or pieces i d) q) (sym (get_or-drop k pieces j e)) (h i d hi (k + j) e (omega (arith, length-drop k pieces))))
-
--- what a number stands for that is no piece's
-abbrev no_pt : Pt
-no_pt = record { x = pos 0; y = pos 0 }
-
-abbrev no_place : Place
-no_place = record { layer = 0; path = 0; segment = 0; piece = 0 }
-
-abbrev pub no_piece : Piece
-no_piece = record { a = no_pt; b = no_pt; tri = 0; ia = no_pt; ib = no_pt; from = no_place }
-
--- the same with the other that is read by its number
-pub read_none : (tin : Triangulation) (p : Piece) (others : List Piece) (i most : ℕ) (before now later : List Change) (r : Option Change) → i < length others → IsKept tin p others i most before now → IsChangeOf tin p (get_or others i no_piece) r → r ≡ None → later ≡ now → IsKept tin p others (i + 1) most before later
-read_none tin p others i most before now later r h kept is e same =
-    subst (λ (cs : List Change). IsKept tin p others (i + 1) most before cs) (sym same)
-    (kept_none tin p others i most before now (get_or others i no_piece) no_piece h refl kept (subst (λ (o : Option Change). IsChangeOf tin p (get_or others i no_piece) o) e is))
-
-pub read_some : (tin : Triangulation) (p : Piece) (others : List Piece) (i most : ℕ) (before now later : List Change) (r : Option Change) (change : Change) → i < length others → IsKept tin p others i most before now → IsChangeOf tin p (get_or others i no_piece) r → r ≡ Some change → length now < most → later ≡ now ++ change ∷ [] → IsKept tin p others (i + 1) most before later
-read_some tin p others i most before now later r change h kept is e room same =
-    subst (λ (cs : List Change). IsKept tin p others (i + 1) most before cs) (sym same)
-    (kept_some tin p others i most before now (get_or others i no_piece) no_piece change h refl kept (subst (λ (o : Option Change). IsChangeOf tin p (get_or others i no_piece) o) e is) room)
-
-pub read_passed : (tin : Triangulation) (p : Piece) (others : List Piece) (i most : ℕ) (before now : List Change) (r : Option Change) (change : Change) → i < length others → IsKept tin p others i most before now → IsChangeOf tin p (get_or others i no_piece) r → r ≡ Some change → most ≤ length now → DoPassMost tin (with_each p others) before most
-read_passed tin p others i most before now r change h kept is e full =
-    passed tin p others i most before now (get_or others i no_piece) no_piece change h refl kept (subst (λ (o : Option Change). IsChangeOf tin p (get_or others i no_piece) o) e is) full
-
--- and with the piece that is read, and those behind it
-pub read_too_many : (tin : Triangulation) (pieces : List Piece) (i most : ℕ) (before : List Change) → i < length pieces → AreDone tin pieces i most before → DoPassMost tin (with_each (get_or pieces i no_piece) (take (length pieces - (i + 1)) (drop (i + 1) pieces))) before most → HaveMoreThan tin (pairs pieces) most
-read_too_many tin pieces i most before h a pass =
-    too_many tin pieces i most before (get_or pieces i no_piece) no_piece h refl a (subst (λ (qs : List Piece). DoPassMost tin (with_each (get_or pieces i no_piece) qs) before most) (behind pieces (i + 1)) pass)
 
 -- what `?` hands on is the fault that came
 pub handed_on : {T U E : Type 0} (r : Result T E) (came wanted : E) → IsErrAnd r (λ e. e ≡ came) → IsErrOf r wanted → IsErrOf {T = U} (Err came) wanted

@@ -1,20 +1,31 @@
 -- Mixes of points in a box are in it, and two boxes that are apart have no common point.
-use Rattle.std.proofs.Common.{◌≡◌, ℕ, ◌+◌, ◌<◌, ◌≤◌, zero, suc, ℤ, pos, ◌+ℤ◌, ◌*ℤ◌, ◌≤ℤ◌, ◌<ℤ◌, List, [], ◌∷◌, ◌++◌, ◌-◌, length, take, drop, get_or, inl, inr, ◌⊎◌, refl, sym, ap, subst, ◌∙◌, arith}
-use Rattle.std.specs.Prelude.{sum}
-use Rattle.std.proofs.lemmas.List.{take_more, take_all, take_rest}
+use Rattle.std.proofs.Common.{◌≡◌, ℕ, ◌+◌, ◌<◌, ℤ, pos, ◌+ℤ◌, ◌*ℤ◌, ◌≤ℤ◌, ◌<ℤ◌, List, [], ◌∷◌, length, get_or, inl, inr, ◌⊎◌, refl, sym, ap, subst, ◌∙◌, arith}
+use Rattle.std.specs.Prelude.{All, sum}
+use Rattle.std.specs.List.{AllByRecursion}
 use Rattle.std.proofs.lemmas.Int.{ints}
 use Rattle.integer_ring.proofs.Ring.{num, neg, ◌⊕◌, ◌⊗◌}
 use Rattle.integer_ring.proofs.Order.{nonneg_pos}
 use Rattle.integer_ring.proofs.Claims.{◌≐◌, ◌≼◌, ◌≺◌, never, gap, over, eqn, ◌⊞◌, ◌⊠◌, ◌because◌, ◌otherwise◌, ◌⇒◌, follows}
-use Rattle.plane_base.specs.Plane.{Point, Same, weighed, IsMix}
+use lib.Signed.{lt_z_yes}
+use Rattle.plane_base.specs.declared.shapes.Pt.{Pt}
+use Rattle.plane_base.specs.declared.shapes.Tri.{Tri}
+use Rattle.plane_base.specs.Plane.{Point, Same, weighed, IsMix, whole, corners}
 use Rattle.tin_base.proofs.Weights.{sum-cons}
 use Rattle.tin_base.specs.declared.pieces.Piece.{Piece}
 use Rattle.tin_base.specs.declared.relations.Rel.TheVariants.{Apart}
-use Rattle.tin_base.specs.Triangulation.{Triangulation}
+use Rattle.tin_base.specs.declared.frames.Frame.TheVariants.{Source}
+use Rattle.tin_base.specs.Triangulation.{Triangulation, corner_at, place, places, numbers_of}
+use Rattle.tin_base.specs.Limits.{IsWithinLimits}
+use Rattle.tin_base.specs.Segments.{Part}
+use Rattle.tin_base.specs.Relations.{IsBetween}
+use Rattle.meet_rel.proofs.Ways.{AreDifferent}
+use Rattle.meet_rel.proofs.Ending.{piece_ends, same_or_different, different_not}
+use Rattle.meet_rel.proofs.Scale.{mix_first}
 use Rattle.topo_check.specs.Changes.{HadRelation, HasRelation}
-use Rattle.topo_check.specs.Boxes.{IsIn, AreIn, AreApart, Encloses, DoEnclose}
-use Rattle.topo_check.specs.declared.boxes.Bounds.{Bounds}
-use Rattle.topo_check.specs.declared.boxes.Reach.{Reach}
+use Rattle.tin_base.specs.Pieces.{IsPieceOf, IsPieceInside, first_point, last_point}
+use Rattle.cell_grid.specs.Boxes.{AreApart, IsOrdered}
+use Rattle.topo_check.specs.Boxes.{IsIn, AreIn, IsAround, EachCorner, IsAmongCorners, IsExactBox, IsRoundedBox}
+use Rattle.plane_base.specs.declared.shapes.Rect.{Rect}
 
 -- ---- one number of a sum
 low_more : (m x w k y v : ℤ) → pos 0 ≤ℤ k → (m *ℤ w) ≤ℤ x → (m *ℤ v) ≤ℤ y → (m *ℤ (k *ℤ w +ℤ v)) ≤ℤ (k *ℤ x +ℤ y)
@@ -37,34 +48,34 @@ high_moved =
     otherwise over 4 ⊠ gap 1 ⊞ over 1 ⊞ eqn 2 (num (pos 1)) ⊞ gap 0 ⊠ gap 3) tt
 
 -- ---- a mix of points in the box
-sum_in : (box : Bounds) (ks : List ℕ) (ps : List Point) → AreIn box ps → IsIn box (weighed ks ps)
+sum_in : (box : Rect) (ks : List ℕ) (ps : List Point) → AreIn box ps → IsIn box (weighed ks ps)
 sum_in box [] ps h = record { left = omega (arith, ints); right = omega (arith, ints); bottom = omega (arith, ints); top = omega (arith, ints) }
 sum_in box (k ∷ ks) [] h = record { left = omega (arith, ints); right = omega (arith, ints); bottom = omega (arith, ints); top = omega (arith, ints) }
 sum_in box (k ∷ ks) (p ∷ ps) h =
     let here = h.0 in let rest = sum_in box ks ps h.1 in let s = weighed ks ps in record {
-      left = low_more box.left p.x p.w (pos k) s.x s.w (nonneg_pos k) here.left rest.left;
-      right = high_more box.right p.x p.w (pos k) s.x s.w (nonneg_pos k) here.right rest.right;
-      bottom = low_more box.bottom p.y p.w (pos k) s.y s.w (nonneg_pos k) here.bottom rest.bottom;
-      top = high_more box.top p.y p.w (pos k) s.y s.w (nonneg_pos k) here.top rest.top;
+      left = low_more box.x0 p.x p.w (pos k) s.x s.w (nonneg_pos k) here.left rest.left;
+      right = high_more box.x1 p.x p.w (pos k) s.x s.w (nonneg_pos k) here.right rest.right;
+      bottom = low_more box.y0 p.y p.w (pos k) s.y s.w (nonneg_pos k) here.bottom rest.bottom;
+      top = high_more box.y1 p.y p.w (pos k) s.y s.w (nonneg_pos k) here.top rest.top;
     }
 
-moved_in : (box : Bounds) (r s : Point) → pos 0 <ℤ r.w → pos 0 <ℤ s.w → Same r s → IsIn box s → IsIn box r
+moved_in : (box : Rect) (r s : Point) → pos 0 <ℤ r.w → pos 0 <ℤ s.w → Same r s → IsIn box s → IsIn box r
 moved_in box r s hr hs same h = record {
-  left = low_moved box.left r.x r.w s.x s.w hr hs same.0 h.left;
-  right = high_moved box.right r.x r.w s.x s.w hr hs same.0 h.right;
-  bottom = low_moved box.bottom r.y r.w s.y s.w hr hs same.1 h.bottom;
-  top = high_moved box.top r.y r.w s.y s.w hr hs same.1 h.top;
+  left = low_moved box.x0 r.x r.w s.x s.w hr hs same.0 h.left;
+  right = high_moved box.x1 r.x r.w s.x s.w hr hs same.0 h.right;
+  bottom = low_moved box.y0 r.y r.w s.y s.w hr hs same.1 h.bottom;
+  top = high_moved box.y1 r.y r.w s.y s.w hr hs same.1 h.top;
 }
 
 -- ---- boxes that are apart
 beyond : (m n x w : ℤ) → pos 0 <ℤ w → m <ℤ n → x ≤ℤ (m *ℤ w) → (n *ℤ w) ≤ℤ x → ⊥
 beyond = follows 4 (λ m n x w. num (pos 0) ≺ w ⇒ m ≺ n ⇒ x ≼ m ⊗ w ⇒ n ⊗ w ≼ x ⇒ never because gap 2 ⊞ gap 3 ⊞ over 1 ⊠ gap 0 ⊞ over 0) tt
 
-pub none_in_both : (p q : Bounds) → AreApart p q → (r : Point) → pos 0 <ℤ r.w → IsIn p r → IsIn q r → ⊥
-none_in_both p q (inl (inl h)) r w i j = beyond p.right q.left r.x r.w w h i.right j.left
-none_in_both p q (inl (inr h)) r w i j = beyond q.right p.left r.x r.w w h j.right i.left
-none_in_both p q (inr (inl h)) r w i j = beyond p.top q.bottom r.y r.w w h i.top j.bottom
-none_in_both p q (inr (inr h)) r w i j = beyond q.top p.bottom r.y r.w w h j.top i.bottom
+pub none_in_both : (p q : Rect) → AreApart p q → (r : Point) → pos 0 <ℤ r.w → IsIn p r → IsIn q r → ⊥
+none_in_both p q (inl (inl h)) r w i j = beyond p.x1 q.x0 r.x r.w w h i.right j.left
+none_in_both p q (inl (inr h)) r w i j = beyond q.x1 p.x0 r.x r.w w h j.right i.left
+none_in_both p q (inr (inl h)) r w i j = beyond p.y1 q.y0 r.y r.w w h i.top j.bottom
+none_in_both p q (inr (inr h)) r w i j = beyond q.y1 p.y0 r.y r.w w h j.top i.bottom
 
 -- ---- whole points
 abbrev pub AreWhole : List Point → Type 0
@@ -79,7 +90,7 @@ sum_w (k ∷ ks) (p ∷ ps) same h = let rest = sum_w ks ps (omega (arith, same)
     one_more : (k n : ℕ) (w v : ℤ) → w ≡ pos 1 → v ≡ pos n → pos k *ℤ w +ℤ v ≡ pos (k + n)
     one_more k n w v e f = rw (e, f) (omega (arith, ints))
 
-pub mix_in : (box : Bounds) (ps : List Point) → AreWhole ps → AreIn box ps → (r : Point) → pos 0 <ℤ r.w → IsMix r ps → IsIn box r
+pub mix_in : (box : Rect) (ps : List Point) → AreWhole ps → AreIn box ps → (r : Point) → pos 0 <ℤ r.w → IsMix r ps → IsIn box r
 mix_in box ps are_whole h r hr mix =
     let some : pos 0 <ℤ (weighed mix.0 ps).w = rw (sum_w mix.0 ps mix.1 are_whole) (positive (sum mix.0) mix.2) in
     moved_in box r (weighed mix.0 ps) hr some mix.3 (sum_in box mix.0 ps h)
@@ -97,57 +108,107 @@ high_of_one m a b w x (inl e) h k = subst (λ (z : ℤ). x ≤ℤ (z *ℤ w)) (s
 high_of_one m a b w x (inr e) h k = subst (λ (z : ℤ). x ≤ℤ (z *ℤ w)) (sym e) k
 
 -- ---- pieces whose boxes are apart are apart
-pub far_had : (tin : Triangulation) (p q : Piece) (r s : Reach) → Encloses tin p r → Encloses tin q s → AreApart r.exact s.exact → HadRelation tin Apart p q
+pub far_had : (tin : Triangulation) (p q : Piece) (r s : Rect) → IsExactBox tin p r → IsExactBox tin q s → AreApart s r → HadRelation tin Apart p q
 far_had tin p q r s i j apart part other h k = λ point common.
-    none_in_both r.exact s.exact apart point common.positive (i.exact part h point common.positive common.first) (j.exact other k point common.positive common.second)
+    none_in_both s r apart point common.positive (j.encloses other k point common.positive common.second) (i.encloses part h point common.positive common.first)
 
-pub far_has : (tin : Triangulation) (p q : Piece) (r s : Reach) → Encloses tin p r → Encloses tin q s → AreApart r.rounded s.rounded → HasRelation Apart p q
-far_has tin p q r s i j apart = λ point common.
-    none_in_both r.rounded s.rounded apart point common.positive (i.rounded point common.positive common.first) (j.rounded point common.positive common.second)
+pub far_has : (p q : Piece) (r s : Rect) → IsRoundedBox p r → IsRoundedBox q s → AreApart s r → HasRelation Apart p q
+far_has p q r s i j apart = λ point common.
+    none_in_both s r apart point common.positive (j.encloses point common.positive common.second) (i.encloses point common.positive common.first)
 
--- ---- a list of pieces with their boxes
-abbrev no_bounds : Bounds
-no_bounds = record { left = pos 0; right = pos 0; bottom = pos 0; top = pos 0 }
+-- ---- a box that has a point is ordered
+not_past : (m n w x : ℤ) → pos 0 <ℤ w → (m *ℤ w) ≤ℤ x → x ≤ℤ (n *ℤ w) → m ≤ℤ n
+not_past = follows 4 (λ m n w x. num (pos 0) ≺ w ⇒ m ⊗ w ≼ x ⇒ x ≼ n ⊗ w ⇒ m ≼ n otherwise over 3 ⊠ gap 0 ⊞ over 0 ⊞ gap 1 ⊞ gap 2) tt
 
-abbrev pub no_reach : Reach
-no_reach = record { exact = no_bounds; rounded = no_bounds }
+pub ordered_by : (box : Rect) (r : Point) → pos 0 <ℤ r.w → IsIn box r → IsOrdered box
+ordered_by box r hr h = (not_past box.x0 box.x1 r.w r.x hr h.left h.right, not_past box.y0 box.y1 r.w r.y hr h.bottom h.top)
 
-pub enclose_length : (tin : Triangulation) (ps : List Piece) (rs : List Reach) → DoEnclose tin ps rs → length rs ≡ length ps
-enclose_length tin [] [] h = refl
-enclose_length tin [] (r ∷ rs) h = absurd h
-enclose_length tin (p ∷ ps) [] h = absurd h
-enclose_length tin (p ∷ ps) (r ∷ rs) h = ap suc (enclose_length tin ps rs h.1)
+-- ---- the box of an exact piece
+abbrev IsCorner : Triangulation → Pt → Type 0
+IsCorner tin p = (n : ℕ) × (n < length tin.corners) × (whole p ≡ place Source (corner_at tin n))
 
-pub enclose_at : (tin : Triangulation) (ps : List Piece) (rs : List Reach) (i : ℕ) (d : Piece) (e : Reach) → DoEnclose tin ps rs → i < length ps → Encloses tin (get_or ps i d) (get_or rs i e)
-enclose_at tin [] rs i d e h within = absurd (omega (arith, within))
-enclose_at tin (p ∷ ps) [] i d e h within = absurd h
-enclose_at tin (p ∷ ps) (r ∷ rs) zero d e h within = h.0
-enclose_at tin (p ∷ ps) (r ∷ rs) (suc i) d e h within = enclose_at tin ps rs i d e h.1 (omega (arith, within))
+-- the points of a triangle are corners
+pub are_corners : (tin : Triangulation) (t : Tri) (ns : List ℕ) → length ns ≡ 3 → All (λ n. n < length tin.corners) ns → corners t ≡ places tin Source ns → AllByRecursion (IsCorner tin) (t.a ∷ t.b ∷ t.c ∷ [])
+are_corners tin t [] three h e = absurd (omega (arith, three))
+are_corners tin t (i ∷ []) three h e = absurd (omega (arith, three))
+are_corners tin t (i ∷ j ∷ []) three h e = absurd (omega (arith, three))
+are_corners tin t (i ∷ j ∷ k ∷ m ∷ ns) three h e = absurd (omega (arith, three))
+are_corners tin t (i ∷ j ∷ k ∷ []) three h e = (
+  (i, h 0 0 (omega arith), ap (λ ps. get_or ps 0 (whole t.a)) e),
+  ((j, h 1 0 (omega arith), ap (λ ps. get_or ps 1 (whole t.a)) e), ((k, h 2 0 (omega arith), ap (λ ps. get_or ps 2 (whole t.a)) e), tt)),
+)
 
-pub enclose_drop : (tin : Triangulation) (k : ℕ) (ps : List Piece) (rs : List Reach) → DoEnclose tin ps rs → DoEnclose tin (drop k ps) (drop k rs)
-enclose_drop tin zero ps rs h = h
-enclose_drop tin (suc k) [] [] h = h
-enclose_drop tin (suc k) [] (r ∷ rs) h = absurd h
-enclose_drop tin (suc k) (p ∷ ps) [] h = absurd h
-enclose_drop tin (suc k) (p ∷ ps) (r ∷ rs) h = enclose_drop tin k ps rs h.1
+-- what each corner keeps to, points that are corners keep to
+keep_to : (tin : Triangulation) (Q : Pt → Type 0) (ps : List Pt) → ((p : Pt) → IsCorner tin p → Q p) → AllByRecursion (IsCorner tin) ps → AllByRecursion Q ps
+keep_to tin Q [] each h = tt
+keep_to tin Q (p ∷ ps) each h = (each p h.0, keep_to tin Q ps each h.1)
 
--- as slices give the pieces behind one, and their boxes
-pub enclose_behind : (tin : Triangulation) (k : ℕ) (ps : List Piece) (rs : List Reach) → DoEnclose tin ps rs
-    → DoEnclose tin (take (length ps - k) (drop k ps)) (take (length rs - k) (drop k rs))
-enclose_behind tin k ps rs h = rw (take_rest ps k, take_rest rs k) (enclose_drop tin k ps rs h)
+x_of : (tin : Triangulation) (P : ℤ → Type 0) → EachCorner tin (λ corner. P corner.sx) → (p : Pt) → IsCorner tin p → P p.x
+x_of tin P each p is = subst (λ (z : ℤ). P z) (sym (ap (λ (q : Point). q.x) is.2)) (each is.0 is.1)
 
-pub enclose_more : (tin : Triangulation) (ps : List Piece) (rs : List Reach) (p : Piece) (r : Reach) → DoEnclose tin ps rs → Encloses tin p r → DoEnclose tin (ps ++ p ∷ []) (rs ++ r ∷ [])
-enclose_more tin [] [] p r h is = (is, tt)
-enclose_more tin [] (s ∷ rs) p r h is = absurd h
-enclose_more tin (q ∷ ps) [] p r h is = absurd h
-enclose_more tin (q ∷ ps) (s ∷ rs) p r h is = (h.0, enclose_more tin ps rs p r h.1 is)
+y_of : (tin : Triangulation) (P : ℤ → Type 0) → EachCorner tin (λ corner. P corner.sy) → (p : Pt) → IsCorner tin p → P p.y
+y_of tin P each p is = subst (λ (z : ℤ). P z) (sym (ap (λ (q : Point). q.y) is.2)) (each is.0 is.1)
 
-pub enclose_next : (tin : Triangulation) (ps : List Piece) (rs later : List Reach) (i : ℕ) (d : Piece) (r : Reach) → i < length ps → DoEnclose tin (take i ps) rs → Encloses tin (get_or ps i d) r
-    → later ≡ rs ++ r ∷ [] → DoEnclose tin (take (i + 1) ps) later
-enclose_next tin ps rs later i d r within h is e =
-    subst (λ (qs : List Piece). DoEnclose tin qs later) (sym (take_more ps i d within))
-    (subst (λ (ss : List Reach). DoEnclose tin (take i ps ++ get_or ps i d ∷ []) ss) (sym e) (enclose_more tin (take i ps) rs (get_or ps i d) r h is))
+-- a box round corners is among them
+among_corners : (tin : Triangulation) (ps : List Pt) (box : Rect) → AllByRecursion (IsCorner tin) ps → IsAround ps box → IsAmongCorners tin box
+among_corners tin ps box are h = record {
+  left = λ m each. h.left m (each_of (λ p. m ≤ℤ p.x) (x_of tin (λ z. m ≤ℤ z) each));
+  bottom = λ m each. h.bottom m (each_of (λ p. m ≤ℤ p.y) (y_of tin (λ z. m ≤ℤ z) each));
+  right = λ m each. h.right m (each_of (λ p. p.x ≤ℤ m) (x_of tin (λ z. z ≤ℤ m) each));
+  top = λ m each. h.top m (each_of (λ p. p.y ≤ℤ m) (y_of tin (λ z. z ≤ℤ m) each));
+}
+  where
+    each_of : (Q : Pt → Type 0) → ((p : Pt) → IsCorner tin p → Q p) → AllByRecursion Q ps
+    each_of Q each = keep_to tin Q ps each are
 
--- all pieces are passed
-pub all_enclosed : (tin : Triangulation) (ps : List Piece) (rs : List Reach) (i : ℕ) → length ps ≤ i → DoEnclose tin (take i ps) rs → length rs ≡ length ps
-all_enclosed tin ps rs i past h = enclose_length tin ps rs (subst (λ (qs : List Piece). DoEnclose tin qs rs) (take_all i ps past) h)
+-- the one box is within the other
+pub record IsWithin (inner outer : Rect) : Type 0 where
+  pub left : outer.x0 ≤ℤ inner.x0
+  pub bottom : outer.y0 ≤ℤ inner.y0
+  pub right : inner.x1 ≤ℤ outer.x1
+  pub top : inner.y1 ≤ℤ outer.y1
+
+to_last : (a b c : ℤ) → a ≤ℤ b → b ≤ℤ c → a ≤ℤ c
+to_last a b c h k = omega (arith, ints)
+
+among_within : (tin : Triangulation) (inner outer : Rect) → IsWithin inner outer → IsAmongCorners tin outer → IsAmongCorners tin inner
+among_within tin inner outer w h = record {
+  left = λ m each. to_last m outer.x0 inner.x0 (h.left m each) w.left;
+  bottom = λ m each. to_last m outer.y0 inner.y0 (h.bottom m each) w.bottom;
+  right = λ m each. to_last inner.x1 outer.x1 m w.right (h.right m each);
+  top = λ m each. to_last inner.y1 outer.y1 m w.top (h.top m each);
+}
+
+in_range : (tin : Triangulation) (piece : Piece) → IsPieceInside tin piece → piece.tri < length tin.triangles
+in_range tin piece inside = go (same_or_different piece.a piece.b) inside.is_piece.0 inside.is_piece.1
+  where
+    go : (piece.a ≡ piece.b) ⊎ AreDifferent piece.a piece.b → (part : Part) → IsPieceOf tin piece part → piece.tri < length tin.triangles
+    go (inl e) part of = (of.of_point e).in_range
+    go (inr d) part of = (of.of_segment (different_not piece.a piece.b d)).in_range
+
+-- what the boxes of the segment and of the triangle have in common
+pub exact_boxed : (tin : Triangulation) (piece : Piece) (t : Tri) (segment triangle box : Rect) → IsPieceInside tin piece → IsWithinLimits tin → corners t ≡ places tin Source (numbers_of tin piece.tri)
+    → AreIn segment (whole piece.a ∷ whole piece.b ∷ []) → AreIn triangle (corners t) → IsAround (t.a ∷ t.b ∷ t.c ∷ []) triangle
+    → ((r : Point) → IsIn segment r → IsIn triangle r → IsIn box r) → IsWithin box triangle → IsExactBox tin piece box
+exact_boxed tin piece t segment triangle box inside limits is in_segment in_triangle around common within =
+    let part = inside.is_piece.0 in
+    let of = inside.is_piece.1 in
+    let first = (piece_ends tin piece (record { a = piece.a; b = piece.b; tri = t }) part (record { a_is = refl; b_is = refl; tri_is = is }) of).first_positive in record {
+      ordered = ordered_by box (first_point piece part) first (points part of (first_point piece part) first (mix_first (first_point piece part) (last_point piece part)));
+      encloses = points;
+      among = among_within tin box triangle within
+          (among_corners tin (t.a ∷ t.b ∷ t.c ∷ []) triangle (are_corners tin t (numbers_of tin piece.tri) (limits.three piece.tri (in_range tin piece inside)) (limits.in_range piece.tri (in_range tin piece inside)) is) around);
+    }
+  where
+    points : (part : Part) → IsPieceOf tin piece part → (r : Point) → pos 0 <ℤ r.w → IsBetween (first_point piece part) (last_point piece part) r → IsIn box r
+    points part of r hr between =
+        let it = (piece_ends tin piece (record { a = piece.a; b = piece.b; tri = t }) part (record { a_is = refl; b_is = refl; tri_is = is }) of).forth r hr between in
+        common r (mix_in segment (whole piece.a ∷ whole piece.b ∷ []) (refl, (refl, tt)) in_segment r hr it.between) (mix_in triangle (corners t) (refl, (refl, (refl, tt))) in_triangle r hr it.inside)
+
+-- ---- the box of a rounded segment
+pub rounded_boxed : (piece : Piece) (box : Rect) → AreIn box (whole piece.ia ∷ whole piece.ib ∷ []) → IsAround (piece.ia ∷ piece.ib ∷ []) box → IsRoundedBox piece box
+rounded_boxed piece box inside around = record {
+  ordered = ordered_by box (whole piece.ia) (lt_z_yes tt) inside.0;
+  encloses = λ r hr between. mix_in box (whole piece.ia ∷ whole piece.ib ∷ []) (refl, (refl, tt)) inside r hr between;
+  around = around;
+}

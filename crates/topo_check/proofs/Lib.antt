@@ -1,4 +1,7 @@
 pub mod Adding
-pub mod OneList
-pub mod Trying
+pub mod Cases
 pub mod InBoxes
+pub mod Nexts
+pub mod OneList
+pub mod Spans
+pub mod Trying

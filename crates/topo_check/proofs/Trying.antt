@@ -1,5 +1,5 @@
 -- What the test of a triangle and two of its segments needs.
-use Rattle.std.proofs.Common.{◌≡◌, ◌⊎◌, inl, inr, ℕ, zero, suc, ◌*◌, ◌<◌, ◌≤◌, ℤ, pos, ◌+ℤ◌, ◌*ℤ◌, ◌<ℤ◌, [], ◌∷◌, length, unsigned_abs, refl, sym, subst, arith}
+use Rattle.std.proofs.Common.{◌≡◌, ◌⊎◌, inl, inr, ℕ, ◌*◌, ◌<◌, ◌≤◌, ℤ, pos, ◌+ℤ◌, ◌*ℤ◌, ◌<ℤ◌, List, length, get_or, All, unsigned_abs, refl, sym, subst, arith}
 use Rattle.std.proofs.lemmas.Int.{ints}
 use lib.Signed.{lt_z_yes}
 use Rattle.plane_base.specs.Plane.{Same, IsNear, whole}
@@ -15,7 +15,7 @@ use Rattle.meet_rel.proofs.Ways.{AreDifferent}
 use Rattle.integer_ring.proofs.Ring.{num, ◌⊕◌, ◌⊗◌}
 use Rattle.integer_ring.proofs.Claims.{◌≐◌, solve}
 use Rattle.topo_check.specs.Changes.{AreComparable, AreAllComparable}
-use Rattle.topo_check.specs.Small.{IsSmall, IsSmallPiece}
+use Rattle.topo_check.specs.Small.{IsSmall, IsSmallPiece, IsTried}
 
 one : pos 0 <ℤ pos 1
 one = lt_z_yes tt
@@ -39,15 +39,9 @@ comparable tin p q hp hq sp sq =
       );
     }
 
--- two pieces, each with each
-pub two_comparable : (tin : Triangulation) (p q : Piece) → IsPieceInside tin p → IsPieceInside tin q → IsSmallPiece p → IsSmallPiece q → AreAllComparable tin (p ∷ q ∷ [])
-two_comparable tin p q hp hq sp sq zero d b zero e c = comparable tin p p hp hp sp sp
-two_comparable tin p q hp hq sp sq zero d b (suc zero) e c = comparable tin p q hp hq sp sq
-two_comparable tin p q hp hq sp sq zero d b (suc (suc j)) e c = absurd (omega arith)
-two_comparable tin p q hp hq sp sq (suc zero) d b zero e c = comparable tin q p hq hp sq sp
-two_comparable tin p q hp hq sp sq (suc zero) d b (suc zero) e c = comparable tin q q hq hq sq sq
-two_comparable tin p q hp hq sp sq (suc zero) d b (suc (suc j)) e c = absurd (omega arith)
-two_comparable tin p q hp hq sp sq (suc (suc i)) d b j e c = absurd (omega arith)
+-- pieces that the tests compare, each with each
+pub all_comparable : (tin : Triangulation) (ps : List Piece) → All (λ p. IsTried tin p) ps → AreAllComparable tin ps
+all_comparable tin ps h i d hi j e hj = let p = h i d hi in let q = h j e hj in comparable tin (get_or ps i d) (get_or ps j e) p.0 q.0 p.1 q.1
 
 -- ---- a segment of which the triangle has both ends is its own piece
 first_level : (m : ℕ) → 0 * m ≤ m * 1

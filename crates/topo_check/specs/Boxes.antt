@@ -1,37 +1,65 @@
 -- Boxes round pieces. Only private functions speak of them.
-use Rattle.std.specs.Prelude.{◌⊎◌, pos, ◌*ℤ◌, ◌≤ℤ◌, ◌<ℤ◌, List, [], ◌∷◌}
+use Rattle.std.specs.Prelude.{◌≡◌, ℕ, ◌<◌, ℤ, pos, ◌*ℤ◌, ◌≤ℤ◌, ◌<ℤ◌, List, [], ◌∷◌, length}
+use Rattle.std.specs.List.{AllByRecursion}
+use Rattle.plane_base.specs.declared.shapes.Pt.{Pt}
+use Rattle.plane_base.specs.declared.shapes.Rect.{Rect}
 use Rattle.plane_base.specs.Plane.{Point, whole}
+use Rattle.cell_grid.specs.Boxes.{IsOrdered, box_at}
+use Rattle.tin_base.specs.declared.corners.Corner.{Corner}
 use Rattle.tin_base.specs.declared.pieces.Piece.{Piece}
-use Rattle.tin_base.specs.Triangulation.{Triangulation}
+use Rattle.tin_base.specs.Triangulation.{Triangulation, corner_at}
 use Rattle.tin_base.specs.Segments.{Part}
 use Rattle.tin_base.specs.Relations.{IsBetween}
 use Rattle.tin_base.specs.Pieces.{IsPieceOf, first_point, last_point}
-use Rattle.topo_check.specs.declared.boxes.Bounds.{Bounds}
-use Rattle.topo_check.specs.declared.boxes.Reach.{Reach}
+use Rattle.topo_check.specs.Changes.{piece_at}
 
 -- the point is in the box
-pub record IsIn (box : Bounds) (r : Point) : Type 0 where
-  pub left : (box.left *ℤ r.w) ≤ℤ r.x
-  pub right : r.x ≤ℤ (box.right *ℤ r.w)
-  pub bottom : (box.bottom *ℤ r.w) ≤ℤ r.y
-  pub top : r.y ≤ℤ (box.top *ℤ r.w)
+pub record IsIn (box : Rect) (r : Point) : Type 0 where
+  pub left : (box.x0 *ℤ r.w) ≤ℤ r.x
+  pub right : r.x ≤ℤ (box.x1 *ℤ r.w)
+  pub bottom : (box.y0 *ℤ r.w) ≤ℤ r.y
+  pub top : r.y ≤ℤ (box.y1 *ℤ r.w)
 
 -- the points are
-abbrev pub AreIn : Bounds → List Point → Type 0
+abbrev pub AreIn : Rect → List Point → Type 0
 AreIn box [] = Unit {0}
 AreIn box (p ∷ ps) = IsIn box p × AreIn box ps
 
--- on one of the axes the one box is behind the other
-abbrev pub AreApart : Bounds → Bounds → Type 0
-AreApart p q = ((p.right <ℤ q.left) ⊎ (q.right <ℤ p.left)) ⊎ ((p.top <ℤ q.bottom) ⊎ (q.top <ℤ p.bottom))
+-- each point of the segment from p to q is
+abbrev pub HasSegment : Rect → Point → Point → Type 0
+HasSegment box p q = (r : Point) → pos 0 <ℤ r.w → IsBetween p q r → IsIn box r
 
--- the exact piece is in the one box, and the segment between the rounded images of its ends in the other
-pub record Encloses (tin : Triangulation) (p : Piece) (reach : Reach) : Type 0 where
-  pub exact : (part : Part) → IsPieceOf tin p part → (r : Point) → pos 0 <ℤ r.w → IsBetween (first_point p part) (last_point p part) r → IsIn reach.exact r
-  pub rounded : (r : Point) → pos 0 <ℤ r.w → IsBetween (whole p.ia) (whole p.ib) r → IsIn reach.rounded r
+-- no side is further out than the points: what each of these keeps to, it keeps to
+pub record IsAround (ps : List Pt) (box : Rect) : Type 0 where
+  pub left : (m : ℤ) → AllByRecursion (λ p. m ≤ℤ p.x) ps → m ≤ℤ box.x0
+  pub bottom : (m : ℤ) → AllByRecursion (λ p. m ≤ℤ p.y) ps → m ≤ℤ box.y0
+  pub right : (m : ℤ) → AllByRecursion (λ p. p.x ≤ℤ m) ps → box.x1 ≤ℤ m
+  pub top : (m : ℤ) → AllByRecursion (λ p. p.y ≤ℤ m) ps → box.y1 ≤ℤ m
 
--- each piece is in its boxes
-abbrev pub DoEnclose : Triangulation → List Piece → List Reach → Type 0
-DoEnclose tin [] [] = Unit {0}
-DoEnclose tin (p ∷ ps) (r ∷ rs) = Encloses tin p r × DoEnclose tin ps rs
-DoEnclose tin ps rs = ⊥
+-- each corner
+abbrev pub EachCorner : Triangulation → (Corner → Type 0) → Type 0
+EachCorner tin P = (n : ℕ) → n < length tin.corners → P (corner_at tin n)
+
+-- no side is further out than the corners in the source frame
+pub record IsAmongCorners (tin : Triangulation) (box : Rect) : Type 0 where
+  pub left : (m : ℤ) → EachCorner tin (λ corner. m ≤ℤ corner.sx) → m ≤ℤ box.x0
+  pub bottom : (m : ℤ) → EachCorner tin (λ corner. m ≤ℤ corner.sy) → m ≤ℤ box.y0
+  pub right : (m : ℤ) → EachCorner tin (λ corner. corner.sx ≤ℤ m) → box.x1 ≤ℤ m
+  pub top : (m : ℤ) → EachCorner tin (λ corner. corner.sy ≤ℤ m) → box.y1 ≤ℤ m
+
+-- a box that the exact piece is in, and that reaches no further than the corners
+pub record IsExactBox (tin : Triangulation) (p : Piece) (box : Rect) : Type 0 where
+  pub ordered : IsOrdered box
+  pub encloses : (part : Part) → IsPieceOf tin p part → HasSegment box (first_point p part) (last_point p part)
+  pub among : IsAmongCorners tin box
+
+-- a box that the segment between the rounded images of the piece's ends is in, and that reaches no further than these
+pub record IsRoundedBox (p : Piece) (box : Rect) : Type 0 where
+  pub ordered : IsOrdered box
+  pub encloses : HasSegment box (whole p.ia) (whole p.ib)
+  pub around : IsAround (p.ia ∷ p.ib ∷ []) box
+
+-- the boxes are those of the pieces, in order
+pub record AreBoxesOf (IsBoxOf : Piece → Rect → Type 0) (pieces : List Piece) (boxes : List Rect) : Type 0 where
+  pub same : length boxes ≡ length pieces
+  pub each : (n : ℕ) → n < length pieces → IsBoxOf (piece_at pieces n) (box_at boxes n)

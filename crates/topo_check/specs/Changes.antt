@@ -1,7 +1,9 @@
 -- The changes of pieces by rounding.
-use Rattle.std.specs.Prelude.{◌≡◌, ◌≢◌, ℕ, ◌<◌, List, [], ◌∷◌, ◌++◌, length, map, All, Option, None, Some}
+use Rattle.std.specs.Prelude.{◌≡◌, ◌≢◌, ℕ, ◌<◌, pos, List, [], ◌∷◌, ◌++◌, length, map, All, Option, None, Some, slice_index_or}
 use Rattle.plane_base.specs.Plane.{whole}
+use Rattle.plane_base.specs.declared.shapes.Pt.{Pt}
 use Rattle.tin_base.specs.declared.pieces.Piece.{Piece}
+use Rattle.tin_base.specs.declared.pieces.Place.{Place}
 use Rattle.tin_base.specs.declared.pieces.Change.{Change}
 use Rattle.tin_base.specs.declared.relations.Rel.{Rel}
 use Rattle.tin_base.specs.Triangulation.{Triangulation}
@@ -35,6 +37,20 @@ HasRelation now p q = HaveRelation now (whole p.ia) (whole p.ib) (whole q.ia) (w
 abbrev pub IsChangeOf : Triangulation → Piece → Piece → Option Change → Type 0
 IsChangeOf tin p q None = (relation : Rel) × HadRelation tin relation p q × HasRelation relation p q
 IsChangeOf tin p q (Some change) = (change.first ≡ p.from) × (change.second ≡ q.from) × HadRelation tin change.was p q × HasRelation change.now p q × (change.was ≢ change.now)
+
+-- ---- pieces by their numbers, from 0
+-- what a number stands for that is no piece's
+abbrev pub no_pt : Pt
+no_pt = record { x = pos 0; y = pos 0 }
+
+abbrev pub no_place : Place
+no_place = record { layer = 0; path = 0; segment = 0; piece = 0 }
+
+abbrev pub no_piece : Piece
+no_piece = record { a = no_pt; b = no_pt; tri = 0; ia = no_pt; ib = no_pt; from = no_place }
+
+abbrev pub piece_at : List Piece → ℕ → Piece
+piece_at pieces number = slice_index_or pieces number no_piece
 
 -- ---- all pairs
 pub record Pair : Type 0 where

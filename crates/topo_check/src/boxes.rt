@@ -1,99 +1,64 @@
-ghost use Rattle.std.specs.Prelude.{◌≡◌, ◌↔◌, [], ◌∷◌, ◌<ℤ◌, ◌≤ℤ◌, ◌⊎◌, IsTrue};
+ghost use Rattle.std.specs.Prelude.{◌≡◌, ◌≤ℤ◌, ℤ, ◌⊎◌, [], ◌∷◌};
 ghost use Rattle.plane_base.specs.Plane.{Point, whole, corners};
 ghost use Rattle.tin_base.specs.Pieces.{IsPieceInside};
-ghost use Rattle.topo_check.specs.Boxes.{IsIn, AreIn, AreApart, Encloses};
+ghost use Rattle.topo_check.specs.Boxes.{IsIn, AreIn, IsAround, IsExactBox, IsRoundedBox};
 
-use plane_base::{Pt, Tri};
+use plane_base::{Pt, Rect, Tri};
 use tin_base::{Frame, Piece, SoundTin};
 
-/// What lies from a least to a greatest number on both axes.
-#[derive(Clone, Copy)]
-pub(crate) struct Bounds {
-    pub(crate) left: i64,
-    pub(crate) right: i64,
-    pub(crate) bottom: i64,
-    pub(crate) top: i64,
-}
-
-/// Boxes that hold a piece before rounding, and the segment between the rounded images of its ends.
-#[derive(Clone, Copy)]
-pub(crate) struct Reach {
-    pub(crate) exact: Bounds,
-    pub(crate) rounded: Bounds,
-}
-
-/// The boxes of a piece. The exact one is what the boxes of its segment and of its triangle have in common.
-pub(crate) fn reach_of(tin: &SoundTin, piece: &Piece) -> Reach
+/// A box of whole sides, in millimetres, that the exact piece is in: what the boxes of its segment and of its triangle have in common.
+pub(crate) fn exact_box(tin: &SoundTin, piece: &Piece) -> Rect
     requires { IsPieceInside tin.now piece.now }
-    ensures { Encloses tin.now piece.now result }
+    ensures { IsExactBox tin.now piece.now result }
 {
     let segment = around(piece.a, piece.b);
     let triangle = around_corners(&tin.tri(piece.tri, Frame::Source));
-    Reach {
-        exact: common(segment, triangle),
-        rounded: around(piece.ia, piece.ib),
-    }
+    common(segment, triangle)
 }
 
-/// Are both boxes of the one piece apart from those of the other?
-pub(crate) fn are_far(p: &Reach, q: &Reach) -> bool
-    ensures exact { IsTrue result → AreApart p.now.exact q.now.exact }
-    ensures rounded { IsTrue result → AreApart p.now.rounded q.now.rounded }
+/// The box of the segment between the rounded images of a piece's ends, in millimetres.
+pub(crate) fn rounded_box(piece: &Piece) -> Rect
+    ensures { IsRoundedBox piece.now result }
 {
-    if !are_apart(&p.rounded, &q.rounded) {
-        return false;
-    }
-    are_apart(&p.exact, &q.exact)
-}
-
-// Have the boxes no common point?
-#[inline(always)]
-fn are_apart(p: &Bounds, q: &Bounds) -> bool
-    ensures { IsTrue result → AreApart p.now q.now }
-{
-    are_beside(p.left, p.right, q.left, q.right) || are_beside(p.bottom, p.top, q.bottom, q.top)
-}
-
-// Is one of two spans behind the other?
-#[inline(always)]
-fn are_beside(first: i64, last: i64, start: i64, end: i64) -> bool
-    ensures { IsTrue result → (last <ℤ start) ⊎ (end <ℤ first) }
-{
-    last < start || end < first
+    around(piece.ia, piece.ib)
 }
 
 // The box of two points.
-fn around(a: Pt, b: Pt) -> Bounds
-    ensures { AreIn result (whole a ∷ whole b ∷ []) }
+fn around(a: Pt, b: Pt) -> Rect
+    ensures inside { AreIn result (whole a ∷ whole b ∷ []) }
+    ensures no_larger { IsAround (a ∷ b ∷ []) result }
 {
-    Bounds {
-        left: lesser(a.x, b.x),
-        right: greater(a.x, b.x),
-        bottom: lesser(a.y, b.y),
-        top: greater(a.y, b.y),
+    Rect {
+        x0: lesser(a.x, b.x),
+        y0: lesser(a.y, b.y),
+        x1: greater(a.x, b.x),
+        y1: greater(a.y, b.y),
     }
 }
 
 // The box of a triangle.
-fn around_corners(tri: &Tri) -> Bounds
-    ensures { AreIn result (corners tri.now) }
+fn around_corners(tri: &Tri) -> Rect
+    ensures inside { AreIn result (corners tri.now) }
+    ensures no_larger { IsAround (tri.now.a ∷ tri.now.b ∷ tri.now.c ∷ []) result }
 {
-    Bounds {
-        left: least(tri.a.x, tri.b.x, tri.c.x),
-        right: greatest(tri.a.x, tri.b.x, tri.c.x),
-        bottom: least(tri.a.y, tri.b.y, tri.c.y),
-        top: greatest(tri.a.y, tri.b.y, tri.c.y),
+    Rect {
+        x0: least(tri.a.x, tri.b.x, tri.c.x),
+        y0: least(tri.a.y, tri.b.y, tri.c.y),
+        x1: greatest(tri.a.x, tri.b.x, tri.c.x),
+        y1: greatest(tri.a.y, tri.b.y, tri.c.y),
     }
 }
 
 fn least(a: i64, b: i64, c: i64) -> i64
-    ensures { (result ≤ℤ a) × (result ≤ℤ b) × (result ≤ℤ c) }
+    ensures below { (result ≤ℤ a) × (result ≤ℤ b) × (result ≤ℤ c) }
+    ensures greatest { (m : ℤ) → m ≤ℤ a → m ≤ℤ b → m ≤ℤ c → m ≤ℤ result }
 {
     lesser(lesser(a, b), c)
 }
 
 fn greatest(a: i64, b: i64, c: i64) -> i64
-    ensures { (a ≤ℤ result) × (b ≤ℤ result) × (c ≤ℤ result) }
+    ensures above { (a ≤ℤ result) × (b ≤ℤ result) × (c ≤ℤ result) }
+    ensures least { (m : ℤ) → a ≤ℤ m → b ≤ℤ m → c ≤ℤ m → result ≤ℤ m }
 {
     greater(greater(a, b), c)
 }
@@ -101,7 +66,8 @@ fn greatest(a: i64, b: i64, c: i64) -> i64
 // The lesser of two.
 fn lesser(a: i64, b: i64) -> i64
     ensures one { (result ≡ a) ⊎ (result ≡ b) }
-    ensures from { (result ≤ℤ a) × (result ≤ℤ b) }
+    ensures below { (result ≤ℤ a) × (result ≤ℤ b) }
+    ensures greatest { (m : ℤ) → m ≤ℤ a → m ≤ℤ b → m ≤ℤ result }
 {
     if b < a { b } else { a }
 }
@@ -109,19 +75,22 @@ fn lesser(a: i64, b: i64) -> i64
 // The greater of two.
 fn greater(a: i64, b: i64) -> i64
     ensures one { (result ≡ a) ⊎ (result ≡ b) }
-    ensures to { (a ≤ℤ result) × (b ≤ℤ result) }
+    ensures above { (a ≤ℤ result) × (b ≤ℤ result) }
+    ensures least { (m : ℤ) → a ≤ℤ m → b ≤ℤ m → result ≤ℤ m }
 {
     if a < b { b } else { a }
 }
 
 // What two boxes have in common.
-fn common(p: Bounds, q: Bounds) -> Bounds
-    ensures { (r : Point) → IsIn p r → IsIn q r → IsIn result r }
+fn common(p: Rect, q: Rect) -> Rect
+    ensures points { (r : Point) → IsIn p r → IsIn q r → IsIn result r }
+    ensures x { (q.x0 ≤ℤ result.x0) × (result.x1 ≤ℤ q.x1) }
+    ensures y { (q.y0 ≤ℤ result.y0) × (result.y1 ≤ℤ q.y1) }
 {
-    Bounds {
-        left: greater(p.left, q.left),
-        right: lesser(p.right, q.right),
-        bottom: greater(p.bottom, q.bottom),
-        top: lesser(p.top, q.top),
+    Rect {
+        x0: greater(p.x0, q.x0),
+        y0: greater(p.y0, q.y0),
+        x1: lesser(p.x1, q.x1),
+        y1: lesser(p.y1, q.y1),
     }
 }

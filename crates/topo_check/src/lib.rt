@@ -1,15 +1,19 @@
 //! Which pieces lie to each other in another way after rounding than in the source frame: all changed pairs, in order.
-//! Every two pieces are compared: by their boxes, and where these meet by their points.
+//! Two grids of boxes, one of the pieces and one of their rounded segments, tell which pairs can have changed; these are compared.
 #![tactic(auto)]
 
 mod boxes;
+mod candidates;
 mod comparing;
 mod faults;
+mod grids;
 mod laws;
+mod limits;
 mod listing;
 #[cfg(test)]
 mod tests;
 
 pub use faults::ChangesFault;
 pub use laws::{changes_are_one, more_stay_more};
+pub use limits::MOST_COMPARED;
 pub use listing::changes;

@@ -1,12 +1,12 @@
-ghost use Rattle.std.specs.Prelude.{◌≡◌, pos, ◌-ℤ◌, ◌<ℤ◌, length, IsTrue, IfOk};
+ghost use Rattle.std.specs.Prelude.{◌≡◌, All, pos, ◌-ℤ◌, ◌<ℤ◌, length, IsTrue, IfOk};
 ghost use Rattle.plane_base.specs.declared.shapes.TheConstants.{SPAN};
 ghost use Rattle.plane_base.specs.Plane.{whole, turn_of, IsNear, holds_of};
 ghost use Rattle.tin_base.specs.Pieces.{IsPieceInside};
-ghost use Rattle.topo_check.specs.Small.{IsSmall, IsSmallPiece};
+ghost use Rattle.topo_check.specs.Small.{IsSmall, IsSmallPiece, IsTried};
 
-use crate::{ChangesFault, changes};
+use crate::{ChangesFault, MOST_COMPARED, changes};
 use plane_base::{Pt, SPAN, Tri, holds, turn};
-use std::alloc::Global;
+use std::alloc::{AllocError, Global};
 use std::test::Fail;
 use tin_base::{Change, Corner, Frame, Piece, Place, Rel, SoundTin, Tin, are_within_limits};
 
@@ -110,42 +110,95 @@ fn corner(sx: i64, sy: i64, tx: i64, ty: i64) -> Corner {
     Corner { sx, sy, tx, ty }
 }
 
-/// A line and a point of it, through a triangle whose first target numbers are three parts in ten thousand greater.
-fn found(alloc: Global, most: u32) -> Result<Vec<Change>, ChangesFault> {
+/// A triangle whose first target numbers are three parts in ten thousand greater.
+fn stretched(alloc: Global) -> Result<SoundTin, ChangesFault>
+    ensures { IfOk result (λ tin. length tin.triangles ≡ 1) }
+{
     let corners = [
         corner(0, 0, 0, 0),
         corner(10_000, 0, 10_003, 0),
         corner(0, 10_000, 0, 10_000),
     ];
-    let tin = one_triangle(alloc, &corners)?;
-    let line = piece(&tin, at(0, 0), at(4000, 4000), at(0, 0), at(4001, 4000), 0)?;
-    let dot = piece(
-        &tin,
-        at(1000, 1000),
-        at(1000, 1000),
-        at(1000, 1000),
-        at(1000, 1000),
-        1,
-    )?;
-    changes(alloc, &tin, &[line, dot], most)
+    one_triangle(alloc, &corners)
 }
 
-#[test]
-fn lists_what_rounding_changed(rt: HostRuntime) -> Result<(), Fail> {
+/// A line whose image is turned about its first end.
+fn line(tin: &SoundTin) -> Result<Piece, ChangesFault>
+    requires { length tin.now.triangles ≡ 1 }
+    ensures { IfOk result (λ piece. IsTried tin.now piece) }
+{
+    let line = piece(tin, at(0, 0), at(4000, 4000), at(0, 0), at(4001, 4000), 0)?;
+    Ok(line)
+}
+
+/// A point that keeps its numbers.
+fn dot(tin: &SoundTin, p: Pt, path: u32) -> Result<Piece, ChangesFault>
+    requires one { length tin.now.triangles ≡ 1 }
+    requires small { IsSmall p }
+    ensures { IfOk result (λ piece. IsTried tin.now piece) }
+{
+    let dot = piece(tin, p, p, p, p, path)?;
+    Ok(dot)
+}
+
+/// The line, and `dots` points at each ten millimetres of it, each followed by one that is far from the line.
+fn line_and_dots(alloc: Global, tin: &SoundTin, dots: u8) -> Result<Vec<Piece>, ChangesFault>
+    requires { length tin.now.triangles ≡ 1 }
+    ensures { IfOk result (λ pieces. All (λ piece. IsTried tin.now piece) pieces.items) }
+{
+    let mut pieces = Vec::new(alloc);
+    pieces.push(line(tin)?)?;
+    for number in 0..dots {
+        let way = 10 * i16::from(number);
+        let path = 2 * u32::from(number);
+        pieces.push(dot(tin, at(way, way), path + 1)?)?;
+        pieces.push(dot(tin, at(5000 + way, way), path + 2)?)?;
+    }
+    Ok(pieces)
+}
+
+fn found(alloc: Global, dots: u8, most: u32) -> Result<Vec<Change>, ChangesFault> {
+    let tin = stretched(alloc)?;
+    let pieces = line_and_dots(alloc, &tin, dots)?;
+    if pieces.len() > MOST_COMPARED {
+        return Err(ChangesFault::TooMany);
+    }
+    changes(alloc, &tin, &pieces, most)
+}
+
+/// The points of the line leave it, but for the first one, about which it turns.
+fn wanted(alloc: Global, dots: u8) -> Result<Vec<Change>, AllocError> {
     let place = |path: u32| Place {
         layer: 0,
         path,
         segment: 0,
         piece: 0,
     };
-    let want = Change {
-        first: place(0),
-        second: place(1),
-        was: Rel::Touching,
-        now: Rel::Apart,
-    };
-    assert_eq!(rt; found(rt.alloc(), 1)?.as_slice(), [want].as_slice());
-    assert_eq!(rt; found(rt.alloc(), 1000)?.as_slice(), [want].as_slice());
-    assert_eq!(rt; found(rt.alloc(), 0).err(), Some(ChangesFault::TooMany));
+    let mut changes = Vec::new(alloc);
+    for number in 1..dots {
+        changes.push(Change {
+            first: place(0),
+            second: place(2 * u32::from(number) + 1),
+            was: Rel::Touching,
+            now: Rel::Apart,
+        })?;
+    }
+    Ok(changes)
+}
+
+#[test]
+fn lists_what_rounding_changed(rt: HostRuntime) -> Result<(), Fail> {
+    let alloc = rt.alloc();
+    for dots in [1, 2, 150] {
+        let want = wanted(alloc, dots)?;
+        let most = u32::from(dots) - 1;
+        assert_eq!(rt;
+            found(alloc, dots, most)?.as_slice(),
+            want.as_slice(),
+            "of {dots}"
+        );
+    }
+    assert_eq!(rt; found(alloc, 150, 1 << 20)?.len(), 149);
+    assert_eq!(rt; found(alloc, 150, 148).err(), Some(ChangesFault::TooMany));
     Ok(())
 }

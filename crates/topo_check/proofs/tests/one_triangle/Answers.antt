@@ -1,10 +1,8 @@
-use Rattle.std.proofs.Common.{◌≡◌, ◌<ℤ◌, ℕ, ℤ, pos, List, [], ◌∷◌, length, rules, SFits, sym, ◌∙◌, ap, subst, refl, arith}
+use Rattle.std.proofs.Common.{◌≡◌, ◌<ℤ◌, ℕ, ℤ, pos, List, [], ◌∷◌, length, rules, SFits, sym, ◌∙◌, ap, subst, arith}
 use Rattle.std.proofs.lemmas.Int.{ints}
 use mir.Syntax.{w128}
 use Rattle.tin_base.specs.declared.corners.Corner.{Corner}
-use Rattle.tin_base.specs.declared.frames.Frame.TheVariants.{Source, Target}
 use Rattle.tin_base.specs.Triangulation.{Triangulation, triangulation}
-use Rattle.tin_base.specs.Soundness.{turn_in}
 use Rattle.tin_base.specs.Limits.{IsWithinLimits}
 use Rattle.tin_base.proofs.Telling.{told}
 use Rattle.tin_base.proofs.Empty.{one_sound}

@@ -1,0 +1,7 @@
+use Rattle.topo_check.specs.Boxes.{IsRoundedBox}
+use Rattle.topo_check.proofs.Spans.{AreBoxesSoFar}
+use Rattle.topo_check.proofs.grids.rounded_boxes.Given as goal
+
+-- the boxes of the pieces so far are listed
+abbrev pub invariant-loop-piece : goal.invariant-loop-piece
+invariant-loop-piece l = AreBoxesSoFar IsRoundedBox l.pieces l.boxes.items l.piece-index
