@@ -221,6 +221,7 @@ pub fn carried_layers<S: Shelf>(
 ) -> Result<Run, Refusal>
     requires { MayBeTaken (carriage_of migration) }
     ensures ok { IfOk result (λ run. HasCarried (S.files shelf.old) migration.entry.how index.now migration.entry.out.now migration.entry.layers.now run) }
+    ensures room { IfOk result (λ run. vec_len run.pieces ≤ MOST_PIECES) }
     ensures refused { IfErr result (λ refusal. AreUncarried (S.files shelf.old) migration.entry.how index.now migration.entry.layers.now (Rose (S.faults shelf.old) (S.faults shelf.new)) refusal) }
     ensures of_layers { IfErr result IsOfLayers }
     ensures read { IfErr result (λ refusal. status_of refusal ≡ ReadStatus → Rose (S.faults shelf.old) (S.faults shelf.new) ⊎ LacksSome migration.entry.layers.now (S.files shelf.old)) }

@@ -1,7 +1,8 @@
 //! The changes that a run lists.
 
-ghost use Rattle.std.specs.Prelude.{IfOk, IfErr};
+ghost use Rattle.std.specs.Prelude.{◌≤◌, IfOk, IfErr, length};
 ghost use Rattle.tin_base.specs.Limits.{IsWithinLimits};
+ghost use Rattle.topo_check.specs.declared.limits.TheConstants.{MOST_COMPARED};
 ghost use Rattle.topo_check.specs.Changes.{AreAllComparable};
 ghost use Rattle.tinmove.specs.RunChanges.{AreListed};
 ghost use Rattle.tinmove.specs.Prepared.{IsUnlisted};
@@ -27,7 +28,8 @@ pub fn listed_changes(
     tin: &SoundTin,
     pieces: &[Piece],
 ) -> Result<Vec<Change>, Refusal>
-    requires { AreAllComparable tin.now pieces.now }
+    requires comparable { AreAllComparable tin.now pieces.now }
+    requires count { length pieces.now ≤ MOST_COMPARED }
     ensures ok { IfOk result (λ changes. AreListed tin.now pieces.now changes.items) }
     ensures refused { IfErr result (λ refusal. IsUnlisted tin.now pieces.now refusal) }
 {

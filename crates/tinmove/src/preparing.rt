@@ -1,10 +1,11 @@
 //! What a job writes.
 
-ghost use Rattle.std.specs.Prelude.{◌≡◌, ◌≢◌, ◌+◌, ◌≤◌, [], Some, IfOk, IfErr, IfSome, OnOk, false};
+ghost use Rattle.std.specs.Prelude.{◌≡◌, ◌≢◌, ◌+◌, ◌≤◌, [], Some, IfOk, IfErr, IfSome, OnOk, false, vec_len};
 ghost use Rattle.std.specs.List.{AllByRecursion};
 ghost use Rattle.shelf_io.specs.Count.{Rose, counted};
 ghost use Rattle.shelf_io.specs.Files.{Files};
 ghost use Rattle.report_text.specs.Reports.{IsPrintable};
+ghost use Rattle.carry_map.specs.declared.limits.TheConstants.{MOST_PIECES};
 ghost use Rattle.topo_check.specs.Changes.{AreAllComparable};
 ghost use Rattle.job_words.specs.declared.jobs.Job.TheVariants.{Check as CheckJob};
 ghost use Rattle.job_words.specs.Kept.{IsKept};
@@ -47,6 +48,7 @@ fn reported(alloc: Global, name: &Name, tin: &SoundTin, run: Run) -> Result<Writ
     requires name { IsPrintable name.now }
     requires rows { AllByRecursion (λ row. IsPrintable row.name) run.rows.items }
     requires comparable { AreAllComparable tin.now run.pieces.items }
+    requires room { vec_len run.pieces ≤ MOST_PIECES }
     ensures ok { IfOk result (λ written. IsReported name.now tin.now run written) }
     ensures refused { IfErr result (λ refusal. IsUnlisted tin.now run.pieces.items refusal) }
 {
@@ -163,6 +165,7 @@ fn made_run(alloc: Global, n: u32, index: &TinIndex) -> Result<Run, Refusal>
     requires some { 1 ≤ n }
     requires most { n ≤ MOST_CELLS }
     ensures ok { IfOk result (λ run. HasCarried (Some (made_files n)) made_carriage.how index.now [] made_carriage.layers run) }
+    ensures room { IfOk result (λ run. vec_len run.pieces ≤ MOST_PIECES) }
     ensures refused { IfErr result (λ refusal. AreUncarried (Some (made_files n)) made_carriage.how index.now made_carriage.layers ⊥ refusal) }
     ensures of_making { IfErr result IsOfMaking }
 {

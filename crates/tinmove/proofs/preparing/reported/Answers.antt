@@ -4,8 +4,8 @@ use Rattle.topo_check.specs.Changes.{AreAllComparable}
 use Rattle.tinmove.proofs.Keeping.{all_changed}
 use Rattle.tinmove.proofs.preparing.reported.Goals as goal
 
-pub listed_changes-requires : goal.listed_changes-requires
-listed_changes-requires c = subst (λ (ps : List Piece). AreAllComparable c.args.tin.now ps) (sym c.deref.ensures.value) c.requires.comparable
+pub listed_changes-requires-clause-comparable : goal.listed_changes-requires-clause-comparable
+listed_changes-requires-clause-comparable c = subst (λ (ps : List Piece). AreAllComparable c.args.tin.now ps) (sym c.deref.ensures.value) c.requires.comparable
 
 pub run_report-requires-clause-changes : goal.run_report-requires-clause-changes
 run_report-requires-clause-changes c = let listed = c.in-Ok.ensures.ok in all_changed c.args.tin.now c.deref.result.now c.in-Ok.changes.items listed.are_changes

@@ -6,8 +6,8 @@ use Rattle.topo_check.specs.Changes.{AreAllComparable}
 use Rattle.tinmove.proofs.Comparable.{pieces_are_comparable}
 use Rattle.tinmove.proofs.square_tests.changes_of.Goals as goal
 
-pub changes-requires : goal.changes-requires
-changes-requires c =
+pub changes-requires-clause-comparable : goal.changes-requires-clause-comparable
+changes-requires-clause-comparable c =
     let tin : Triangulation = c.in_ok-index.index in
     let own = c.in-Ok.ensures.pieces in
     let limits : IsWithinLimits tin = subst (λ (t : Triangulation). IsWithinLimits t) c.tin.ensures c.known.ensures in
