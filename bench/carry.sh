@@ -1,6 +1,6 @@
 #!/bin/sh
-# How fast a layer of segments goes through a triangulation of 200 triangles. Each two pieces are compared, by their boxes at least,
-# so the time grows with the square of their number.
+# How fast a layer of segments goes through a triangulation of 200 triangles. Pieces whose boxes meet are compared, so the time
+# grows with the number of such pairs.
 # Prints, for each of three runs, segments, pieces and slices of triangles a second, and the peak of memory. Each piece asks every
 # triangle for its slice. Needs GNU time as /usr/bin/time, or as the command that TIME names. No part of the gate.
 set -eu

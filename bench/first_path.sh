@@ -1,7 +1,7 @@
 #!/bin/sh
 # How fast a layer of points goes through one triangle, and in how much memory.
 # Prints, for each of three runs, points a second and the peak of memory, also as a multiple of the
-# layer. Each two points are compared by their boxes, so the time grows with the square of their number.
+# layer. Points near each other are found on grids, so the time grows with their number, and no more with its square.
 # Needs GNU time as /usr/bin/time, or as the command that TIME names. No part of the gate.
 set -eu
 points=${1:-5000}
