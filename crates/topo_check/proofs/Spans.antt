@@ -1,5 +1,5 @@
 -- Lists of boxes, and how near they are to each other.
-use Rattle.std.proofs.Common.{◌≡◌, ℕ, ◌+◌, ◌<◌, ◌≤◌, ℤ, pos, ◌+ℤ◌, ◌-ℤ◌, ◌≤ℤ◌, ◌<ℤ◌, List, [], ◌∷◌, ◌++◌, length, get_or, inl, inr, ◌⊎◌, sym, ap, subst, ◌∙◌, arith}
+use Rattle.std.proofs.Common.{◌≡◌, ℕ, ◌+◌, ◌<◌, ◌≤◌, ℤ, pos, ◌+ℤ◌, ◌-ℤ◌, ◌≤ℤ◌, ◌<ℤ◌, List, [], ◌∷◌, ◌++◌, length, All, get_or, inl, inr, ◌⊎◌, sym, ap, subst, ◌∙◌, arith}
 use Rattle.std.proofs.lemmas.List.{get_or_append_left, get_or_push, length_push, get_or_default}
 use Rattle.std.proofs.lemmas.Int.{ints}
 use Rattle.plane_base.specs.declared.shapes.Pt.{Pt}
@@ -11,7 +11,7 @@ use Rattle.tin_base.specs.declared.pieces.Piece.{Piece}
 use Rattle.tin_base.specs.Triangulation.{Triangulation, corner_at}
 use Rattle.tin_base.specs.Limits.{IsWithinLimits}
 use Rattle.meet_rel.specs.Near.{AreNear}
-use Rattle.topo_check.specs.Changes.{piece_at, no_piece, AreAllComparable}
+use Rattle.topo_check.specs.Changes.{piece_at, no_piece}
 use Rattle.topo_check.proofs.Cases.{below_or_not}
 use Rattle.topo_check.specs.Boxes.{IsAround, IsAmongCorners, IsExactBox, IsRoundedBox, AreBoxesOf}
 
@@ -66,13 +66,13 @@ exact_spans tin pieces boxes limits h i d hi j e hj =
     (box_of boxes j e (λ q. IsWithinSpan (box_at boxes i) q) hj
     (among_span tin (box_at boxes i) (box_at boxes j) limits (h.each i (omega (arith, h.same))).among (h.each j (omega (arith, h.same))).among))
 
-pub rounded_spans : (tin : Triangulation) (pieces : List Piece) (boxes : List Rect) → AreAllComparable tin pieces → AreBoxesOf IsRoundedBox pieces boxes → AreWithinSpan boxes
-rounded_spans tin pieces boxes all h i d hi j e hj =
+pub rounded_spans : (pieces : List Piece) (boxes : List Rect) → All (λ p. All (λ q. AreNear p.ia p.ib q.ia q.ib) pieces) pieces → AreBoxesOf IsRoundedBox pieces boxes → AreWithinSpan boxes
+rounded_spans pieces boxes near h i d hi j e hj =
     let p = piece_at pieces i in let q = piece_at pieces j in
     let wi : i < length pieces = omega (arith, h.same) in let wj : j < length pieces = omega (arith, h.same) in
     box_of boxes i d (λ r. IsWithinSpan r (get_or boxes j e)) hi
     (box_of boxes j e (λ r. IsWithinSpan (box_at boxes i) r) hj
-    (around_span p.ia p.ib q.ia q.ib (box_at boxes i) (box_at boxes j) (all i no_piece wi j no_piece wj).near (h.each i wi).around (h.each j wj).around))
+    (around_span p.ia p.ib q.ia q.ib (box_at boxes i) (box_at boxes j) (near i no_piece wi j no_piece wj) (h.each i wi).around (h.each j wj).around))
 
 -- ---- while boxes are put behind each other
 pub record AreBoxesSoFar (IsBoxOf : Piece → Rect → Type 0) (pieces : List Piece) (boxes : List Rect) (i : ℕ) : Type 0 where

@@ -1,4 +1,4 @@
--- Which pieces can have changed to one. Only private functions speak of them.
+-- Which pieces can have a change with one. Only private functions speak of them.
 use Rattle.std.specs.Prelude.{ℕ, ◌<◌, ◌≤◌, ◌⊎◌, List, length, get_or, None, Contains}
 use Rattle.std.specs.List.Sorted.{IsStrictlyIncreasing}
 use Rattle.tin_base.specs.declared.pieces.Piece.{Piece}

@@ -2,7 +2,7 @@ ghost use Rattle.std.specs.Prelude.{ℕ, ◌≤◌, Contains, IfSome, IfNone};
 ghost use Rattle.std.specs.List.Sorted.{IsStrictlyIncreasing};
 ghost use Rattle.topo_check.specs.Candidates.{IsCandidate, IsFront, IsNextOf, IsNext};
 
-/// The numbers of the pieces that can have changed to one: those near it in the source frame and those near it after rounding, each list ascending.
+/// The numbers of the pieces that can have a change with one piece: those near it in the source frame and those near it after rounding, each list ascending.
 #[derive(Drop)]
 pub(crate) struct Candidates {
     pub(crate) exact: Vec<u32>,

@@ -1,6 +1,7 @@
 ghost use Rattle.std.specs.Prelude.{◌≤◌, List, All, IfOk, length};
 ghost use Rattle.tin_base.specs.declared.pieces.Piece.{Piece};
 ghost use Rattle.tin_base.specs.Pieces.{IsPieceInside};
+ghost use Rattle.meet_rel.specs.Near.{AreNear};
 ghost use Rattle.topo_check.specs.declared.limits.TheConstants.{MOST_COMPARED};
 ghost use Rattle.topo_check.specs.Changes.{AreAllComparable};
 ghost use Rattle.topo_check.specs.Boxes.{AreBoxesOf, IsExactBox, IsRoundedBox};
@@ -27,16 +28,13 @@ impl Grids {
         requires count { length pieces.now ≤ MOST_COMPARED }
         ensures { IfOk result (λ grids. AreGridsOf tin.now pieces.now grids) }
     {
-        let _ = tin.corners();
-        let exact = exact_boxes(alloc, tin, pieces)?;
-        let rounded = rounded_boxes(alloc, pieces)?;
         Ok(Grids {
-            exact: Grid::build(alloc, &exact)?,
-            rounded: Grid::build(alloc, &rounded)?,
+            exact: exact_grid(alloc, tin, pieces)?,
+            rounded: rounded_grid(alloc, pieces)?,
         })
     }
 
-    /// The pieces that can have changed to this one: those near it in a frame.
+    /// The pieces that can have a change with this one: those near it in the source frame or after rounding.
     pub(crate) fn near(
         &self,
         alloc: Global,
@@ -52,6 +50,29 @@ impl Grids {
             rounded: self.rounded.near(alloc, rounded_box(piece))?,
         })
     }
+}
+
+// The grid of the exact pieces. Their boxes are no further from each other than the corners, which the type keeps near.
+fn exact_grid(alloc: Global, tin: &SoundTin, pieces: &[Piece]) -> Result<Grid, AllocError>
+    requires inside { All (λ piece. IsPieceInside tin.now piece) pieces.now }
+    requires count { length pieces.now ≤ MOST_COMPARED }
+    ensures { IfOk result (λ grid. AreBoxesOf (IsExactBox tin.now) pieces.now grid.boxes) }
+{
+    let _ = tin.corners();
+    let boxes = exact_boxes(alloc, tin, pieces)?;
+    let grid = Grid::build(alloc, &boxes)?;
+    Ok(grid)
+}
+
+// The grid of the segments between the rounded images of their ends.
+fn rounded_grid(alloc: Global, pieces: &[Piece]) -> Result<Grid, AllocError>
+    requires near { All (λ p. All (λ q. AreNear p.ia p.ib q.ia q.ib) pieces.now) pieces.now }
+    requires count { length pieces.now ≤ MOST_COMPARED }
+    ensures { IfOk result (λ grid. AreBoxesOf IsRoundedBox pieces.now grid.boxes) }
+{
+    let boxes = rounded_boxes(alloc, pieces)?;
+    let grid = Grid::build(alloc, &boxes)?;
+    Ok(grid)
 }
 
 // The boxes of the exact pieces, in their order.
