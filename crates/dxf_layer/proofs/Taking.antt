@@ -1,5 +1,5 @@
 -- How many handles edits in order take.
-use Rattle.std.proofs.Common.{◌≡◌, ℕ, suc, zero, ◌+◌, ◌*◌, ◌-◌, ◌^◌, ◌≤◌, ◌<◌, List, [], ◌∷◌, length, take, drop, Bool, true, false, cond, arith, refl, subst, Option, None, Some}
+use Rattle.std.proofs.Common.{◌≡◌, ℕ, suc, zero, ◌+◌, ◌*◌, ◌-◌, ◌^◌, ◌≤◌, ◌<◌, List, [], ◌∷◌, length, take, drop, Bool, true, false, cond, arith, add-zero, refl, subst, Option, None, Some}
 use Rattle.std.specs.Prelude.{filter, sum_by, nat_lt, slice_index_or}
 use Rattle.std.specs.List.{prefix_len}
 use Rattle.std.proofs.lemmas.Bool.Decides.{nat_tests}
@@ -41,6 +41,14 @@ few_taken (Some entity) copies = by_test (has_handle entity) where
   by_test : (has : Bool) → cond has (copies - 1) 0 ≤ copies
   by_test true = omega arith
   by_test false = omega arith
+
+-- one copy keeps the handle that there is
+pub few_copies : (found : Option Entity) (copies : ℕ) → copies ≤ 1 → taken_by found copies ≡ 0
+few_copies None copies few = refl
+few_copies (Some entity) copies few = by_test (has_handle entity) where
+  by_test : (has : Bool) → cond has (copies - 1) 0 ≡ 0
+  by_test true = omega (arith, few)
+  by_test false = refl
 
 -- an edit takes no more handles than there are images
 as_few : (read : Reading) (place : ℕ) (what : What) → taken_as read place what ≤ length read.images.points
@@ -113,14 +121,14 @@ pub none_counted : (read : Reading) (edits : List Edit) (size first : ℕ) → A
 none_counted read edits size first order is = record { from = 0; order = order; front = omega arith; so_far = omega (arith, is); small = omega (arith, is) }
 
 pub one_counted : (read : Reading) (edits : List Edit) (i number next place taking : ℕ) → length read.images.points < 2 ^ 32 → i < length edits → AreCounted read edits (length read.bytes) i number next
-    → place ≡ number_at read (slice_index_or edits i no_edit).start → taking ≡ taken read (slice_index_or edits i no_edit) → AreCounted read edits (length read.bytes) (i + 1) place (next + taking)
-one_counted read edits i number next place taking few more counted place_is taking_is =
+    → place ≤ number_at read (slice_index_or edits i no_edit).start → taking ≡ taken read (slice_index_or edits i no_edit) → AreCounted read edits (length read.bytes) (i + 1) place (next + taking)
+one_counted read edits i number next place taking few more counted passed taking_is =
     let edit = slice_index_or edits i no_edit in
     let next_one = next_edit read.bytes edits i counted.from more counted.order in
     record {
       from = edit.end;
       order = next_one.order;
-      front = rw place_is (number_grows read edit.start edit.end next_one.ends);
+      front = omega (arith, passed, number_grows read edit.start edit.end next_one.ends);
       so_far = rw (sum_by_more (taken read) edits i no_edit more) (omega (arith, counted.so_far, taking_is));
       small = omega (arith, counted.small, taking_is, spans_take read edit few next_one.ends, next_one.begins);
     }
@@ -140,6 +148,13 @@ passed_before read edits i number next more counted =
     let edit = slice_index_or edits i no_edit in
     let next_one = next_edit read.bytes edits i counted.from more counted.order in
     omega (arith, counted.front, number_grows read counted.from edit.start next_one.begins)
+
+-- an edit that takes none was counted
+pub none_more : (read : Reading) (edits : List Edit) (i number next : ℕ) → length read.images.points < 2 ^ 32 → i < length edits → AreCounted read edits (length read.bytes) i number next
+    → 0 ≡ taken read (slice_index_or edits i no_edit) → AreCounted read edits (length read.bytes) (i + 1) number next
+none_more read edits i number next few more counted none =
+    subst (λ (now : ℕ). AreCounted read edits (length read.bytes) (i + 1) number now) (add-zero next)
+    (one_counted read edits i number next number 0 few more counted (passed_before read edits i number next more counted) none)
 
 -- the next handle is the one where the next edit stands
 pub next_is : (read : Reading) (edits : List Edit) (i number next : ℕ) → edits ≡ read.sheet.edits → AreInOrder 0 edits (length read.bytes) → i < length edits

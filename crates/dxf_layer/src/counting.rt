@@ -70,14 +70,34 @@ fn has_handle(entity: &Entity) -> bool
     has_field(5, fields_of(entity))
 }
 
+/// How many copies an edit makes of the entity whose place it takes; none where it takes no place, or
+/// another's.
+fn copies_of(page: &Page, edit: Edit) -> usize
+    ensures { taken_by (entity_at (read_of page.now) edit.start) result ≡ taken (read_of page.now) edit }
+{
+    if edit.start >= edit.end {
+        return 0;
+    }
+    match edit.what {
+        What::Lines { path } => path_images(page.sheet, page.images, path)
+            .len()
+            .saturating_sub(1),
+        What::Vertex { point } => run_of(page.images, point).len(),
+        _ => 0,
+    }
+}
+
 /// How many new handles so many copies take of the entity that starts here.
 fn taken_by(page: &Page, place: u32, number: usize, copies: usize) -> u64
     requires number { number ≡ number_at (read_of page.now) place }
     requires within { number ≤ length page.now.pairs.now }
     ensures { result ≡ taken_by (entity_at (read_of page.now) place) copies }
 {
+    if copies < 2 {
+        return 0;
+    }
     match first_entity(place, &page.pairs[number..]) {
-        Some(entity) if has_handle(&entity) && copies > 0 => copies as u64 - 1,
+        Some(entity) if has_handle(&entity) => copies as u64 - 1,
         _ => 0,
     }
 }
@@ -88,21 +108,7 @@ pub fn taken(page: &Page, edit: Edit, number: usize) -> u64
     requires within { number ≤ length page.now.pairs.now }
     ensures { result ≡ taken (read_of page.now) edit }
 {
-    if edit.start >= edit.end {
-        return 0;
-    }
-    match edit.what {
-        What::Lines { path } => {
-            let copies = path_images(page.sheet, page.images, path)
-                .len()
-                .saturating_sub(1);
-            taken_by(page, edit.start, number, copies)
-        }
-        What::Vertex { point } => {
-            taken_by(page, edit.start, number, run_of(page.images, point).len())
-        }
-        _ => 0,
-    }
+    taken_by(page, edit.start, number, copies_of(page, edit))
 }
 
 /// The next handle behind all edits.
@@ -117,8 +123,11 @@ pub fn handle_behind(page: &Page, first: u64) -> u64
     let mut next = first;
     let mut number = 0;
     for edit in page.sheet.edits() {
-        number = number_at(page, edit.start, number);
-        next += taken(page, *edit, number);
+        let copies = copies_of(page, *edit);
+        if copies > 1 {
+            number = number_at(page, edit.start, number);
+            next += taken_by(page, edit.start, number, copies);
+        }
     }
     next
 }

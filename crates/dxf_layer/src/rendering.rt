@@ -42,11 +42,13 @@ fn push_crossings(
     ensures { OnOk result (out.new.items ≡ out.old.items ++ field_copies page.now.bytes.now (coded_before (read_of page.now) (pos 10) place)
         (coded_before (read_of page.now) (pos 20) place) (crossings_of page.now.images.now point)) }
 {
+    let crossings = crossings_of(page.images, point);
+    if crossings.is_empty() {
+        return Ok(());
+    }
     let before = &page.pairs[..number];
     match (last_coded(10, before), last_coded(20, before)) {
-        (Some(x), Some(y)) => {
-            push_all_fields(out, page.bytes, &x, &y, crossings_of(page.images, point))
-        }
+        (Some(x), Some(y)) => push_all_fields(out, page.bytes, &x, &y, crossings),
         _ => Ok(()),
     }
 }
@@ -119,7 +121,8 @@ pub fn render_page(alloc: Global, page: &Page) -> Result<Vec<u8>, AllocError>
     let first = first_handle(page);
     let behind = handle_behind(page, first);
     let mut next = first;
-    let mut out = Vec::with_capacity(alloc, page.bytes.len())?;
+    // what is written is longer than what was read, mostly by less than this
+    let mut out = Vec::with_capacity(alloc, page.bytes.len() + page.bytes.len() / 4)?;
     let mut from = 0;
     let mut number = 0;
     for edit in page.sheet.edits() {

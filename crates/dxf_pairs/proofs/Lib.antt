@@ -7,3 +7,4 @@ pub mod Between
 mod Following
 mod FirstLines
 mod InLines
+mod PlainCodes

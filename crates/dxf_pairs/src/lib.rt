@@ -8,6 +8,7 @@ mod faults;
 mod laws;
 mod line_ends;
 mod pairs;
+mod plain_codes;
 mod reading;
 #[cfg(test)]
 mod tests;

@@ -1,9 +1,10 @@
 //! Reading the pairs of a drawing.
 
-ghost use Rattle.std.specs.Prelude.{◌≡◌, ◌≤◌, ◌<◌, ◌+◌, ◌^◌, ℕ, length, IfOk, IfErr, Ok, Err, All, map};
+ghost use Rattle.std.specs.Prelude.{◌≡◌, ◌≤◌, ◌<◌, ◌+◌, ◌^◌, ◌∷◌, ℕ, length, IfOk, IfErr, Ok, Err, All, map};
 ghost use Rattle.std.specs.List.{prefix_len};
-ghost use Rattle.dxf_pairs.specs.Lines.{lines, lines_from, between};
+ghost use Rattle.dxf_pairs.specs.Lines.{lines, lines_from, line_at, between};
 ghost use Rattle.dxf_pairs.specs.Values.{is_blank, value_of};
+ghost use Rattle.dxf_pairs.specs.Codes.{code_of};
 ghost use Rattle.dxf_pairs.specs.Pairs.{reading, first_pair, is_last as last, drawing, Stops};
 ghost use Rattle.dxf_pairs.specs.Groups.{value_in, group_in, groups_of};
 ghost use Rattle.dxf_pairs.specs.Laws.{Tile, IsWithin};
@@ -13,6 +14,7 @@ use crate::codes::code_in;
 use crate::faults::PairFault;
 use crate::line_ends::{LineEnds, line_from};
 use crate::pairs::Pair;
+use crate::plain_codes::plain_code;
 use std::alloc::Global;
 
 /// What the binary form of a drawing begins with.
@@ -20,6 +22,9 @@ pub const BINARY: &[u8] = b"AutoCAD Binary DXF";
 
 /// The value under the group code 0 that ends a drawing.
 pub const LAST_VALUE: &[u8] = b"EOF";
+
+/// The fewest bytes of a usual pair: room for as many pairs as there can be of these is reserved.
+const USUAL_PAIR: usize = 12;
 
 /// Where the value of a line starts, and the place past it.
 fn value_places(bytes: &[u8], line: LineEnds) -> (usize, usize)
@@ -35,6 +40,25 @@ fn value_places(bytes: &[u8], line: LineEnds) -> (usize, usize)
     (start, start + length)
 }
 
+/// The line that starts at a place before the end of the bytes, and its group code, where it has one.
+fn code_line(bytes: &[u8], start: usize) -> (LineEnds, Option<i32>)
+    requires { start < length bytes.now }
+    ensures first { (number : ℕ) → lines_from bytes.now start number ≡ line_at bytes.now result.0 number ∷ lines_from bytes.now result.0.past (number + 1) }
+    ensures start { result.0.start ≡ start }
+    ensures forward { start < result.0.past }
+    ensures within { result.0.past ≤ length bytes.now }
+    ensures code { result.1 ≡ code_of (between start result.0.end bytes.now) }
+{
+    if let Some(plain) = plain_code(&bytes[start..]) {
+        let end = start + plain.end;
+        let past = end + 1;
+        return (LineEnds { start, end, past }, Some(plain.code));
+    }
+    let line = line_from(bytes, start);
+    let (from, to) = value_places(bytes, line);
+    (line, code_in(&bytes[from..to]))
+}
+
 /// The pair whose code's line starts at the place and has the number.
 fn read_pair(bytes: &[u8], start: usize, line: u64) -> Result<Pair, PairFault>
     requires within { start < length bytes.now }
@@ -48,9 +72,8 @@ fn read_pair(bytes: &[u8], start: usize, line: u64) -> Result<Pair, PairFault>
     ensures value { IfOk result (λ pair. pair.value_end ≤ pair.end) }
     ensures within { IfOk result (λ pair. pair.end ≤ length bytes.now) }
 {
-    let first = line_from(bytes, start);
-    let (from, to) = value_places(bytes, first);
-    let Some(code) = code_in(&bytes[from..to]) else {
+    let (first, code) = code_line(bytes, start);
+    let Some(code) = code else {
         return Err(PairFault::Code { line });
     };
     if first.past == bytes.len() {
@@ -83,7 +106,7 @@ fn read_lines(alloc: Global, bytes: &[u8]) -> Result<Vec<Pair>, PairFault>
     ensures ok { IfOk result (λ pairs. reading (lines bytes.now) ≡ Ok pairs.items) }
     ensures err { IfErr result (λ fault. Stops (reading (lines bytes.now)) fault) }
 {
-    let mut pairs = Vec::new(alloc);
+    let mut pairs = Vec::with_capacity(alloc, bytes.len() / USUAL_PAIR)?;
     let mut start = 0;
     let mut line = 1;
     while start < bytes.len() {

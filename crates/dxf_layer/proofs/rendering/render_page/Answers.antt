@@ -45,7 +45,7 @@ loop-edit-preserved c =
     record {
       counted =
           one_counted read edits c.loop-edit.edit-index c.loop-edit.number c.loop-edit.next c.number_at-number.result c.taken-next.result
-          c.requires.few c.loop-edit-test.true c.loop-edit.invariant.counted c.number_at-number.ensures c.taken-next.ensures;
+          c.requires.few c.loop-edit-test.true c.loop-edit.invariant.counted (omega (arith, c.number_at-number.ensures)) c.taken-next.ensures;
       written =
           one_more c.args.page.now.bytes.now (text_of read) edits c.loop-edit.edit-index c.loop-edit.from c.loop-edit.out.items c.extend_from_slice.new.self.items
           c.loop-edit-test.true c.loop-edit.invariant.written kept c.push_text.new.out.items

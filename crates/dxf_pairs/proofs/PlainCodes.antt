@@ -1,0 +1,131 @@
+-- Lines of digits between blanks.
+use Rattle.std.proofs.Common.{◌≡◌, ◌==◌, inl, ℕ, pos, ◌<◌, ◌≤◌, ◌+◌, ◌^◌, List, [], ◌∷◌, ◌++◌, length, take, drop, get_or, Bool, true, false, refl, sym, ◌∙◌, ap, subst, arith, add-one, lit<, append_assoc, take-add}
+use Rattle.std.specs.Prelude.{Some}
+use Rattle.std.specs.List.{prefix_len, AllPass}
+use Rattle.std.specs.Int.{IsInRange}
+use Rattle.std.specs.Str.Parse.{AllDigits, digits_value}
+use Rattle.std.proofs.lemmas.Str.Parse.{digit_at}
+use Rattle.std.proofs.lemmas.Int.Digits.{digits_value-lt}
+use Rattle.std.proofs.lemmas.List.{get_or_default, get_or-take, length-take, length-take-le, length-drop}
+use Rattle.std.proofs.lemmas.List.Elements.{All-append}
+use Rattle.std.proofs.lemmas.List.Sums.{prefix_len-le-length, prefix_len_passes}
+use Rattle.std.proofs.lemmas.Bool.Decides.{nat_tests}
+use Rattle.std.proofs.Math.Nat.{pow-le-pow_right}
+use Rattle.std.proofs.Math.Seq.{split_at}
+use Rattle.dxf_pairs.specs.declared.line_ends.TheConstants.{LINE_FEED}
+use Rattle.dxf_pairs.specs.declared.codes.TheConstants.{MOST_CODE}
+use Rattle.dxf_pairs.specs.Lines.{lines_of}
+use Rattle.dxf_pairs.specs.Values.{is_blank}
+use Rattle.dxf_pairs.specs.Codes.{code_of}
+use Rattle.dxf_pairs.specs.InLines.{IsOneLine}
+use Rattle.dxf_pairs.proofs.FirstLines.{line_before_text}
+use Rattle.dxf_pairs.proofs.Between.{whole_numbers}
+
+-- neither a blank nor a digit ends a line
+blank_stays : (byte : ℕ) → is_blank byte ≡ true → (byte == LINE_FEED) ≡ false
+blank_stays byte blank = by (byte == LINE_FEED) refl
+  where
+    by : (feed : Bool) → (byte == LINE_FEED) ≡ feed → (byte == LINE_FEED) ≡ false
+    by true is =
+        let same : byte ≡ LINE_FEED = grind (arith, nat_tests, is) in
+        let never : is_blank LINE_FEED ≡ true = subst (λ (b : ℕ). is_blank b ≡ true) same blank in
+        absurd (cc)
+    by false is = is
+
+digit_stays : (byte : ℕ) → IsInRange 48 57 byte → (byte == LINE_FEED) ≡ false
+digit_stays byte (low, high) = by (byte == LINE_FEED) refl
+  where
+    by : (feed : Bool) → (byte == LINE_FEED) ≡ feed → (byte == LINE_FEED) ≡ false
+    by true is = absurd (grind (arith, nat_tests, is))
+    by false is = is
+
+blanks_stay : (text : List ℕ) → AllPass is_blank text → IsOneLine text
+blanks_stay text blanks = λ k d below. blank_stays (get_or text k d) (blanks k d below)
+
+digits_stay : (text : List ℕ) → AllDigits 10 text → IsOneLine text
+digits_stay text digits = λ k d below. rw (get_or_default text k d 0 below) (digit_stays (get_or text k 0) (digit_at text k digits below))
+
+-- the blanks in front
+blanks_in_front : (text : List ℕ) (count : ℕ) → count ≡ prefix_len is_blank text → AllPass is_blank (take count text)
+blanks_in_front text count is =
+    let size = length-take count text in
+    let most = prefix_len-le-length is_blank text in
+    λ k d below. rw (get_or-take count text k d (omega arith)) (prefix_len_passes is_blank text k d (omega arith))
+
+-- four digits at most are no number that is too great
+few_digits : (digits : List ℕ) → AllDigits 10 digits → length digits ≤ 4 → digits_value 10 digits ≤ MOST_CODE
+few_digits digits all few =
+    let small = digits_value-lt 10 digits all in
+    let most : 10 ^ length digits ≤ 10 ^ 4 = pow-le-pow_right (lit< tt) {j = 4} few in
+    omega (arith, small, most)
+
+-- the number of so many digits at the front
+pub front_small : (text : List ℕ) (count number : ℕ) → count ≤ length text → count ≤ 4 → AllDigits 10 (take count text) → number ≡ digits_value 10 (take count text)
+    → number ≤ MOST_CODE
+front_small text count number within few all is =
+    let size = length-take-le count text within in
+    let small = few_digits (take count text) all (omega (arith, size)) in
+    omega (arith, small)
+
+-- a text that begins with blanks, digits, and blanks up to a line feed
+pub record IsPlain (text : List ℕ) (before digits behind : ℕ) : Type 0 where
+  pub blanks_before : before ≡ prefix_len is_blank text
+  pub blanks_behind : behind ≡ prefix_len is_blank (drop (before + digits) text)
+  pub all_digits : AllDigits 10 (take digits (drop before text))
+  pub some : 0 < digits
+  pub few : digits ≤ 4
+  pub within : before + digits + behind < length text
+  pub feed : get_or text (before + digits + behind) 0 ≡ LINE_FEED
+
+module _ (text : List ℕ) (before digits behind : ℕ) (is : IsPlain text before digits behind) where
+  abbrev front : List ℕ
+  front = take before text
+
+  abbrev middle : List ℕ
+  middle = take digits (drop before text)
+
+  abbrev back : List ℕ
+  back = take behind (drop (before + digits) text)
+
+  parts : take (before + digits + behind) text ≡ front ++ (middle ++ back)
+  parts = rw (take-add (before + digits) behind text, take-add before digits text) (append_assoc front middle back)
+
+  blank_front : AllPass is_blank front
+  blank_front = blanks_in_front text before is.blanks_before
+
+  blank_back : AllPass is_blank back
+  blank_back = blanks_in_front (drop (before + digits) text) behind is.blanks_behind
+
+  size : length middle ≡ digits
+  size = let left = length-drop before text in length-take-le digits (drop before text) (omega (arith, is.within))
+
+  one : IsOneLine (take (before + digits + behind) text)
+  one =
+      subst IsOneLine (sym parts)
+      (All-append (λ byte. (byte == LINE_FEED) ≡ false) front (middle ++ back) (blanks_stay front blank_front)
+      (All-append (λ byte. (byte == LINE_FEED) ≡ false) middle back (digits_stay middle is.all_digits) (blanks_stay back blank_back)))
+
+  pub plain_line : lines_of text ≡ take (before + digits + behind) text ∷ lines_of (drop (before + digits + behind + 1) text)
+  plain_line =
+      let end = before + digits + behind in
+      let cut : text ≡ take end text ++ (get_or text end 0 ∷ drop (end + 1) text) = rw add-one (split_at text end 0 is.within) in
+      let whole : text ≡ take end text ++ (LINE_FEED ∷ drop (end + 1) text) = cut ∙ ap (λ byte. take end text ++ (byte ∷ drop (end + 1) text)) is.feed in
+      ap lines_of whole ∙ line_before_text (take end text) (drop (end + 1) text) one
+
+  pub plain_number : code_of (take (before + digits + behind) text) ≡ Some (pos (digits_value 10 middle))
+  plain_number =
+      let small = few_digits middle is.all_digits (omega (arith, size, is.few)) in
+      (whole_numbers (take (before + digits + behind) text) (pos (digits_value 10 middle))).1 (
+        front,
+        [],
+        middle,
+        back,
+        record {
+          whole = parts;
+          blanks_before = blank_front;
+          blanks_behind = blank_back;
+          numeral = (omega (arith, size, is.some), is.all_digits);
+          small = small;
+          signed = inl (inl refl, refl);
+        },
+      )
