@@ -121,8 +121,8 @@ pub fn render_page(alloc: Global, page: &Page) -> Result<Vec<u8>, AllocError>
     let first = first_handle(page);
     let behind = handle_behind(page, first);
     let mut next = first;
-    // what is written is longer than what was read, mostly by less than this
-    let mut out = Vec::with_capacity(alloc, page.bytes.len() + page.bytes.len() / 4)?;
+    // copies and longer numbers seldom add more than a third
+    let mut out = Vec::with_capacity(alloc, page.bytes.len() + page.bytes.len() / 3)?;
     let mut from = 0;
     let mut number = 0;
     for edit in page.sheet.edits() {
