@@ -12,7 +12,7 @@ use Rattle.sheet_base.specs.ReadBack.{ends_of, imaged, IsReadBack}
 use Rattle.dxf_pairs.specs.declared.pairs.Pair.{Pair}
 use Rattle.dxf_pairs.specs.declared.faults.PairFault.{PairFault}
 use Rattle.dxf_pairs.specs.Pairs.{drawing}
-use Rattle.dxf_pairs.specs.Groups.{Group, groups_of, group_in}
+use Rattle.dxf_pairs.specs.Groups.{Group, groups_of}
 use Rattle.dxf_pairs.specs.Laws.{AreTiles, PairsTile, PairsAreTheGroups}
 use Rattle.dxf_pairs.specs.InLines.{AreInLines, PairsAreInLines, GroupsFollow}
 use Rattle.dxf_layer.specs.declared.entities.Where.TheVariants.{Outside}
@@ -27,7 +27,7 @@ use Rattle.dxf_layer.specs.Rendering.{Reading, next_behind, drawing_text}
 use Rattle.dxf_layer.specs.ReadBack.{IsNextShort, DoesReadBack, groups_for}
 use Rattle.dxf_layer.proofs.Members.{tiles_follow}
 use Rattle.dxf_layer.proofs.Telling.{told}
-use Rattle.dxf_layer.proofs.GroupShapes.{Outline, outlines, is_seeded}
+use Rattle.dxf_layer.proofs.GroupShapes.{Outline, outlines}
 use Rattle.dxf_layer.proofs.GroupWalks.{alone}
 use Rattle.dxf_layer.proofs.GroupDrawings.{walk, entities_told, outlines_of, drawing_told}
 use Rattle.dxf_layer.proofs.OutlineEnds.{all_ends, imaged_outlines, rows_behind, points_of, rows_are, points_are, shapes_ends, imaged_ends}

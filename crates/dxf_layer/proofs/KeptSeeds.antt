@@ -1,5 +1,5 @@
 -- What is written has a next handle where the drawing has one, and comes to an end.
-use Rattle.std.proofs.Common.{◌≡◌, ℕ, pos, Bool, true, false, cond, refl, ap, sym, ◌∙◌, List, [], ◌∷◌, ◌++◌}
+use Rattle.std.proofs.Common.{◌≡◌, ℕ, Bool, true, false, cond, refl, ap, sym, ◌∙◌, List, [], ◌∷◌, ◌++◌}
 use Rattle.std.specs.Prelude.{◌||◌, ⊤}
 use Rattle.std.specs.List.{list_any}
 use Rattle.std.proofs.lemmas.List.{append_assoc}
@@ -7,9 +7,8 @@ use Rattle.dxf_pairs.specs.declared.pairs.Pair.{Pair}
 use Rattle.dxf_pairs.specs.Groups.{Group}
 use Rattle.dxf_layer.specs.declared.entities.Where.{Where}
 use Rattle.dxf_layer.specs.declared.entities.Where.TheVariants.{Outside, Header, Entities}
-use Rattle.dxf_layer.specs.Entities.{has_code, ends_section}
+use Rattle.dxf_layer.specs.Entities.{ends_section}
 use Rattle.dxf_layer.specs.Handles.{as_seed, seed_from}
-use Rattle.dxf_layer.proofs.GroupFields.{coded}
 use Rattle.dxf_layer.proofs.GroupShapes.{is_seeded}
 use Rattle.dxf_layer.proofs.GroupWalks.{Told}
 use Rattle.dxf_layer.proofs.GroupDrawings.{begins_seeded, seeded_from}

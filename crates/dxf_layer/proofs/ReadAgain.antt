@@ -1,6 +1,5 @@
 -- What is written of a drawing is read again as a drawing.
-use Rattle.std.proofs.Common.{◌≡◌, ℕ, ◌+◌, ◌<◌, ◌≤◌, ◌^◌, Bool, true, false, refl, ap, sym, ◌∙◌, subst, List, [], ◌∷◌, ◌++◌, flat_map, length, All, Option, Ok, arith, inl, inr}
-use Rattle.std.specs.List.{list_any}
+use Rattle.std.proofs.Common.{◌≡◌, ℕ, ◌<◌, ◌^◌, refl, ap, sym, ◌∙◌, subst, List, [], ◌++◌, flat_map, length, All, Option, Ok, arith}
 use Rattle.sheet_base.specs.declared.edits.Edit.{Edit}
 use Rattle.sheet_base.specs.declared.flags.How.{How}
 use Rattle.sheet_base.specs.declared.paths.PathRow.{PathRow}
@@ -21,12 +20,11 @@ use Rattle.dxf_layer.specs.Rendering.{Reading, next_behind}
 use Rattle.dxf_layer.specs.ReadBack.{groups_for}
 use Rattle.dxf_layer.proofs.Members.{Follow, tiles_follow}
 use Rattle.dxf_layer.proofs.GroupShapes.{is_seeded}
-use Rattle.dxf_layer.proofs.Shaped.{AreWhole, edits_with, edits_are}
+use Rattle.dxf_layer.proofs.Shaped.{AreWhole, edits_are}
 use Rattle.dxf_layer.proofs.Sections.{all_aside}
 use Rattle.dxf_layer.proofs.Ordered.{walk_good}
 use Rattle.dxf_layer.proofs.Whole.{entities_spread}
 use Rattle.dxf_layer.proofs.StandingEdits.{stand, stands_for, stand_in_order}
-use Rattle.dxf_layer.proofs.ValueTurns.{AreSome, AreGoodImages}
 use Rattle.dxf_layer.proofs.WalkTrails.{trail, trail_edits}
 use Rattle.dxf_layer.proofs.OutlineEnds.{imaged_outlines, rows_behind, points_of, rows_are, points_are}
 use Rattle.dxf_layer.proofs.LightWritten.{lights_written}

@@ -1,9 +1,8 @@
 -- The edit of the next handle has nothing to do with the entities of a drawing, and is harmless elsewhere.
-use Rattle.std.proofs.Common.{◌≡◌, ℕ, zero, suc, ◌+◌, ◌<◌, ◌≤◌, ◌^◌, pos, Bool, true, false, cond, refl, ap, sym, ◌∙◌, List, [], ◌∷◌, take, Option, None, Some, arith, inl, inr}
-use Rattle.std.specs.Prelude.{◌&&◌, ◌⊎◌}
+use Rattle.std.proofs.Common.{◌≡◌, ℕ, zero, suc, ◌+◌, ◌<◌, ◌^◌, pos, Bool, true, false, cond, refl, ap, sym, ◌∙◌, List, [], ◌∷◌, take, Option, None, Some, arith, inl, inr}
+use Rattle.std.specs.Prelude.{◌&&◌}
 use Rattle.std.specs.List.{prefix_len}
 use Rattle.std.specs.Ordering.{int_eq}
-use Rattle.sheet_base.specs.declared.edits.Edit.{Edit}
 use Rattle.sheet_base.specs.declared.edits.What.TheVariants as edits
 use Rattle.dxf_pairs.specs.declared.pairs.Pair.{Pair}
 use Rattle.dxf_pairs.specs.Pairs.{is_last}
@@ -13,7 +12,7 @@ use Rattle.dxf_pairs.specs.InLines.{EndsDrawing, AreInLines}
 use Rattle.dxf_layer.specs.declared.entities.Where.{Where}
 use Rattle.dxf_layer.specs.declared.entities.Where.TheVariants.{Outside}
 use Rattle.dxf_layer.specs.declared.handles.TheConstants.{MOST_DIGITS}
-use Rattle.dxf_layer.specs.Entities.{Entity, has_code, is_no_head, ends_section, behind, begins_entity, entity_of, entities_from, entities_of, entity_end, past_pairs}
+use Rattle.dxf_layer.specs.Entities.{Entity, has_code, is_no_head, ends_section, behind, begins_entity, entity_of, entities_from, entities_of, entity_end}
 use Rattle.dxf_layer.specs.Handles.{is_handle, as_seed, names_seed, seed_from, seed_of, seed_edits}
 use Rattle.dxf_layer.specs.Shapes.{value_edit}
 use Rattle.dxf_layer.specs.Rendering.{Reading, next_behind}

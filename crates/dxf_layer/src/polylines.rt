@@ -1,15 +1,13 @@
-//! Polylines, with their vertices in fields or in entities of their own.
+//! Polylines, with their vertices in fields.
 
 ghost use Rattle.std.specs.Prelude.{◌≡◌, ◌^◌, ◌+◌, ◌≤◌, ◌<◌, [], ◌∷◌, length, OnOk, IfOk, IfSome};
 ghost use Rattle.dxf_layer.specs.Told.{told};
-ghost use Rattle.dxf_layer.specs.Polylines.{kind_of, is_group_code, fault_in_group, past_group, vertex_of, begins_vertex, is_number, vertices_in, count_of, rows_from, light_shapes, plain, entity_vertex};
-ghost use Rattle.dxf_layer.specs.Held.{seen, with_rows, with_vertices, with_own_vertex, HoldsAtMost, GrowsBy, Reads, ReadsVertices, vertices_by};
+ghost use Rattle.dxf_layer.specs.Polylines.{kind_of, is_group_code, fault_in_group, past_group, vertex_of, begins_vertex, is_number, vertices_in, count_of, rows_from, light_shapes};
+ghost use Rattle.dxf_layer.specs.Held.{seen, with_rows, with_vertices, HoldsAtMost, GrowsBy, Reads, ReadsVertices, vertices_by};
 
 use crate::drawing::{Drawing, Spot, Vertex, value_edit};
 use crate::entities::{Entity, has_code};
-use crate::fields::{coordinate, equals, field, fields_of, not_zero_at, wanted};
-use crate::handles::check_handle;
-use crate::points::spot_at;
+use crate::fields::{coordinate, equals, field, fields_of, wanted};
 use dxf_pairs::Pair;
 use sheet_base::{Edit, LayerFault, PathKind, What};
 use std::alloc::AllocError;
@@ -233,74 +231,5 @@ pub fn read_light(
     };
     drawing.add_edit(value_edit(What::Tally { first, past }, &count))?;
     add_path_from(drawing, kind, first)?;
-    Ok(())
-}
-
-/// Refuses a vertex's entity that has a width, a bulge or flags.
-fn check_plain(bytes: &[u8], entity: &Entity) -> Result<(), LayerFault>
-    ensures { result ≡ plain bytes.now (told entity.now) }
-{
-    match not_zero_at(bytes, 40, entity) {
-        Ok(None) => (),
-        Ok(Some(line)) => return Err(LayerFault::Width { line }),
-        Err(fault) => return Err(fault),
-    }
-    match not_zero_at(bytes, 41, entity) {
-        Ok(None) => (),
-        Ok(Some(line)) => return Err(LayerFault::Width { line }),
-        Err(fault) => return Err(fault),
-    }
-    match not_zero_at(bytes, 42, entity) {
-        Ok(None) => (),
-        Ok(Some(line)) => return Err(LayerFault::Bulge { line }),
-        Err(fault) => return Err(fault),
-    }
-    match not_zero_at(bytes, 70, entity) {
-        Ok(None) => Ok(()),
-        Ok(Some(line)) => Err(LayerFault::Flags { line }),
-        Err(fault) => Err(fault),
-    }
-}
-
-/// The vertex of an entity of its own.
-pub fn entity_vertex(
-    bytes: &[u8],
-    exact: bool,
-    seed: Option<Pair>,
-    entity: &Entity,
-) -> Result<Vertex, LayerFault>
-    ensures { result ≡ entity_vertex bytes.now exact seed (told entity.now) }
-{
-    match check_handle(seed, entity) {
-        Ok(()) => (),
-        Err(fault) => return Err(fault),
-    }
-    let spot = match spot_at(bytes, exact, 10, 20, entity) {
-        Ok(spot) => spot,
-        Err(fault) => return Err(fault),
-    };
-    match check_plain(bytes, entity) {
-        Ok(()) => Ok(Vertex {
-            spot,
-            start: entity.head.start,
-            past: entity.end(),
-        }),
-        Err(fault) => Err(fault),
-    }
-}
-
-/// Adds a vertex with an entity of its own, which is replaced.
-pub fn add_own_vertex(drawing: &mut Drawing, vertex: &Vertex) -> Result<(), AllocError>
-    requires { HoldsAtMost (2 ^ 30) (seen drawing.old) }
-    ensures added { OnOk result (seen drawing.new ≡ with_own_vertex (seen drawing.old) vertex.now) }
-    ensures grown { OnOk result (GrowsBy 2 (seen drawing.old) (seen drawing.new)) }
-{
-    let point = drawing.point();
-    drawing.add_point(&vertex.spot)?;
-    drawing.add_edit(Edit {
-        start: vertex.start,
-        end: vertex.past,
-        what: What::Vertex { point },
-    })?;
     Ok(())
 }

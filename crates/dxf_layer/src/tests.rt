@@ -1,6 +1,6 @@
 //! Drawings whose sheets and faults were worked out by hand.
 
-ghost use Rattle.std.specs.Prelude.{◌<◌, ◌^◌, length, IfOk};
+ghost use Rattle.std.specs.Prelude.{◌<◌, ◌≤◌, ◌^◌, length, IfOk};
 
 use crate::pages::Page;
 use crate::rendering::render_page;
@@ -26,6 +26,10 @@ const LINES: &[u8] =
 const LOOP: &[u8] =
     b"0\r\nSECTION\r\n2\r\nENTITIES\r\n0\r\nLWPOLYLINE\r\n90\r\n2\r\n70\r\n1\r\n10\r\n10\r\n20\r\n0\r\n10\r\n0\r\n20\r\n10\r\n0\r\nENDSEC\r\n0\r\nEOF\r\n";
 
+/// The same polyline, whose lines end in a line feed alone.
+const LOOP_OF_LINE_FEEDS: &[u8] =
+    b"0\nSECTION\n2\nENTITIES\n0\nLWPOLYLINE\n90\n2\n70\n1\n10\n10\n20\n0\n10\n0\n20\n10\n0\nENDSEC\n0\nEOF\n";
+
 /// No drawing here is longer.
 const LONGEST: usize = 1 << 16;
 
@@ -37,213 +41,216 @@ fn fault(alloc: Global, text: &[u8], how: How) -> Option<LayerFault> {
     read_drawing(alloc, text, how).err()
 }
 
+/// Drawings with a fault, or with several, and the fault that is reported.
+const REFUSED: &[(&[u8], LayerFault)] = &[
+    (
+        b"0\nSECTION\n2\nENTITIES\n0\nLWPOLYLINE\n90\n2\n70\n0\n10\n0\n20\n0\n42\n1\n10\n1\n20\n1\n0\nENDSEC\n0\nEOF",
+        LayerFault::Bulge { line: 15 },
+    ),
+    (
+        b"0\nSECTION\n2\nENTITIES\n0\nLWPOLYLINE\n90\n3\n10\n0\n20\n0\n10\n1\n20\n1\n0\nENDSEC\n0\nEOF",
+        LayerFault::Count { line: 7 },
+    ),
+    (
+        b"0\nSECTION\n2\nENTITIES\n0\nLWPOLYLINE\n90\n0\n70\n2\n0\nENDSEC\n0\nEOF",
+        LayerFault::Flags { line: 9 },
+    ),
+    (
+        b"0\nSECTION\n2\nENTITIES\n0\nLINE\n10\n0\n20\n0\n30\n0\n11\n1\n21\n1\n31\n2\n0\nENDSEC\n0\nEOF",
+        LayerFault::Slope { line: 5 },
+    ),
+    (
+        b"0\nSECTION\n2\nENTITIES\n0\nLINE\n5\n1A\n10\n0\n20\n0\n11\n1\n21\n1\n0\nENDSEC\n0\nEOF",
+        LayerFault::Seed { line: 7 },
+    ),
+    (
+        b"0\nSECTION\n2\nENTITIES\n0\nLINE\n10\n0\n20\n0\n11\n1\n0\nENDSEC\n0\nEOF",
+        LayerFault::Count { line: 5 },
+    ),
+    (
+        b"0\nSECTION\n2\nENTITIES\n0\nPOINT\n10\n0\n20\n0\n230\n-1\n0\nENDSEC\n0\nEOF",
+        LayerFault::Extrusion { line: 5 },
+    ),
+    (
+        b"0\nSECTION\n2\nENTITIES\n0\nINSERT\n2\nB\n66\n1\n10\n0\n20\n0\n0\nENDSEC\n0\nEOF",
+        LayerFault::Attribs { line: 9 },
+    ),
+    (
+        b"0\nSECTION\n2\nENTITIES\n0\nLWPOLYLINE\n90\n1\n10\n0\n20\n0\n40\n1\n0\nENDSEC\n0\nEOF",
+        LayerFault::Width { line: 13 },
+    ),
+    (
+        b"0\nSECTION\n2\nENTITIES\n0\nARC\n10\n0\n0\nENDSEC\n0\nEOF",
+        LayerFault::Entity { line: 5 },
+    ),
+    (
+        b"0\nSECTION\n2\nENTITIES\n0\nVERTEX\n10\n0\n20\n0\n0\nENDSEC\n0\nEOF",
+        LayerFault::Entity { line: 5 },
+    ),
+    (
+        b"0\nSECTION\n2\nENTITIES\n0\nSEQEND\n0\nENDSEC\n0\nEOF",
+        LayerFault::Entity { line: 5 },
+    ),
+    (
+        b"0\nSECTION\n2\nENTITIES\n0\nPOINT\n10\n0\n0\nENDSEC\n0\nEOF",
+        LayerFault::Count { line: 5 },
+    ),
+    (
+        b"0\nSECTION\n2\nENTITIES\n0\nPOINT\n10\n0\n20\n0\n10\n1\n0\nENDSEC\n0\nEOF",
+        LayerFault::Count { line: 11 },
+    ),
+    (
+        b"0\nSECTION\n2\nENTITIES\n0\nPOINT\n67\n0\n67\n0\n10\n0\n20\n0\n0\nENDSEC\n0\nEOF",
+        LayerFault::Count { line: 9 },
+    ),
+    (
+        b"0\nSECTION\n2\nENTITIES\n0\nARC\n67\n0\n67\n0\n0\nENDSEC\n0\nEOF",
+        LayerFault::Count { line: 9 },
+    ),
+    (
+        b"0\nSECTION\n2\nENTITIES\n0\nPOINT\n10\nx\n20\n0\n0\nENDSEC\n0\nEOF",
+        LayerFault::Number {
+            at: 32,
+            fault: NumFault::Form { at: 0 },
+        },
+    ),
+    (
+        b"0\nSECTION\n2\nENTITIES\n0\nPOINT\n20\n0\n10\nx\n0\nENDSEC\n0\nEOF",
+        LayerFault::Number {
+            at: 37,
+            fault: NumFault::Form { at: 0 },
+        },
+    ),
+    (
+        b"0\nSECTION\n2\nENTITIES\n0\nPOINT\n220\n1\n10\n0\n20\n0\n0\nENDSEC\n0\nEOF",
+        LayerFault::Extrusion { line: 5 },
+    ),
+    (
+        b"0\nSECTION\n2\nENTITIES\n0\nPOINT\n210\n0\n210\n0\n10\n0\n20\n0\n0\nENDSEC\n0\nEOF",
+        LayerFault::Count { line: 9 },
+    ),
+    (
+        b"0\nSECTION\n2\nENTITIES\n0\nPOINT\n230\n1\n230\n2\n10\n0\n20\n0\n0\nENDSEC\n0\nEOF",
+        LayerFault::Extrusion { line: 5 },
+    ),
+    (
+        b"0\nSECTION\n2\nENTITIES\n0\nINSERT\n66\n0\n66\n0\n10\n0\n20\n0\n0\nENDSEC\n0\nEOF",
+        LayerFault::Count { line: 9 },
+    ),
+    (
+        b"0\nSECTION\n2\nENTITIES\n0\nINSERT\n66\nx\n10\n0\n20\n0\n0\nENDSEC\n0\nEOF",
+        LayerFault::Attribs { line: 7 },
+    ),
+    (
+        b"0\nSECTION\n2\nENTITIES\n0\nINSERT\n66\n0.0001\n10\n0\n20\n0\n0\nENDSEC\n0\nEOF",
+        LayerFault::Attribs { line: 7 },
+    ),
+    (
+        b"0\nSECTION\n2\nENTITIES\n0\nINSERT\n66\n0\n10\n0\n0\nENDSEC\n0\nEOF",
+        LayerFault::Count { line: 5 },
+    ),
+    (
+        b"0\nSECTION\n2\nENTITIES\n0\nTEXT\n10\n0\n20\n0\n72\n1\n0\nENDSEC\n0\nEOF",
+        LayerFault::Count { line: 5 },
+    ),
+    (
+        b"0\nSECTION\n2\nENTITIES\n0\nTEXT\n10\n0\n20\n0\n73\n2\n11\n0\n0\nENDSEC\n0\nEOF",
+        LayerFault::Count { line: 5 },
+    ),
+    (
+        b"0\nSECTION\n2\nENTITIES\n0\nTEXT\n10\n0\n20\n0\n72\n0\n72\n0\n0\nENDSEC\n0\nEOF",
+        LayerFault::Count { line: 13 },
+    ),
+    (
+        b"0\nSECTION\n2\nENTITIES\n0\nTEXT\n72\n0\n73\n0\n73\n0\n10\n0\n20\n0\n0\nENDSEC\n0\nEOF",
+        LayerFault::Count { line: 11 },
+    ),
+    (
+        b"0\nSECTION\n2\nENTITIES\n0\nLINE\n5\n1\n5\n2\n10\n0\n20\n0\n11\n1\n21\n1\n0\nENDSEC\n0\nEOF",
+        LayerFault::Count { line: 9 },
+    ),
+    (
+        b"0\nSECTION\n2\nENTITIES\n0\nLINE\n10\n0\n20\n0\n11\n1\n21\n1\n31\n1\n0\nENDSEC\n0\nEOF",
+        LayerFault::Slope { line: 5 },
+    ),
+    (
+        b"0\nSECTION\n2\nENTITIES\n0\nLINE\n10\n0\n20\n0\n11\n1\n21\n1\n30\nx\n0\nENDSEC\n0\nEOF",
+        LayerFault::Slope { line: 5 },
+    ),
+    (
+        b"0\nSECTION\n2\nENTITIES\n0\nLINE\n10\n0\n20\n0\n11\n1\n21\n1\n30\n0\n30\n0\n0\nENDSEC\n0\nEOF",
+        LayerFault::Count { line: 17 },
+    ),
+    (
+        b"0\nSECTION\n2\nENTITIES\n0\nLWPOLYLINE\n90\n1\n70\nx\n10\n0\n20\n0\n0\nENDSEC\n0\nEOF",
+        LayerFault::Flags { line: 9 },
+    ),
+    (
+        b"0\nSECTION\n2\nENTITIES\n0\nLWPOLYLINE\n90\n1\n10\n0\n30\n0\n20\n0\n0\nENDSEC\n0\nEOF",
+        LayerFault::Count { line: 9 },
+    ),
+    (
+        b"0\nSECTION\n2\nENTITIES\n0\nLWPOLYLINE\n90\n1\n20\n0\n10\n0\n0\nENDSEC\n0\nEOF",
+        LayerFault::Count { line: 9 },
+    ),
+    (
+        b"0\nSECTION\n2\nENTITIES\n0\nLWPOLYLINE\n90\n1\n10\nx\n30\n0\n0\nENDSEC\n0\nEOF",
+        LayerFault::Count { line: 9 },
+    ),
+    (
+        b"0\nSECTION\n2\nENTITIES\n0\nLWPOLYLINE\n10\n0\n20\n0\n0\nENDSEC\n0\nEOF",
+        LayerFault::Count { line: 5 },
+    ),
+    (
+        b"0\nSECTION\n2\nENTITIES\n0\nLWPOLYLINE\n90\n0\n90\n0\n0\nENDSEC\n0\nEOF",
+        LayerFault::Count { line: 9 },
+    ),
+    (
+        b"0\nSECTION\n2\nENTITIES\n0\nLWPOLYLINE\n90\n1\n10\n0\n20\n0\n91\n5\n41\n1\n0\nENDSEC\n0\nEOF",
+        LayerFault::Width { line: 15 },
+    ),
+    (
+        b"0\nSECTION\n2\nENTITIES\n0\nLWPOLYLINE\n90\n1\n10\n0\n20\n0\n42\n0\n40\nx\n0\nENDSEC\n0\nEOF",
+        LayerFault::Width { line: 15 },
+    ),
+    (
+        b"0\nSECTION\n2\nENTITIES\n0\nPOLYLINE\n70\n4\n0\nENDSEC\n0\nEOF",
+        LayerFault::Flags { line: 7 },
+    ),
+    (
+        b"0\nSECTION\n2\nENTITIES\n0\nPOLYLINE\n70\n0\n0\nENDSEC\n0\nEOF",
+        LayerFault::Count { line: 9 },
+    ),
+    (
+        b"0\nSECTION\n2\nENTITIES\n0\nPOLYLINE\n0\nVERTEX\n10\n0\n20\n0\n42\n1\n0\nENDSEC\n0\nEOF",
+        LayerFault::Bulge { line: 13 },
+    ),
+    (
+        b"0\nSECTION\n2\nENTITIES\n0\nPOLYLINE\n0\nVERTEX\n10\n0\n0\nENDSEC\n0\nEOF",
+        LayerFault::Count { line: 7 },
+    ),
+    (
+        b"0\nSECTION\n2\nENTITIES\n0\nPOLYLINE\n0\nVERTEX\n10\n0\n20\n0\n70\n16\n0\nENDSEC\n0\nEOF",
+        LayerFault::Flags { line: 13 },
+    ),
+    (
+        b"0\nSECTION\n2\nENTITIES\n0\nPOLYLINE\n0\nVERTEX\n5\n1\n10\n0\n20\n0\n0\nENDSEC\n0\nEOF",
+        LayerFault::Seed { line: 9 },
+    ),
+    (
+        b"0\nSECTION\n2\nENTITIES\n0\nPOLYLINE\n0\nPOINT\n10\n0\n20\n0\n0\nENDSEC\n0\nEOF",
+        LayerFault::Count { line: 7 },
+    ),
+    (
+        b"0\nSECTION\n2\nENTITIES\n0\nPOLYLINE\n230\n-1\n70\n2\n0\nENDSEC\n0\nEOF",
+        LayerFault::Extrusion { line: 5 },
+    ),
+];
+
 #[test]
 fn refuses_by_the_order(rt: HostRuntime) {
-    for (text, want) in [
-        (
-            b"0\nSECTION\n2\nENTITIES\n0\nLWPOLYLINE\n90\n2\n70\n0\n10\n0\n20\n0\n42\n1\n10\n1\n20\n1\n0\nENDSEC\n0\nEOF".as_slice(),
-            LayerFault::Bulge { line: 15 },
-        ),
-        (
-            b"0\nSECTION\n2\nENTITIES\n0\nLWPOLYLINE\n90\n3\n10\n0\n20\n0\n10\n1\n20\n1\n0\nENDSEC\n0\nEOF",
-            LayerFault::Count { line: 7 },
-        ),
-        (
-            b"0\nSECTION\n2\nENTITIES\n0\nLWPOLYLINE\n90\n0\n70\n2\n0\nENDSEC\n0\nEOF",
-            LayerFault::Flags { line: 9 },
-        ),
-        (
-            b"0\nSECTION\n2\nENTITIES\n0\nLINE\n10\n0\n20\n0\n30\n0\n11\n1\n21\n1\n31\n2\n0\nENDSEC\n0\nEOF",
-            LayerFault::Slope { line: 5 },
-        ),
-        (
-            b"0\nSECTION\n2\nENTITIES\n0\nLINE\n5\n1A\n10\n0\n20\n0\n11\n1\n21\n1\n0\nENDSEC\n0\nEOF",
-            LayerFault::Seed { line: 7 },
-        ),
-        (
-            b"0\nSECTION\n2\nENTITIES\n0\nLINE\n10\n0\n20\n0\n11\n1\n0\nENDSEC\n0\nEOF",
-            LayerFault::Count { line: 5 },
-        ),
-        (
-            b"0\nSECTION\n2\nENTITIES\n0\nPOINT\n10\n0\n20\n0\n230\n-1\n0\nENDSEC\n0\nEOF",
-            LayerFault::Extrusion { line: 5 },
-        ),
-        (
-            b"0\nSECTION\n2\nENTITIES\n0\nINSERT\n2\nB\n66\n1\n10\n0\n20\n0\n0\nENDSEC\n0\nEOF",
-            LayerFault::Attribs { line: 9 },
-        ),
-        (
-            b"0\nSECTION\n2\nENTITIES\n0\nLWPOLYLINE\n90\n1\n10\n0\n20\n0\n40\n1\n0\nENDSEC\n0\nEOF",
-            LayerFault::Width { line: 13 },
-        ),
-        (
-            b"0\nSECTION\n2\nENTITIES\n0\nARC\n10\n0\n0\nENDSEC\n0\nEOF",
-            LayerFault::Entity { line: 5 },
-        ),
-        (
-            b"0\nSECTION\n2\nENTITIES\n0\nVERTEX\n10\n0\n20\n0\n0\nENDSEC\n0\nEOF",
-            LayerFault::Entity { line: 5 },
-        ),
-        (
-            b"0\nSECTION\n2\nENTITIES\n0\nSEQEND\n0\nENDSEC\n0\nEOF",
-            LayerFault::Entity { line: 5 },
-        ),
-        (
-            b"0\nSECTION\n2\nENTITIES\n0\nPOINT\n10\n0\n0\nENDSEC\n0\nEOF",
-            LayerFault::Count { line: 5 },
-        ),
-        (
-            b"0\nSECTION\n2\nENTITIES\n0\nPOINT\n10\n0\n20\n0\n10\n1\n0\nENDSEC\n0\nEOF",
-            LayerFault::Count { line: 11 },
-        ),
-        (
-            b"0\nSECTION\n2\nENTITIES\n0\nPOINT\n67\n0\n67\n0\n10\n0\n20\n0\n0\nENDSEC\n0\nEOF",
-            LayerFault::Count { line: 9 },
-        ),
-        (
-            b"0\nSECTION\n2\nENTITIES\n0\nARC\n67\n0\n67\n0\n0\nENDSEC\n0\nEOF",
-            LayerFault::Count { line: 9 },
-        ),
-        (
-            b"0\nSECTION\n2\nENTITIES\n0\nPOINT\n10\nx\n20\n0\n0\nENDSEC\n0\nEOF",
-            LayerFault::Number {
-                at: 32,
-                fault: NumFault::Form { at: 0 },
-            },
-        ),
-        (
-            b"0\nSECTION\n2\nENTITIES\n0\nPOINT\n20\n0\n10\nx\n0\nENDSEC\n0\nEOF",
-            LayerFault::Number {
-                at: 37,
-                fault: NumFault::Form { at: 0 },
-            },
-        ),
-        (
-            b"0\nSECTION\n2\nENTITIES\n0\nPOINT\n220\n1\n10\n0\n20\n0\n0\nENDSEC\n0\nEOF",
-            LayerFault::Extrusion { line: 5 },
-        ),
-        (
-            b"0\nSECTION\n2\nENTITIES\n0\nPOINT\n210\n0\n210\n0\n10\n0\n20\n0\n0\nENDSEC\n0\nEOF",
-            LayerFault::Count { line: 9 },
-        ),
-        (
-            b"0\nSECTION\n2\nENTITIES\n0\nPOINT\n230\n1\n230\n2\n10\n0\n20\n0\n0\nENDSEC\n0\nEOF",
-            LayerFault::Extrusion { line: 5 },
-        ),
-        (
-            b"0\nSECTION\n2\nENTITIES\n0\nINSERT\n66\n0\n66\n0\n10\n0\n20\n0\n0\nENDSEC\n0\nEOF",
-            LayerFault::Count { line: 9 },
-        ),
-        (
-            b"0\nSECTION\n2\nENTITIES\n0\nINSERT\n66\nx\n10\n0\n20\n0\n0\nENDSEC\n0\nEOF",
-            LayerFault::Attribs { line: 7 },
-        ),
-        (
-            b"0\nSECTION\n2\nENTITIES\n0\nINSERT\n66\n0.0001\n10\n0\n20\n0\n0\nENDSEC\n0\nEOF",
-            LayerFault::Attribs { line: 7 },
-        ),
-        (
-            b"0\nSECTION\n2\nENTITIES\n0\nINSERT\n66\n0\n10\n0\n0\nENDSEC\n0\nEOF",
-            LayerFault::Count { line: 5 },
-        ),
-        (
-            b"0\nSECTION\n2\nENTITIES\n0\nTEXT\n10\n0\n20\n0\n72\n1\n0\nENDSEC\n0\nEOF",
-            LayerFault::Count { line: 5 },
-        ),
-        (
-            b"0\nSECTION\n2\nENTITIES\n0\nTEXT\n10\n0\n20\n0\n73\n2\n11\n0\n0\nENDSEC\n0\nEOF",
-            LayerFault::Count { line: 5 },
-        ),
-        (
-            b"0\nSECTION\n2\nENTITIES\n0\nTEXT\n10\n0\n20\n0\n72\n0\n72\n0\n0\nENDSEC\n0\nEOF",
-            LayerFault::Count { line: 13 },
-        ),
-        (
-            b"0\nSECTION\n2\nENTITIES\n0\nTEXT\n72\n0\n73\n0\n73\n0\n10\n0\n20\n0\n0\nENDSEC\n0\nEOF",
-            LayerFault::Count { line: 11 },
-        ),
-        (
-            b"0\nSECTION\n2\nENTITIES\n0\nLINE\n5\n1\n5\n2\n10\n0\n20\n0\n11\n1\n21\n1\n0\nENDSEC\n0\nEOF",
-            LayerFault::Count { line: 9 },
-        ),
-        (
-            b"0\nSECTION\n2\nENTITIES\n0\nLINE\n10\n0\n20\n0\n11\n1\n21\n1\n31\n1\n0\nENDSEC\n0\nEOF",
-            LayerFault::Slope { line: 5 },
-        ),
-        (
-            b"0\nSECTION\n2\nENTITIES\n0\nLINE\n10\n0\n20\n0\n11\n1\n21\n1\n30\nx\n0\nENDSEC\n0\nEOF",
-            LayerFault::Slope { line: 5 },
-        ),
-        (
-            b"0\nSECTION\n2\nENTITIES\n0\nLINE\n10\n0\n20\n0\n11\n1\n21\n1\n30\n0\n30\n0\n0\nENDSEC\n0\nEOF",
-            LayerFault::Count { line: 17 },
-        ),
-        (
-            b"0\nSECTION\n2\nENTITIES\n0\nLWPOLYLINE\n90\n1\n70\nx\n10\n0\n20\n0\n0\nENDSEC\n0\nEOF",
-            LayerFault::Flags { line: 9 },
-        ),
-        (
-            b"0\nSECTION\n2\nENTITIES\n0\nLWPOLYLINE\n90\n1\n10\n0\n30\n0\n20\n0\n0\nENDSEC\n0\nEOF",
-            LayerFault::Count { line: 9 },
-        ),
-        (
-            b"0\nSECTION\n2\nENTITIES\n0\nLWPOLYLINE\n90\n1\n20\n0\n10\n0\n0\nENDSEC\n0\nEOF",
-            LayerFault::Count { line: 9 },
-        ),
-        (
-            b"0\nSECTION\n2\nENTITIES\n0\nLWPOLYLINE\n90\n1\n10\nx\n30\n0\n0\nENDSEC\n0\nEOF",
-            LayerFault::Count { line: 9 },
-        ),
-        (
-            b"0\nSECTION\n2\nENTITIES\n0\nLWPOLYLINE\n10\n0\n20\n0\n0\nENDSEC\n0\nEOF",
-            LayerFault::Count { line: 5 },
-        ),
-        (
-            b"0\nSECTION\n2\nENTITIES\n0\nLWPOLYLINE\n90\n0\n90\n0\n0\nENDSEC\n0\nEOF",
-            LayerFault::Count { line: 9 },
-        ),
-        (
-            b"0\nSECTION\n2\nENTITIES\n0\nLWPOLYLINE\n90\n1\n10\n0\n20\n0\n91\n5\n41\n1\n0\nENDSEC\n0\nEOF",
-            LayerFault::Width { line: 15 },
-        ),
-        (
-            b"0\nSECTION\n2\nENTITIES\n0\nLWPOLYLINE\n90\n1\n10\n0\n20\n0\n42\n0\n40\nx\n0\nENDSEC\n0\nEOF",
-            LayerFault::Width { line: 15 },
-        ),
-        (
-            b"0\nSECTION\n2\nENTITIES\n0\nPOLYLINE\n70\n4\n0\nENDSEC\n0\nEOF",
-            LayerFault::Flags { line: 7 },
-        ),
-        (
-            b"0\nSECTION\n2\nENTITIES\n0\nPOLYLINE\n70\n0\n0\nENDSEC\n0\nEOF",
-            LayerFault::Count { line: 9 },
-        ),
-        (
-            b"0\nSECTION\n2\nENTITIES\n0\nPOLYLINE\n0\nVERTEX\n10\n0\n20\n0\n42\n1\n0\nENDSEC\n0\nEOF",
-            LayerFault::Bulge { line: 13 },
-        ),
-        (
-            b"0\nSECTION\n2\nENTITIES\n0\nPOLYLINE\n0\nVERTEX\n10\n0\n0\nENDSEC\n0\nEOF",
-            LayerFault::Count { line: 7 },
-        ),
-        (
-            b"0\nSECTION\n2\nENTITIES\n0\nPOLYLINE\n0\nVERTEX\n10\n0\n20\n0\n70\n16\n0\nENDSEC\n0\nEOF",
-            LayerFault::Flags { line: 13 },
-        ),
-        (
-            b"0\nSECTION\n2\nENTITIES\n0\nPOLYLINE\n0\nVERTEX\n5\n1\n10\n0\n20\n0\n0\nENDSEC\n0\nEOF",
-            LayerFault::Seed { line: 9 },
-        ),
-        (
-            b"0\nSECTION\n2\nENTITIES\n0\nPOLYLINE\n0\nPOINT\n10\n0\n20\n0\n0\nENDSEC\n0\nEOF",
-            LayerFault::Count { line: 7 },
-        ),
-        (
-            b"0\nSECTION\n2\nENTITIES\n0\nPOLYLINE\n230\n-1\n70\n2\n0\nENDSEC\n0\nEOF",
-            LayerFault::Extrusion { line: 5 },
-        ),
-    ] {
-        assert_eq!(rt; fault(rt.alloc(), text, PLAIN), Some(want), "{text:?}");
+    for (text, want) in REFUSED {
+        assert_eq!(rt; fault(rt.alloc(), text, PLAIN), Some(*want), "{text:?}");
     }
 }
 
@@ -477,6 +484,9 @@ const LINES_CARRIED: &[u8] =
 const LOOP_CARRIED: &[u8] =
     b"0\r\nSECTION\r\n2\r\nENTITIES\r\n0\r\nLWPOLYLINE\r\n90\r\n4\r\n70\r\n1\r\n10\r\n110.000\r\n20\r\n100.000\r\n10\r\n105.002\r\n20\r\n105.002\r\n10\r\n100.000\r\n20\r\n110.000\r\n10\r\n105.002\r\n20\r\n105.002\r\n0\r\nENDSEC\r\n0\r\nEOF\r\n";
 
+const LOOP_OF_LINE_FEEDS_CARRIED: &[u8] =
+    b"0\nSECTION\n2\nENTITIES\n0\nLWPOLYLINE\n90\n4\n70\n1\n10\n110.000\n20\n100.000\n10\n105.002\n20\n105.002\n10\n100.000\n20\n110.000\n10\n105.002\n20\n105.002\n0\nENDSEC\n0\nEOF\n";
+
 #[test]
 fn writes_a_split_line(rt: HostRuntime) -> Result<(), Fail> {
     let how = How {
@@ -512,9 +522,11 @@ fn writes_a_split_line(rt: HostRuntime) -> Result<(), Fail> {
     Ok(())
 }
 
-#[test]
-fn writes_a_split_loop(rt: HostRuntime) -> Result<(), Fail> {
-    let sheet = read_drawing(rt.alloc(), LOOP, PLAIN)?;
+/// A closed polyline of two vertices with both of its segments split.
+fn split_loop(alloc: Global, text: &[u8]) -> Result<Vec<u8>, Fail>
+    requires { length text.now ≤ 2 ^ 26 }
+{
+    let sheet = read_drawing(alloc, text, PLAIN)?;
     let points = [
         Pt {
             x: 110000,
@@ -533,15 +545,23 @@ fn writes_a_split_loop(rt: HostRuntime) -> Result<(), Fail> {
             y: 105002,
         },
     ];
-    let images = images(rt.alloc(), points.as_slice(), [0, 2].as_slice())?;
-    let pairs = read_pairs(rt.alloc(), LOOP)?;
+    let images = images(alloc, points.as_slice(), [0, 2].as_slice())?;
+    let pairs = read_pairs(alloc, text)?;
     let page = Page {
-        bytes: LOOP,
+        bytes: text,
         pairs: &pairs,
         sheet: &sheet,
         images: &images,
     };
-    let out = render_page(rt.alloc(), &page)?;
+    let out = render_page(alloc, &page)?;
+    Ok(out)
+}
+
+#[test]
+fn writes_a_split_loop(rt: HostRuntime) -> Result<(), Fail> {
+    let out = split_loop(rt.alloc(), LOOP)?;
     assert_eq!(rt; out.as_slice(), LOOP_CARRIED);
+    let out = split_loop(rt.alloc(), LOOP_OF_LINE_FEEDS)?;
+    assert_eq!(rt; out.as_slice(), LOOP_OF_LINE_FEEDS_CARRIED);
     Ok(())
 }

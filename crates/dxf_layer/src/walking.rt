@@ -1,21 +1,22 @@
 //! The entities of a drawing in order.
 
-ghost use Rattle.std.specs.Prelude.{◌≡◌, ◌^◌, ◌+◌, ◌≤◌, List, [], length, OnOk, None};
-ghost use Rattle.std.specs.List.{list_all};
+ghost use Rattle.std.specs.Prelude.{◌≡◌, ◌^◌, ◌+◌, ◌≤◌, List, length, OnOk, None};
 ghost use Rattle.sheet_base.specs.Sheets.{Contents};
 ghost use Rattle.dxf_layer.specs.Told.{told};
 ghost use Rattle.dxf_layer.specs.Entities.{is_kind as has_kind};
 ghost use Rattle.dxf_layer.specs.declared.drawing.Vertex.{Vertex};
 ghost use Rattle.dxf_layer.specs.Shapes.{with_shape};
 ghost use Rattle.dxf_layer.specs.Polylines.{own_shape};
-ghost use Rattle.dxf_layer.specs.Walks.{any_has_code, is_extrusion, is_upright, repeated, upright, other_kind, shapes_of, is_read_alone as are_read_alone, polyline_step, alone_step, by_kind, step_free, step_staying, step_reading, step, Place as Spot};
+ghost use Rattle.dxf_layer.specs.Walks.{other_kind, shapes_of, is_read_alone as are_read_alone, polyline_step, alone_step, by_kind, step_free, step_staying, step_reading, step, Place as Spot};
 ghost use Rattle.dxf_layer.specs.Held.{seen, HoldsAtMost, GrowsBy, Reads, Stands, Goes};
 
 use crate::drawing::Drawing;
-use crate::entities::{Entity, ends_section, has_code, value_in};
-use crate::fields::{equals, field, fields_of, is_there_as};
+use crate::entities::{Entity, ends_section, value_in};
+use crate::extrusions::check_upright;
+use crate::fields::{field, is_there_as};
+use crate::own_vertices::{add_own_vertex, entity_vertex};
 use crate::points::{read_insert, read_line, read_point, read_text};
-use crate::polylines::{add_own_vertex, add_path_from, entity_vertex, kind_of, read_light};
+use crate::polylines::{add_path_from, kind_of, read_light};
 use dxf_pairs::Pair;
 use sheet_base::{Edit, How, LayerFault, PathKind, What};
 
@@ -41,75 +42,6 @@ fn is_kind(bytes: &[u8], kind: &[u8], entity: &Entity) -> bool
     ensures { result ≡ has_kind bytes.now kind.now (told entity.now) }
 {
     value_in(bytes, &entity.head) == kind
-}
-
-/// Whether the pair belongs to an extrusion.
-fn is_extrusion(pair: &Pair) -> bool
-    ensures { result ≡ is_extrusion pair.now }
-{
-    has_code(210, pair) || has_code(220, pair) || has_code(230, pair)
-}
-
-/// Whether the pair allows the direction upwards.
-fn is_upright(bytes: &[u8], pair: &Pair) -> bool
-    ensures { result ≡ is_upright bytes.now pair.now }
-{
-    if has_code(230, pair) {
-        equals(bytes, 1, pair)
-    } else if is_extrusion(pair) {
-        equals(bytes, 0, pair)
-    } else {
-        true
-    }
-}
-
-/// Whether one of the pairs has the code.
-fn has_any(code: i32, pairs: &[Pair]) -> bool
-    ensures { result ≡ any_has_code code pairs.now }
-{
-    pairs.iter().any(|other| other.code == code)
-}
-
-/// The first field of an extrusion that repeats the code of one before it.
-fn repeated(fields: &[Pair]) -> Option<Pair>
-    ensures { result ≡ repeated [] fields.now }
-{
-    for (number, pair) in fields.iter().enumerate() {
-        if is_extrusion(pair) && has_any(pair.code, &fields[..number]) {
-            return Some(*pair);
-        }
-    }
-    None
-}
-
-/// Whether all fields allow the direction upwards.
-fn are_upright(bytes: &[u8], fields: &[Pair]) -> bool
-    ensures { result ≡ list_all (is_upright bytes.now) fields.now }
-{
-    for pair in fields {
-        if !is_upright(bytes, pair) {
-            return false;
-        }
-    }
-    true
-}
-
-/// Refuses an entity that is extruded in another direction than upwards.
-fn check_upright(bytes: &[u8], entity: &Entity) -> Result<(), LayerFault>
-    ensures { result ≡ upright bytes.now (told entity.now) }
-{
-    let fields = fields_of(entity);
-    if !are_upright(bytes, fields) {
-        return Err(LayerFault::Extrusion {
-            line: u64::from(entity.head.line),
-        });
-    }
-    match repeated(fields) {
-        Some(pair) => Err(LayerFault::Count {
-            line: u64::from(pair.line),
-        }),
-        None => Ok(()),
-    }
 }
 
 /// Leaves an entity of another kind out, or refuses it.

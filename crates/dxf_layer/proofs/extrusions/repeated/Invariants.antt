@@ -1,6 +1,6 @@
 use Rattle.std.proofs.Common.{◌≡◌, [], take, drop}
 use Rattle.dxf_layer.specs.Walks.{repeated}
-use Rattle.dxf_layer.proofs.walking.repeated.Given as goal
+use Rattle.dxf_layer.proofs.extrusions.repeated.Given as goal
 
 abbrev pub invariant-loop-number : goal.invariant-loop-number
 invariant-loop-number l = repeated (take l.number l.fields) (drop l.number l.fields) ≡ repeated [] l.fields
