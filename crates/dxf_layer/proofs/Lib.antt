@@ -4,7 +4,7 @@ pub mod Vertices
 pub mod Growing
 pub mod Light
 pub mod Stepping
-pub mod Sorting
+pub mod Settling
 pub mod Visits
 pub mod Apart
 pub mod Members

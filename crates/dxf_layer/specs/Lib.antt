@@ -11,3 +11,4 @@ pub mod Held
 pub mod Rendering
 pub mod Paged
 pub mod ReadBack
+pub mod Ordering

@@ -10,6 +10,7 @@ mod fields;
 mod handles;
 mod laws;
 mod layer;
+mod ordering;
 mod own_vertices;
 mod pages;
 mod points;

@@ -6,7 +6,6 @@ ghost use Rattle.sheet_base.specs.declared.faults.LayerFault.TheVariants.{NoMemo
 ghost use Rattle.sheet_base.specs.Sheets.{Contents};
 ghost use Rattle.sheet_base.specs.Splices.{AreInOrder};
 ghost use Rattle.dxf_layer.specs.Entities.{begins_entity, entities_of};
-ghost use Rattle.dxf_layer.specs.Shapes.{in_order};
 ghost use Rattle.dxf_layer.specs.Walks.{free, walked, visited, Place as Spot};
 ghost use Rattle.dxf_layer.specs.Drawings.{refused, begun, drawing_sheet};
 ghost use Rattle.dxf_layer.specs.Held.{seen, HoldsAtMost, GrowsAlong, Reads, Stands, Goes};
@@ -14,6 +13,7 @@ ghost use Rattle.dxf_layer.specs.Held.{seen, HoldsAtMost, GrowsAlong, Reads, Sta
 use crate::drawing::{Drawing, value_edit};
 use crate::entities::{Entity, Where, behind, has_code, pairs_before_head};
 use crate::handles::seed_of;
+use crate::ordering::in_order;
 use crate::walking::{Place, Source, step};
 use dxf_pairs::{Pair, PairFault, read_pairs};
 use sheet_base::{Edit, How, LayerFault, Listed, Sheet, What};
@@ -90,15 +90,6 @@ fn read_entities(source: &Source, pairs: &[Pair], drawing: &mut Drawing) -> Resu
     }
 }
 
-/// The edits in order of the text; those that start at the same place stay as they are.
-fn in_order(edits: Vec<Edit>) -> Result<Vec<Edit>, AllocError>
-    ensures { IfOk result (λ now. now.items ≡ in_order edits.items) }
-{
-    let mut edits = edits;
-    edits.sort_by_key(|edit| edit.start)?;
-    Ok(edits)
-}
-
 /// What is read before the first entity: the edit of the next handle.
 fn begin(alloc: Global, seed: Option<Pair>) -> Result<Drawing, AllocError>
     ensures { IfOk result (λ drawing. seen drawing ≡ begun seed) }
@@ -135,7 +126,7 @@ pub fn read_drawing(alloc: Global, bytes: &[u8], how: How) -> Result<Sheet, Laye
         inexact,
         dropped,
     } = drawing;
-    let edits = in_order(edits)?;
+    let edits = in_order(edits);
     Ok(Sheet::of(
         Listed::of(paths),
         Listed::of(points),

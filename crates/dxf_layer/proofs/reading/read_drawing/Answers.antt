@@ -18,5 +18,5 @@ pub returns-clause-edits : goal.returns-clause-edits
 returns-clause-edits c =
     let made = read_whole c.args.bytes.now c.args.how c.in-Ok.pairs.items c.deref.result.now c.deref-2.result.now c.seed_of-seed.result (seen c.in_ok-drawing.drawing) (seen c.read_entities.new.drawing)
     c.in-Ok.ensures.tile c.deref.ensures.value c.deref-2.ensures.value c.seed_of-seed.ensures c.in_ok-drawing.ensures c.in-Ok-read_entities.ensures.reads in
-    let edits : c.of-4.result.edits ≡ in_order (seen c.read_entities.new.drawing).edits = ap (λ (s : Contents). s.edits) c.of-4.ensures ∙ (c.of-3.ensures ∙ c.in_ok-edits.ensures) in
+    let edits : c.of-4.result.edits ≡ in_order (seen c.read_entities.new.drawing).edits = ap (λ (s : Contents). s.edits) c.of-4.ensures ∙ (c.of-3.ensures ∙ c.in_order-edits.ensures) in
     rw edits made.1
