@@ -195,6 +195,7 @@ fn is_piece(piece: &Piece, layer: u32, want: &Want) -> bool {
         && piece.ib == at(want.3)
 }
 
+/// Are these the pieces that are wanted, in order, all of the one layer?
 pub fn are_pieces(pieces: &[Piece], layer: u32, want: &[Want]) -> bool {
     pieces.len() == want.len()
         && pieces

@@ -43,6 +43,7 @@ pub enum Sign {
 }
 
 impl Sign {
+    /// What the byte is outside texts.
     #[inline(always)]
     pub fn of(byte: u8) -> Sign
         ensures { result ≡ byte_sign byte }

@@ -38,6 +38,7 @@ pub struct Pass {
 }
 
 impl Pass {
+    /// Before the first byte: nothing is open, and there are no nodes.
     pub fn new(alloc: Global) -> Pass
         ensures stack { result.stack ≡ [] }
         ensures nodes { result.nodes.items ≡ [] }

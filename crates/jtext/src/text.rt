@@ -51,6 +51,7 @@ pub enum Need {
 }
 
 impl TextSign {
+    /// What the byte is within a text.
     pub fn of(byte: u8) -> TextSign
         ensures { result ≡ text_sign byte }
     {

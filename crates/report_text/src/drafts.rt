@@ -128,7 +128,7 @@ fn read_change(
 }
 
 impl Draft {
-    // What the draft becomes by the line of this number.
+    /// What the draft becomes by the line of this number.
     #[tactic(auto, unfolding(crate::specs::ReportText::title))]
     pub(crate) fn read(self, alloc: Global, line: &[u8], number: u64) -> Result<Draft, ReportFault>
         ensures { Leads result number (step (seen self) line.now) }

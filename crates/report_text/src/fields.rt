@@ -4,7 +4,7 @@ ghost use Rattle.std.specs.List.{prefix_len};
 ghost use Rattle.std.specs.Str.{all_ascii_digits};
 ghost use Rattle.report_text.specs.Fields.{Gives, after as after_word, has_leading_zero, number_of as number_of_digits, number_at as number_front, long_at as long_field, short_at as short_field, name_at as name_behind, is_printable as are_printable};
 
-// What stands behind a word at the front of a text.
+/// What stands behind a word at the front of a text.
 pub(crate) fn after<'a>(text: &'a [u8], word: &[u8]) -> Option<&'a [u8]>
     ensures { Gives (λ rest. rest.now) result (after_word word.now text.now) }
 {
@@ -49,7 +49,7 @@ fn number_at(text: &[u8]) -> Option<(u64, &[u8])>
     Some((number, rest))
 }
 
-// The number of 64 bits behind a word at the front of a text, and what stands behind it.
+/// The number of 64 bits behind a word at the front of a text, and what stands behind it.
 #[tactic(auto, unfolding(crate::specs::Fields::long_at))]
 pub(crate) fn long_at<'a>(text: &'a [u8], word: &[u8]) -> Option<(u64, &'a [u8])>
     ensures { Gives (λ found. (found.0, found.1.now)) result (long_field word.now text.now) }
@@ -58,7 +58,7 @@ pub(crate) fn long_at<'a>(text: &'a [u8], word: &[u8]) -> Option<(u64, &'a [u8])
     number_at(rest)
 }
 
-// The same for a number of 32 bits.
+/// The same for a number of 32 bits.
 #[tactic(auto, unfolding(crate::specs::Fields::short_at))]
 pub(crate) fn short_at<'a>(text: &'a [u8], word: &[u8]) -> Option<(u32, &'a [u8])>
     ensures { Gives (λ found. (found.0, found.1.now)) result (short_field word.now text.now) }
@@ -74,7 +74,7 @@ fn is_printable(name: &[u8]) -> bool
     name.iter().all(|byte| *byte >= 32)
 }
 
-// The name that is the rest of a line.
+/// The name that is the rest of a line.
 #[tactic(auto, unfolding(crate::specs::Fields::name_at))]
 pub(crate) fn name_at(text: &[u8]) -> Option<&str>
     ensures { Gives (λ name. name.now) result (name_behind text.now) }

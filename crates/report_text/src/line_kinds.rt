@@ -23,7 +23,7 @@ pub(crate) struct LayerCounts {
     pub dropped: u64,
 }
 
-// The numbers and the name of the triangulation's line.
+/// The numbers and the name of the triangulation's line.
 #[tactic(auto, unfolding(crate::specs::LineKinds::tin_of))]
 pub(crate) fn tin_line(line: &[u8]) -> Option<(TinCounts, &str)>
     ensures { Gives (λ found. tin_named found.0 found.1.now) result (tin_of line.now) }
@@ -42,7 +42,7 @@ pub(crate) fn tin_line(line: &[u8]) -> Option<(TinCounts, &str)>
     ))
 }
 
-// The numbers and the name on the line of the layer of this number.
+/// The numbers and the name on the line of the layer of this number.
 #[tactic(auto, unfolding(crate::specs::LineKinds::layer_of))]
 pub(crate) fn layer_line(number: u64, line: &[u8]) -> Option<(LayerCounts, &str)>
     ensures { Gives (λ found. layer_named found.0 found.1.now) result (layer_of number line.now) }
@@ -74,7 +74,7 @@ fn row_at(text: &[u8]) -> Option<(LayerCounts, &str)>
     ))
 }
 
-// Whether it is the line on the extents of the layer of this number.
+/// Whether it is the line on the extents of the layer of this number.
 #[tactic(auto, unfolding(crate::specs::LineKinds::is_extents))]
 pub(crate) fn is_extents(number: u64, line: &[u8]) -> bool
     ensures { result ≡ is_line_of_extents number line.now }
@@ -85,7 +85,7 @@ pub(crate) fn is_extents(number: u64, line: &[u8]) -> bool
     }
 }
 
-// The number of changes on its line.
+/// The number of changes on its line.
 #[tactic(auto, unfolding(crate::specs::LineKinds::count_of))]
 pub(crate) fn count_line(line: &[u8]) -> Option<u64>
     ensures { result ≡ count_of line.now }
@@ -131,7 +131,7 @@ fn relation_at(text: &[u8]) -> Option<(Rel, &[u8])>
     Some((Rel::Overlapping, rest))
 }
 
-// The change of a line.
+/// The change of a line.
 #[tactic(auto, unfolding(crate::specs::LineKinds::change_of))]
 pub(crate) fn change_line(line: &[u8]) -> Option<Change>
     ensures { result ≡ change_of line.now }

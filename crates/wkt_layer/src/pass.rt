@@ -81,6 +81,7 @@ fn drop_closing(points: &mut Vec<Pt>, kind: PathKind)
 }
 
 impl Pass {
+    /// Before the first token: nothing is open, and there are no paths, points or edits.
     pub fn new(alloc: Global) -> Pass
         ensures stack { result.stack ≡ [] }
         ensures held { Held result [] [] }
