@@ -209,67 +209,73 @@ fn list(path: u32, start: u32, end: u32) -> Edit {
     }
 }
 
+/// Is the text read as these paths, points and edits?
+fn is_read_as(alloc: Global, text: &str, paths: &[PathRow], points: &[Pt], edits: &[Edit]) -> bool {
+    match read(alloc, text.as_bytes(), false) {
+        Ok(sheet) => sheet.paths() == paths && sheet.points() == points && sheet.edits() == edits,
+        Err(_) => false,
+    }
+}
+
 #[test]
-fn reads_lines(rt: HostRuntime) -> anyhow::Result<()> {
-    let text = "MULTIPOINT (5 0, (0 0), EMPTY)";
-    let sheet = read(rt.alloc(), text.as_bytes(), true)?;
-    assert_eq!(rt;
-        sheet.paths(),
-        [row(PathKind::Dot, 0, 1), row(PathKind::Dot, 1, 2)].as_slice()
+fn reads_points(rt: HostRuntime) {
+    let is_read = is_read_as(
+        rt.alloc(),
+        "MULTIPOINT (5 0, (0 0), EMPTY)",
+        &[row(PathKind::Dot, 0, 1), row(PathKind::Dot, 1, 2)],
+        &[pt(5000, 0), pt(0, 0)],
+        &[list(0, 12, 15), list(1, 18, 21)],
     );
-    assert_eq!(rt; sheet.points(), [pt(5000, 0), pt(0, 0)].as_slice());
-    assert_eq!(rt;
-        sheet.edits(),
-        [list(0, 12, 15), list(1, 18, 21)].as_slice()
-    );
+    assert!(rt; is_read);
+}
 
-    let text = "LINESTRING (1 1, 1 1, 2 1)";
-    let sheet = read(rt.alloc(), text.as_bytes(), true)?;
-    assert_eq!(rt; sheet.paths(), [row(PathKind::Line, 0, 3)].as_slice());
-    assert_eq!(rt;
-        sheet.points(),
-        [pt(1000, 1000), pt(1000, 1000), pt(2000, 1000)].as_slice()
+#[test]
+fn reads_a_line_with_a_point_twice(rt: HostRuntime) {
+    let is_read = is_read_as(
+        rt.alloc(),
+        "LINESTRING (1 1, 1 1, 2 1)",
+        &[row(PathKind::Line, 0, 3)],
+        &[pt(1000, 1000), pt(1000, 1000), pt(2000, 1000)],
+        &[list(0, 12, 25)],
     );
-    assert_eq!(rt; sheet.edits(), [list(0, 12, 25)].as_slice());
+    assert!(rt; is_read);
+}
 
-    let text = "LINESTRING (10 0, 0 10)\nPOINT (6 4)";
-    let sheet = read(rt.alloc(), text.as_bytes(), true)?;
-    assert_eq!(rt;
-        sheet.paths(),
-        [row(PathKind::Line, 0, 2), row(PathKind::Dot, 2, 3)].as_slice()
+#[test]
+fn reads_lines(rt: HostRuntime) {
+    let is_read = is_read_as(
+        rt.alloc(),
+        "LINESTRING (10 0, 0 10)\nPOINT (6 4)",
+        &[row(PathKind::Line, 0, 2), row(PathKind::Dot, 2, 3)],
+        &[pt(10000, 0), pt(0, 10000), pt(6000, 4000)],
+        &[list(0, 12, 22), list(1, 31, 34)],
     );
-    assert_eq!(rt;
-        sheet.points(),
-        [pt(10000, 0), pt(0, 10000), pt(6000, 4000)].as_slice()
+    assert!(rt; is_read);
+}
+
+#[test]
+fn reads_a_ring(rt: HostRuntime) -> anyhow::Result<()> {
+    let text = "polygon(( 0 0,1 0 , 1 1, 0 0.0004\t))\r\n";
+    let ring = Edit {
+        start: 10,
+        end: 33,
+        what: What::WktRing { path: 0 },
+    };
+    let is_read = is_read_as(
+        rt.alloc(),
+        text,
+        &[row(PathKind::Loop, 0, 3)],
+        &[pt(0, 0), pt(1000, 0), pt(1000, 1000)],
+        &[ring],
     );
-    assert_eq!(rt;
-        sheet.edits(),
-        [list(0, 12, 22), list(1, 31, 34)].as_slice()
-    );
+    assert!(rt; is_read);
+    let sheet = read(rt.alloc(), text.as_bytes(), false)?;
+    assert_eq!(rt; (sheet.inexact(), sheet.dropped()), (1, 0));
     Ok(())
 }
 
 #[test]
-fn reads_rings_and_empty_contents(rt: HostRuntime) -> anyhow::Result<()> {
-    let text = "polygon(( 0 0,1 0 , 1 1, 0 0.0004\t))\r\n";
-    let sheet = read(rt.alloc(), text.as_bytes(), false)?;
-    assert_eq!(rt; sheet.paths(), [row(PathKind::Loop, 0, 3)].as_slice());
-    assert_eq!(rt;
-        sheet.points(),
-        [pt(0, 0), pt(1000, 0), pt(1000, 1000)].as_slice()
-    );
-    assert_eq!(rt;
-        sheet.edits(),
-        [Edit {
-            start: 10,
-            end: 33,
-            what: What::WktRing { path: 0 }
-        }]
-        .as_slice()
-    );
-    assert_eq!(rt; sheet.inexact(), 1);
-    assert_eq!(rt; sheet.dropped(), 0);
-
+fn reads_empty_contents(rt: HostRuntime) {
     for text in [
         "",
         "\n \n\t\r\n",
@@ -278,28 +284,32 @@ fn reads_rings_and_empty_contents(rt: HostRuntime) -> anyhow::Result<()> {
         "MULTILINESTRING(EMPTY)",
         "GEOMETRYCOLLECTION (POINT EMPTY, MULTIPOINT (EMPTY), GEOMETRYCOLLECTION EMPTY)",
     ] {
-        let sheet = read(rt.alloc(), text.as_bytes(), true)?;
-        assert_eq!(rt; sheet.edits().len(), 0, "at {text}");
+        let is_read = is_read_as(rt.alloc(), text, &[], &[], &[]);
+        assert!(rt; is_read, "at {text}");
     }
-    Ok(())
 }
 
 #[test]
-fn reads_all_kinds(rt: HostRuntime) -> anyhow::Result<()> {
-    let text =
-        "GEOMETRYCOLLECTION (MULTIPOLYGON (((0 0, 1 0, 0 1, 0 0))), MULTILINESTRING ((7 8, 9 1)))";
-    let sheet = read(rt.alloc(), text.as_bytes(), true)?;
-    assert_eq!(rt;
-        sheet.paths(),
-        [row(PathKind::Loop, 0, 3), row(PathKind::Line, 3, 5)].as_slice()
-    );
+fn reads_all_kinds(rt: HostRuntime) {
     let ring = Edit {
         start: 36,
         end: 54,
         what: What::WktRing { path: 0 },
     };
-    assert_eq!(rt; sheet.edits(), [ring, list(1, 77, 85)].as_slice());
-    Ok(())
+    let is_read = is_read_as(
+        rt.alloc(),
+        "GEOMETRYCOLLECTION (MULTIPOLYGON (((0 0, 1 0, 0 1, 0 0))), MULTILINESTRING ((7 8, 9 1)))",
+        &[row(PathKind::Loop, 0, 3), row(PathKind::Line, 3, 5)],
+        &[
+            pt(0, 0),
+            pt(1000, 0),
+            pt(0, 1000),
+            pt(7000, 8000),
+            pt(9000, 1000),
+        ],
+        &[ring, list(1, 77, 85)],
+    );
+    assert!(rt; is_read);
 }
 
 /// The text with these images, whose runs begin at these places.
