@@ -1,15 +1,15 @@
 -- The parts of a segment that is inside follow each other from its first end to its last, and so do the images of their ends.
 use Rattle.std.proofs.Common.{◌≡◌, ◌≢◌, ◌⊎◌, inl, inr, ℕ, zero, suc, ◌+◌, ◌<◌, ℤ, pos, ◌+ℤ◌, ◌*ℤ◌, ◌<ℤ◌, List, [], ◌∷◌, length, ap, ap₂, sym, subst, arith}
 use Rattle.std.proofs.lemmas.Int.{ints}
-use lib.Signed.{lt_z_yes}
 use Rattle.integer_ring.proofs.Ring.{num, ◌⊕◌, ◌⊖◌, ◌⊗◌}
 use Rattle.integer_ring.proofs.Claims.{◌≐◌, eqn, ◌because◌, ◌⇒◌, follows, solve}
 use Rattle.plane_base.specs.Plane.{Same, whole}
 use Rattle.plane_base.specs.declared.shapes.Pt.{Pt}
-use Rattle.plane_base.proofs.Mixes.{same_refl, same_trans, between-w, weights_between}
+use Rattle.plane_base.proofs.Mixes.{same_trans, weights_between}
 use Rattle.tin_base.specs.Triangulation.{Triangulation}
 use Rattle.tin_base.specs.Soundness.{IsSound}
 use Rattle.tin_base.specs.Segments.{Spot, spot_at, at_a, at_b, IsSameSpot, IsInside, Part, part_at, ArePieces, ArePiecesAt, ArePiecesOf, AreChain}
+use Rattle.tin_base.proofs.Spots.{one, spot-w}
 use Rattle.tin_base.proofs.Chain.{chain}
 
 -- ---- two points are the same, or not
@@ -28,12 +28,6 @@ same_or a b = go (int_same_or a.x b.x) (int_same_or a.y b.y)
     go (inr x) y = inr (λ e. x (ap (λ (p : Pt). p.x) e))
 
 -- ---- the points of spots
-pub one : pos 0 <ℤ pos 1
-one = lt_z_yes tt
-
-pub spot-w : (a b : Pt) (s : Spot) → 0 < s.of_a + s.of_b → pos 0 <ℤ (spot_at a b s).w
-spot-w a b s some = between-w (whole a) (whole b) (spot_at a b s) (record { k = s.of_a; l = s.of_b; some = some; same = same_refl (spot_at a b s) }) one one
-
 spot_axis : (k l m n a b c d : ℤ) → l *ℤ m ≡ n *ℤ k → (k *ℤ a +ℤ (l *ℤ b +ℤ pos 0)) *ℤ (m *ℤ c +ℤ (n *ℤ d +ℤ pos 0)) ≡ (m *ℤ a +ℤ (n *ℤ b +ℤ pos 0)) *ℤ (k *ℤ c +ℤ (l *ℤ d +ℤ pos 0))
 spot_axis = follows 8
     (λ k l m n a b c d. l ⊗ m ≐ n ⊗ k ⇒ (k ⊗ a ⊕ (l ⊗ b ⊕ num (pos 0))) ⊗ (m ⊗ c ⊕ (n ⊗ d ⊕ num (pos 0))) ≐ (m ⊗ a ⊕ (n ⊗ b ⊕ num (pos 0))) ⊗ (k ⊗ c ⊕ (l ⊗ d ⊕ num (pos 0)))

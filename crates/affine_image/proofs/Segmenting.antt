@@ -1,5 +1,5 @@
 -- The images of a sheet's paths have the segments between the images of its pieces' ends.
-use Rattle.std.proofs.Common.{◌≡◌, ◌≢◌, ◌⊎◌, inl, inr, ℕ, zero, suc, ◌+◌, ◌-◌, ◌<◌, ◌≤◌, max, Bool, true, false, cond, ltb, List, [], ◌∷◌, ◌++◌, Option, Some, None, take, map, length, append_assoc, append-nil, length-append, ap, ap₂, refl, sym, ◌∙◌, subst, get_or, arith}
+use Rattle.std.proofs.Common.{◌≡◌, ◌≢◌, ◌⊎◌, inl, inr, ℕ, zero, suc, ◌+◌, ◌-◌, ◌<◌, ◌≤◌, true, false, ltb, List, [], ◌∷◌, ◌++◌, Option, Some, None, take, map, length, append_assoc, append-nil, length-append, ap, ap₂, refl, sym, ◌∙◌, subst, arith}
 use Rattle.std.specs.Prelude.{slice_get, flat_map}
 use Rattle.std.specs.List.{cons_option, range_with_len}
 use Rattle.std.proofs.lemmas.Grind.{flat_map-append}
@@ -10,8 +10,8 @@ use Rattle.plane_base.specs.declared.shapes.Pt.{Pt}
 use Rattle.sheet_base.specs.declared.paths.PathKind.{PathKind}
 use Rattle.sheet_base.specs.declared.paths.PathKind.TheVariants.{Dot, Line, Loop}
 use Rattle.sheet_base.specs.declared.paths.PathRow.{PathRow}
-use Rattle.sheet_base.specs.Segments.{points_in, segments_of, segments_in, no_point, point_at, begin_of, end_of, next_in}
-use Rattle.sheet_base.specs.Sheets.{Contents, IsPathFrom, AreTiled, IsSheet}
+use Rattle.sheet_base.specs.Segments.{points_in, segments_of, segments_in, point_at, end_of}
+use Rattle.sheet_base.specs.Sheets.{IsPathFrom, AreTiled}
 use Rattle.sheet_base.specs.Fitting.{Runs, run_begin}
 use Rattle.sheet_base.specs.ReadBack.{Ends, ends_at, ends_in, ends_of, imaged}
 use Rattle.tin_base.specs.declared.pieces.Piece.{Piece}
@@ -19,11 +19,11 @@ use Rattle.tin_base.specs.Triangulation.{Triangulation}
 use Rattle.tin_base.specs.Soundness.{IsSound}
 use Rattle.tin_base.specs.Segments.{IsInside}
 use Rattle.affine_image.specs.Rounded.{IsRoundedImage}
-use Rattle.affine_image.specs.SheetSegments.{Segment, PathVertex, segment_at, vertex_at, path_vertices, vertices_from, sheet_vertices, segments_begun}
+use Rattle.affine_image.specs.SheetSegments.{Segment, PathVertex, segment_at, vertex_at, path_vertices, vertices_from, segments_begun}
 use Rattle.affine_image.specs.SheetPieces.{first_place, ArePiecesOfSegment, ArePiecesOfAll, AreInside}
 use Rattle.affine_image.specs.SheetImages.{AreCrossings, IsRun, AreRuns, joined}
 use Rattle.affine_image.specs.SheetLaws.{AreImagesJoined, image_ends, ImageSegmentsArePieces}
-use Rattle.affine_image.proofs.Joining.{one}
+use Rattle.tin_base.proofs.Spots.{one}
 use Rattle.affine_image.proofs.Rounding.{rounded_images_agree}
 use Rattle.affine_image.proofs.Fitting.{AreJoined, begin_is, run_count, alone_run}
 use Rattle.affine_image.proofs.Told.{end_images, inner_ends, piece_images_are_joined}

@@ -15,7 +15,8 @@ use Rattle.tin_base.specs.Segments.{Part, part_at, no_part, spot_at, IsInside, A
 use Rattle.affine_image.specs.Rounded.{IsRoundedImage, IsRoundedImageAt}
 use Rattle.affine_image.specs.SheetPieces.{AreTold}
 use Rattle.affine_image.proofs.Moving.{rounded_moved}
-use Rattle.affine_image.proofs.Joining.{same_or, point_same, spot-w, AreInLine, in_line}
+use Rattle.tin_base.proofs.Spots.{spot-w}
+use Rattle.affine_image.proofs.Joining.{same_or, point_same, AreInLine, in_line}
 use Rattle.affine_image.proofs.Told.{place_on, told_more, told_length}
 use Rattle.seg_walk.specs.declared.steps.Step.{Step}
 use Rattle.seg_walk.specs.Steps.{spot_of, part_of, point_of, IsSliceIn, HaveSlices, AreSteps}

@@ -12,6 +12,7 @@ use Rattle.dxf_pairs.specs.declared.pairs.Pair.{Pair}
 use Rattle.dxf_pairs.specs.Lines.{between}
 use Rattle.dxf_pairs.specs.Laws.{AreTiles}
 use Rattle.dxf_pairs.specs.InLines.{IsValue, EndsDrawing, AreInLines, GroupsFollow}
+use Rattle.sheet_base.specs.Fitting.{path_images}
 use Rattle.dxf_layer.specs.declared.copies.Copied.{Copied}
 use Rattle.dxf_layer.specs.declared.drawing.Vertex.{Vertex}
 use Rattle.dxf_layer.specs.declared.entities.Where.{Where}
@@ -19,7 +20,7 @@ use Rattle.dxf_layer.specs.Entities.{Entity, has_code, is_pair, is_no_head, ends
 use Rattle.dxf_layer.specs.Fields.{fields_of}
 use Rattle.dxf_layer.specs.Shapes.{value_edit}
 use Rattle.dxf_layer.specs.Polylines.{vertices_in, vertex_edits}
-use Rattle.dxf_layer.specs.Rendering.{Reading, entity_at, copy_text, copied_from, new_handle, handle_behind, line_copies, vertex_copies, line_text, vertex_text, next_at, path_images, run_of, text_of}
+use Rattle.dxf_layer.specs.Rendering.{Reading, entity_at, copy_text, copied_from, new_handle, handle_behind, line_copies, vertex_copies, line_text, vertex_text, next_at, run_of, text_of}
 use Rattle.dxf_layer.proofs.Members.{IsIn}
 use Rattle.dxf_layer.proofs.EditedPairs.{AddsGroups, IsOfValue, StartsAt, StandsOn, StandOn}
 use Rattle.dxf_layer.proofs.SplicedPairs.{no_end}

@@ -6,14 +6,14 @@ use Rattle.sheet_base.specs.declared.flags.How.{How}
 use Rattle.sheet_base.specs.declared.edits.Edit.{Edit}
 use Rattle.sheet_base.specs.declared.paths.PathKind.{PathKind}
 use Rattle.sheet_base.specs.declared.paths.PathRow.{PathRow}
-use Rattle.sheet_base.specs.Fitting.{Runs, run_begin}
+use Rattle.sheet_base.specs.Fitting.{Runs, run_begin, images_of, path_images, no_path}
 use Rattle.dxf_pairs.specs.declared.pairs.Pair.{Pair}
 use Rattle.dxf_pairs.specs.Groups.{Group, group_in}
 use Rattle.dxf_layer.specs.declared.drawing.Vertex.{Vertex}
 use Rattle.dxf_layer.specs.Entities.{Entity, is_kind, entity_end}
 use Rattle.dxf_layer.specs.Shapes.{point_of}
 use Rattle.dxf_layer.specs.Polylines.{kind_with, heavy_shape}
-use Rattle.dxf_layer.specs.Rendering.{Reading, images_of, path_images, no_path}
+use Rattle.dxf_layer.specs.Rendering.{Reading}
 use Rattle.dxf_layer.specs.Walks.{Place, free, staying, reading, step}
 use Rattle.dxf_layer.proofs.Telling.{told}
 use Rattle.dxf_layer.proofs.GroupShapes.{Outline, is_seeded}

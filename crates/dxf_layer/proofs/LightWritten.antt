@@ -9,7 +9,7 @@ use Rattle.sheet_base.specs.declared.edits.Edit.{Edit}
 use Rattle.sheet_base.specs.declared.edits.What.TheVariants as edits
 use Rattle.sheet_base.specs.declared.paths.PathKind.{PathKind}
 use Rattle.sheet_base.specs.declared.faults.LayerFault.TheVariants.{Count}
-use Rattle.sheet_base.specs.Fitting.{Runs, run_begin}
+use Rattle.sheet_base.specs.Fitting.{Runs, run_begin, images_of}
 use Rattle.sheet_base.specs.Segments.{no_point}
 use Rattle.dxf_pairs.specs.declared.pairs.Pair.{Pair}
 use Rattle.dxf_pairs.specs.Groups.{Group, group_in}
@@ -20,7 +20,7 @@ use Rattle.dxf_layer.specs.Entities.{Entity, is_kind, entity_end, past_pairs}
 use Rattle.dxf_layer.specs.Fields.{fields_of, wanted, equals}
 use Rattle.dxf_layer.specs.Shapes.{value_edit, point_of}
 use Rattle.dxf_layer.specs.Polylines.{kind_of, kind_with, vertices_in, vertex_edits, count_of, as_count, light_shape}
-use Rattle.dxf_layer.specs.Rendering.{Reading, images_of, image_of, crossings_of}
+use Rattle.dxf_layer.specs.Rendering.{Reading, image_of, crossings_of}
 use Rattle.dxf_layer.proofs.Members.{IsIn, Follow, went, wanted_is, lies}
 use Rattle.dxf_layer.proofs.Telling.{next, told}
 use Rattle.dxf_layer.proofs.Sections.{front_follows}

@@ -13,8 +13,7 @@ use Rattle.sheet_base.specs.Segments.{segments_of, no_point, point_at, end_of}
 use Rattle.sheet_base.specs.ReadBack.{Ends, ends_at, ends_in, ends_of}
 use Rattle.dxf_layer.specs.Shapes.{Shape, rows_of, with_shape, with_shapes}
 use Rattle.sheet_base.specs.ReadBack.{imaged}
-use Rattle.sheet_base.specs.Fitting.{Runs, run_begin}
-use Rattle.dxf_layer.specs.Rendering.{images_of}
+use Rattle.sheet_base.specs.Fitting.{Runs, run_begin, images_of}
 use Rattle.std.proofs.Math.Seq.{take-append_seam, drop-append_seam}
 use Rattle.dxf_layer.proofs.Shaped.{IsWholeBy, AreWhole}
 use Rattle.dxf_layer.proofs.GroupShapes.{Outline, outlines}

@@ -6,7 +6,7 @@ use Rattle.std.proofs.lemmas.Slice.Eq.{bytes_eq-Decides}
 use Rattle.sheet_base.specs.declared.flags.How.{How}
 use Rattle.sheet_base.specs.declared.edits.What.TheVariants as edits
 use Rattle.sheet_base.specs.declared.paths.PathKind.{PathKind}
-use Rattle.sheet_base.specs.Fitting.{Runs}
+use Rattle.sheet_base.specs.Fitting.{Runs, images_of}
 use Rattle.dxf_pairs.specs.declared.pairs.Pair.{Pair}
 use Rattle.dxf_pairs.specs.Groups.{Group, group_in, value_in}
 use Rattle.dxf_pairs.specs.InLines.{GroupsFollow}
@@ -17,7 +17,7 @@ use Rattle.dxf_layer.specs.Fields.{and_then}
 use Rattle.dxf_layer.specs.Handles.{handle}
 use Rattle.dxf_layer.specs.Points.{spot_at}
 use Rattle.dxf_layer.specs.Polylines.{plain}
-use Rattle.dxf_layer.specs.Rendering.{Reading, images_of, run_of}
+use Rattle.dxf_layer.specs.Rendering.{Reading, run_of}
 use Rattle.dxf_layer.specs.Walks.{Place, free, staying, reading, Step, shapes_read, stays, step}
 use Rattle.dxf_layer.proofs.Members.{went}
 use Rattle.dxf_layer.proofs.Telling.{next, told}

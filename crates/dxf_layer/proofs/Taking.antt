@@ -9,12 +9,12 @@ use Rattle.sheet_base.specs.declared.edits.Edit.{Edit}
 use Rattle.sheet_base.specs.declared.edits.What.{What}
 use Rattle.sheet_base.specs.declared.edits.What.TheVariants as edits
 use Rattle.sheet_base.specs.declared.paths.PathRow.{PathRow}
-use Rattle.sheet_base.specs.Fitting.{Runs}
+use Rattle.sheet_base.specs.Fitting.{Runs, images_of, no_path, path_images}
 use Rattle.sheet_base.specs.Splices.{AreInOrder}
 use Rattle.sheet_base.proofs.Splicing.{no_edit, next_edit}
 use Rattle.dxf_pairs.specs.declared.pairs.Pair.{Pair}
 use Rattle.dxf_layer.specs.Entities.{Entity}
-use Rattle.dxf_layer.specs.Rendering.{Reading, images_of, run_of, no_path, path_images, entity_at, starts_before, number_at, has_handle, taken_by, taken_as, taken, first_handle, next_at, is_earlier}
+use Rattle.dxf_layer.specs.Rendering.{Reading, run_of, entity_at, starts_before, number_at, has_handle, taken_by, taken_as, taken, first_handle, next_at, is_earlier}
 
 -- more pairs stand before a later place
 front_grows : (near far : ℕ) (pairs : List Pair) → near ≤ far → prefix_len (starts_before near) pairs ≤ prefix_len (starts_before far) pairs

@@ -5,11 +5,11 @@ use Rattle.std.proofs.lemmas.Bool.Decides.{nat_tests}
 use Rattle.plane_base.specs.declared.shapes.Pt.{Pt}
 use Rattle.sheet_base.specs.declared.edits.Edit.{Edit}
 use Rattle.sheet_base.specs.declared.edits.What.{What}
-use Rattle.sheet_base.specs.Fitting.{Runs, run_begin, IsAlone, IsWithinReach}
+use Rattle.sheet_base.specs.Fitting.{Runs, run_begin, IsAlone, IsWithinReach, images_of}
 use Rattle.sheet_base.specs.Segments.{no_point}
 use Rattle.dxf_pairs.specs.declared.pairs.Pair.{Pair}
 use Rattle.dxf_pairs.specs.Groups.{Group}
-use Rattle.dxf_layer.specs.Rendering.{Reading, text_of, image_of, images_of}
+use Rattle.dxf_layer.specs.Rendering.{Reading, text_of, image_of}
 use Rattle.dxf_layer.specs.ReadBack.{begins_at, covers, is_of_value, value_with}
 use Rattle.dxf_layer.specs.Shapes.{value_edit}
 use Rattle.dxf_layer.proofs.Members.{IsIn, Follow, Lies, lies}

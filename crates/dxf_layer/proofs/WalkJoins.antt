@@ -3,11 +3,10 @@ use Rattle.std.proofs.Common.{◌≡◌, ℕ, ◌+◌, pos, true, false, refl, a
 use Rattle.std.specs.Prelude.{⊤}
 use Rattle.std.proofs.lemmas.List.{append_assoc}
 use Rattle.std.proofs.lemmas.List.Sums.{take_while-cons}
-use Rattle.sheet_base.specs.Fitting.{Runs}
+use Rattle.sheet_base.specs.Fitting.{Runs, images_of}
 use Rattle.dxf_pairs.specs.Groups.{Group}
 use Rattle.dxf_layer.specs.declared.entities.Where.TheVariants.{Entities}
 use Rattle.dxf_layer.specs.Shapes.{Shape}
-use Rattle.dxf_layer.specs.Rendering.{images_of}
 use Rattle.dxf_layer.proofs.GroupFields.{coded}
 use Rattle.dxf_layer.proofs.GroupShapes.{Outline}
 use Rattle.dxf_layer.proofs.GroupWalks.{Told, ends_sections}

@@ -9,7 +9,7 @@ use Rattle.sheet_base.specs.declared.edits.What.{What}
 use Rattle.sheet_base.specs.declared.edits.What.TheVariants as edits
 use Rattle.sheet_base.specs.declared.paths.PathKind.{PathKind}
 use Rattle.sheet_base.specs.declared.paths.PathKind.TheVariants as paths
-use Rattle.sheet_base.specs.Fitting.{Runs, run_begin, IsWithinReach}
+use Rattle.sheet_base.specs.Fitting.{Runs, run_begin, IsWithinReach, images_of, path_images}
 use Rattle.sheet_base.specs.Segments.{no_point}
 use Rattle.dxf_pairs.specs.declared.pairs.Pair.{Pair}
 use Rattle.dxf_pairs.specs.Groups.{groups_of, group_in}
@@ -20,7 +20,7 @@ use Rattle.dxf_layer.specs.Entities.{Entity, is_kind, entity_end}
 use Rattle.dxf_layer.specs.Fields.{fields_of}
 use Rattle.dxf_layer.specs.Points.{line_of}
 use Rattle.dxf_layer.specs.ReadBack.{begins_at, covers}
-use Rattle.dxf_layer.specs.Rendering.{Reading, text_of, entity_at, images_of, run_of, path_images, next_at, line_text, vertex_text, new_handle, handle_behind, line_copies, vertex_copies}
+use Rattle.dxf_layer.specs.Rendering.{Reading, text_of, entity_at, run_of, next_at, line_text, vertex_text, new_handle, handle_behind, line_copies, vertex_copies}
 use Rattle.dxf_layer.proofs.Members.{Follow, by_past}
 use Rattle.dxf_layer.proofs.GroupShapes.{Outline, is_seeded}
 use Rattle.dxf_layer.proofs.GroupWalks.{Spot, alone, open_line, ends_sections}

@@ -1,5 +1,5 @@
 -- The texts that take the place of edits in a drawing, for given images.
-use Rattle.std.specs.Prelude.{ℕ, ℤ, pos, ◌+◌, ◌-◌, ◌*◌, ◌==◌, nat_lt, nat_le, Bool, true, false, if◌then◌else◌, List, [], ◌∷◌, ◌++◌, length, take, drop, filter, sum_by, flat_map, Option, None, Some, Result, Ok, Err, slice_index_or}
+use Rattle.std.specs.Prelude.{ℕ, ℤ, pos, ◌+◌, ◌-◌, ◌*◌, ◌==◌, nat_lt, nat_le, Bool, true, false, if◌then◌else◌, List, [], ◌∷◌, ◌++◌, length, take, drop, filter, sum_by, flat_map, Option, None, Some, Result, Ok, Err}
 use Rattle.std.specs.List.{prefix_len, fold}
 use Rattle.std.specs.Option.{option_map}
 use Rattle.std.specs.Ordering.{int_eq}
@@ -9,11 +9,9 @@ use Rattle.mm_decimal.specs.Writing.{written}
 use Rattle.sheet_base.specs.declared.edits.Edit.{Edit}
 use Rattle.sheet_base.specs.declared.edits.What.{What}
 use Rattle.sheet_base.specs.declared.edits.What.TheVariants as edits
-use Rattle.sheet_base.specs.declared.paths.PathRow.{PathRow}
-use Rattle.sheet_base.specs.declared.paths.PathKind.TheVariants as paths
 use Rattle.sheet_base.specs.Sheets.{Contents}
 use Rattle.sheet_base.specs.Segments.{point_at}
-use Rattle.sheet_base.specs.Fitting.{Runs, run_begin}
+use Rattle.sheet_base.specs.Fitting.{Runs, run_begin, images_of, path_images}
 use Rattle.dxf_pairs.specs.declared.pairs.Pair.{Pair}
 use Rattle.dxf_pairs.specs.declared.faults.PairFault.{PairFault}
 use Rattle.dxf_pairs.specs.Pairs.{drawing}
@@ -26,10 +24,6 @@ use Rattle.dxf_layer.specs.Entities.{Entity, has_code, entity_of, entity_end}
 use Rattle.dxf_layer.specs.Fields.{fields_of}
 use Rattle.dxf_layer.specs.Handles.{seed_of}
 
--- the images of the points from one number to before another, each with those of the crossings behind it
-abbrev pub images_of : Runs → ℕ → ℕ → List Pt
-images_of images first past = take (run_begin images past - run_begin images first) (drop (run_begin images first) images.points)
-
 -- a point's image and those of the crossings behind it
 abbrev pub run_of : Runs → ℕ → List Pt
 run_of images point = images_of images point (point + 1)
@@ -41,13 +35,6 @@ crossings_of images point = drop 1 (run_of images point)
 -- the image of the point of this number
 abbrev pub image_of : Runs → ℕ → Pt
 image_of images point = point_at images.points (run_begin images point)
-
-abbrev pub no_path : PathRow
-no_path = record { kind = paths.Dot; first = 0; past = 0 }
-
--- the images of the path of this number
-abbrev pub path_images : List PathRow → Runs → ℕ → List Pt
-path_images rows images number = let row : PathRow = slice_index_or rows number no_path in images_of images row.first row.past
 
 -- what stands in a copy under a code: numbers of its first point, and of its second and a handle, where it has them
 abbrev pub value_for : Copied → ℤ → Option Value

@@ -7,11 +7,11 @@ ghost use Rattle.mm_decimal.specs.Writing.{written};
 ghost use Rattle.dxf_layer.specs.Told.{told};
 ghost use Rattle.dxf_layer.specs.Rendering.{value_for, value_text, copied_with, copy_text, field_copy};
 
-use crate::entities::{Entity, between};
+use crate::entities::Entity;
 use crate::fields::fields_of;
 use dxf_pairs::Pair;
-use mm_decimal::write_mm;
 use plane_base::Pt;
+use sheet_base::{between, push_mm};
 use std::alloc::{AllocError, Global};
 
 /// What a copy has of its own: its first point, its second one and a handle, where it has them.
@@ -52,16 +52,6 @@ impl Copied {
             _ => None,
         }
     }
-}
-
-/// Appends a number of millimetres as metres.
-pub fn push_mm(out: &mut Vec<u8>, mm: i64) -> Result<(), AllocError>
-    ensures { OnOk result (out.new.items ≡ out.old.items ++ written mm) }
-{
-    let mut digits = [0; 24];
-    let count = write_mm(mm, &mut digits);
-    out.extend_from_slice(&digits[..count])?;
-    Ok(())
 }
 
 /// Appends a handle in upper-case hexadecimal without leading zeros.

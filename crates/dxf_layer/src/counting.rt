@@ -12,7 +12,7 @@ use crate::entities::{Entity, has_code, value_in};
 use crate::fields::fields_of;
 use crate::handles::seed_of;
 use crate::pages::{Page, number_at};
-use crate::texts::{first_entity, path_images, run_of};
+use crate::texts::{first_entity, run_of};
 use dxf_pairs::Pair;
 use sheet_base::{Edit, What};
 
@@ -79,7 +79,9 @@ fn copies_of(page: &Page, edit: Edit) -> usize
         return 0;
     }
     match edit.what {
-        What::Lines { path } => path_images(page.sheet, page.images, path)
+        What::Lines { path } => page
+            .images
+            .of_path(page.sheet.paths(), path)
             .len()
             .saturating_sub(1),
         What::Vertex { point } => run_of(page.images, point).len(),

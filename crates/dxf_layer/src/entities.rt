@@ -1,12 +1,12 @@
 //! Sections of a drawing, and entities.
 
 ghost use Rattle.std.specs.Prelude.{◌≡◌, take_while};
-ghost use Rattle.dxf_pairs.specs.Lines.{between};
 ghost use Rattle.dxf_pairs.specs.Groups.{value_in as value_of};
 ghost use Rattle.dxf_layer.specs.Told.{told};
 ghost use Rattle.dxf_layer.specs.Entities.{has_code as is_coded, is_pair as has_both, ends_section as ends, behind_outside as follows_outside, section as section_of, behind as follows, is_no_head, past_pairs, entity_end};
 
 use dxf_pairs::Pair;
+use sheet_base::between;
 
 /// Where a pair stands: in no section, directly behind the pair that begins one, or in a section.
 #[derive(Clone, Copy, Debug, PartialEq, Eq)]
@@ -34,22 +34,6 @@ impl Entity<'_> {
             Some(pair) => pair.end,
             None => self.head.end,
         }
-    }
-}
-
-/// The bytes from one place to before another, as far as there are some.
-pub fn between(bytes: &[u8], from: usize, past: usize) -> &[u8]
-    ensures { result.now ≡ between from past bytes.now }
-{
-    let past = if past < bytes.len() {
-        past
-    } else {
-        bytes.len()
-    };
-    if from < past {
-        &bytes[from..past]
-    } else {
-        &bytes[..0]
     }
 }
 

@@ -7,17 +7,15 @@ ghost use Rattle.dxf_layer.specs.Drawings.{drawing_sheet};
 ghost use Rattle.dxf_layer.specs.Paged.{read_of};
 ghost use Rattle.dxf_layer.specs.Rendering.{number_at, coded_before, field_copies, crossings_of, first_handle, next_behind, text_as, text_of, drawing_text};
 
-use crate::copies::{push_all_fields, push_handle, push_mm};
+use crate::copies::{push_all_fields, push_handle};
 use crate::counting::{first_handle, handle_behind, taken};
-use crate::entities::between;
 use crate::pages::{Page, number_at};
 use crate::texts::{
-    crossings_of, first_entity, image_of, images_of, last_coded, path_images, push_lines,
-    push_vertices, run_of,
+    crossings_of, first_entity, image_of, last_coded, push_lines, push_vertices, run_of,
 };
 use dxf_pairs::read_pairs;
 use itoa::Buffer;
-use sheet_base::{Edit, How, Images, Sheet, What};
+use sheet_base::{Edit, How, Images, Sheet, What, between, push_mm};
 use std::alloc::{AllocError, Global};
 
 /// The handles that are given: the next one where an edit stands, the first one, and the one behind
@@ -76,7 +74,7 @@ fn push_text(
         What::Vertices { point } => push_crossings(page, edit.start, number, point, out),
         What::Tally { first, past } => {
             let mut digits = Buffer::new();
-            let count = images_of(page.images, first, past).len();
+            let count = page.images.of_points(first, past).len();
             out.extend_from_slice(digits.format(count).as_bytes())?;
             Ok(())
         }
@@ -87,7 +85,7 @@ fn push_text(
                 page.bytes,
                 &entity,
                 handles.next,
-                path_images(page.sheet, page.images, path),
+                page.images.of_path(page.sheet.paths(), path),
             ),
             None => Ok(()),
         },

@@ -1,6 +1,6 @@
 //! Drawings whose sheets and faults were worked out by hand.
 
-ghost use Rattle.std.specs.Prelude.{◌<◌, ◌≤◌, ◌^◌, length, IfOk};
+ghost use Rattle.std.specs.Prelude.{◌<◌, ◌≤◌, ◌^◌, length, IfSome};
 
 use crate::pages::Page;
 use crate::rendering::render_page;
@@ -10,7 +10,6 @@ use mm_decimal::NumFault;
 use plane_base::Pt;
 use sheet_base::{Edit, How, Images, LayerFault, Listed, PathKind, PathRow, What};
 use std::alloc::Global;
-use std::test::Fail;
 
 const PLAIN: How = How {
     exact: false,
@@ -284,197 +283,142 @@ fn refuses_pairs_first(rt: HostRuntime) {
     }
 }
 
+/// Is the drawing read as these paths, points and edits, with so many numbers that lose digits and so many dropped?
+fn is_read_as(
+    alloc: Global,
+    (text, how): (&[u8], How),
+    paths: &[PathRow],
+    points: &[Pt],
+    edits: &[Edit],
+    (inexact, dropped): (u64, u64),
+) -> bool {
+    if text.len() > LONGEST {
+        return false;
+    }
+    match read_drawing(alloc, text, how) {
+        Ok(sheet) => {
+            sheet.paths() == paths
+                && sheet.points() == points
+                && sheet.edits() == edits
+                && sheet.inexact() == inexact
+                && sheet.dropped() == dropped
+        }
+        Err(_) => false,
+    }
+}
+
+fn row(kind: PathKind, first: u32, past: u32) -> PathRow {
+    PathRow { kind, first, past }
+}
+
+fn pt(x: i64, y: i64) -> Pt {
+    Pt { x, y }
+}
+
+fn edit(start: u32, end: u32, what: What) -> Edit {
+    Edit { start, end, what }
+}
+
+/// Other entities are left out.
+const LOOSE: How = How {
+    drop_other: true,
+    ..PLAIN
+};
+
 #[test]
-fn stays_and_leaves_out(rt: HostRuntime) -> Result<(), Fail> {
-    assert_eq!(rt;
-        fault(rt.alloc(), LINES, PLAIN),
-        Some(LayerFault::Entity { line: 59 })
-    );
-    let sheet = read_drawing(
-        rt.alloc(),
-        LINES,
-        How {
-            drop_other: true,
-            ..PLAIN
-        },
-    )?;
+fn stays_and_leaves_out(rt: HostRuntime) {
+    let refused = fault(rt.alloc(), LINES, PLAIN);
+    assert_eq!(rt; refused, Some(LayerFault::Entity { line: 59 }));
     let edits = [
-        Edit {
-            start: 33,
-            end: 35,
-            what: What::NextHandle,
-        },
-        Edit {
-            start: 122,
-            end: 187,
-            what: What::Lines { path: 0 },
-        },
-        Edit {
-            start: 241,
-            end: 268,
-            what: What::Drop,
-        },
+        edit(33, 35, What::NextHandle),
+        edit(122, 187, What::Lines { path: 0 }),
+        edit(241, 268, What::Drop),
     ];
-    assert_eq!(rt; sheet.edits(), edits.as_slice());
-    assert_eq!(rt;
-        sheet.points(),
-        [Pt { x: 10000, y: 0 }, Pt { x: 0, y: 10000 }].as_slice()
+    let is_read = is_read_as(
+        rt.alloc(),
+        (LINES, LOOSE),
+        &[row(PathKind::Line, 0, 2)],
+        &[pt(10000, 0), pt(0, 10000)],
+        &edits,
+        (0, 1),
     );
-    assert_eq!(rt;
-        sheet.paths(),
-        [PathRow {
-            kind: PathKind::Line,
-            first: 0,
-            past: 2
-        }]
-        .as_slice()
-    );
-    assert_eq!(rt; sheet.dropped(), 1);
-    assert_eq!(rt; sheet.inexact(), 0);
-    Ok(())
+    assert!(rt; is_read);
 }
 
 #[test]
-fn a_polyline_on_paper_takes_its_vertices_along(rt: HostRuntime) -> Result<(), Fail> {
-    let sheet = read_drawing(
+fn a_polyline_on_paper_takes_its_vertices_along(rt: HostRuntime) {
+    let text =
+        b"0\nSECTION\n2\nENTITIES\n0\nPOLYLINE\n67\n1\n0\nVERTEX\n0\nVERTEX\n0\nSEQEND\n0\nPOINT\n10\n1\n20\n2\n0\nENDSEC\n0\nEOF".as_slice();
+    let is_read = is_read_as(
         rt.alloc(),
-        b"0\nSECTION\n2\nENTITIES\n0\nPOLYLINE\n67\n1\n0\nVERTEX\n0\nVERTEX\n0\nSEQEND\n0\nPOINT\n10\n1\n20\n2\n0\nENDSEC\n0\nEOF".as_slice(),
-        PLAIN,
-    )?;
-    assert_eq!(rt; sheet.points(), [Pt { x: 1000, y: 2000 }].as_slice());
-    Ok(())
+        (text, PLAIN),
+        &[row(PathKind::Dot, 0, 1)],
+        &[pt(1000, 2000)],
+        &[
+            edit(75, 76, What::X { point: 0 }),
+            edit(80, 81, What::Y { point: 0 }),
+        ],
+        (0, 0),
+    );
+    assert!(rt; is_read);
 }
 
 #[test]
-fn reads_polylines_and_texts(rt: HostRuntime) -> Result<(), Fail> {
-    let sheet = read_drawing(
-        rt.alloc(),
-        b"0\nSECTION\n2\nENTITIES\n0\nPOLYLINE\n70\n1\n10\n0\n0\nVERTEX\n10\n1\n20\n2\n0\nVERTEX\n10\n3.0005\n20\n4\n0\nSEQEND\n0\nTEXT\n11\n7\n21\n8\n20\n6\n10\n5\n72\n1\n0\nENDSEC\n0\nEOF".as_slice(),
-        PLAIN,
-    )?;
-    let edits = [
-        Edit {
-            start: 42,
-            end: 61,
-            what: What::Vertex { point: 0 },
-        },
-        Edit {
-            start: 61,
-            end: 85,
-            what: What::Vertex { point: 1 },
-        },
-        Edit {
-            start: 104,
-            end: 105,
-            what: What::X { point: 3 },
-        },
-        Edit {
-            start: 109,
-            end: 110,
-            what: What::Y { point: 3 },
-        },
-        Edit {
-            start: 114,
-            end: 115,
-            what: What::Y { point: 2 },
-        },
-        Edit {
-            start: 119,
-            end: 120,
-            what: What::X { point: 2 },
-        },
-    ];
-    assert_eq!(rt; sheet.edits(), edits.as_slice());
+fn reads_polylines_and_texts(rt: HostRuntime) {
+    let text =
+        b"0\nSECTION\n2\nENTITIES\n0\nPOLYLINE\n70\n1\n10\n0\n0\nVERTEX\n10\n1\n20\n2\n0\nVERTEX\n10\n3.0005\n20\n4\n0\nSEQEND\n0\nTEXT\n11\n7\n21\n8\n20\n6\n10\n5\n72\n1\n0\nENDSEC\n0\nEOF".as_slice();
     let paths = [
-        PathRow {
-            kind: PathKind::Loop,
-            first: 0,
-            past: 2,
-        },
-        PathRow {
-            kind: PathKind::Dot,
-            first: 2,
-            past: 3,
-        },
-        PathRow {
-            kind: PathKind::Dot,
-            first: 3,
-            past: 4,
-        },
+        row(PathKind::Loop, 0, 2),
+        row(PathKind::Dot, 2, 3),
+        row(PathKind::Dot, 3, 4),
     ];
-    assert_eq!(rt; sheet.paths(), paths.as_slice());
     let points = [
-        Pt { x: 1000, y: 2000 },
-        Pt { x: 3001, y: 4000 },
-        Pt { x: 5000, y: 6000 },
-        Pt { x: 7000, y: 8000 },
+        pt(1000, 2000),
+        pt(3001, 4000),
+        pt(5000, 6000),
+        pt(7000, 8000),
     ];
-    assert_eq!(rt; sheet.points(), points.as_slice());
-    assert_eq!(rt; sheet.inexact(), 1);
-    Ok(())
+    let edits = [
+        edit(42, 61, What::Vertex { point: 0 }),
+        edit(61, 85, What::Vertex { point: 1 }),
+        edit(104, 105, What::X { point: 3 }),
+        edit(109, 110, What::Y { point: 3 }),
+        edit(114, 115, What::Y { point: 2 }),
+        edit(119, 120, What::X { point: 2 }),
+    ];
+    assert!(rt; is_read_as(rt.alloc(), (text, PLAIN), &paths, &points, &edits, (1, 0)));
 }
 
 #[test]
-fn reads_a_closed_polyline(rt: HostRuntime) -> Result<(), Fail> {
-    let sheet = read_drawing(rt.alloc(), LOOP, PLAIN)?;
+fn reads_a_closed_polyline(rt: HostRuntime) {
     let edits = [
-        Edit {
-            start: 44,
-            end: 45,
-            what: What::Tally { first: 0, past: 2 },
-        },
-        Edit {
-            start: 58,
-            end: 60,
-            what: What::X { point: 0 },
-        },
-        Edit {
-            start: 66,
-            end: 67,
-            what: What::Y { point: 0 },
-        },
-        Edit {
-            start: 69,
-            end: 69,
-            what: What::Vertices { point: 0 },
-        },
-        Edit {
-            start: 73,
-            end: 74,
-            what: What::X { point: 1 },
-        },
-        Edit {
-            start: 80,
-            end: 82,
-            what: What::Y { point: 1 },
-        },
-        Edit {
-            start: 84,
-            end: 84,
-            what: What::Vertices { point: 1 },
-        },
+        edit(44, 45, What::Tally { first: 0, past: 2 }),
+        edit(58, 60, What::X { point: 0 }),
+        edit(66, 67, What::Y { point: 0 }),
+        edit(69, 69, What::Vertices { point: 0 }),
+        edit(73, 74, What::X { point: 1 }),
+        edit(80, 82, What::Y { point: 1 }),
+        edit(84, 84, What::Vertices { point: 1 }),
     ];
-    assert_eq!(rt; sheet.edits(), edits.as_slice());
-    assert_eq!(rt;
-        sheet.paths(),
-        [PathRow {
-            kind: PathKind::Loop,
-            first: 0,
-            past: 2
-        }]
-        .as_slice()
+    let is_read = is_read_as(
+        rt.alloc(),
+        (LOOP, PLAIN),
+        &[row(PathKind::Loop, 0, 2)],
+        &[pt(10000, 0), pt(0, 10000)],
+        &edits,
+        (0, 0),
     );
-    Ok(())
+    assert!(rt; is_read);
 }
 
 /// Images of these points, each with the place of its own.
-fn images(alloc: Global, points: &[Pt], run: &[u32]) -> Result<Images, Fail>
+fn images(alloc: Global, points: &[Pt], run: &[u32]) -> Option<Images>
     requires { length points.now < 2 ^ 32 }
-    ensures { IfOk result (λ images. length images.points < 2 ^ 32) }
+    ensures { IfSome result (λ images. length images.points < 2 ^ 32) }
 {
-    let points = Listed::of(Vec::from_slice(alloc, points)?);
-    let run = Listed::of(Vec::from_slice(alloc, run)?);
-    Ok(Images::of(points, run))
+    let points = Listed::of(Vec::from_slice(alloc, points).ok()?);
+    let run = Listed::of(Vec::from_slice(alloc, run).ok()?);
+    Some(Images::of(points, run))
 }
 
 /// `LINES` with the line split, a new handle for its second piece, and the arc left out.
@@ -487,81 +431,57 @@ const LOOP_CARRIED: &[u8] =
 const LOOP_OF_LINE_FEEDS_CARRIED: &[u8] =
     b"0\nSECTION\n2\nENTITIES\n0\nLWPOLYLINE\n90\n4\n70\n1\n10\n110.000\n20\n100.000\n10\n105.002\n20\n105.002\n10\n100.000\n20\n110.000\n10\n105.002\n20\n105.002\n0\nENDSEC\n0\nEOF\n";
 
-#[test]
-fn writes_a_split_line(rt: HostRuntime) -> Result<(), Fail> {
-    let how = How {
-        drop_other: true,
-        ..PLAIN
-    };
-    let sheet = read_drawing(rt.alloc(), LINES, how)?;
-    let points = [
-        Pt {
-            x: 110000,
-            y: 100000,
-        },
-        Pt {
-            x: 105002,
-            y: 105002,
-        },
-        Pt {
-            x: 100000,
-            y: 110000,
-        },
-    ];
-    let images = images(rt.alloc(), points.as_slice(), [0, 2].as_slice())?;
-    let pairs = read_pairs(rt.alloc(), LINES)?;
-    let page = Page {
-        bytes: LINES,
-        pairs: &pairs,
-        sheet: &sheet,
-        images: &images,
-    };
-    let out = render_page(rt.alloc(), &page)?;
-    assert_eq!(rt; out.as_slice(), LINES_CARRIED);
-    written_pairs();
-    Ok(())
-}
-
-/// A closed polyline of two vertices with both of its segments split.
-fn split_loop(alloc: Global, text: &[u8]) -> Result<Vec<u8>, Fail>
-    requires { length text.now ≤ 2 ^ 26 }
+/// The drawing with these images, whose runs begin at these places.
+fn moved(alloc: Global, text: &[u8], how: How, points: &[Pt], run: &[u32]) -> Option<Vec<u8>>
+    requires short { length text.now ≤ 2 ^ 26 }
+    requires few { length points.now < 2 ^ 32 }
 {
-    let sheet = read_drawing(alloc, text, PLAIN)?;
-    let points = [
-        Pt {
-            x: 110000,
-            y: 100000,
-        },
-        Pt {
-            x: 105002,
-            y: 105002,
-        },
-        Pt {
-            x: 100000,
-            y: 110000,
-        },
-        Pt {
-            x: 105002,
-            y: 105002,
-        },
-    ];
-    let images = images(alloc, points.as_slice(), [0, 2].as_slice())?;
-    let pairs = read_pairs(alloc, text)?;
+    let sheet = read_drawing(alloc, text, how).ok()?;
+    let images = images(alloc, points, run)?;
+    let pairs = read_pairs(alloc, text).ok()?;
     let page = Page {
         bytes: text,
         pairs: &pairs,
         sheet: &sheet,
         images: &images,
     };
-    let out = render_page(alloc, &page)?;
-    Ok(out)
+    render_page(alloc, &page).ok()
+}
+
+/// Is the drawing with these images, whose runs begin at the first and the third, the other?
+fn is_moved_to(alloc: Global, text: &[u8], how: How, points: &[Pt], wanted: &[u8]) -> bool {
+    if text.len() > LONGEST || points.len() > LONGEST {
+        return false;
+    }
+    match moved(alloc, text, how, points, &[0, 2]) {
+        Some(out) => out.as_slice() == wanted,
+        None => false,
+    }
 }
 
 #[test]
-fn writes_a_split_loop(rt: HostRuntime) -> Result<(), Fail> {
-    let out = split_loop(rt.alloc(), LOOP)?;
-    assert_eq!(rt; out.as_slice(), LOOP_CARRIED);
-    let out = split_loop(rt.alloc(), LOOP_OF_LINE_FEEDS)?;
-    assert_eq!(rt; out.as_slice(), LOOP_OF_LINE_FEEDS_CARRIED);
-    Ok(())
+fn writes_a_split_line(rt: HostRuntime) {
+    let images = [pt(110000, 100000), pt(105002, 105002), pt(100000, 110000)];
+    assert!(rt; is_moved_to(rt.alloc(), LINES, LOOSE, &images, LINES_CARRIED));
+    written_pairs();
+}
+
+/// A closed polyline of two vertices with both of its segments split.
+#[test]
+fn writes_a_split_loop(rt: HostRuntime) {
+    let images = [
+        pt(110000, 100000),
+        pt(105002, 105002),
+        pt(100000, 110000),
+        pt(105002, 105002),
+    ];
+    for (text, wanted) in [
+        (LOOP, LOOP_CARRIED),
+        (LOOP_OF_LINE_FEEDS, LOOP_OF_LINE_FEEDS_CARRIED),
+    ] {
+        assert!(rt;
+            is_moved_to(rt.alloc(), text, PLAIN, &images, wanted),
+            "at {text:?}"
+        );
+    }
 }

@@ -135,58 +135,64 @@ fn reads_sections(rt: HostRuntime) -> Result<(), Fail> {
     Ok(())
 }
 
+/// Texts without an end, or that are no text, and what is said of each.
+const ENDLESS: &[(&[u8], PairFault)] = &[
+    (b"", PairFault::NoEof),
+    (b"0\nSECTION", PairFault::NoEof),
+    (b"0\nSECTION\n", PairFault::NoEof),
+    (b"0\n\n", PairFault::NoEof),
+    (b"0\nEO\n", PairFault::NoEof),
+    (b"0\nEOF\0\n", PairFault::NoEof),
+    (b"1\nEOF\n", PairFault::NoEof),
+    (b"0", PairFault::Odd { line: 1 }),
+    (b"0\n", PairFault::Odd { line: 1 }),
+    (b"0\r", PairFault::Odd { line: 1 }),
+    (b"0\nSECTION\n2", PairFault::Odd { line: 3 }),
+    (b"0\nSECTION\n2\n", PairFault::Odd { line: 3 }),
+    (b"AutoCAD Binary DXF", PairFault::Binary),
+    (b"AutoCAD Binary DXF\r\n\x1A\0", PairFault::Binary),
+];
+
 #[test]
 fn finds_ends(rt: HostRuntime) {
-    for (text, want) in [
-        (b"".as_slice(), PairFault::NoEof),
-        (b"0\nSECTION", PairFault::NoEof),
-        (b"0\nSECTION\n", PairFault::NoEof),
-        (b"0\n\n", PairFault::NoEof),
-        (b"0\nEO\n", PairFault::NoEof),
-        (b"0\nEOF\0\n", PairFault::NoEof),
-        (b"1\nEOF\n", PairFault::NoEof),
-        (b"0", PairFault::Odd { line: 1 }),
-        (b"0\n", PairFault::Odd { line: 1 }),
-        (b"0\r", PairFault::Odd { line: 1 }),
-        (b"0\nSECTION\n2", PairFault::Odd { line: 3 }),
-        (b"0\nSECTION\n2\n", PairFault::Odd { line: 3 }),
-        (b"AutoCAD Binary DXF", PairFault::Binary),
-        (b"AutoCAD Binary DXF\r\n\x1A\0", PairFault::Binary),
-    ] {
-        assert_eq!(rt; fault(rt.alloc(), text), Some(want), "{text:?}");
+    for (text, want) in ENDLESS {
+        assert_eq!(rt; fault(rt.alloc(), text), Some(*want), "{text:?}");
     }
 }
 
+/// Texts, and the first line of each that should have a code and has none.
+const CODELESS: &[(&[u8], u64)] = &[
+    (b"x\nEOF", 1),
+    (b"x", 1),
+    (b"\n", 1),
+    (b" \t\r\n0\nEOF", 1),
+    (b"0\nSECTION\nx", 3),
+    (b"0\nSECTION\n\n", 3),
+    (b"0\nA\n1\nB\n1e3\nC\n", 5),
+    (b"10000\nx", 1),
+    (b"-10000\nx", 1),
+    (b"99999999999999999999\nx", 1),
+    (b"-\nx", 1),
+    (b"+\nx", 1),
+    (b"+-1\nx", 1),
+    (b"- 1\nx", 1),
+    (b"1 2\nx", 1),
+    (b"1.0\nx", 1),
+    (b"0x1\nx", 1),
+    (b"1\rEOF", 1),
+    (b"\xEF\xBB\xBF0\nEOF", 1),
+    (b"\x0C0\nEOF", 1),
+    (b"\xB2\nEOF", 1),
+    (b"\xD9\xA0\nEOF", 1),
+    (b"AutoCAD Binary DX", 1),
+    (b" AutoCAD Binary DXF", 1),
+    (b"autocad Binary DXF", 1),
+];
+
 #[test]
 fn finds_lines_without_a_code(rt: HostRuntime) {
-    for (text, line) in [
-        (b"x\nEOF".as_slice(), 1),
-        (b"x", 1),
-        (b"\n", 1),
-        (b" \t\r\n0\nEOF", 1),
-        (b"0\nSECTION\nx", 3),
-        (b"0\nSECTION\n\n", 3),
-        (b"0\nA\n1\nB\n1e3\nC\n", 5),
-        (b"10000\nx", 1),
-        (b"-10000\nx", 1),
-        (b"99999999999999999999\nx", 1),
-        (b"-\nx", 1),
-        (b"+\nx", 1),
-        (b"+-1\nx", 1),
-        (b"- 1\nx", 1),
-        (b"1 2\nx", 1),
-        (b"1.0\nx", 1),
-        (b"0x1\nx", 1),
-        (b"1\rEOF", 1),
-        (b"\xEF\xBB\xBF0\nEOF", 1),
-        (b"\x0C0\nEOF", 1),
-        (b"\xB2\nEOF", 1),
-        (b"\xD9\xA0\nEOF", 1),
-        (b"AutoCAD Binary DX", 1),
-        (b" AutoCAD Binary DXF", 1),
-        (b"autocad Binary DXF", 1),
-    ] {
-        let want = PairFault::Code { line };
+    for (text, line) in CODELESS {
+        let want = PairFault::Code { line: *line };
         assert_eq!(rt; fault(rt.alloc(), text), Some(want), "{text:?}");
     }
 }

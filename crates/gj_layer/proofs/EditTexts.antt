@@ -1,24 +1,24 @@
 -- The texts of a sheet's edits: those of paths are their images, and the others are values of one level.
-use Rattle.std.proofs.Common.{◌≡◌, ℕ, suc, ◌-◌, ◌≤◌, Bool, true, false, List, [], ◌∷◌, ◌++◌, take, drop, refl, sym, ap, ◌∙◌, ℤ, append-nil, append_assoc}
+use Rattle.std.proofs.Common.{◌≡◌, ℕ, ◌-◌, ◌≤◌, Bool, true, false, List, [], ◌∷◌, ◌++◌, take, drop, refl, sym, ap, ◌∙◌, ℤ, append-nil, append_assoc}
 use Rattle.std.specs.Prelude.{flat_map, fold, int_lt, unsigned_abs, if◌then◌else◌}
 use Rattle.std.specs.Int.{int_min, int_max}
 use Rattle.std.specs.List.{AllByRecursion}
 use Rattle.mm_decimal.specs.Writing.{written}
 use Rattle.mm_decimal.specs.declared.limits.TheConstants.{LIMIT}
-use Rattle.jtext.specs.Values.{Json, null, numeral, array, no_element, element, spelling, IsValue}
+use Rattle.jtext.specs.Values.{null, numeral, array, no_element, element}
 use Rattle.plane_base.specs.declared.shapes.Pt.{Pt}
 use Rattle.plane_base.specs.declared.shapes.Rect.{Rect}
-use Rattle.sheet_base.specs.declared.edits.Edit.{Edit}
 use Rattle.sheet_base.specs.declared.paths.PathKind.{PathKind}
 use Rattle.sheet_base.specs.declared.paths.PathKind.TheVariants.{Dot, Line, Loop}
 use Rattle.sheet_base.specs.declared.paths.PathRow.{PathRow}
-use Rattle.sheet_base.specs.Fitting.{Runs, run_begin, IsWithinReach, DoFit}
+use Rattle.sheet_base.specs.Fitting.{Runs, row_images, path_images, IsWithinReach, DoFit}
+use Rattle.sheet_base.proofs.ListParts.{all_listed}
+use Rattle.sheet_base.proofs.ImageRuns.{all_of}
 use Rattle.gj_layer.specs.Paths.{Part, text_for, rows_from, sheet_of}
-use Rattle.gj_layer.specs.Texts.{pair_text, row_images, path_images, box_of, widened, box_text, bounds_text, what_text, edit_text}
+use Rattle.gj_layer.specs.Texts.{box_of, widened, box_text, bounds_text, what_text, edit_text}
 use Rattle.gj_layer.proofs.Redrawing.{kind_text}
 use Rattle.gj_layer.proofs.ImageValues.{number_is}
 use Rattle.gj_layer.proofs.Turns.{IsFlat, DoesSay}
-use Rattle.gj_layer.proofs.SheetTurns.{all_listed, all_parts}
 
 -- ---- boxes
 record IsBoxWithin (box : Rect) : Type 0 where
@@ -79,7 +79,7 @@ rows_within : (images : Runs) (rows : List PathRow) → AllByRecursion IsWithinR
 rows_within images [] all = tt
 rows_within images (row ∷ rows) all =
     reach_append (row_images images row) (flat_map (row_images images) rows)
-    (all_parts IsWithinReach (run_begin images row.past - run_begin images row.first) (drop (run_begin images row.first) images.points) (all_parts IsWithinReach (run_begin images row.first) images.points all).1).0
+    (all_of images row.first row.past all)
     (rows_within images rows all)
 
 says_kind : (rows : List PathRow) (images : Runs) (kind : PathKind) (number : ℕ) → what_text rows images (text_for kind number) ≡ kind_text kind (path_images rows images number)

@@ -15,7 +15,6 @@ pub mod Walking
 pub mod Fine
 pub mod Documents
 pub mod OneSheet
-pub mod Swaps
 pub mod Redrawing
 pub mod ImageValues
 pub mod Turns

@@ -1,6 +1,6 @@
 -- How the members of an object turn: a box, a reference system and the content give way, and all others stay.
-use Rattle.std.proofs.Common.{◌≡◌, ℕ, suc, ◌+◌, ◌≤◌, ◌⊎◌, inl, inr, Bool, true, false, ◌&&◌, List, [], ◌∷◌, ◌++◌, length, refl, sym, ap, ◌∙◌, subst, arith}
-use Rattle.std.specs.Prelude.{codes, flat_map, Result, Ok, if◌then◌else◌}
+use Rattle.std.proofs.Common.{◌≡◌, ℕ, suc, ◌+◌, ◌⊎◌, inl, inr, Bool, true, false, ◌&&◌, List, [], ◌∷◌, ◌++◌, length, refl, sym, ap, ◌∙◌, subst, arith}
+use Rattle.std.specs.Prelude.{codes, flat_map, if◌then◌else◌}
 use Rattle.jtext.specs.Characters.{Char, units_of}
 use Rattle.jtext.specs.Values.{Json, Members, null, no_member, member, spelling, quoted_text, members_text, members_behind, IsObjectBlank, IsValue, AreMembers}
 use Rattle.jtext.specs.Nodes.{element_start, member_start, next_place}
@@ -8,6 +8,7 @@ use Rattle.jtext.specs.Lookups.{are_same}
 use Rattle.sheet_base.specs.declared.edits.Edit.{Edit}
 use Rattle.sheet_base.specs.declared.edits.What.{What}
 use Rattle.sheet_base.specs.declared.edits.What.TheVariants.{Null}
+use Rattle.sheet_base.proofs.Swaps.{Swapped, kept_swapped, edit_swapped, both_swapped, front_swapped}
 use Rattle.gj_layer.specs.declared.forms.GeoType.{GeoType}
 use Rattle.gj_layer.specs.declared.forms.Holder.{Holder}
 use Rattle.gj_layer.specs.Members.{Member, members_at, is_named, all_named}
@@ -16,7 +17,6 @@ use Rattle.gj_layer.specs.Reading.{reading, content_reading}
 use Rattle.gj_layer.proofs.Saying.{says_one}
 use Rattle.gj_layer.proofs.Fine.{tested}
 use Rattle.gj_layer.proofs.Opened.{bbox_apart, crs_apart, both_true}
-use Rattle.gj_layer.proofs.Swaps.{Swapped, kept_swapped, edit_swapped, both_swapped, front_swapped}
 use Rattle.gj_layer.proofs.Turns.{IsFlat}
 
 -- a member of the same name, and of the same value where it tells the type

@@ -8,6 +8,7 @@ use Rattle.jtext.specs.Lookups.{are_same}
 use Rattle.plane_base.specs.declared.shapes.Pt.{Pt}
 use Rattle.sheet_base.specs.declared.edits.Edit.{Edit}
 use Rattle.sheet_base.specs.declared.edits.What.TheVariants.{Bounds}
+use Rattle.sheet_base.proofs.Swaps.{Swapped}
 use Rattle.gj_layer.specs.declared.forms.GeoType.{GeoType}
 use Rattle.gj_layer.specs.declared.forms.GeoType.TheVariants as types
 use Rattle.gj_layer.specs.declared.forms.Holder.{Holder}
@@ -19,7 +20,6 @@ use Rattle.gj_layer.specs.Objects.{content_key, content_form, is_allowed, object
 use Rattle.gj_layer.specs.Reading.{part_in, reading, content_reading}
 use Rattle.gj_layer.proofs.Fine.{split_then}
 use Rattle.gj_layer.proofs.Opened.{no_content_read, at_most_is, at_most_none}
-use Rattle.gj_layer.proofs.Swaps.{Swapped}
 use Rattle.gj_layer.proofs.Redrawing.{AllSuit, IsDrawn}
 use Rattle.gj_layer.proofs.Turns.{DoesSay, ValueTurned, bracketed}
 use Rattle.gj_layer.proofs.MemberTurns.{MembersTurned, GoodTurned, members_turned, AreLike}

@@ -1,30 +1,29 @@
 -- How the positions of a path turn into its images.
-use Rattle.std.proofs.Common.{◌≡◌, ℕ, zero, suc, ◌+◌, ◌-◌, ◌<◌, ◌≤◌, Bool, true, false, List, [], ◌∷◌, ◌++◌, length, map, take, refl, sym, ap, ◌∙◌, subst, append_assoc, append-nil, arith, length-append}
-use Rattle.std.specs.Prelude.{Result, Ok, Err, sum_by, if◌then◌else◌}
+use Rattle.std.proofs.Common.{◌≡◌, ℕ, zero, suc, ◌+◌, ◌-◌, ◌<◌, Bool, List, [], ◌∷◌, ◌++◌, length, map, refl, sym, ap, ◌∙◌, subst, append_assoc, append-nil, arith, length-append}
+use Rattle.std.specs.Prelude.{Ok, sum_by}
 use Rattle.std.specs.List.{AllByRecursion}
 use Rattle.std.proofs.lemmas.List.Sums.{sum_by-cons}
-use Rattle.std.proofs.lemmas.List.{length-map, length-take}
-use Rattle.jtext.specs.Values.{Json, Elements, null, truth, numeral, quoted, array, object, no_element, element, spelling, elements_text, elements_behind, AreBlank, IsArrayBlank, IsValue, AreElements}
+use Rattle.std.proofs.lemmas.List.{length-map}
+use Rattle.jtext.specs.Values.{Json, Elements, null, truth, numeral, quoted, array, object, no_element, element, spelling, elements_text, AreBlank, IsArrayBlank, IsValue, AreElements}
 use Rattle.jtext.specs.Nodes.{inner_place, element_start, next_place}
 use Rattle.plane_base.specs.declared.shapes.Pt.{Pt}
-use Rattle.sheet_base.specs.declared.faults.LayerFault.{LayerFault}
-use Rattle.sheet_base.specs.declared.faults.LayerFault.TheVariants.{Ring as RingFault}
 use Rattle.sheet_base.specs.declared.paths.PathKind.{PathKind}
 use Rattle.sheet_base.specs.declared.paths.PathKind.TheVariants as kinds
 use Rattle.sheet_base.specs.declared.edits.Edit.{Edit}
 use Rattle.sheet_base.specs.Fitting.{IsWithinReach}
+use Rattle.sheet_base.proofs.Redrawn.{Drawn}
+use Rattle.sheet_base.proofs.Swaps.{Swapped, edit_swapped, front_swapped, behind_swapped}
 use Rattle.gj_layer.specs.declared.forms.Trace.{Trace}
 use Rattle.gj_layer.specs.declared.forms.Trace.TheVariants as traces
 use Rattle.gj_layer.specs.declared.forms.Form.TheVariants as forms
 use Rattle.gj_layer.specs.declared.positions.Position.{Position}
 use Rattle.gj_layer.specs.Faults.{and_then}
 use Rattle.gj_layer.specs.Positions.{position, positions, in_front, point_of, lost_of}
-use Rattle.gj_layer.specs.Paths.{Path, Part, path_of, end_of, is_closed, dot_of, line_of, ring_of, traced, part_of, edit_of, lost_in}
-use Rattle.gj_layer.specs.Texts.{image_text, list_text, ring_text}
+use Rattle.gj_layer.specs.Paths.{Path, Part, path_of, end_of, dot_of, traced, part_of, edit_of, lost_in}
+use Rattle.gj_layer.specs.Texts.{image_text, list_text}
 use Rattle.gj_layer.proofs.Fine.{split_then, position_is}
-use Rattle.gj_layer.proofs.Swaps.{Swapped, edit_swapped, front_swapped, behind_swapped}
-use Rattle.gj_layer.proofs.Redrawing.{Drawn, drawn, redrawn, AllSuit, kind_text, IsDrawn}
-use Rattle.gj_layer.proofs.ImageValues.{image_value, image_spelled, image_is_value, IsPositionAt, image_read, image_elements, elements_spelled, elements_are_values, ArePositionsAt, images_read, ring_spelled}
+use Rattle.gj_layer.proofs.Redrawing.{kind_text, IsDrawn}
+use Rattle.gj_layer.proofs.ImageValues.{image_value, image_spelled, image_is_value, IsPositionAt, image_read, image_elements, elements_spelled, elements_are_values, ArePositionsAt, images_read}
 use Rattle.gj_layer.proofs.Turns.{DoesSay, ValueTurned, bracketed}
 
 -- ---- where the positions of an array stand

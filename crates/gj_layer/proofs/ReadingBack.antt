@@ -1,27 +1,22 @@
 -- What is written of a layer is read as its images.
-use Rattle.std.proofs.Common.{◌≡◌, ℕ, zero, suc, ◌+◌, ◌≤◌, Bool, List, [], ◌∷◌, ◌++◌, length, take, drop, refl, sym, ap, ◌∙◌, subst, arith, length-append, All}
-use Rattle.std.specs.Prelude.{map, flat_map, sum_by, fold, unsigned_abs, ℤ, codes, Ok}
-use Rattle.std.specs.Int.{int_min, int_max}
-use Rattle.std.specs.List.{AllByRecursion}
-use Rattle.jtext.specs.Values.{Json, null, numeral, array, no_element, element, spelling}
+use Rattle.std.proofs.Common.{◌≡◌, ℕ, ◌+◌, Bool, List, ◌++◌, length, refl, sym, ap, ◌∙◌, subst, arith}
+use Rattle.std.specs.Prelude.{map, Ok}
+use Rattle.jtext.specs.Values.{spelling}
 use Rattle.jtext.specs.Texts.{Whole, IsWhole, mark_text, whole_text}
 use Rattle.jtext.specs.Places.{whole_start}
 use Rattle.jtext.specs.declared.reading.TheConstants.{DEEPEST}
-use Rattle.plane_base.specs.declared.shapes.Pt.{Pt}
-use Rattle.sheet_base.specs.declared.edits.Edit.{Edit}
 use Rattle.sheet_base.specs.Sheets.{Contents}
-use Rattle.sheet_base.specs.Fitting.{Runs, IsWithinReach, DoFit}
+use Rattle.sheet_base.specs.Fitting.{Runs, DoFit, path_images}
 use Rattle.sheet_base.specs.Splices.{AreInOrder, spliced}
 use Rattle.sheet_base.specs.ReadBack.{ends_of, imaged, IsReadBack}
+use Rattle.sheet_base.proofs.Swaps.{Swapped, spliced_on, on_from, swapped_all, front_swapped, behind_swapped}
 use Rattle.gj_layer.specs.declared.forms.Holder.TheVariants as holders
 use Rattle.gj_layer.specs.declared.forms.Form.TheVariants as forms
-use Rattle.gj_layer.specs.Paths.{Part, points_in, lost_in, rows_from, sheet_of}
-use Rattle.gj_layer.specs.Texts.{path_images, edit_text}
+use Rattle.gj_layer.specs.Paths.{Part, rows_from, sheet_of}
+use Rattle.gj_layer.specs.Texts.{edit_text}
 use Rattle.gj_layer.specs.Layers.{layer_reading, IsReadAs}
 use Rattle.gj_layer.proofs.Fine.{value_fine}
 use Rattle.gj_layer.proofs.Documents.{read_in_order}
-use Rattle.gj_layer.proofs.Swaps.{Swapped, spliced_on, on_from, swapped_all, front_swapped, behind_swapped}
-use Rattle.gj_layer.proofs.Redrawing.{IsDrawn}
 use Rattle.gj_layer.proofs.Turns.{ValueTurned}
 use Rattle.gj_layer.proofs.EditTexts.{texts_say}
 use Rattle.gj_layer.proofs.ValueTurns.{value_turned}
@@ -55,8 +50,8 @@ whole_again exact bytes part images whole is read fit v =
     record {
       back = sheet_of d.part;
       is_read = (d.part, (new, record { before = is.before; value = v.valid; after = is.after; all = now }, d.is), refl);
-      points = points_again part d.part.paths images fit d.drawn_are;
-      paths = rows_again part d.part.paths images fit d.drawn_are;
+      points = points_again part images fit d.part.paths d.drawn_are;
+      paths = rows_again part images fit d.part.paths d.drawn_are;
       exact_all = d.exact_all;
     }
 
@@ -67,7 +62,7 @@ part_again exact bytes part images whole is read fit =
     let fine = value_fine whole.value exact (forms.Object holders.Layer) 0 start part read in
     whole_again exact bytes part images whole is read fit
     (value_turned exact (edit_text (sheet_of part) images) (path_images (rows_from 0 part.paths) images) (texts_say part images fit) whole.value (forms.Object holders.Layer) 0 start DEEPEST part (omega arith) is.value read
-    (sheet_suits part images fine.sound fit))
+    (sheet_suits part images fit fine.sound))
 
 pub read_again : (exact : Bool) (bytes : List ℕ) (sheet : Contents) (images : Runs) → IsReadAs exact bytes sheet → DoFit sheet images
     → IsReadAgain exact (spliced bytes (edit_text sheet images) sheet.edits) sheet images

@@ -1,33 +1,32 @@
 -- How coordinates that are one path at most turn into the path's images.
-use Rattle.std.proofs.Common.{◌≡◌, ℕ, zero, suc, ◌+◌, ◌-◌, ◌<◌, ◌≤◌, ℤ, pos, negsuc, Bool, true, false, ◌&&◌, List, [], ◌∷◌, ◌++◌, length, map, take, refl, sym, ap, ◌∙◌, subst, arith, length-append}
-use Rattle.std.specs.Prelude.{Result, Ok, Err, sum_by, slice_index_or, nat_le, if◌then◌else◌}
+use Rattle.std.proofs.Common.{◌≡◌, ℕ, ◌+◌, ◌-◌, ◌<◌, ◌≤◌, ℤ, Bool, true, ◌&&◌, List, [], ◌∷◌, ◌++◌, length, map, take, refl, sym, ap, ◌∙◌, subst, arith, length-append}
+use Rattle.std.specs.Prelude.{Ok, Err, sum_by, if◌then◌else◌}
 use Rattle.std.specs.Ordering.{int_eq}
 use Rattle.std.specs.List.{AllByRecursion}
 use Rattle.std.proofs.Math.Seq.{take-append_seam}
 use Rattle.std.proofs.lemmas.Bool.{le-leb}
 use Rattle.std.proofs.lemmas.Bool.Decides.{Decides-int_eq}
-use Rattle.std.proofs.lemmas.List.{length-map, length-take}
+use Rattle.std.proofs.lemmas.List.{length-take}
 use Rattle.jtext.specs.Values.{Json, Elements, array, no_element, element, spelling, IsValue}
 use Rattle.jtext.specs.Nodes.{inner_place, element_start, next_place}
 use Rattle.plane_base.specs.declared.shapes.Pt.{Pt}
-use Rattle.sheet_base.specs.declared.faults.LayerFault.{LayerFault}
 use Rattle.sheet_base.specs.declared.faults.LayerFault.TheVariants.{Ring as RingFault}
 use Rattle.sheet_base.specs.declared.paths.PathKind.TheVariants as kinds
 use Rattle.sheet_base.specs.declared.edits.Edit.{Edit}
 use Rattle.sheet_base.specs.Fitting.{IsWithinReach}
-use Rattle.sheet_base.specs.Segments.{no_point, point_at}
+use Rattle.sheet_base.specs.Segments.{point_at}
+use Rattle.sheet_base.proofs.Swaps.{kept_swapped}
 use Rattle.gj_layer.specs.declared.forms.Trace.{Trace}
 use Rattle.gj_layer.specs.declared.forms.Trace.TheVariants as traces
 use Rattle.gj_layer.specs.declared.forms.Form.TheVariants as forms
 use Rattle.gj_layer.specs.declared.positions.Position.{Position}
 use Rattle.gj_layer.specs.Faults.{and_then}
 use Rattle.gj_layer.specs.Positions.{position, positions, in_front, point_of, lost_of}
-use Rattle.gj_layer.specs.Paths.{Path, Part, nothing, path_of, end_of, is_same, is_closed, dot_of, line_of, ring_of, traced, part_of, edit_of}
+use Rattle.gj_layer.specs.Paths.{Path, Part, nothing, path_of, end_of, is_same, is_closed, dot_of, line_of, ring_of, traced, part_of}
 use Rattle.gj_layer.specs.Texts.{list_text, ring_text}
 use Rattle.gj_layer.proofs.Tracing.{closed_some}
 use Rattle.gj_layer.proofs.Fine.{split_then, position_is, closed_ring}
-use Rattle.gj_layer.proofs.Swaps.{kept_swapped}
-use Rattle.gj_layer.proofs.Redrawing.{AllSuit, kind_text, IsDrawn}
+use Rattle.gj_layer.proofs.Redrawing.{AllSuit, IsDrawn}
 use Rattle.gj_layer.proofs.ImageValues.{image_value, ArePositionsAt, ring_spelled}
 use Rattle.gj_layer.proofs.Turns.{DoesSay, ValueTurned}
 use Rattle.gj_layer.proofs.PathTurns.{path_drawn, some_read, alone, dot_turned, list_turned}

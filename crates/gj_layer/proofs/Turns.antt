@@ -1,16 +1,15 @@
 -- How a value turns into the value that is written: its edits' texts take the place of their spans, and it is read with images in place of points.
-use Rattle.std.proofs.Common.{◌≡◌, ℕ, suc, ◌+◌, Bool, List, [], ◌∷◌, ◌++◌, length, refl, sym, ap, ◌∙◌, subst, arith}
-use Rattle.std.specs.Prelude.{codes, Result, Ok}
+use Rattle.std.proofs.Common.{◌≡◌, ℕ, suc, ◌+◌, Bool, List, [], ◌∷◌, ◌++◌, length, refl, arith}
 use Rattle.jtext.specs.Values.{Json, Elements, null, spelling, elements_text, elements_behind, IsValue, AreElements, IsArrayBlank}
 use Rattle.plane_base.specs.declared.shapes.Pt.{Pt}
 use Rattle.sheet_base.specs.declared.edits.Edit.{Edit}
 use Rattle.sheet_base.specs.declared.edits.What.TheVariants.{Bounds, Null}
+use Rattle.sheet_base.proofs.Swaps.{Swapped, front_swapped, behind_swapped}
 use Rattle.gj_layer.specs.declared.forms.Form.{Form}
 use Rattle.gj_layer.specs.Members.{Member}
 use Rattle.gj_layer.specs.Paths.{Path, Part, edit_of}
 use Rattle.gj_layer.specs.Objects.{value_edit}
 use Rattle.gj_layer.specs.Reading.{reading, readings}
-use Rattle.gj_layer.proofs.Swaps.{Swapped, front_swapped, behind_swapped}
 use Rattle.gj_layer.proofs.Redrawing.{kind_text, IsDrawn}
 
 -- bytes that are a value of one level

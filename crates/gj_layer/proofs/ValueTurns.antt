@@ -10,6 +10,8 @@ use Rattle.jtext.specs.Lookups.{are_same}
 use Rattle.plane_base.specs.declared.shapes.Pt.{Pt}
 use Rattle.sheet_base.specs.declared.faults.LayerFault.{LayerFault}
 use Rattle.sheet_base.specs.declared.edits.Edit.{Edit}
+use Rattle.sheet_base.proofs.Redrawn.{suit_parts, redrawn_append}
+use Rattle.sheet_base.proofs.Swaps.{Swapped, kept_swapped, both_swapped, front_swapped}
 use Rattle.gj_layer.specs.declared.forms.GeoType.{GeoType}
 use Rattle.gj_layer.specs.declared.forms.Holder.{Holder}
 use Rattle.gj_layer.specs.declared.forms.Holder.TheVariants as holders
@@ -22,8 +24,7 @@ use Rattle.gj_layer.specs.Paths.{Path, Part, nothing, joined, lost_in}
 use Rattle.gj_layer.specs.Objects.{content_key, content_form}
 use Rattle.gj_layer.specs.Reading.{item_form, null_part, part_in, reading, readings, content_reading}
 use Rattle.gj_layer.proofs.Fine.{split_then, tested}
-use Rattle.gj_layer.proofs.Swaps.{Swapped, kept_swapped, both_swapped, front_swapped}
-use Rattle.gj_layer.proofs.Redrawing.{drawn, redrawn, AllSuit, IsDrawn, suit_parts, redrawn_append, drawn_count}
+use Rattle.gj_layer.proofs.Redrawing.{drawn, redrawn, AllSuit, IsDrawn, drawn_count}
 use Rattle.gj_layer.proofs.Turns.{DoesSay, ValueTurned, ElementsTurned, bracketed}
 use Rattle.gj_layer.proofs.TraceTurns.{traced_turned}
 use Rattle.gj_layer.proofs.Levels.{HasRoom, content_room, item_room}
@@ -42,7 +43,7 @@ join_drawn images number paths more first rest a b =
       is = ap (and_then (λ one. and_then (λ others. Ok (joined one others)) (rest (number + length one.paths)))) a.is
           ∙ ap (λ n. and_then (λ others. Ok (joined a.part others)) (rest (number + n))) count ∙ ap (and_then (λ others. Ok (joined a.part others))) b.is;
       drawn_are = map-append drawn a.part.paths b.part.paths ∙ ap (λ ds. ds ++ map drawn b.part.paths) a.drawn_are ∙ ap (λ ds. redrawn images number paths ++ ds) b.drawn_are
-          ∙ sym (redrawn_append images number paths more);
+          ∙ sym (redrawn_append drawn images number paths more);
       exact_all = sum_by-append lost_in a.part.paths b.part.paths ∙ omega (arith, x, y);
     }
 
@@ -148,7 +149,7 @@ module _ (exact : Bool) (text : Edit → List ℕ) (images : ℕ → List Pt) (s
         let (one, one_is, onward) = split_then (λ one. and_then (λ others. Ok (joined one others)) (readings exact form (number + length one.paths) next rest)) (reading exact form number start value) part is in
         let (others, others_are, made) = split_then (λ others. Ok (joined one others)) (readings exact form (number + length one.paths) next rest) part onward in
         let same : joined one others ≡ part = cc in
-        let suits = suit_parts images number one.paths others.paths (subst (λ (p : Part). AllSuit images number p.paths) (sym same) suit) in
+        let suits = suit_parts drawn images number one.paths others.paths (subst (λ (p : Part). AllSuit images number p.paths) (sym same) suit) in
         subst (ElementsTurned exact text images form number place depth (element before value after rest)) same
         (element_turned form number place depth before value after rest one others valid (value_turned value form number start depth one room valid.1 one_is suits.0)
         (elements_turned rest form (number + length one.paths) next depth others room valid.3 others_are suits.1))

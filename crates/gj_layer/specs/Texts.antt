@@ -9,7 +9,7 @@ use Rattle.sheet_base.specs.declared.edits.Edit.{Edit}
 use Rattle.sheet_base.specs.declared.edits.What.{What}
 use Rattle.sheet_base.specs.declared.edits.What.TheVariants.{GeoList, GeoRing, Bounds, Null}
 use Rattle.sheet_base.specs.Sheets.{Contents}
-use Rattle.sheet_base.specs.Fitting.{Runs, run_begin}
+use Rattle.sheet_base.specs.Fitting.{Runs, row_images, path_images}
 
 -- two numbers with a comma between them
 abbrev pub pair_text : ℤ → ℤ → List ℕ
@@ -33,14 +33,6 @@ list_text (image ∷ images) = image_text image ++ texts_behind images
 abbrev pub ring_text : List Pt → List ℕ
 ring_text [] = []
 ring_text (image ∷ images) = list_text (image ∷ images) ++ texts_behind (image ∷ [])
-
--- the images of a path's points and of the crossings behind them
-abbrev pub row_images : Runs → PathRow → List Pt
-row_images images row = take (run_begin images row.past - run_begin images row.first) (drop (run_begin images row.first) images.points)
-
--- those of the path of this number
-abbrev pub path_images : List PathRow → Runs → ℕ → List Pt
-path_images paths images number = flat_map (row_images images) (take 1 (drop number paths))
 
 -- the box of a point alone, and the least box that has a box and a point
 abbrev pub box_of : Pt → Rect

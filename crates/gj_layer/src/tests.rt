@@ -23,321 +23,327 @@ fn read(alloc: Global, text: &[u8], exact: bool) -> Result<Sheet, LayerFault> {
     GeoJson::read(alloc, text, how(exact))
 }
 
-/// The places were counted from marks in the texts.
+/// Objects with faults in their members, and the first one. The places were counted from marks in the texts.
+const BAD_OBJECTS: &[(&str, LayerFault)] = &[
+    ("5", LayerFault::Shape { at: 0 }),
+    ("null", LayerFault::Shape { at: 0 }),
+    (
+        r#" [{"type":"Point","coordinates":[]}]"#,
+        LayerFault::Shape { at: 1 },
+    ),
+    ("\t\"Point\"", LayerFault::Shape { at: 1 }),
+    (
+        r#"{"type":"Point","type":"Point"}"#,
+        LayerFault::Repeat { at: 16 },
+    ),
+    (
+        r#"{"type":"Arc","t\u0079pe":5}"#,
+        LayerFault::Repeat { at: 14 },
+    ),
+    (
+        r#"{"bbox":1,"type":5,"bbox":2,"type":6}"#,
+        LayerFault::Repeat { at: 28 },
+    ),
+    (
+        r#"{"bbox":1, "bb\u006Fx":2,"type":5}"#,
+        LayerFault::Repeat { at: 11 },
+    ),
+    (
+        r#"{"crs":1,"bbox":1,"crs":2,"bbox":2}"#,
+        LayerFault::Repeat { at: 26 },
+    ),
+    (
+        r#"{"crs":1,"crs":2,"type":5}"#,
+        LayerFault::Repeat { at: 9 },
+    ),
+    (
+        r#"{"type":"Feature","geometry":{"bbox":[],"bbox":[],"type":"Arc"}}"#,
+        LayerFault::Repeat { at: 40 },
+    ),
+    ("{}", LayerFault::Shape { at: 0 }),
+    (
+        r#"{"Type":"Point","coordinates":[]}"#,
+        LayerFault::Shape { at: 0 },
+    ),
+    (r#" {"type":null}"#, LayerFault::Shape { at: 1 }),
+    (
+        r#"{"type":["Point"],"coordinates":[]}"#,
+        LayerFault::Shape { at: 0 },
+    ),
+    (
+        r#"{"type":"Feature","geometry":{"coordinates":[]}}"#,
+        LayerFault::Shape { at: 29 },
+    ),
+    (r#"{"type":"Arc"}"#, LayerFault::Kind { at: 8 }),
+    (
+        r#"{"type":"point","coordinates":[]}"#,
+        LayerFault::Kind { at: 8 },
+    ),
+    (
+        r#"{"type": "Point ","coordinates":[]}"#,
+        LayerFault::Kind { at: 9 },
+    ),
+    (
+        r#"{"type":"Feature","geometry":{"type":"Feature","geometry":null}}"#,
+        LayerFault::Kind { at: 37 },
+    ),
+    (
+        r#"{"type":"Feature","geometry":{"type":"FeatureCollection","features":[]}}"#,
+        LayerFault::Kind { at: 37 },
+    ),
+    (
+        r#"{"type":"FeatureCollection","features":[{"type":"Point","coordinates":[]}]}"#,
+        LayerFault::Kind { at: 48 },
+    ),
+    (
+        r#"{"type":"FeatureCollection","features":[{"type":"Feature"},{"type":"FeatureCollection","features":[]}]}"#,
+        LayerFault::Kind { at: 67 },
+    ),
+    (
+        r#"{"type":"GeometryCollection","geometries":[{"type":"Feature","geometry":null}]}"#,
+        LayerFault::Kind { at: 51 },
+    ),
+    (
+        r#"{"type":"Point","coordinates":[1,2],"coordinates":[1]}"#,
+        LayerFault::Repeat { at: 36 },
+    ),
+];
+
 #[test]
 fn refuses_objects(rt: HostRuntime) {
-    for (text, fault) in [
-        ("5", LayerFault::Shape { at: 0 }),
-        ("null", LayerFault::Shape { at: 0 }),
-        (
-            r#" [{"type":"Point","coordinates":[]}]"#,
-            LayerFault::Shape { at: 1 },
-        ),
-        ("\t\"Point\"", LayerFault::Shape { at: 1 }),
-        (
-            r#"{"type":"Point","type":"Point"}"#,
-            LayerFault::Repeat { at: 16 },
-        ),
-        (
-            r#"{"type":"Arc","t\u0079pe":5}"#,
-            LayerFault::Repeat { at: 14 },
-        ),
-        (
-            r#"{"bbox":1,"type":5,"bbox":2,"type":6}"#,
-            LayerFault::Repeat { at: 28 },
-        ),
-        (
-            r#"{"bbox":1, "bb\u006Fx":2,"type":5}"#,
-            LayerFault::Repeat { at: 11 },
-        ),
-        (
-            r#"{"crs":1,"bbox":1,"crs":2,"bbox":2}"#,
-            LayerFault::Repeat { at: 26 },
-        ),
-        (
-            r#"{"crs":1,"crs":2,"type":5}"#,
-            LayerFault::Repeat { at: 9 },
-        ),
-        (
-            r#"{"type":"Feature","geometry":{"bbox":[],"bbox":[],"type":"Arc"}}"#,
-            LayerFault::Repeat { at: 40 },
-        ),
-        ("{}", LayerFault::Shape { at: 0 }),
-        (
-            r#"{"Type":"Point","coordinates":[]}"#,
-            LayerFault::Shape { at: 0 },
-        ),
-        (r#" {"type":null}"#, LayerFault::Shape { at: 1 }),
-        (
-            r#"{"type":["Point"],"coordinates":[]}"#,
-            LayerFault::Shape { at: 0 },
-        ),
-        (
-            r#"{"type":"Feature","geometry":{"coordinates":[]}}"#,
-            LayerFault::Shape { at: 29 },
-        ),
-        (r#"{"type":"Arc"}"#, LayerFault::Kind { at: 8 }),
-        (
-            r#"{"type":"point","coordinates":[]}"#,
-            LayerFault::Kind { at: 8 },
-        ),
-        (
-            r#"{"type": "Point ","coordinates":[]}"#,
-            LayerFault::Kind { at: 9 },
-        ),
-        (
-            r#"{"type":"Feature","geometry":{"type":"Feature","geometry":null}}"#,
-            LayerFault::Kind { at: 37 },
-        ),
-        (
-            r#"{"type":"Feature","geometry":{"type":"FeatureCollection","features":[]}}"#,
-            LayerFault::Kind { at: 37 },
-        ),
-        (
-            r#"{"type":"FeatureCollection","features":[{"type":"Point","coordinates":[]}]}"#,
-            LayerFault::Kind { at: 48 },
-        ),
-        (
-            r#"{"type":"FeatureCollection","features":[{"type":"Feature"},{"type":"FeatureCollection","features":[]}]}"#,
-            LayerFault::Kind { at: 67 },
-        ),
-        (
-            r#"{"type":"GeometryCollection","geometries":[{"type":"Feature","geometry":null}]}"#,
-            LayerFault::Kind { at: 51 },
-        ),
-        (
-            r#"{"type":"Point","coordinates":[1,2],"coordinates":[1]}"#,
-            LayerFault::Repeat { at: 36 },
-        ),
-    ] {
+    for (text, fault) in BAD_OBJECTS {
         assert_eq!(rt;
             read(rt.alloc(), text.as_bytes(), false).err(),
-            Some(fault),
+            Some(*fault),
             "at {text}"
         );
     }
 }
 
-/// The places were counted from marks in the texts.
+/// Objects with faults in what they hold, and the first one. The places were counted from marks in the texts.
+const BAD_CONTENTS: &[(&str, LayerFault)] = &[
+    (
+        r#"{"type":"Feature","geometry":null,"geom\u0065try":null}"#,
+        LayerFault::Repeat { at: 34 },
+    ),
+    (
+        r#"{"features":1,"features":2,"type":"FeatureCollection"}"#,
+        LayerFault::Repeat { at: 14 },
+    ),
+    (
+        r#"{"geometries":[],"type":"GeometryCollection", "geometries":[]}"#,
+        LayerFault::Repeat { at: 46 },
+    ),
+    (r#"{"type":"Point"}"#, LayerFault::Shape { at: 0 }),
+    (
+        r#"{"type":"FeatureCollection","geometries":[]}"#,
+        LayerFault::Shape { at: 0 },
+    ),
+    (
+        r#" {"type":"GeometryCollection","features":[]}"#,
+        LayerFault::Shape { at: 1 },
+    ),
+    (
+        r#"{"type":"FeatureCollection","features":{}}"#,
+        LayerFault::Shape { at: 39 },
+    ),
+    (
+        r#"{"type":"FeatureCollection","features":null}"#,
+        LayerFault::Shape { at: 39 },
+    ),
+    (
+        r#"{"type":"FeatureCollection","features":[null]}"#,
+        LayerFault::Shape { at: 40 },
+    ),
+    (
+        r#"{"type":"Feature","geometry":[]}"#,
+        LayerFault::Shape { at: 29 },
+    ),
+    (
+        r#"{"type":"GeometryCollection","geometries":[null]}"#,
+        LayerFault::Shape { at: 43 },
+    ),
+    (
+        r#"{"type":"GeometryCollection","geometries":7}"#,
+        LayerFault::Shape { at: 42 },
+    ),
+    (
+        r#"{"type":"Point","coordinates":null}"#,
+        LayerFault::Shape { at: 30 },
+    ),
+    (
+        r#"{"type":"Point","coordinates":{}}"#,
+        LayerFault::Shape { at: 30 },
+    ),
+    (
+        r#"{"type":"MultiPoint","coordinates":"x"}"#,
+        LayerFault::Shape { at: 35 },
+    ),
+    (
+        r#"{"type":"MultiPoint","coordinates":[5,0]}"#,
+        LayerFault::Shape { at: 36 },
+    ),
+    (
+        r#"{"type":"MultiPoint","coordinates":[[5,0],[]]}"#,
+        LayerFault::Shape { at: 42 },
+    ),
+    (
+        r#"{"type":"LineString","coordinates":5}"#,
+        LayerFault::Shape { at: 35 },
+    ),
+    (
+        r#"{"type":"LineString","coordinates":[[1,2],[3]]}"#,
+        LayerFault::Shape { at: 42 },
+    ),
+    (
+        r#"{"type":"MultiLineString","coordinates":[[1,2]]}"#,
+        LayerFault::Shape { at: 42 },
+    ),
+    (
+        r#"{"type":"MultiLineString","coordinates":[null]}"#,
+        LayerFault::Shape { at: 41 },
+    ),
+    (
+        r#"{"type":"Polygon","coordinates":[5]}"#,
+        LayerFault::Shape { at: 33 },
+    ),
+    (
+        r#"{"type":"Polygon","coordinates":true}"#,
+        LayerFault::Shape { at: 32 },
+    ),
+    (
+        r#"{"type":"MultiPolygon","coordinates":[[[[0,0],[1,0],[1,1],[0,0]]],6]}"#,
+        LayerFault::Shape { at: 66 },
+    ),
+    (
+        r#"{"type":"MultiPolygon","coordinates":[[6]]}"#,
+        LayerFault::Shape { at: 39 },
+    ),
+];
+
 #[test]
 fn refuses_contents(rt: HostRuntime) {
-    for (text, fault) in [
-        (
-            r#"{"type":"Feature","geometry":null,"geom\u0065try":null}"#,
-            LayerFault::Repeat { at: 34 },
-        ),
-        (
-            r#"{"features":1,"features":2,"type":"FeatureCollection"}"#,
-            LayerFault::Repeat { at: 14 },
-        ),
-        (
-            r#"{"geometries":[],"type":"GeometryCollection", "geometries":[]}"#,
-            LayerFault::Repeat { at: 46 },
-        ),
-        (r#"{"type":"Point"}"#, LayerFault::Shape { at: 0 }),
-        (
-            r#"{"type":"FeatureCollection","geometries":[]}"#,
-            LayerFault::Shape { at: 0 },
-        ),
-        (
-            r#" {"type":"GeometryCollection","features":[]}"#,
-            LayerFault::Shape { at: 1 },
-        ),
-        (
-            r#"{"type":"FeatureCollection","features":{}}"#,
-            LayerFault::Shape { at: 39 },
-        ),
-        (
-            r#"{"type":"FeatureCollection","features":null}"#,
-            LayerFault::Shape { at: 39 },
-        ),
-        (
-            r#"{"type":"FeatureCollection","features":[null]}"#,
-            LayerFault::Shape { at: 40 },
-        ),
-        (
-            r#"{"type":"Feature","geometry":[]}"#,
-            LayerFault::Shape { at: 29 },
-        ),
-        (
-            r#"{"type":"GeometryCollection","geometries":[null]}"#,
-            LayerFault::Shape { at: 43 },
-        ),
-        (
-            r#"{"type":"GeometryCollection","geometries":7}"#,
-            LayerFault::Shape { at: 42 },
-        ),
-        (
-            r#"{"type":"Point","coordinates":null}"#,
-            LayerFault::Shape { at: 30 },
-        ),
-        (
-            r#"{"type":"Point","coordinates":{}}"#,
-            LayerFault::Shape { at: 30 },
-        ),
-        (
-            r#"{"type":"MultiPoint","coordinates":"x"}"#,
-            LayerFault::Shape { at: 35 },
-        ),
-        (
-            r#"{"type":"MultiPoint","coordinates":[5,0]}"#,
-            LayerFault::Shape { at: 36 },
-        ),
-        (
-            r#"{"type":"MultiPoint","coordinates":[[5,0],[]]}"#,
-            LayerFault::Shape { at: 42 },
-        ),
-        (
-            r#"{"type":"LineString","coordinates":5}"#,
-            LayerFault::Shape { at: 35 },
-        ),
-        (
-            r#"{"type":"LineString","coordinates":[[1,2],[3]]}"#,
-            LayerFault::Shape { at: 42 },
-        ),
-        (
-            r#"{"type":"MultiLineString","coordinates":[[1,2]]}"#,
-            LayerFault::Shape { at: 42 },
-        ),
-        (
-            r#"{"type":"MultiLineString","coordinates":[null]}"#,
-            LayerFault::Shape { at: 41 },
-        ),
-        (
-            r#"{"type":"Polygon","coordinates":[5]}"#,
-            LayerFault::Shape { at: 33 },
-        ),
-        (
-            r#"{"type":"Polygon","coordinates":true}"#,
-            LayerFault::Shape { at: 32 },
-        ),
-        (
-            r#"{"type":"MultiPolygon","coordinates":[[[[0,0],[1,0],[1,1],[0,0]]],6]}"#,
-            LayerFault::Shape { at: 66 },
-        ),
-        (
-            r#"{"type":"MultiPolygon","coordinates":[[6]]}"#,
-            LayerFault::Shape { at: 39 },
-        ),
-    ] {
+    for (text, fault) in BAD_CONTENTS {
         assert_eq!(rt;
             read(rt.alloc(), text.as_bytes(), false).err(),
-            Some(fault),
+            Some(*fault),
             "at {text}"
         );
     }
 }
 
-/// The places were counted from marks in the texts.
+/// Objects with faults in positions and rings, and the first one. The places were counted from marks in the texts.
+const BAD_POSITIONS: &[(&str, LayerFault)] = &[
+    (
+        r#"{"type":"Point","coordinates":[5]}"#,
+        LayerFault::Shape { at: 30 },
+    ),
+    (
+        r#"{"type":"Point","coordinates":[5,0,1]}"#,
+        LayerFault::Height { at: 35 },
+    ),
+    (
+        r#"{"type":"Point","coordinates":["a",null, null,4]}"#,
+        LayerFault::Height { at: 41 },
+    ),
+    (
+        r#"{"type":"LineString","coordinates":[[0,0],[1,2,[]]]}"#,
+        LayerFault::Height { at: 47 },
+    ),
+    (
+        r#"{"type":"Point","coordinates":["5",0]}"#,
+        LayerFault::Shape { at: 31 },
+    ),
+    (
+        r#"{"type":"Point","coordinates":[5,null]}"#,
+        LayerFault::Shape { at: 33 },
+    ),
+    (
+        r#"{"type":"Point","coordinates":[[5,0],1]}"#,
+        LayerFault::Shape { at: 31 },
+    ),
+    (
+        r#"{"type":"Point","coordinates":[1e100,null]}"#,
+        LayerFault::Number {
+            at: 31,
+            fault: NumFault::Range,
+        },
+    ),
+    (
+        r#"{"type":"LineString","coordinates":[[0,0],[1, 1000000000000.0005],[2]]}"#,
+        LayerFault::Number {
+            at: 46,
+            fault: NumFault::Range,
+        },
+    ),
+    (
+        r#"{"type":"Point","coordinates":[5,11111111111111111111111111111111111111111111111111111111111111111]}"#,
+        LayerFault::Number {
+            at: 33,
+            fault: NumFault::Long,
+        },
+    ),
+    (
+        r#"{"type":"Polygon","coordinates":[[]]}"#,
+        LayerFault::Ring { at: 33 },
+    ),
+    (
+        r#"{"type":"Polygon","coordinates":[[[0,0],[1,0],[0,0]]]}"#,
+        LayerFault::Ring { at: 33 },
+    ),
+    (
+        r#"{"type":"Polygon","coordinates":[ [[0,0],[1,0],[1,1],[0,1]]]}"#,
+        LayerFault::Ring { at: 34 },
+    ),
+    (
+        r#"{"type":"Polygon","coordinates":[[[0,0],[1,0],[1,1],[0,0.001]]]}"#,
+        LayerFault::Ring { at: 33 },
+    ),
+    (
+        r#"{"type":"Polygon","coordinates":[[[0,0],[1,0],[1,1],[0,0]],[[0,0],[1,0],[0,0]]]}"#,
+        LayerFault::Ring { at: 59 },
+    ),
+    (
+        r#"{"type":"MultiPolygon","coordinates":[[[[0,0],[1,0],[1,1],[0,0]]],[[[0,0],[1,0],[1,1],[1,0]]]]}"#,
+        LayerFault::Ring { at: 67 },
+    ),
+    (
+        r#"{"type":"Polygon","coordinates":[[[0,0],[1,0,5]]]}"#,
+        LayerFault::Height { at: 45 },
+    ),
+    (
+        r#"{"type":"FeatureCollection","features":[{"type":"Feature","geometry":{"type":"Point","coordinates":[1,2,3]}},{"type":"Arc"}]}"#,
+        LayerFault::Height { at: 104 },
+    ),
+    (
+        r#"{"type":"FeatureCollection","features":[{"type":"Feature","geometry":null},5,{"type":"Arc"}]}"#,
+        LayerFault::Shape { at: 75 },
+    ),
+    (
+        r#"{"type":"GeometryCollection","geometries":[{"type":"GeometryCollection","geometries":[{"type":"Point","coordinates":[]},{"type":"Arc"}]},6]}"#,
+        LayerFault::Kind { at: 128 },
+    ),
+    ("", LayerFault::Bad { at: 0 }),
+    (
+        r#"{"type":"Point","coordinates":[5,0]}x"#,
+        LayerFault::Bad { at: 36 },
+    ),
+    (
+        r#"{"type":"Arc","coordinates":[+5,0]}"#,
+        LayerFault::Bad { at: 29 },
+    ),
+    (
+        "[[[[[[[[[[[[[[[[[[[[[[[[[[[[[[[[[[[[[[[[[[[[[[[[[[[[[[[[[[[[[[[[[",
+        LayerFault::Deep { at: 64 },
+    ),
+];
+
 #[test]
 fn refuses_positions_and_rings(rt: HostRuntime) {
-    for (text, fault) in [
-        (
-            r#"{"type":"Point","coordinates":[5]}"#,
-            LayerFault::Shape { at: 30 },
-        ),
-        (
-            r#"{"type":"Point","coordinates":[5,0,1]}"#,
-            LayerFault::Height { at: 35 },
-        ),
-        (
-            r#"{"type":"Point","coordinates":["a",null, null,4]}"#,
-            LayerFault::Height { at: 41 },
-        ),
-        (
-            r#"{"type":"LineString","coordinates":[[0,0],[1,2,[]]]}"#,
-            LayerFault::Height { at: 47 },
-        ),
-        (
-            r#"{"type":"Point","coordinates":["5",0]}"#,
-            LayerFault::Shape { at: 31 },
-        ),
-        (
-            r#"{"type":"Point","coordinates":[5,null]}"#,
-            LayerFault::Shape { at: 33 },
-        ),
-        (
-            r#"{"type":"Point","coordinates":[[5,0],1]}"#,
-            LayerFault::Shape { at: 31 },
-        ),
-        (
-            r#"{"type":"Point","coordinates":[1e100,null]}"#,
-            LayerFault::Number {
-                at: 31,
-                fault: NumFault::Range,
-            },
-        ),
-        (
-            r#"{"type":"LineString","coordinates":[[0,0],[1, 1000000000000.0005],[2]]}"#,
-            LayerFault::Number {
-                at: 46,
-                fault: NumFault::Range,
-            },
-        ),
-        (
-            r#"{"type":"Point","coordinates":[5,11111111111111111111111111111111111111111111111111111111111111111]}"#,
-            LayerFault::Number {
-                at: 33,
-                fault: NumFault::Long,
-            },
-        ),
-        (
-            r#"{"type":"Polygon","coordinates":[[]]}"#,
-            LayerFault::Ring { at: 33 },
-        ),
-        (
-            r#"{"type":"Polygon","coordinates":[[[0,0],[1,0],[0,0]]]}"#,
-            LayerFault::Ring { at: 33 },
-        ),
-        (
-            r#"{"type":"Polygon","coordinates":[ [[0,0],[1,0],[1,1],[0,1]]]}"#,
-            LayerFault::Ring { at: 34 },
-        ),
-        (
-            r#"{"type":"Polygon","coordinates":[[[0,0],[1,0],[1,1],[0,0.001]]]}"#,
-            LayerFault::Ring { at: 33 },
-        ),
-        (
-            r#"{"type":"Polygon","coordinates":[[[0,0],[1,0],[1,1],[0,0]],[[0,0],[1,0],[0,0]]]}"#,
-            LayerFault::Ring { at: 59 },
-        ),
-        (
-            r#"{"type":"MultiPolygon","coordinates":[[[[0,0],[1,0],[1,1],[0,0]]],[[[0,0],[1,0],[1,1],[1,0]]]]}"#,
-            LayerFault::Ring { at: 67 },
-        ),
-        (
-            r#"{"type":"Polygon","coordinates":[[[0,0],[1,0,5]]]}"#,
-            LayerFault::Height { at: 45 },
-        ),
-        (
-            r#"{"type":"FeatureCollection","features":[{"type":"Feature","geometry":{"type":"Point","coordinates":[1,2,3]}},{"type":"Arc"}]}"#,
-            LayerFault::Height { at: 104 },
-        ),
-        (
-            r#"{"type":"FeatureCollection","features":[{"type":"Feature","geometry":null},5,{"type":"Arc"}]}"#,
-            LayerFault::Shape { at: 75 },
-        ),
-        (
-            r#"{"type":"GeometryCollection","geometries":[{"type":"GeometryCollection","geometries":[{"type":"Point","coordinates":[]},{"type":"Arc"}]},6]}"#,
-            LayerFault::Kind { at: 128 },
-        ),
-        ("", LayerFault::Bad { at: 0 }),
-        (
-            r#"{"type":"Point","coordinates":[5,0]}x"#,
-            LayerFault::Bad { at: 36 },
-        ),
-        (
-            r#"{"type":"Arc","coordinates":[+5,0]}"#,
-            LayerFault::Bad { at: 29 },
-        ),
-        (
-            "[[[[[[[[[[[[[[[[[[[[[[[[[[[[[[[[[[[[[[[[[[[[[[[[[[[[[[[[[[[[[[[[[",
-            LayerFault::Deep { at: 64 },
-        ),
-    ] {
+    for (text, fault) in BAD_POSITIONS {
         assert_eq!(rt;
             read(rt.alloc(), text.as_bytes(), false).err(),
-            Some(fault),
+            Some(*fault),
             "at {text}"
         );
     }
@@ -395,8 +401,16 @@ fn moved(alloc: Global, text: &str, points: &[Pt], run: &[u32]) -> anyhow::Resul
     Ok(String::from_utf8(out)?)
 }
 
+/// Is the text with these images, whose runs begin at these places, the other?
+fn is_moved_to(alloc: Global, text: &str, points: &[Pt], run: &[u32], wanted: &str) -> bool {
+    match moved(alloc, text, points, run) {
+        Ok(out) => out.as_str() == wanted,
+        Err(_) => false,
+    }
+}
+
 #[test]
-fn puts_images(rt: HostRuntime) -> anyhow::Result<()> {
+fn puts_the_image_of_a_point(rt: HostRuntime) {
     let dot = [pt(105001, 100000)];
     for (text, wanted) in [
         (
@@ -408,8 +422,15 @@ fn puts_images(rt: HostRuntime) -> anyhow::Result<()> {
             r#" {"coordinates": [[105.001,100.000] ], "x": [1], "type": "MultiPoint"}"#,
         ),
     ] {
-        assert_eq!(rt; moved(rt.alloc(), text, &dot, &[0])?.as_str(), wanted);
+        assert!(rt;
+            is_moved_to(rt.alloc(), text, &dot, &[0], wanted),
+            "at {text}"
+        );
     }
+}
+
+#[test]
+fn puts_members_where_there_is_no_point(rt: HostRuntime) {
     for (text, wanted) in [
         (
             r#"{"coordinates":[],"bbox":[1],"type":"Point"}"#,
@@ -424,20 +445,20 @@ fn puts_images(rt: HostRuntime) -> anyhow::Result<()> {
             r#"{"type":"FeatureCollection","features":[{"type":"Feature","crs":7,"geometry":null}]}"#,
         ),
     ] {
-        assert_eq!(rt; moved(rt.alloc(), text, &[], &[])?.as_str(), wanted);
+        assert!(rt;
+            is_moved_to(rt.alloc(), text, &[], &[], wanted),
+            "at {text}"
+        );
     }
+}
+
+#[test]
+fn puts_the_images_of_a_ring(rt: HostRuntime) {
     let ring = [pt(0, 0), pt(500, -5), pt(1000, 0), pt(1000, 1000)];
-    assert_eq!(rt;
-        moved(
-            rt.alloc(),
-            r#"{"type":"Polygon","coordinates":[[ [0,0],[1,0],[1,1],[0,0] ]],"bbox":0}"#,
-            &ring,
-            &[0, 2, 3]
-        )?
-        .as_str(),
-        r#"{"type":"Polygon","coordinates":[[ [0.000,0.000],[0.500,-0.005],[1.000,0.000],[1.000,1.000],[0.000,0.000] ]],"bbox":[0.000,-0.005,1.000,1.000]}"#
-    );
-    Ok(())
+    let text = r#"{"type":"Polygon","coordinates":[[ [0,0],[1,0],[1,1],[0,0] ]],"bbox":0}"#;
+    let wanted =
+        r#"{"type":"Polygon","coordinates":[[ [0.000,0.000],[0.500,-0.005],[1.000,0.000],[1.000,1.000],[0.000,0.000] ]],"bbox":[0.000,-0.005,1.000,1.000]}"#;
+    assert!(rt; is_moved_to(rt.alloc(), text, &ring, &[0, 2, 3], wanted));
 }
 
 const PARCELS: &str = r#"{
@@ -465,11 +486,9 @@ const MOVED_PARCELS: &str = r#"{
 "#;
 
 #[test]
-fn keeps_the_layout_of_ogr2ogr(rt: HostRuntime) -> anyhow::Result<()> {
+fn keeps_the_layout_of_ogr2ogr(rt: HostRuntime) {
     let line = [pt(110000, 100000), pt(105002, 105002), pt(100000, 110000)];
-    let out = moved(rt.alloc(), PARCELS, &line, &[0, 2])?;
-    assert_eq!(rt; out.as_str(), MOVED_PARCELS);
-    Ok(())
+    assert!(rt; is_moved_to(rt.alloc(), PARCELS, &line, &[0, 2], MOVED_PARCELS));
 }
 
 /// Boxes of objects in objects, before their contents and behind them.
@@ -484,22 +503,39 @@ fn edit(start: u32, end: u32, what: What) -> Edit {
     Edit { start, end, what }
 }
 
+/// Is the text read as these paths, points and edits, with so many numbers that lose digits?
+fn is_read_as(
+    alloc: Global,
+    text: &str,
+    paths: &[PathRow],
+    points: &[Pt],
+    edits: &[Edit],
+    inexact: u64,
+) -> bool {
+    match read(alloc, text.as_bytes(), false) {
+        Ok(sheet) => {
+            sheet.paths() == paths
+                && sheet.points() == points
+                && sheet.edits() == edits
+                && sheet.inexact() == inexact
+        }
+        Err(_) => false,
+    }
+}
+
 #[test]
-fn reads_a_sheet(rt: HostRuntime) -> anyhow::Result<()> {
-    let sheet = read(rt.alloc(), NESTED.as_bytes(), true)?;
+fn reads_a_sheet(rt: HostRuntime) {
     let rows = [
         row(PathKind::Dot, 0, 1),
         row(PathKind::Line, 1, 2),
         row(PathKind::Line, 2, 4),
     ];
-    assert_eq!(rt; sheet.paths(), rows.as_slice());
     let points = [
         pt(1000, 2000),
         pt(3000, 4000),
         pt(5000, 6000),
         pt(7000, 8000),
     ];
-    assert_eq!(rt; sheet.points(), points.as_slice());
     let edits = [
         edit(48, 49, What::Bounds { first: 0, past: 3 }),
         edit(151, 156, What::GeoList { path: 0 }),
@@ -509,31 +545,28 @@ fn reads_a_sheet(rt: HostRuntime) -> anyhow::Result<()> {
         edit(265, 266, What::Bounds { first: 0, past: 3 }),
         edit(273, 274, What::Null),
     ];
-    assert_eq!(rt; sheet.edits(), edits.as_slice());
-    assert_eq!(rt; sheet.inexact(), 0);
-    Ok(())
+    assert!(rt; is_read_as(rt.alloc(), NESTED, &rows, &points, &edits, 0));
 }
 
 /// The closing position of a ring counts, and members that are not read do not.
 #[test]
-fn counts_lost_digits(rt: HostRuntime) -> anyhow::Result<()> {
+fn counts_lost_digits(rt: HostRuntime) {
     let text =
         r#"{"type":"Polygon","coordinates":[[[0.0001,0],[1,0.00001],[1,1],[0.0002,0]]],"properties":[0.00001],"bbox":[0.00001]}"#;
-    let sheet = read(rt.alloc(), text.as_bytes(), false)?;
-    assert_eq!(rt; sheet.inexact(), 3);
-    assert_eq!(rt;
-        sheet.points(),
-        [pt(0, 0), pt(1000, 0), pt(1000, 1000)].as_slice()
-    );
-    assert_eq!(rt; sheet.paths(), [row(PathKind::Loop, 0, 3)].as_slice());
-    Ok(())
+    let points = [pt(0, 0), pt(1000, 0), pt(1000, 1000)];
+    let edits = [
+        edit(34, 73, What::GeoRing { path: 0 }),
+        edit(106, 115, What::Bounds { first: 0, past: 1 }),
+    ];
+    let rows = [row(PathKind::Loop, 0, 3)];
+    assert!(rt; is_read_as(rt.alloc(), text, &rows, &points, &edits, 3));
 }
 
 /// A byte order mark, names with escapes, and blanks.
 #[test]
-fn reads_escapes(rt: HostRuntime) -> anyhow::Result<()> {
+fn reads_escapes(rt: HostRuntime) {
     let text = "\u{FEFF} {\"t\\u0079pe\" : \"Po\\u0069nt\",\t\"\\u0063oordinates\":[1,\r\n2]}";
-    let sheet = read(rt.alloc(), text.as_bytes(), true)?;
-    assert_eq!(rt; sheet.points(), [pt(1000, 2000)].as_slice());
-    Ok(())
+    let rows = [row(PathKind::Dot, 0, 1)];
+    let edits = [edit(52, 59, What::GeoList { path: 0 })];
+    assert!(rt; is_read_as(rt.alloc(), text, &rows, &[pt(1000, 2000)], &edits, 0));
 }

@@ -1,16 +1,14 @@
 //! The texts that take the place of edits.
 
-ghost use Rattle.std.specs.Prelude.{◌≡◌, ◌-◌, ◌++◌, ◌∷◌, [], List, Option, length, take, drop, codes, flat_map, OnOk};
-ghost use Rattle.mm_decimal.specs.Writing.{written};
+ghost use Rattle.std.specs.Prelude.{◌≡◌, ◌++◌, ◌∷◌, [], Option, codes, flat_map, OnOk};
 ghost use Rattle.plane_base.specs.declared.shapes.Rect.{Rect};
-ghost use Rattle.sheet_base.specs.Fitting.{run_begin};
+ghost use Rattle.sheet_base.specs.Fitting.{row_images};
 ghost use Rattle.std.specs.Int.{int_min, int_max};
-ghost use Rattle.gj_layer.specs.Texts.{pair_text, image_text, texts_behind, list_text, ring_text, row_images, path_images, box_of, widened, box_text, bounds_text, edit_text};
+ghost use Rattle.gj_layer.specs.Texts.{pair_text, image_text, texts_behind, list_text, ring_text, box_of, widened, box_text, bounds_text, edit_text};
 ghost use Rattle.gj_layer.specs.Boxes.{widened_by, bounded_text};
 
-use mm_decimal::write_mm;
 use plane_base::{Pt, Rect};
-use sheet_base::{Edit, EditTexts, Images, PathRow, Sheet, What};
+use sheet_base::{Edit, EditTexts, Images, PathRow, Sheet, What, between, push_mm};
 use std::alloc::AllocError;
 
 /// No image is longer, in bytes, with its brackets and commas.
@@ -21,16 +19,6 @@ const IMAGE_ROOM: usize = 52;
 pub struct Texts<'a> {
     pub sheet: &'a Sheet,
     pub images: &'a Images,
-}
-
-/// Appends a number of millimetres as metres.
-fn push_mm(out: &mut Vec<u8>, mm: i64) -> Result<(), AllocError>
-    ensures { OnOk result (out.new.items ≡ out.old.items ++ written mm) }
-{
-    let mut digits = [0; 24];
-    let count = write_mm(mm, &mut digits);
-    out.extend_from_slice(&digits[..count])?;
-    Ok(())
 }
 
 /// Appends two numbers of millimetres as metres, with a comma between them.
@@ -123,51 +111,6 @@ fn push_null(out: &mut Vec<u8>) -> Result<(), AllocError>
     Ok(())
 }
 
-/// Where the run of this point begins among the images; behind the last point, where they end.
-fn run_begin(images: &Images, point: u32) -> usize
-    ensures { result ≡ run_begin images.now point }
-{
-    match images.run().get(point as usize) {
-        Some(place) => *place as usize,
-        None => images.points().len(),
-    }
-}
-
-/// The members of a list from this place to before that one, as far as there are some.
-fn part<T>(items: &[T], from: usize, past: usize) -> &[T]
-    ensures { result.now ≡ take (past - from) (drop from items.now) }
-{
-    let past = if past < items.len() {
-        past
-    } else {
-        items.len()
-    };
-    if from < past {
-        &items[from..past]
-    } else {
-        &items[..0]
-    }
-}
-
-/// The images of a path of this row.
-fn row_images<'a>(images: &'a Images, row: PathRow) -> &'a [Pt]
-    ensures { result.now ≡ row_images images.now row }
-{
-    let from = run_begin(images, row.first);
-    let past = run_begin(images, row.past);
-    part(images.points(), from, past)
-}
-
-/// The images of a path.
-fn path_images<'a>(sheet: &Sheet, images: &'a Images, path: u32) -> &'a [Pt]
-    ensures { result.now ≡ path_images sheet.now.paths images.now path }
-{
-    match sheet.paths().get(path as usize) {
-        Some(row) => row_images(images, *row),
-        None => &images.points()[..0],
-    }
-}
-
 /// The lesser of two numbers.
 fn least(one: i64, other: i64) -> i64
     ensures { result ≡ int_min one other }
@@ -233,7 +176,7 @@ fn bounds_of(images: &Images, rows: &[PathRow]) -> Option<Rect>
 {
     let mut bounds = None;
     for row in rows {
-        bounds = widen_by(bounds, row_images(images, *row));
+        bounds = widen_by(bounds, images.of_row(*row));
     }
     bounds
 }
@@ -247,19 +190,19 @@ impl<'a> EditTexts for Texts<'a> {
             What::GeoRing { path } => path,
             _ => return 2 * IMAGE_ROOM,
         };
-        let images = path_images(self.sheet, self.images, path);
+        let images = self.images.of_path(self.sheet.paths(), path);
         images.len().saturating_add(1).saturating_mul(IMAGE_ROOM)
     }
 
     fn push(&self, edit: Edit, out: &mut Vec<u8>) -> Result<(), AllocError> {
         match edit.what {
-            What::GeoList { path } => push_list(out, path_images(self.sheet, self.images, path)),
-            What::GeoRing { path } => push_ring(out, path_images(self.sheet, self.images, path)),
+            What::GeoList { path } => push_list(out, self.images.of_path(self.sheet.paths(), path)),
+            What::GeoRing { path } => push_ring(out, self.images.of_path(self.sheet.paths(), path)),
             What::Bounds { first, past } => push_bounds(
                 out,
                 bounds_of(
                     self.images,
-                    part(self.sheet.paths(), first as usize, past as usize),
+                    between(self.sheet.paths(), first as usize, past as usize),
                 ),
             ),
             What::Null => push_null(out),

@@ -15,6 +15,7 @@ pub mod Exclusion
 pub mod Standing
 pub mod UnitLaws
 pub mod Saying
+pub mod SameTexts
 pub mod TextNodes
 pub mod MemberLoops
 pub mod OneValue

@@ -118,38 +118,41 @@ fn limits_nesting(rt: HostRuntime) -> Result<(), Fail> {
     Ok(())
 }
 
+/// Words and numbers that are not well formed, and where.
+const BAD_WORDS: &[(&[u8], u64)] = &[
+    (b"", 0),
+    (b" ", 1),
+    (b"\t\n", 2),
+    (b"x", 0),
+    (b"nul", 3),
+    (b"nulL", 3),
+    (b"truf", 3),
+    (b"tru", 3),
+    (b"fals ", 4),
+    (b"fa1se", 2),
+    (b"True", 0),
+    (b"-", 1),
+    (b"--1", 1),
+    (b"-a", 1),
+    (b"01", 1),
+    (b"-01", 2),
+    (b"1.", 2),
+    (b"1.e3", 2),
+    (b".5", 0),
+    (b"+1", 0),
+    (b"1e", 2),
+    (b"1e+", 3),
+    (b"1e+-2", 3),
+    (b"1E5.0", 3),
+    (b"0x10", 1),
+    (b"1 2", 2),
+    (b"1,", 1),
+    (b"'a'", 0),
+];
+
 #[test]
 fn finds_faults_in_words_and_numbers(rt: HostRuntime) {
-    for (text, at) in [
-        (b"".as_slice(), 0),
-        (b" ".as_slice(), 1),
-        (b"\t\n".as_slice(), 2),
-        (b"x".as_slice(), 0),
-        (b"nul".as_slice(), 3),
-        (b"nulL".as_slice(), 3),
-        (b"truf".as_slice(), 3),
-        (b"tru".as_slice(), 3),
-        (b"fals ".as_slice(), 4),
-        (b"fa1se".as_slice(), 2),
-        (b"True".as_slice(), 0),
-        (b"-".as_slice(), 1),
-        (b"--1".as_slice(), 1),
-        (b"-a".as_slice(), 1),
-        (b"01".as_slice(), 1),
-        (b"-01".as_slice(), 2),
-        (b"1.".as_slice(), 2),
-        (b"1.e3".as_slice(), 2),
-        (b".5".as_slice(), 0),
-        (b"+1".as_slice(), 0),
-        (b"1e".as_slice(), 2),
-        (b"1e+".as_slice(), 3),
-        (b"1e+-2".as_slice(), 3),
-        (b"1E5.0".as_slice(), 3),
-        (b"0x10".as_slice(), 1),
-        (b"1 2".as_slice(), 2),
-        (b"1,".as_slice(), 1),
-        (b"'a'".as_slice(), 0),
-    ] {
+    for &(text, at) in BAD_WORDS {
         assert_eq!(rt;
             fault(rt.alloc(), text),
             Some(JsonFault::Bad { at }),
@@ -157,34 +160,37 @@ fn finds_faults_in_words_and_numbers(rt: HostRuntime) {
         );
     }
 }
+
+/// Texts in quotes that are not well formed, and where.
+const BAD_TEXTS: &[(&[u8], u64)] = &[
+    (b"\"", 1),
+    (b"\"a", 2),
+    (b"\"a\n\"", 2),
+    (b"\"\x1F\"", 1),
+    (b"\"\\", 2),
+    (b"\"\\x\"", 2),
+    (b"\"\\u12\"", 5),
+    (b"\"\\u12G4\"", 5),
+    (b"\"\\u", 3),
+    (b"\"a\"b", 3),
+    (b"\"\x80\"", 1),
+    (b"\"\xC1\x81\"", 1),
+    (b"\"\xC3\"", 2),
+    (b"\"\xC3(", 2),
+    (b"\"\xE0\x9F\xBF\"", 2),
+    (b"\"\xE1\x80", 3),
+    (b"\"\xED\xA0\x80\"", 2),
+    (b"\"\xEF\xBF\"", 3),
+    (b"\"\xF0\x8F\xBF\xBF\"", 2),
+    (b"\"\xF0\x90\x80\"", 4),
+    (b"\"\xF4\x90\x80\x80\"", 2),
+    (b"\"\xF5\x80\x80\x80\"", 1),
+    (b"\"\xFF\"", 1),
+];
 
 #[test]
 fn finds_faults_in_texts(rt: HostRuntime) {
-    for (text, at) in [
-        (b"\"".as_slice(), 1),
-        (b"\"a".as_slice(), 2),
-        (b"\"a\n\"".as_slice(), 2),
-        (b"\"\x1F\"".as_slice(), 1),
-        (b"\"\\".as_slice(), 2),
-        (b"\"\\x\"".as_slice(), 2),
-        (b"\"\\u12\"".as_slice(), 5),
-        (b"\"\\u12G4\"".as_slice(), 5),
-        (b"\"\\u".as_slice(), 3),
-        (b"\"a\"b".as_slice(), 3),
-        (b"\"\x80\"".as_slice(), 1),
-        (b"\"\xC1\x81\"".as_slice(), 1),
-        (b"\"\xC3\"".as_slice(), 2),
-        (b"\"\xC3(".as_slice(), 2),
-        (b"\"\xE0\x9F\xBF\"".as_slice(), 2),
-        (b"\"\xE1\x80".as_slice(), 3),
-        (b"\"\xED\xA0\x80\"".as_slice(), 2),
-        (b"\"\xEF\xBF\"".as_slice(), 3),
-        (b"\"\xF0\x8F\xBF\xBF\"".as_slice(), 2),
-        (b"\"\xF0\x90\x80\"".as_slice(), 4),
-        (b"\"\xF4\x90\x80\x80\"".as_slice(), 2),
-        (b"\"\xF5\x80\x80\x80\"".as_slice(), 1),
-        (b"\"\xFF\"".as_slice(), 1),
-    ] {
+    for &(text, at) in BAD_TEXTS {
         assert_eq!(rt;
             fault(rt.alloc(), text),
             Some(JsonFault::Bad { at }),
@@ -192,27 +198,30 @@ fn finds_faults_in_texts(rt: HostRuntime) {
         );
     }
 }
+
+/// Arrays that are not well formed, and where.
+const BAD_ARRAYS: &[(&[u8], u64)] = &[
+    (b"[", 1),
+    (b"[1", 2),
+    (b"[1,", 3),
+    (b"[,", 1),
+    (b"[1,]", 3),
+    (b"[1,,2]", 3),
+    (b"[1 2]", 3),
+    (b"[1}", 2),
+    (b"[1]]", 3),
+    (b"[1][", 3),
+    (b"]", 0),
+    (b"[}", 1),
+    (b"[\x0C]", 1),
+    (b"[nulla]", 5),
+    (b"[1:2]", 2),
+    (b"[[1,[2,[3,\"x\x00\"]]]]", 12),
+];
 
 #[test]
 fn finds_faults_in_arrays(rt: HostRuntime) {
-    for (text, at) in [
-        (b"[".as_slice(), 1),
-        (b"[1".as_slice(), 2),
-        (b"[1,".as_slice(), 3),
-        (b"[,".as_slice(), 1),
-        (b"[1,]".as_slice(), 3),
-        (b"[1,,2]".as_slice(), 3),
-        (b"[1 2]".as_slice(), 3),
-        (b"[1}".as_slice(), 2),
-        (b"[1]]".as_slice(), 3),
-        (b"[1][".as_slice(), 3),
-        (b"]".as_slice(), 0),
-        (b"[}".as_slice(), 1),
-        (b"[\x0C]".as_slice(), 1),
-        (b"[nulla]".as_slice(), 5),
-        (b"[1:2]".as_slice(), 2),
-        (b"[[1,[2,[3,\"x\x00\"]]]]".as_slice(), 12),
-    ] {
+    for &(text, at) in BAD_ARRAYS {
         assert_eq!(rt;
             fault(rt.alloc(), text),
             Some(JsonFault::Bad { at }),
@@ -220,33 +229,36 @@ fn finds_faults_in_arrays(rt: HostRuntime) {
         );
     }
 }
+
+/// Objects that are not well formed, and where.
+const BAD_OBJECTS: &[(&[u8], u64)] = &[
+    (b"{", 1),
+    (b"{1", 1),
+    (b"{\"a", 3),
+    (b"{\"a\"", 4),
+    (b"{\"a\":", 5),
+    (b"{\"a\":}", 5),
+    (b"{\"a\" 1}", 5),
+    (b"{\"a\":1", 6),
+    (b"{\"a\":1,", 7),
+    (b"{\"a\":1,}", 7),
+    (b"{\"a\":1 \"b\":2}", 7),
+    (b"{\"a\"::1}", 5),
+    (b"{,}", 1),
+    (b"{\"a\":1]", 6),
+    (b"{]", 1),
+    (b"{\"a\",\"b\"}", 4),
+    (b"}", 0),
+    (b"{a:1}", 1),
+    (b"{\"file_type\":", 13),
+    (b"[{\"a\":[1,{\"b\":tru]}]", 17),
+    (b"{\"a\":[1,2,{\"b\":\"\\ud83\"}]}", 21),
+    (b"{\"a\":{\"b\":{\"c\":1e}}}", 17),
+];
 
 #[test]
 fn finds_faults_in_objects(rt: HostRuntime) {
-    for (text, at) in [
-        (b"{".as_slice(), 1),
-        (b"{1".as_slice(), 1),
-        (b"{\"a".as_slice(), 3),
-        (b"{\"a\"".as_slice(), 4),
-        (b"{\"a\":".as_slice(), 5),
-        (b"{\"a\":}".as_slice(), 5),
-        (b"{\"a\" 1}".as_slice(), 5),
-        (b"{\"a\":1".as_slice(), 6),
-        (b"{\"a\":1,".as_slice(), 7),
-        (b"{\"a\":1,}".as_slice(), 7),
-        (b"{\"a\":1 \"b\":2}".as_slice(), 7),
-        (b"{\"a\"::1}".as_slice(), 5),
-        (b"{,}".as_slice(), 1),
-        (b"{\"a\":1]".as_slice(), 6),
-        (b"{]".as_slice(), 1),
-        (b"{\"a\",\"b\"}".as_slice(), 4),
-        (b"}".as_slice(), 0),
-        (b"{a:1}".as_slice(), 1),
-        (b"{\"file_type\":".as_slice(), 13),
-        (b"[{\"a\":[1,{\"b\":tru]}]".as_slice(), 17),
-        (b"{\"a\":[1,2,{\"b\":\"\\ud83\"}]}".as_slice(), 21),
-        (b"{\"a\":{\"b\":{\"c\":1e}}}".as_slice(), 17),
-    ] {
+    for &(text, at) in BAD_OBJECTS {
         assert_eq!(rt;
             fault(rt.alloc(), text),
             Some(JsonFault::Bad { at }),
@@ -255,17 +267,20 @@ fn finds_faults_in_objects(rt: HostRuntime) {
     }
 }
 
+/// Marks of the order of bytes that are not whole or not in front, and where.
+const BAD_MARKS: &[(&[u8], u64)] = &[
+    (b"\xEF", 1),
+    (b"\xEF\xBB", 2),
+    (b"\xEF\xBB\xBF", 3),
+    (b"\xEF\xBB\xBE1", 2),
+    (b"\xEF\xBB\xBF\xEF\xBB\xBF1", 3),
+    (b" \xEF\xBB\xBF1", 1),
+    (b"\xFE\xFF", 0),
+];
+
 #[test]
 fn finds_faults_in_marks(rt: HostRuntime) {
-    for (text, at) in [
-        (b"\xEF".as_slice(), 1),
-        (b"\xEF\xBB".as_slice(), 2),
-        (b"\xEF\xBB\xBF".as_slice(), 3),
-        (b"\xEF\xBB\xBE1".as_slice(), 2),
-        (b"\xEF\xBB\xBF\xEF\xBB\xBF1".as_slice(), 3),
-        (b" \xEF\xBB\xBF1".as_slice(), 1),
-        (b"\xFE\xFF".as_slice(), 0),
-    ] {
+    for &(text, at) in BAD_MARKS {
         assert_eq!(rt;
             fault(rt.alloc(), text),
             Some(JsonFault::Bad { at }),

@@ -1,16 +1,16 @@
 -- A piece is its clip: its exact ends are the ends of what its triangle has of its segment.
 use Rattle.std.proofs.Common.{◌≡◌, ◌≢◌, ◌⊎◌, inl, inr, ℕ, ◌+◌, ◌<◌, ℤ, pos, ◌*ℤ◌, ◌+ℤ◌, ◌-ℤ◌, ◌<ℤ◌, List, [], ◌∷◌, sym, ap₂, subst, arith}
-use lib.Signed.{lt_z_yes}
 use Rattle.integer_ring.proofs.Ring.{num, ◌⊕◌, ◌⊖◌, ◌⊗◌}
 use Rattle.integer_ring.proofs.Claims.{◌≐◌, ◌≺◌, never, over, ◌because◌, ◌⇒◌, follows, solve}
 use Rattle.plane_base.specs.Plane.{Point, Same, IsMix, whole, corners}
 use Rattle.plane_base.specs.declared.shapes.Pt.{Pt}
-use Rattle.plane_base.proofs.Mixes.{same_refl, same_sym, same_trans, Between, between_weights, weights_between, between-w, mix_moved, mixes_mix, turn_on_side}
+use Rattle.plane_base.proofs.Mixes.{same_refl, same_sym, same_trans, Between, between_weights, weights_between, mix_moved, mixes_mix, turn_on_side}
 use Rattle.tin_base.specs.declared.frames.Frame.TheVariants.{Source}
 use Rattle.tin_base.specs.declared.pieces.Piece.{Piece}
 use Rattle.tin_base.specs.Triangulation.{Triangulation, numbers_of, places, IsInTriangle}
 use Rattle.tin_base.specs.Segments.{Spot, Part, at_a, spot_at, IsShared, IsPart}
 use Rattle.tin_base.specs.Pieces.{IsPieceOf, first_point, last_point}
+use Rattle.tin_base.proofs.Spots.{one, spot-w}
 use Rattle.tin_base.proofs.Closeness.{places_stand}
 use Rattle.tin_base.proofs.Overlap.{at_twice}
 use Rattle.meet_rel.specs.declared.clips.Clip.{Clip}
@@ -18,9 +18,6 @@ use Rattle.meet_rel.specs.Clips.{IsOf, AreEnds}
 use Rattle.meet_rel.proofs.Axes.{same_or_not}
 use Rattle.meet_rel.proofs.Scale.{IsOn, between_of, mix_first}
 use Rattle.meet_rel.proofs.Ways.{AreDifferent, way, different_x, different_y, on_line, up_spot}
-
-one : pos 0 <ℤ pos 1
-one = lt_z_yes tt
 
 -- the clip of a piece
 pub record IsClipOf (tin : Triangulation) (piece : Piece) (clip : Clip) : Type 0 where
@@ -55,9 +52,6 @@ spot_between a b s some = record { k = s.of_a; l = s.of_b; some = some; same = s
 
 spot_mix : (a b : Pt) (s : Spot) → 0 < s.of_a + s.of_b → IsMix (spot_at a b s) (whole a ∷ whole b ∷ [])
 spot_mix a b s some = weights_between (whole a) (whole b) (spot_at a b s) (spot_between a b s some)
-
-pub spot-w : (a b : Pt) (s : Spot) → 0 < s.of_a + s.of_b → pos 0 <ℤ (spot_at a b s).w
-spot-w a b s some = between-w (whole a) (whole b) (spot_at a b s) (spot_between a b s some) one one
 
 -- ---- the part of a segment
 part_ends : (tin : Triangulation) (a b : Pt) (t : ℕ) (clip : Clip) (first last : Spot) → clip.a ≡ a → clip.b ≡ b → corners clip.tri ≡ places tin Source (numbers_of tin t) → AreDifferent a b → IsPart tin a b t first last → AreEnds clip (spot_at a b first) (spot_at a b last)

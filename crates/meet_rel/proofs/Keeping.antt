@@ -9,10 +9,11 @@ use Rattle.tin_base.specs.Triangulation.{Triangulation, numbers_of, places, IsIn
 use Rattle.tin_base.specs.Segments.{Spot, Part, at_a, spot_at}
 use Rattle.tin_base.specs.Pieces.{IsPieceOf, first_point, last_point}
 use Rattle.tin_base.specs.Carried.{IsCarried}
+use Rattle.tin_base.proofs.Spots.{spot-w}
 use Rattle.tin_base.proofs.Carrying.{relation_kept}
 use Rattle.meet_rel.specs.Laws.{AreImages, PiecesKeepRelations}
 use Rattle.meet_rel.proofs.Ways.{AreDifferent}
-use Rattle.meet_rel.proofs.Ending.{same_or_different, different_not, spot-w, spot_whole, some_a}
+use Rattle.meet_rel.proofs.Ending.{same_or_different, different_not, spot_whole, some_a}
 
 one : pos 0 <ℤ pos 1
 one = lt_z_yes tt

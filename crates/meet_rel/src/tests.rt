@@ -187,13 +187,11 @@ fn pieces_met(p: &Clip, q: &Clip) -> Option<Rel>
     requires p { IsSmallClip p.now }
     requires q { IsSmallClip q.now }
 {
-    if !is_proper(p) {
-        return None;
+    if is_proper(p) && is_proper(q) {
+        Some(clip_rel(p, q))
+    } else {
+        None
     }
-    if !is_proper(q) {
-        return None;
-    }
-    Some(clip_rel(p, q))
 }
 
 fn clip(ends: [i16; 4], corners: [i16; 6]) -> Clip

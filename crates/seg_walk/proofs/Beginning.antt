@@ -1,9 +1,8 @@
 -- The slice of a triangle, and the part that begins at a parameter.
-use Rattle.std.proofs.Common.{◌≡◌, ℕ, ◌+◌, ◌*◌, ◌<◌, ◌≤◌, ℤ, pos, ◌+ℤ◌, ◌-ℤ◌, ◌*ℤ◌, ◌≤ℤ◌, ◌<ℤ◌, List, sym, subst, refl, length, arith}
+use Rattle.std.proofs.Common.{◌≡◌, ℕ, ◌+◌, ◌*◌, ◌<◌, ◌≤◌, ℤ, pos, ◌+ℤ◌, ◌-ℤ◌, ◌*ℤ◌, ◌≤ℤ◌, List, sym, subst, refl, length, arith}
 use Rattle.std.proofs.lemmas.Int.{ints}
 use Rattle.integer_ring.proofs.Ring.{num, neg, ◌⊕◌, ◌⊖◌, ◌⊗◌}
 use Rattle.integer_ring.proofs.Claims.{◌≐◌, ◌≼◌, gap, eqn, ◌⊞◌, ◌because◌, ◌⇒◌, follows}
-use lib.Signed.{lt_z_yes}
 use Rattle.frac128.specs.declared.frac.Frac.{Frac}
 use Rattle.frac128.specs.Fractions.{IsSameValue, IsBelow}
 use Rattle.plane_base.specs.Plane.{Point, IsMix, whole, corners, along}
@@ -11,13 +10,13 @@ use Rattle.plane_base.specs.Slices.{IsParam, IsIn}
 use Rattle.plane_base.specs.declared.shapes.Pt.{Pt}
 use Rattle.plane_base.specs.declared.shapes.Tri.{Tri}
 use Rattle.plane_base.specs.declared.slicing.Stretch.{Stretch}
-use Rattle.plane_base.proofs.Mixes.{same_refl, same_moved, same_trans, between-w}
 use Rattle.tin_base.specs.declared.frames.Frame.TheVariants.{Source}
 use Rattle.tin_base.specs.Triangulation.{Triangulation, numbers_of, places}
 use Rattle.tin_base.specs.Limits.{IsWithinLimits}
 use Rattle.tin_base.specs.Segments.{Spot, spot_at, IsNotAfter, IsSameSpot, IsShared, IsPart}
+use Rattle.tin_base.proofs.Spots.{spot-w}
 use Rattle.tin_base.proofs.Ends.{IsSpot, before_trans_left, before_trans_right, no_later_trans}
-use Rattle.tin_base.proofs.Slicing.{SlicePart, slice_part}
+use Rattle.tin_base.proofs.Slicing.{SlicePart, slice_part, param_of, itself, one_axis, mix_by}
 use Rattle.seg_walk.specs.Steps.{spot_of, IsSliceIn}
 use Rattle.seg_walk.specs.Beginning.{MissesTriangle}
 use Rattle.seg_walk.proofs.Standing.{stands}
@@ -25,24 +24,6 @@ use Rattle.seg_walk.proofs.Spots.{at_spot, spot_is, spot_some, same_value, below
 use Rattle.seg_walk.proofs.Apart.{same_of, from_same, up_to_same}
 
 -- ---- the spots of a triangle are parameters of its points
-param_of : (k l : ℕ) → 0 < l + k → IsParam (pos k) (pos l +ℤ pos k)
-param_of k l h = (omega (arith, ints), omega (arith, ints), omega (arith, ints))
-
-itself : (k l : ℕ) → pos l +ℤ pos k -ℤ pos k ≡ pos l
-itself k l = omega (arith, ints)
-
-one_axis : (n d k l a b : ℤ) → n ≡ k → d -ℤ n ≡ l → (d -ℤ n) *ℤ a +ℤ n *ℤ b ≡ l *ℤ a +ℤ (k *ℤ b +ℤ pos 0)
-one_axis = follows 6 (λ n d k l a b. n ≐ k ⇒ d ⊖ n ≐ l ⇒ (d ⊖ n) ⊗ a ⊕ n ⊗ b ≐ l ⊗ a ⊕ (k ⊗ b ⊕ num (pos 0)) because eqn 0 b ⊞ eqn 1 a) tt
-
-mix_by : (p q : Point) (ps : List Point) → pos 0 <ℤ p.w → q.x ≡ p.x → q.y ≡ p.y → q.w ≡ p.w → IsMix p ps → IsMix q ps
-mix_by p q ps h ex ey ew m = (m.0, m.1, m.2, same_trans q p _ h (same_moved q q p ex ey ew (same_refl q)) m.3)
-
-one : pos 0 <ℤ pos 1
-one = lt_z_yes tt
-
-pub spot-w : (a b : Pt) (s : Spot) → IsSpot s → pos 0 <ℤ (spot_at a b s).w
-spot-w a b s some = between-w (whole a) (whole b) (spot_at a b s) (record { k = s.of_a; l = s.of_b; some = some; same = same_refl (spot_at a b s) }) one one
-
 pub in_spot : (a b : Pt) (r : Tri) (s : Spot) → IsSpot s → IsMix (spot_at a b s) (corners r) → IsIn a b r (pos s.of_b) (pos s.of_a +ℤ pos s.of_b)
 in_spot a b r s some m =
     let k = pos s.of_b in let l = pos s.of_a in

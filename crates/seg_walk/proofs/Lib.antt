@@ -2,7 +2,6 @@ pub mod Standing
 pub mod Spots
 pub mod Apart
 pub mod Beginning
-pub mod Further
 pub mod Unused
 pub mod Walk
 pub mod Taking

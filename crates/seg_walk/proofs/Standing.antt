@@ -1,13 +1,12 @@
 -- A point that some triangle has is near each corner of the triangulation, and near each other such point.
-use Rattle.std.proofs.Common.{◌≡◌, ℕ, ◌<◌, ℤ, pos, negsuc, ◌+ℤ◌, ◌-ℤ◌, ◌*ℤ◌, ◌≤ℤ◌, ◌<ℤ◌, List, [], ◌∷◌, length, sum, All, get_or, refl, ap, subst, arith}
+use Rattle.std.proofs.Common.{◌≡◌, ℕ, ◌<◌, ℤ, pos, ◌+ℤ◌, ◌-ℤ◌, ◌*ℤ◌, ◌≤ℤ◌, ◌<ℤ◌, List, [], ◌∷◌, length, sum, All, get_or, refl, ap, subst, arith}
 use Rattle.std.proofs.lemmas.Int.{ints}
-use Rattle.integer_ring.proofs.Ring.{num, ◌⊕◌, ◌⊗◌}
 use Rattle.integer_ring.proofs.Order.{nonneg_pos}
-use Rattle.integer_ring.proofs.Claims.{◌≐◌, ◌≼◌, ◌≺◌, gap, over, eqn, ◌⊞◌, ◌⊠◌, ◌otherwise◌, ◌⇒◌, follows}
 use Rattle.plane_base.specs.Plane.{Point, Same, weighed, IsMix, whole, corners, IsNear, IsNearTri}
 use Rattle.plane_base.specs.declared.shapes.Pt.{Pt}
 use Rattle.plane_base.specs.declared.shapes.Tri.{Tri}
 use Rattle.plane_base.specs.declared.shapes.TheConstants.{SPAN}
+use Rattle.tin_index.proofs.InBox.{not_below, not_above}
 use Rattle.tin_base.specs.declared.frames.Frame.TheVariants.{Source}
 use Rattle.tin_base.specs.Triangulation.{Triangulation, corner_at, numbers_of, places, IsInTriangle}
 use Rattle.tin_base.specs.Images.{IsInSome}
@@ -16,23 +15,6 @@ use Rattle.tin_base.specs.Limits.{IsWithinLimits}
 -- where a corner stands
 abbrev pub source_at : Triangulation → ℕ → Pt
 source_at tin n = record { x = (corner_at tin n).sx; y = (corner_at tin n).sy }
-
--- a mix of three numbers is not below what none of them is below
-not_below : (l a b c z i j k : ℤ) → l ≤ℤ a → l ≤ℤ b → l ≤ℤ c → pos 0 ≤ℤ i → pos 0 ≤ℤ j → pos 0 ≤ℤ k → pos 0 <ℤ (i +ℤ j +ℤ k)
-    → z *ℤ (i *ℤ pos 1 +ℤ (j *ℤ pos 1 +ℤ (k *ℤ pos 1 +ℤ pos 0))) ≡ (i *ℤ a +ℤ (j *ℤ b +ℤ (k *ℤ c +ℤ pos 0))) *ℤ pos 1 → l ≤ℤ z
-not_below =
-    follows 8 (λ l a b c z i j k.
-    l ≼ a ⇒ l ≼ b ⇒ l ≼ c ⇒ num (pos 0) ≼ i ⇒ num (pos 0) ≼ j ⇒ num (pos 0) ≼ k ⇒ num (pos 0) ≺ i ⊕ j ⊕ k
-    ⇒ z ⊗ (i ⊗ num (pos 1) ⊕ (j ⊗ num (pos 1) ⊕ (k ⊗ num (pos 1) ⊕ num (pos 0)))) ≐ (i ⊗ a ⊕ (j ⊗ b ⊕ (k ⊗ c ⊕ num (pos 0)))) ⊗ num (pos 1)
-    ⇒ l ≼ z otherwise gap 0 ⊠ gap 3 ⊞ gap 1 ⊠ gap 4 ⊞ gap 2 ⊠ gap 5 ⊞ gap 6 ⊠ over 8 ⊞ over 6 ⊞ eqn 7 (num (negsuc 0))) tt
-
-not_above : (m a b c z i j k : ℤ) → a ≤ℤ m → b ≤ℤ m → c ≤ℤ m → pos 0 ≤ℤ i → pos 0 ≤ℤ j → pos 0 ≤ℤ k → pos 0 <ℤ (i +ℤ j +ℤ k)
-    → z *ℤ (i *ℤ pos 1 +ℤ (j *ℤ pos 1 +ℤ (k *ℤ pos 1 +ℤ pos 0))) ≡ (i *ℤ a +ℤ (j *ℤ b +ℤ (k *ℤ c +ℤ pos 0))) *ℤ pos 1 → z ≤ℤ m
-not_above =
-    follows 8 (λ m a b c z i j k.
-    a ≼ m ⇒ b ≼ m ⇒ c ≼ m ⇒ num (pos 0) ≼ i ⇒ num (pos 0) ≼ j ⇒ num (pos 0) ≼ k ⇒ num (pos 0) ≺ i ⊕ j ⊕ k
-    ⇒ z ⊗ (i ⊗ num (pos 1) ⊕ (j ⊗ num (pos 1) ⊕ (k ⊗ num (pos 1) ⊕ num (pos 0)))) ≐ (i ⊗ a ⊕ (j ⊗ b ⊕ (k ⊗ c ⊕ num (pos 0)))) ⊗ num (pos 1)
-    ⇒ z ≼ m otherwise gap 0 ⊠ gap 3 ⊞ gap 1 ⊠ gap 4 ⊞ gap 2 ⊠ gap 5 ⊞ gap 6 ⊠ over 8 ⊞ over 6 ⊞ eqn 7 (num (pos 1))) tt
 
 some_weight : (i j k : ℕ) → 0 < sum (i ∷ j ∷ k ∷ []) → pos 0 <ℤ (pos i +ℤ pos j +ℤ pos k)
 some_weight i j k h = omega (arith, ints)

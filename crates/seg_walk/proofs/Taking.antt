@@ -22,7 +22,7 @@ use Rattle.seg_walk.specs.Steps.{spot_of, spot_by, part_of, point_of, IsSliceIn,
 use Rattle.seg_walk.specs.Beginning.{IsStepFrom, MissesTriangle}
 use Rattle.seg_walk.proofs.Spots.{same_spot}
 use Rattle.seg_walk.proofs.Beginning.{HasParams, params, not_missed}
-use Rattle.seg_walk.proofs.Further.{start_is}
+use Rattle.tin_base.proofs.Further.{start_is}
 use Rattle.seg_walk.proofs.Unused.{unused, less_left}
 use Rattle.seg_walk.proofs.Walk.{IsWalked, Follows, more, not_again, all_walked}
 

@@ -13,8 +13,8 @@ use Rattle.tin_base.specs.Segments.{Spot, spot_at, at_a, IsBefore, IsNotAfter, I
 use Rattle.tin_base.proofs.Ends.{IsSpot, before_or, not_both, no_later, no_later_trans, before_trans_left, before_trans_right}
 use Rattle.tin_base.proofs.Parts.{between_in}
 use Rattle.seg_walk.proofs.Apart.{up_to_same, from_same, same_of, apart, same_last}
-use Rattle.seg_walk.proofs.Beginning.{spot-w}
-use Rattle.seg_walk.proofs.Further.{NextPart, next_part, start_is}
+use Rattle.tin_base.proofs.Spots.{spot-w}
+use Rattle.tin_base.proofs.Further.{NextPart, next_part, start_is}
 
 -- the list has a piece with these two spots
 pub record Has (parts : List Part) (first last : Spot) : Type 0 where

@@ -1,1 +1,5 @@
+pub mod ListParts
 pub mod Splicing
+pub mod Swaps
+pub mod ImageRuns
+pub mod Redrawn

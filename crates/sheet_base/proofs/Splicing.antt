@@ -1,5 +1,6 @@
 -- Laws of spliced bytes.
 use Rattle.std.proofs.Common.{◌≡◌, refl, subst, ℕ, ◌+◌, ◌≤◌, ◌<◌, List, [], ◌∷◌, ◌++◌, drop, length, slice_index_or, arith}
+use Rattle.std.specs.Prelude.{Result, Ok, Err, IfOk}
 use Rattle.std.proofs.lemmas.List.{drop_more, append_assoc}
 use Rattle.sheet_base.specs.declared.edits.Edit.{Edit}
 use Rattle.sheet_base.specs.declared.edits.What.TheVariants.{WktList}
@@ -50,3 +51,8 @@ one_more bytes text edits i from out kept more so_far kept_is now now_is =
       order = (next_edit bytes edits i from more so_far.order).order;
       all = rw (now_is, kept_is, append_assoc (out ++ between bytes from edit.start) (text edit) rest, append_assoc out (between bytes from edit.start) (text edit ++ rest)) all;
     }
+
+-- what holds of a value holds of another fact's
+pub if_ok_more : {X E : Type 0} (r : Result X E) (P Q : X → Type 0) → ((x : X) → P x → Q x) → IfOk r P → IfOk r Q
+if_ok_more (Ok x) P Q on is = on x is
+if_ok_more (Err e) P Q on is = is

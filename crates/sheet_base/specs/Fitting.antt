@@ -1,8 +1,8 @@
 -- When images fit a sheet: one run of images for each of its points.
-use Rattle.std.specs.Prelude.{◌≡◌, ◌≢◌, ◌⊎◌, ℕ, ◌+◌, ◌<◌, ◌≤◌, ◌^◌, unsigned_abs, All, List, length, slice_index_or}
+use Rattle.std.specs.Prelude.{◌≡◌, ◌≢◌, ◌⊎◌, ℕ, ◌+◌, ◌-◌, ◌<◌, ◌≤◌, ◌^◌, unsigned_abs, All, List, length, take, drop, slice_index_or}
 use Rattle.mm_decimal.specs.declared.limits.TheConstants.{LIMIT}
 use Rattle.plane_base.specs.declared.shapes.Pt.{Pt}
-use Rattle.sheet_base.specs.declared.paths.PathKind.TheVariants.{Loop}
+use Rattle.sheet_base.specs.declared.paths.PathKind.TheVariants.{Dot, Loop}
 use Rattle.sheet_base.specs.declared.paths.PathRow.{PathRow}
 use Rattle.sheet_base.specs.Sheets.{Contents}
 use Rattle.sheet_base.specs.Segments.{points_in}
@@ -15,6 +15,21 @@ pub record Runs : Type 0 where
 -- where the run of this point begins; behind the last one, where the images end
 abbrev pub run_begin : Runs → ℕ → ℕ
 run_begin images point = slice_index_or images.run point (length images.points)
+
+-- the images of the points from one number to before another, each with those of the crossings behind it
+abbrev pub images_of : Runs → ℕ → ℕ → List Pt
+images_of images first past = take (run_begin images past - run_begin images first) (drop (run_begin images first) images.points)
+
+-- those of a path's points
+abbrev pub row_images : Runs → PathRow → List Pt
+row_images images path = images_of images path.first path.past
+
+abbrev pub no_path : PathRow
+no_path = record { kind = Dot; first = 0; past = 0 }
+
+-- those of the path of this number; there are none where there is no such path
+abbrev pub path_images : List PathRow → Runs → ℕ → List Pt
+path_images paths images number = row_images images (slice_index_or paths number no_path)
 
 -- the run of this point is its own image alone
 abbrev pub IsAlone : Runs → ℕ → Type 0

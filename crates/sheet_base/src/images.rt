@@ -1,6 +1,7 @@
 ghost use Rattle.std.specs.Prelude.{◌≡◌};
+ghost use Rattle.sheet_base.specs.Fitting.{run_begin, images_of, row_images, path_images};
 
-use crate::Listed;
+use crate::{Listed, PathRow, between};
 use plane_base::Pt;
 use std::marker::Model;
 
@@ -41,5 +42,43 @@ impl Images {
         ensures { result.now ≡ self.now.run }
     {
         self.run.items()
+    }
+
+    /// Where the run of this point begins among the images; behind the last point, where they end.
+    pub fn run_begin(&self, point: usize) -> usize
+        ensures { result ≡ run_begin self.now point }
+    {
+        match self.run().get(point) {
+            Some(place) => *place as usize,
+            None => self.points().len(),
+        }
+    }
+
+    /// The images of the points from one number to before another, each with those of the crossings behind it.
+    pub fn of_points(&self, first: u32, past: u32) -> &[Pt]
+        ensures { result.now ≡ images_of self.now first past }
+    {
+        between(
+            self.points(),
+            self.run_begin(first as usize),
+            self.run_begin(past as usize),
+        )
+    }
+
+    /// The images of a path's points, with those of the crossings.
+    pub fn of_row(&self, row: PathRow) -> &[Pt]
+        ensures { result.now ≡ row_images self.now row }
+    {
+        self.of_points(row.first, row.past)
+    }
+
+    /// Those of the path of this number; none where there is no such path.
+    pub fn of_path(&self, paths: &[PathRow], path: u32) -> &[Pt]
+        ensures { result.now ≡ path_images paths.now self.now path }
+    {
+        match paths.get(path as usize) {
+            Some(row) => self.of_row(*row),
+            None => self.of_points(0, 0),
+        }
     }
 }

@@ -1,4 +1,4 @@
-ghost use Rattle.std.specs.Prelude.{◌≡◌};
+ghost use Rattle.std.specs.Prelude.{◌≡◌, ◌-◌, take, drop};
 
 use std::marker::Model;
 
@@ -29,5 +29,21 @@ impl<T> Listed<T> {
         ensures { result.now ≡ self.now }
     {
         &self.items
+    }
+}
+
+/// The items from one place to before another, as far as there are some.
+pub fn between<T>(items: &[T], from: usize, past: usize) -> &[T]
+    ensures { result.now ≡ take (past - from) (drop from items.now) }
+{
+    let past = if past < items.len() {
+        past
+    } else {
+        items.len()
+    };
+    if from < past {
+        &items[from..past]
+    } else {
+        &items[..0]
     }
 }

@@ -1,61 +1,14 @@
 -- The pieces of a segment that is inside follow each other without a gap.
-use Rattle.std.proofs.Common.{◌≡◌, ◌≢◌, ◌⊎◌, inl, inr, ℕ, zero, suc, ◌+◌, ◌*◌, ◌<◌, ◌≤◌, ℤ, pos, ◌+ℤ◌, ◌*ℤ◌, ◌<ℤ◌, List, [], ◌∷◌, length, sym, subst, arith}
-use Rattle.integer_ring.proofs.Ring.{num, ◌⊕◌, ◌⊗◌}
-use Rattle.integer_ring.proofs.Claims.{◌≐◌, solve}
-use lib.Signed.{lt_z_yes}
-use Rattle.plane_base.specs.Plane.{Point, Same, IsMix, whole}
+use Rattle.std.proofs.Common.{◌≡◌, ◌≢◌, ◌⊎◌, inl, inr, ℕ, zero, suc, ◌+◌, ◌*◌, ◌<◌, ◌≤◌, ℤ, pos, ◌<ℤ◌, List, length, sym, subst, arith}
 use Rattle.plane_base.specs.declared.shapes.Pt.{Pt}
-use Rattle.plane_base.proofs.Mixes.{same_refl, same_sym, same_moved, mixed, between_weights, weights_between, between-w, mix_moved}
 use Rattle.tin_base.specs.declared.frames.Frame.TheVariants.{Source}
 use Rattle.tin_base.specs.Triangulation.{Triangulation, numbers_of, places}
 use Rattle.tin_base.specs.Soundness.{turn_of_three, IsSound}
-use Rattle.tin_base.specs.Relations.{IsBetween}
-use Rattle.tin_base.specs.Segments.{Spot, spot_at, at_a, at_b, IsBefore, IsNotAfter, IsSameSpot, IsInside, IsShared, IsPart, Part, part_at, ArePieces, AreChain, DoCover}
-use Rattle.tin_base.proofs.Stepping.{StepsOn, steps_on}
+use Rattle.tin_base.specs.Segments.{Spot, at_a, at_b, IsBefore, IsNotAfter, IsSameSpot, IsInside, IsShared, IsPart, Part, part_at, ArePieces, AreChain, DoCover}
 use Rattle.tin_base.proofs.Ends.{IsSpot, before_or, not_both, no_later, no_later_trans, before_trans_left, before_trans_right}
-use Rattle.tin_base.proofs.Parts.{part_of, between_in}
+use Rattle.tin_base.proofs.Parts.{between_in}
 use Rattle.tin_base.proofs.Overlap.{same_spots}
-
--- ---- spots on the way from a spot to b
-one : pos 0 <ℤ pos 1
-one = lt_z_yes tt
-
-spot-w : (a b : Pt) (s : Spot) → IsSpot s → pos 0 <ℤ (spot_at a b s).w
-spot-w a b s some = between-w (whole a) (whole b) (spot_at a b s) (record { k = s.of_a; l = s.of_b; some = some; same = same_refl (spot_at a b s) }) one one
-
--- k times the spot x and l times b
-abbrev further : Spot → ℕ → ℕ → Spot
-further x k l = record { of_a = k * x.of_a; of_b = k * x.of_b + l }
-
-further_is : (k l r q a b : ℤ) → k *ℤ (r *ℤ a +ℤ (q *ℤ b +ℤ pos 0)) +ℤ (l *ℤ b +ℤ pos 0) ≡ k *ℤ r *ℤ a +ℤ ((k *ℤ q +ℤ l) *ℤ b +ℤ pos 0)
-further_is = solve 6 (λ k l r q a b. k ⊗ (r ⊗ a ⊕ (q ⊗ b ⊕ num (pos 0))) ⊕ (l ⊗ b ⊕ num (pos 0)) ≐ k ⊗ r ⊗ a ⊕ ((k ⊗ q ⊕ l) ⊗ b ⊕ num (pos 0))) tt
-
-further_same : (a b : Pt) (x : Spot) (k l : ℕ) (p : Point) → Same p (mixed k l (spot_at a b x) (whole b)) → Same p (spot_at a b (further x k l))
-further_same a b x k l p s =
-    same_moved p (mixed k l (spot_at a b x) (whole b)) (spot_at a b (further x k l))
-    (further_is (pos k) (pos l) (pos x.of_a) (pos x.of_b) a.x b.x) (further_is (pos k) (pos l) (pos x.of_a) (pos x.of_b) a.y b.y) (further_is (pos k) (pos l) (pos x.of_a) (pos x.of_b) (pos 1) (pos 1)) s
-
-further_some : (r q k l : ℕ) → 0 < r + q → 0 < k + l → 0 < k * r + (k * q + l)
-further_some r q k l h i = grind arith
-
-some_further : (x : Spot) (k l : ℕ) → IsSpot x → 0 < k + l → IsSpot (further x k l)
-some_further x k l h i = further_some x.of_a x.of_b k l h i
-
-beyond : (r q n : ℕ) → 0 < r → q * ((n + 1) * r) < ((n + 1) * q + 1) * r
-beyond r q n h = omega arith
-
-further_beyond : (x : Spot) (n : ℕ) → 0 < x.of_a → IsBefore x (further x (n + 1) 1)
-further_beyond x n h = beyond x.of_a x.of_b n h
-
--- a point between a spot and b is a point of the segment
-on_segment : (a b : Pt) (x : Spot) (p : Point) → IsSpot x → IsBetween (spot_at a b x) (whole b) p → IsMix p (whole a ∷ whole b ∷ [])
-on_segment a b x p some m =
-    let i = between_weights (spot_at a b x) (whole b) p m in
-    let y = further x i.k i.l in
-    weights_between (whole a) (whole b) p (record { k = y.of_a; l = y.of_b; some = some_further x i.k i.l some i.some; same = further_same a b x i.k i.l p i.same })
-
-itself_is : (a b : ℤ) → pos 1 *ℤ a +ℤ (pos 0 *ℤ b +ℤ pos 0) ≡ a
-itself_is = solve 2 (λ a b. num (pos 1) ⊗ a ⊕ (num (pos 0) ⊗ b ⊕ num (pos 0)) ≐ a) tt
+use Rattle.tin_base.proofs.Further.{NextPart, next_part}
 
 -- ---- a piece that begins no later than x and ends behind it
 record Next (parts : List Part) (x : Spot) : Type 0 where
@@ -75,35 +28,20 @@ no_later_back s t e = le_of_same (t.of_b * s.of_a) (s.of_b * t.of_a) (sym e)
 
 next : (tin : Triangulation) (a b : Pt) (parts : List Part) (x : Spot) → IsSound tin → IsInside tin a b → ArePieces tin a b parts → IsSpot x → 0 < x.of_a → Next parts x
 next tin a b parts x sound inside pieces some more =
-    go (steps_on tin Source (spot_at a b x) (whole b) (sound.positive Source) (spot-w a b x some) one (λ p hp m. inside p hp (on_segment a b x p some m)))
+    go (next_part tin a b x sound inside some more)
   where
-    go : StepsOn tin Source (spot_at a b x) (whole b) → Next parts x
-    go step =
-        let p = spot_at a b x in
-        let y = further x (step.n + 1) 1 in
-        let some_y = some_further x (step.n + 1) 1 some (omega arith) in
-        let first = mixed 1 0 p (whole b) in
-        let second = mixed (step.n + 1) 1 p (whole b) in
-        let in_first : Same p first = same_moved p p first (sym (itself_is p.x b.x)) (sym (itself_is p.y b.y)) (sym (itself_is p.w (pos 1))) (same_refl p) in
-        let first_w = between-w p (whole b) first (record { k = 1; l = 0; some = omega arith; same = same_refl first }) (spot-w a b x some) one in
-        let second_w = between-w p (whole b) second (record { k = step.n + 1; l = 1; some = omega arith; same = same_refl second }) (spot-w a b x some) one in
-        let has_x : IsShared tin a b step.triangle x = record { some = some; inside = mix_moved first p (places tin Source (numbers_of tin step.triangle)) first_w in_first step.has_first } in
-        let has_y : IsShared tin a b step.triangle y = record { some = some_y; inside = mix_moved second (spot_at a b y) (places tin Source (numbers_of tin step.triangle)) second_w (same_sym second (spot_at a b y) (further_same a b x (step.n + 1) 1 second (same_refl second))) step.has_next } in
-        let before : IsBefore x y = further_beyond x step.n more in
-        let reach = part_of tin a b step.triangle x y step.in_range (sound.positive Source step.triangle step.in_range) has_x has_y before in
-        let part = reach.part in
+    go : NextPart tin a b x → Next parts x
+    go n =
+        let part = n.part in
         let has_first = part.has_first in
-        let has_last = part.has_last in
-        let e = pieces.every step.triangle reach.first reach.last part in
+        let e = pieces.every n.triangle n.first n.last part in
         let piece = pieces.part e.0 e.1 in
         let piece_last = piece.has_last in
         record {
           index = e.0;
           in_range = e.1;
-          from = no_later_trans (part_at parts e.0).first reach.first x has_first.some (no_later_same (part_at parts e.0).first reach.first e.2) reach.from;
-          behind =
-              before_trans_right x y (part_at parts e.0).last piece_last.some before
-              (no_later_trans y reach.last (part_at parts e.0).last has_last.some reach.upto (no_later_back (part_at parts e.0).last reach.last e.3));
+          from = no_later_trans (part_at parts e.0).first n.first x has_first.some (no_later_same (part_at parts e.0).first n.first e.2) n.from;
+          behind = before_trans_right x n.last (part_at parts e.0).last piece_last.some n.behind (no_later_back (part_at parts e.0).last n.last e.3);
         }
 
 -- ---- no part begins before one that begins earlier has ended

@@ -5,27 +5,21 @@ use Rattle.std.proofs.lemmas.Bool.Decides.{eqb_tells}
 use Rattle.integer_ring.proofs.Ring.{num, neg, ◌⊕◌, ◌⊖◌, ◌⊗◌}
 use Rattle.integer_ring.proofs.Signs.{≡_of_mul}
 use Rattle.integer_ring.proofs.Claims.{◌≐◌, ◌≺◌, gap, over, eqn, ◌⊞◌, ◌⊠◌, ◌because◌, ◌⇒◌, follows, solve}
-use lib.Signed.{lt_z_yes}
 use Rattle.plane_base.specs.Plane.{Point, Same, turn_of, weighed, IsMix, whole}
 use Rattle.plane_base.specs.declared.shapes.Pt.{Pt}
 use Rattle.plane_base.proofs.Turns.{turn_cycle, turn_swap}
 use Rattle.plane_base.proofs.InTriangle.{turns_of_mix}
 use Rattle.plane_base.proofs.Meeting.{mix_of_side}
-use Rattle.plane_base.proofs.Mixes.{same_sym, same_trans, same_refl, mixed, between_weights, between-w, mix_swapped, turn_on_side}
+use Rattle.plane_base.proofs.Mixes.{same_sym, same_trans, mixed, between_weights, between-w, mix_swapped, turn_on_side}
 use Rattle.tin_base.specs.declared.frames.Frame.TheVariants.{Source}
 use Rattle.tin_base.specs.Triangulation.{Triangulation, place, corner_at, numbers_of, places}
 use Rattle.tin_base.specs.Soundness.{turn_of_three, has, common_of, IsSound}
 use Rattle.tin_base.specs.Segments.{Spot, spot_at, IsBefore, IsShared}
+use Rattle.tin_base.proofs.Spots.{one, spot-w}
 use Rattle.tin_base.proofs.Weights.{HasAll, common_in_first, common_in_second}
 use Rattle.tin_base.proofs.Stepping.{turn_mixed}
 use Rattle.tin_base.proofs.Alike.{alike_of, alike_in, alike_more}
 use Rattle.tin_base.proofs.Ends.{IsSpot}
-
-one : pos 0 <ℤ pos 1
-one = lt_z_yes tt
-
-spot-w : (a b : Pt) (s : Spot) → IsSpot s → pos 0 <ℤ (spot_at a b s).w
-spot-w a b s some = between-w (whole a) (whole b) (spot_at a b s) (record { k = s.of_a; l = s.of_b; some = some; same = same_refl (spot_at a b s) }) one one
 
 -- a mix of some of the corners is one of them all
 in_more : (tin : Triangulation) (ns ks : List ℕ) (p : Point) → HasAll ns ks → IsMix p (places tin Source ks) → IsMix p (places tin Source ns)

@@ -1,14 +1,13 @@
 -- The part of a triangle: it exists where the triangle has two points of a segment, and two triangles with two common points of it have one part.
 use Rattle.std.proofs.Common.{ℕ, ◌+◌, ◌*◌, ◌<◌, ◌≤◌, ℤ, pos, ◌≤ℤ◌, ◌<ℤ◌, List, [], ◌∷◌, length, sym, subst, arith}
-use lib.Signed.{lt_z_yes}
 use Rattle.plane_base.specs.Plane.{Point, turn_of, IsMix, whole}
 use Rattle.plane_base.specs.declared.shapes.Pt.{Pt}
 use Rattle.plane_base.proofs.InTriangle.{turns_of_mix, mix_of_turns}
-use Rattle.plane_base.proofs.Mixes.{same_refl, between-w}
 use Rattle.tin_base.specs.declared.frames.Frame.TheVariants.{Source}
 use Rattle.tin_base.specs.Triangulation.{Triangulation, place, corner_at, numbers_of, places}
 use Rattle.tin_base.specs.Soundness.{turn_of_three}
 use Rattle.tin_base.specs.Segments.{Spot, spot_at, IsBefore, IsNotAfter, IsShared, IsPart}
+use Rattle.tin_base.proofs.Spots.{one, spot-w}
 use Rattle.tin_base.proofs.Stepping.{turn_mixed}
 use Rattle.tin_base.proofs.Ends.{IsSpot, IsKeptAt, AreKeptAt, last_of_three, mirrored, mirror_later, mirror_three, no_later_trans, before_trans_left, before_trans_right}
 
@@ -22,12 +21,6 @@ record Sides (a b : Pt) (corners : List Point) : Type 0 where
   z : ℤ
   into : (s : Spot) → IsSpot s → IsMix (spot_at a b s) corners → AreKeptAt u v w x y z s
   back : (s : Spot) → IsSpot s → AreKeptAt u v w x y z s → IsMix (spot_at a b s) corners
-
-one : pos 0 <ℤ pos 1
-one = lt_z_yes tt
-
-spot-w : (a b : Pt) (s : Spot) → IsSpot s → pos 0 <ℤ (spot_at a b s).w
-spot-w a b s some = between-w (whole a) (whole b) (spot_at a b s) (record { k = s.of_a; l = s.of_b; some = some; same = same_refl (spot_at a b s) }) one one
 
 sides_of : (a b : Pt) (c d e : Point) → pos 0 <ℤ c.w → pos 0 <ℤ d.w → pos 0 <ℤ e.w → pos 0 <ℤ turn_of c d e → Sides a b (c ∷ d ∷ e ∷ [])
 sides_of a b c d e hc hd he t =

@@ -4,16 +4,16 @@ use Rattle.std.proofs.lemmas.Int.{ints}
 use Rattle.integer_ring.proofs.Ring.{num, neg, ◌⊕◌, ◌⊖◌, ◌⊗◌}
 use Rattle.integer_ring.proofs.Order.{to_nat, ≤-to-nonneg}
 use Rattle.integer_ring.proofs.Claims.{◌≐◌, ◌≼◌, ◌≺◌, gap, over, eqn, ◌⊞◌, ◌because◌, ◌⇒◌, follows}
-use lib.Signed.{lt_z_yes}
 use Rattle.plane_base.specs.Plane.{Point, IsMix, whole, corners, along}
 use Rattle.plane_base.specs.declared.shapes.Pt.{Pt}
 use Rattle.plane_base.specs.declared.shapes.Tri.{Tri}
 use Rattle.plane_base.specs.Slices.{IsParam, IsIn, IsCommon}
 use Rattle.plane_base.specs.declared.slicing.Stretch.{Stretch}
-use Rattle.plane_base.proofs.Mixes.{same_refl, same_moved, same_trans, between-w}
+use Rattle.plane_base.proofs.Mixes.{same_refl, same_moved, same_trans}
 use Rattle.tin_base.specs.declared.frames.Frame.TheVariants.{Source}
 use Rattle.tin_base.specs.Triangulation.{Triangulation, numbers_of, places}
 use Rattle.tin_base.specs.Segments.{Spot, spot_at, IsPart}
+use Rattle.tin_base.proofs.Spots.{spot-w}
 use Rattle.tin_base.proofs.Ends.{IsSpot}
 
 -- the spot at n/d
@@ -30,23 +30,17 @@ spot_of n d h = go (to_nat n h.1) (to_nat (d -ℤ n) (≤-to-nonneg n d h.2))
 spot_some : (n d : ℤ) (k l : ℕ) → n ≡ pos k → d -ℤ n ≡ pos l → pos 0 <ℤ d → 0 < l + k
 spot_some n d k l e f h = omega (arith, ints)
 
-param_of : (k l : ℕ) → 0 < l + k → IsParam (pos k) (pos l +ℤ pos k)
+pub param_of : (k l : ℕ) → 0 < l + k → IsParam (pos k) (pos l +ℤ pos k)
 param_of k l h = (omega (arith, ints), omega (arith, ints), omega (arith, ints))
 
-itself : (k l : ℕ) → pos l +ℤ pos k -ℤ pos k ≡ pos l
+pub itself : (k l : ℕ) → pos l +ℤ pos k -ℤ pos k ≡ pos l
 itself k l = omega (arith, ints)
 
-one_axis : (n d k l a b : ℤ) → n ≡ k → d -ℤ n ≡ l → (d -ℤ n) *ℤ a +ℤ n *ℤ b ≡ l *ℤ a +ℤ (k *ℤ b +ℤ pos 0)
+pub one_axis : (n d k l a b : ℤ) → n ≡ k → d -ℤ n ≡ l → (d -ℤ n) *ℤ a +ℤ n *ℤ b ≡ l *ℤ a +ℤ (k *ℤ b +ℤ pos 0)
 one_axis = follows 6 (λ n d k l a b. n ≐ k ⇒ d ⊖ n ≐ l ⇒ (d ⊖ n) ⊗ a ⊕ n ⊗ b ≐ l ⊗ a ⊕ (k ⊗ b ⊕ num (pos 0)) because eqn 0 b ⊞ eqn 1 a) tt
 
-mix_by : (p q : Point) (ps : List Point) → pos 0 <ℤ p.w → q.x ≡ p.x → q.y ≡ p.y → q.w ≡ p.w → IsMix p ps → IsMix q ps
+pub mix_by : (p q : Point) (ps : List Point) → pos 0 <ℤ p.w → q.x ≡ p.x → q.y ≡ p.y → q.w ≡ p.w → IsMix p ps → IsMix q ps
 mix_by p q ps h ex ey ew m = (m.0, m.1, m.2, same_trans q p _ h (same_moved q q p ex ey ew (same_refl q)) m.3)
-
-one : pos 0 <ℤ pos 1
-one = lt_z_yes tt
-
-spot-w : (a b : Pt) (s : Spot) → IsSpot s → pos 0 <ℤ (spot_at a b s).w
-spot-w a b s some = between-w (whole a) (whole b) (spot_at a b s) (record { k = s.of_a; l = s.of_b; some = some; same = same_refl (spot_at a b s) }) one one
 
 along-w : (n d : ℤ) → pos 0 <ℤ d → pos 0 <ℤ ((d -ℤ n) *ℤ pos 1 +ℤ n *ℤ pos 1)
 along-w = follows 2 (λ n d. num (pos 0) ≺ d ⇒ num (pos 0) ≺ (d ⊖ n) ⊗ num (pos 1) ⊕ n ⊗ num (pos 1) because over 0) tt

@@ -12,7 +12,7 @@ use Rattle.plane_base.specs.declared.shapes.TheConstants.{SPAN}
 use Rattle.tin_index.specs.Boxes.{IsUpTo, low_of, high_of}
 
 -- a mix of three numbers is not below what none of them is below
-not_below : (l a b c z i j k : ℤ) → l ≤ℤ a → l ≤ℤ b → l ≤ℤ c → pos 0 ≤ℤ i → pos 0 ≤ℤ j → pos 0 ≤ℤ k → pos 0 <ℤ (i +ℤ j +ℤ k)
+pub not_below : (l a b c z i j k : ℤ) → l ≤ℤ a → l ≤ℤ b → l ≤ℤ c → pos 0 ≤ℤ i → pos 0 ≤ℤ j → pos 0 ≤ℤ k → pos 0 <ℤ (i +ℤ j +ℤ k)
     → z *ℤ (i *ℤ pos 1 +ℤ (j *ℤ pos 1 +ℤ (k *ℤ pos 1 +ℤ pos 0))) ≡ (i *ℤ a +ℤ (j *ℤ b +ℤ (k *ℤ c +ℤ pos 0))) *ℤ pos 1 → l ≤ℤ z
 not_below =
     follows 8 (λ l a b c z i j k.
@@ -20,7 +20,7 @@ not_below =
     ⇒ z ⊗ (i ⊗ num (pos 1) ⊕ (j ⊗ num (pos 1) ⊕ (k ⊗ num (pos 1) ⊕ num (pos 0)))) ≐ (i ⊗ a ⊕ (j ⊗ b ⊕ (k ⊗ c ⊕ num (pos 0)))) ⊗ num (pos 1)
     ⇒ l ≼ z otherwise gap 0 ⊠ gap 3 ⊞ gap 1 ⊠ gap 4 ⊞ gap 2 ⊠ gap 5 ⊞ gap 6 ⊠ over 8 ⊞ over 6 ⊞ eqn 7 (num (negsuc 0))) tt
 
-not_above : (m a b c z i j k : ℤ) → a ≤ℤ m → b ≤ℤ m → c ≤ℤ m → pos 0 ≤ℤ i → pos 0 ≤ℤ j → pos 0 ≤ℤ k → pos 0 <ℤ (i +ℤ j +ℤ k)
+pub not_above : (m a b c z i j k : ℤ) → a ≤ℤ m → b ≤ℤ m → c ≤ℤ m → pos 0 ≤ℤ i → pos 0 ≤ℤ j → pos 0 ≤ℤ k → pos 0 <ℤ (i +ℤ j +ℤ k)
     → z *ℤ (i *ℤ pos 1 +ℤ (j *ℤ pos 1 +ℤ (k *ℤ pos 1 +ℤ pos 0))) ≡ (i *ℤ a +ℤ (j *ℤ b +ℤ (k *ℤ c +ℤ pos 0))) *ℤ pos 1 → z ≤ℤ m
 not_above =
     follows 8 (λ m a b c z i j k.

@@ -1,5 +1,4 @@
 pub mod Faults
-pub mod OneCut
 pub mod OnePieces
 pub mod Keeping
 pub mod MadeRows

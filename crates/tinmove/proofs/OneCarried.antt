@@ -24,7 +24,7 @@ use Rattle.job_words.specs.declared.formats.Format.{Format}
 use Rattle.tinmove.specs.LayerTexts.{text_of}
 use Rattle.tinmove.specs.Carrying.{LacksLayerText, IsCarried, IsOutside, HasTooMany}
 use Rattle.tinmove.proofs.OneReading.{sheet_one, sheet_apart}
-use Rattle.tinmove.proofs.OneCut.{cut_alike, alike_length, ends_one}
+use Rattle.affine_image.proofs.OneCut.{cut_alike, alike_length, ends_one}
 use Rattle.tinmove.proofs.OnePieces.{pieces_one}
 
 -- ---- how many pieces segments have

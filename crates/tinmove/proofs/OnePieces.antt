@@ -8,7 +8,7 @@ use Rattle.tin_base.specs.Soundness.{IsSound}
 use Rattle.tin_base.specs.Segments.{Part}
 use Rattle.affine_image.specs.SheetSegments.{Segment}
 use Rattle.affine_image.specs.SheetPieces.{IsTold, next_place, AreTold, first_place, ArePiecesOfSegment, ArePiecesOfAll}
-use Rattle.tinmove.proofs.OneCut.{AreTwins, AreAlike, end_one, cut_alike}
+use Rattle.affine_image.proofs.OneCut.{AreTwins, AreAlike, end_one, cut_alike}
 
 abbrev piece_of : Pt → Pt → ℕ → Pt → Pt → Place → Piece
 piece_of a b tri ia ib from = record { a = a; b = b; tri = tri; ia = ia; ib = ib; from = from }

@@ -1,16 +1,8 @@
 //! Which words are answered with a text of the program's own, and with which.
 
 use crate::help::{Help, USAGE, help_of};
-use std::alloc::{AllocError, Global};
+use crate::test_runs::words_of;
 use std::test::Fail;
-
-fn words(alloc: Global, texts: &[&str]) -> Result<Vec<String>, AllocError> {
-    let mut words = Vec::new(alloc);
-    for text in texts {
-        words.push(String::from_str(alloc, text)?)?;
-    }
-    Ok(words)
-}
 
 #[test]
 fn words_that_ask_for_help_get_it(rt: HostRuntime) -> Result<(), Fail> {
@@ -27,7 +19,7 @@ fn words_that_ask_for_help_get_it(rt: HostRuntime) -> Result<(), Fail> {
         (&["make", "--help"], Help::Make),
         (&["make", "-h"], Help::Make),
     ] {
-        let words = words(rt.alloc(), texts)?;
+        let words = words_of(rt.alloc(), texts)?;
         assert_eq!(rt; help_of(&words), Some(help), "at {texts:?}");
     }
     Ok(())
@@ -56,7 +48,7 @@ fn other_words_are_left_to_the_run(rt: HostRuntime) -> Result<(), Fail> {
         &["check", "--help", "-h"],
         &["check", "--tin", "t.json", "--help"],
     ] {
-        let words = words(rt.alloc(), texts)?;
+        let words = words_of(rt.alloc(), texts)?;
         assert_eq!(rt; help_of(&words), None, "at {texts:?}");
     }
     Ok(())

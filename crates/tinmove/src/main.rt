@@ -36,6 +36,8 @@ mod run;
 mod square_tests;
 mod status;
 #[cfg(test)]
+mod test_runs;
+#[cfg(test)]
 mod tests;
 #[cfg(test)]
 mod tin_tests;

@@ -2,10 +2,8 @@
 //! are worked out by hand.
 
 use crate::making::{make_layer, make_tin};
-use crate::run::run;
 use crate::status::Status;
-use shelf_io::{MemPress, MemShelf};
-use std::alloc::{AllocError, Global};
+use crate::test_runs::makes;
 use std::test::Fail;
 
 const FRONT: &[u8] =
@@ -69,52 +67,28 @@ fn the_greatest_texts_are_written(rt: HostRuntime) -> Result<(), Fail> {
     Ok(())
 }
 
-/// What `make` prints with this size.
-fn made(alloc: Global, size: &str) -> Result<(Status, MemPress), AllocError> {
-    let mut words = Vec::new(alloc);
-    words.push(String::from_str(alloc, "make")?)?;
-    words.push(String::from_str(alloc, size)?)?;
-    let mut shelf = MemShelf::new(alloc, 4096);
-    let mut press = MemPress::new(alloc, 4096);
-    let status = run(alloc, &words, &mut shelf, &mut press);
-    Ok((status, press))
-}
-
 #[test]
-fn one_cell_is_made(rt: HostRuntime) -> Result<(), Fail> {
-    let (status, press) = made(rt.alloc(), "1")?;
-    let report = b"tinmove report 1
+fn one_cell_is_made(rt: HostRuntime) {
+    let report = "tinmove report 1
 triangulation corners 4 triangles 2 inexact 0 name made.json
 layer 0 paths 1 segments 1 pieces 2 inexact 0 dropped 0 name made.wkt
 changes 0
 end
 ";
-    assert_eq!(rt; status, Status::Same);
-    assert_eq!(rt; press.made_bytes("-"), Some(report.as_slice()));
-    assert_eq!(rt; press.made_bytes("made.wkt"), None);
-    Ok(())
+    let made = [("-", Some(report)), ("made.wkt", None)];
+    assert!(rt; makes(rt.alloc(), &["make", "1"], &[], Status::Same, &made));
 }
 
 #[test]
-fn many_cells_are_made(rt: HostRuntime) -> Result<(), Fail> {
-    let (status, press) = made(rt.alloc(), "24")?;
-    let report = b"tinmove report 1
+fn many_cells_are_made_twice_alike(rt: HostRuntime) {
+    let report = "tinmove report 1
 triangulation corners 625 triangles 1152 inexact 0 name made.json
 layer 0 paths 24 segments 24 pieces 1304 inexact 0 dropped 0 name made.wkt
 changes 0
 end
 ";
-    assert_eq!(rt; status, Status::Same);
-    assert_eq!(rt; press.made_bytes("-"), Some(report.as_slice()));
-    Ok(())
-}
-
-#[test]
-fn two_makers_print_the_same(rt: HostRuntime) -> Result<(), Fail> {
-    let alloc = rt.alloc();
-    let (status, press) = made(alloc, "3")?;
-    let (again, other) = made(alloc, "3")?;
-    assert_eq!(rt; status, again);
-    assert_eq!(rt; other.made_bytes("-"), press.made_bytes("-"));
-    Ok(())
+    let made = [("-", Some(report))];
+    for _ in 0..2 {
+        assert!(rt; makes(rt.alloc(), &["make", "24"], &[], Status::Same, &made));
+    }
 }

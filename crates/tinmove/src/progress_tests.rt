@@ -3,31 +3,19 @@
 use crate::progress::{ToldPress, ToldShelf};
 use crate::run::run;
 use crate::status::Status;
+use crate::test_runs::{NEVER, TRIANGLE, words_of};
 use shelf_io::{MemPress, MemShelf, load, print};
 use std::alloc::{AllocError, Global};
 use std::io;
 use std::io::{ErrorKind, Write};
 use std::test::Fail;
 
-const TIN: &[u8] =
-    br#"{"file_type":"triangulation_file","format_version":"1.1","transformed_components":["horizontal"],"vertices_columns":["source_x","source_y","target_x","target_y"],"triangles_columns":["idx_vertex1","idx_vertex2","idx_vertex3"],"vertices":[[0,0,100,100],[10,0,110.002,100],[0,10,100,110]],"triangles":[[0,1,2]]}"#;
-
-/// The number of a call that no run makes.
-const NEVER: u64 = 1000;
-
-/// The words of a run over `t.json` and `p.wkt` into the folder `o`.
-fn words(alloc: Global) -> Result<Vec<String>, AllocError> {
-    let mut words = Vec::new(alloc);
-    for text in ["migrate", "--tin", "t.json", "--out", "o", "p.wkt"] {
-        words.push(String::from_str(alloc, text)?)?;
-    }
-    Ok(words)
-}
+const MIGRATE: [&str; 6] = ["migrate", "--tin", "t.json", "--out", "o", "p.wkt"];
 
 /// A shelf with the files of these words, of which a call fails.
 fn shelf_of_two(alloc: Global, fail: u64) -> Result<MemShelf, AllocError> {
     let mut shelf = MemShelf::new(alloc, 4096);
-    shelf.add("t.json", TIN)?;
+    shelf.add("t.json", TRIANGLE.as_bytes())?;
     shelf.add("p.wkt", b"POINT (5 0)")?;
     shelf.fail_at(fail)?;
     Ok(shelf)
@@ -38,7 +26,7 @@ fn bare_run(alloc: Global, fails: (u64, u64)) -> Result<(Status, MemPress), Allo
     let mut shelf = shelf_of_two(alloc, fails.0)?;
     let mut press = MemPress::new(alloc, 4096);
     press.fail_at(fails.1)?;
-    let status = run(alloc, &words(alloc)?, &mut shelf, &mut press);
+    let status = run(alloc, &words_of(alloc, &MIGRATE)?, &mut shelf, &mut press);
     Ok((status, press))
 }
 
@@ -55,7 +43,7 @@ fn told_run<W: Write + Drop>(
     let mut press = MemPress::new(alloc, 4096);
     press.fail_at(fails.1)?;
     let mut press = ToldPress::new(press, to.1);
-    let status = run(alloc, &words(alloc)?, &mut shelf, &mut press);
+    let status = run(alloc, &words_of(alloc, &MIGRATE)?, &mut shelf, &mut press);
     Ok((status, shelf, press))
 }
 
@@ -116,34 +104,59 @@ impl Write for Closed {
     }
 }
 
+/// Do two runs end in the same way, after as many faults, and leave the same files?
+fn is_same_run(one: (Status, &MemPress), other: (Status, &MemPress)) -> bool {
+    let is_same_file = |name| one.1.made_bytes(name) == other.1.made_bytes(name);
+    one.0 == other.0
+        && one.1.faults() == other.1.faults()
+        && is_same_file("o/p.wkt")
+        && is_same_file("-")
+}
+
+/// Is the run that is told to these two the same as one of which nothing is said?
+fn is_unchanged<W: Write + Drop>(
+    alloc: Global,
+    fails: (u64, u64),
+    to: (Option<W>, Option<W>),
+) -> Result<bool, AllocError> {
+    let (status, press) = bare_run(alloc, fails)?;
+    let (told_status, _, told) = told_run(alloc, fails, to)?;
+    Ok(is_same_run((status, &press), (told_status, &told.press)))
+}
+
 #[test]
-fn a_run_is_the_same_whether_or_not_it_is_heard(rt: HostRuntime) -> Result<(), Fail> {
+fn a_run_is_the_same_where_it_is_heard(rt: HostRuntime) -> Result<(), Fail> {
     let alloc = rt.alloc();
     // Two files are begun, read and ended by six calls, and two are begun, written and ended by six.
     for call in 0..7 {
         for fails in [(call, NEVER), (NEVER, call)] {
-            let (status, bare) = bare_run(alloc, fails)?;
             let heard = (Some(Vec::new(alloc)), Some(Vec::new(alloc)));
-            let (heard_status, _, heard) = told_run::<Vec<u8>>(alloc, fails, heard)?;
+            assert!(rt;
+                is_unchanged::<Vec<u8>>(alloc, fails, heard)?,
+                "at {fails:?}"
+            );
+        }
+    }
+    Ok(())
+}
+
+#[test]
+fn a_run_is_the_same_where_nothing_takes_what_is_said(rt: HostRuntime) -> Result<(), Fail> {
+    for call in 0..7 {
+        for fails in [(call, NEVER), (NEVER, call)] {
             let closed = (Some(Closed), Some(Closed));
-            let (closed_status, _, closed) = told_run(alloc, fails, closed)?;
-            let (silent_status, _, silent) = told_run::<Closed>(alloc, fails, (None, None))?;
-            assert!(rt; silent.to.is_none());
-            for (told_status, told) in [
-                (heard_status, &heard.press),
-                (closed_status, &closed.press),
-                (silent_status, &silent.press),
-            ] {
-                assert_eq!(rt; told_status, status, "at {fails:?}");
-                assert_eq!(rt; told.faults(), bare.faults(), "at {fails:?}");
-                for name in ["o/p.wkt", "-"] {
-                    assert_eq!(rt;
-                        told.made_bytes(name),
-                        bare.made_bytes(name),
-                        "at {fails:?}"
-                    );
-                }
-            }
+            assert!(rt; is_unchanged(rt.alloc(), fails, closed)?, "at {fails:?}");
+        }
+    }
+    Ok(())
+}
+
+#[test]
+fn a_run_is_the_same_where_it_is_silent(rt: HostRuntime) -> Result<(), Fail> {
+    for call in 0..7 {
+        for fails in [(call, NEVER), (NEVER, call)] {
+            let is_same = is_unchanged::<Closed>(rt.alloc(), fails, (None, None))?;
+            assert!(rt; is_same, "at {fails:?}");
         }
     }
     Ok(())

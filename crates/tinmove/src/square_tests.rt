@@ -1,6 +1,7 @@
 //! Calls of the crates below, put together over a square of two triangles. What is expected is worked out by hand.
 
 use crate::listing::known;
+use crate::test_runs::SQUARE;
 use carry_map::{MOST_PIECES, carry};
 use plane_base::Pt;
 use sheet_base::{How, Layer};
@@ -13,10 +14,6 @@ use tin_index::TinIndex;
 use topo_check::{ChangesFault, changes};
 use wkt_layer::Wkt;
 
-/// Two triangles that make a square, whose diagonal is longer in the target.
-const SQUARE: &[u8] =
-    br#"{"file_type":"triangulation_file","format_version":"1.1","transformed_components":["horizontal"],"vertices_columns":["source_x","source_y","target_x","target_y"],"triangles_columns":["idx_vertex1","idx_vertex2","idx_vertex3"],"vertices":[[0,0,100,100],[10,0,110,100],[10,10,110.003,110.003],[0,10,100,110]],"triangles":[[0,1,2],[0,2,3]]}"#;
-
 /// A line across the diagonal, and a point of it.
 const LAYER: &[u8] = b"LINESTRING (10 0, 0 10)\nPOINT (6 4)";
 
@@ -27,7 +24,7 @@ const PLAIN: How = How {
 };
 
 fn index_of(alloc: Global) -> Option<TinIndex> {
-    let tin = read_tin(alloc, SQUARE, PLAIN).ok()?;
+    let tin = read_tin(alloc, SQUARE.as_bytes(), PLAIN).ok()?;
     TinIndex::build(alloc, check_tin(alloc, tin).ok()?).ok()
 }
 

@@ -1,12 +1,12 @@
 //! Runs over triangulations of all kinds, in memory. The expected lines and images are worked out by hand.
 
-use crate::run::run;
 use crate::status::Status;
-use shelf_io::{MemPress, MemShelf};
+use crate::test_runs::{NEVER, holds, makes, ran_over};
+use shelf_io::MemShelf;
 use std::alloc::{AllocError, Global};
 use std::test::Fail;
 
-/// Two triangles that make a square, whose diagonal is longer in the target.
+/// The vertices of two triangles that make a square, whose diagonal is longer in the target.
 const SQUARE: &str = "[0,0,100,100],[10,0,110,100],[10,10,110.003,110.003],[0,10,100,110]";
 
 /// The text of a triangulation with these rows.
@@ -22,56 +22,42 @@ fn tin_text(alloc: Global, vertices: &str, triangles: &str) -> Result<String, Al
     Ok(text)
 }
 
-/// A run of these words over a triangulation and a layer.
-fn run_of(
-    alloc: Global,
-    texts: &[&str],
-    tin: &[u8],
-    layer: &[u8],
-) -> Result<(Status, MemPress), AllocError> {
-    let mut words = Vec::new(alloc);
-    for text in texts {
-        words.push(String::from_str(alloc, text)?)?;
-    }
-    let mut shelf = MemShelf::new(alloc, 4096);
-    shelf.add("t.json", tin)?;
-    shelf.add("p.wkt", layer)?;
-    let mut press = MemPress::new(alloc, 4096);
-    let status = run(alloc, &words, &mut shelf, &mut press);
-    Ok((status, press))
+/// Does a check of this triangulation end so, and print this line?
+fn checks(alloc: Global, tin: &str, wanted: Status, line: &str) -> bool {
+    let made = [("-", Some(line))];
+    makes(alloc, &CHECK, &[("t.json", tin)], wanted, &made)
 }
 
-/// Whether a run of these words ends so and makes a file of these bytes, or none of this name.
-fn makes(
-    alloc: Global,
-    texts: &[&str],
-    tin: &str,
-    layer: &str,
-    wanted: Status,
-    name: &str,
-    bytes: Option<&str>,
-) -> bool {
-    match run_of(alloc, texts, tin.as_bytes(), layer.as_bytes()) {
-        Ok((status, press)) => {
-            status == wanted && press.made_bytes(name) == bytes.map(|text| text.as_bytes())
-        }
+/// Does a check of a triangulation of these rows end so, and print this line?
+fn checks_rows(alloc: Global, vertices: &str, triangles: &str, wanted: Status, line: &str) -> bool {
+    match tin_text(alloc, vertices, triangles) {
+        Ok(tin) => checks(alloc, &tin, wanted, line),
         Err(_) => false,
     }
 }
 
-/// The same over a triangulation of these rows.
-fn makes_of_rows(
+/// Does a run that carries this layer through this triangulation end so, and make these files?
+fn migrates(
     alloc: Global,
-    texts: &[&str],
-    vertices: &str,
-    triangles: &str,
+    tin: &str,
     layer: &str,
     wanted: Status,
-    name: &str,
-    bytes: Option<&str>,
+    made: &[(&str, Option<&str>)],
+) -> bool {
+    let files = [("t.json", tin), ("p.wkt", layer)];
+    makes(alloc, &MIGRATE, &files, wanted, made)
+}
+
+/// Does a run that carries this layer through a triangulation of these rows end so, and make these files?
+fn migrates_through_rows(
+    alloc: Global,
+    (vertices, triangles): (&str, &str),
+    layer: &str,
+    wanted: Status,
+    made: &[(&str, Option<&str>)],
 ) -> bool {
     match tin_text(alloc, vertices, triangles) {
-        Ok(tin) => makes(alloc, texts, tin.as_str(), layer, wanted, name, bytes),
+        Ok(tin) => migrates(alloc, &tin, layer, wanted, made),
         Err(_) => false,
     }
 }
@@ -80,214 +66,203 @@ const CHECK: [&str; 3] = ["check", "--tin", "t.json"];
 
 const MIGRATE: [&str; 6] = ["migrate", "--tin", "t.json", "--out", "o", "p.wkt"];
 
+/// Vertices and triangles, and how a check of them ends.
+const CHECKED_ROWS: &[(&str, &str, Status, &str)] = &[
+    (
+        SQUARE,
+        "[0,1,2],[0,2,3]",
+        Status::Same,
+        "sound: corners 4 triangles 2 inexact 0\n",
+    ),
+    (
+        SQUARE,
+        "[0,1,2],[0,2,3],[2,0,1]",
+        Status::Tin,
+        "triangulation: meets 0 2 source\n",
+    ),
+    (
+        "[0,0,100,100],[10,0,110,100],[5,8,105,108],[5,0,105,100],[2,-8,102,92],[8,-8,108,92]",
+        "[0,1,2],[3,4,5]",
+        Status::Tin,
+        "triangulation: meets 0 1 source\n",
+    ),
+    (
+        "[0,0,0,0],[10,0,10,0],[0,10,0,10],[20,0,10,0],[30,0,20,0],[20,10,10,10]",
+        "[0,1,2],[3,4,5]",
+        Status::Tin,
+        "triangulation: meets 0 1 target\n",
+    ),
+    (
+        "[0,0,0,0],[10,0,10,0],[0,10,20,0]",
+        "[0,1,2]",
+        Status::Tin,
+        "triangulation: flat 0 target\n",
+    ),
+    (
+        "[0,0,0,0],[10,10,10,0],[20,20,0,10]",
+        "[0,1,2]",
+        Status::Tin,
+        "triangulation: flat 0 source\n",
+    ),
+    (
+        "[0,0,0,0],[10,0,0,10],[0,10,10,0]",
+        "[0,1,2]",
+        Status::Tin,
+        "triangulation: turns over 0\n",
+    ),
+    (
+        "[0,0,0,0],[0,10,0,10],[10,0,10,0]",
+        "[0,1,2]",
+        Status::Same,
+        "sound: corners 3 triangles 1 inexact 0\n",
+    ),
+    (
+        "[0,0,100,100],[10,0,110.002,100],[0,10,100,110],[0,0,100,100]",
+        "[3,1,2]",
+        Status::Same,
+        "sound: corners 3 triangles 1 inexact 0\n",
+    ),
+    (
+        "[0,0.0004,0,0],[10,0,10,1e-4],[0,10,0,10]",
+        "[0,1,2]",
+        Status::Same,
+        "sound: corners 3 triangles 1 inexact 2\n",
+    ),
+    (
+        "",
+        "",
+        Status::Same,
+        "sound: corners 0 triangles 0 inexact 0\n",
+    ),
+    (
+        "[0,0,0,0],[1073741.824,0,10,0],[0,10,0,10]",
+        "[0,1,2]",
+        Status::Tin,
+        "triangulation: span source x\n",
+    ),
+    (
+        "[0,0,0,0],[0,1073741.824,10,0],[10,0,0,10]",
+        "[0,1,2]",
+        Status::Tin,
+        "triangulation: span source y\n",
+    ),
+    (
+        "[0,0,0,0],[0,10,1073741.824,0],[10,0,0,10]",
+        "[0,1,2]",
+        Status::Tin,
+        "triangulation: span target x\n",
+    ),
+    (
+        "[0,0,0,0],[0,10,0,-1073741.824],[10,0,0,10]",
+        "[0,1,2]",
+        Status::Tin,
+        "triangulation: span target y\n",
+    ),
+    (
+        "[0,0,0]",
+        "",
+        Status::Tin,
+        "triangulation: row 0 of vertices\n",
+    ),
+    (
+        "[0,0,0,0]",
+        "[0,0,0],[0,0]",
+        Status::Tin,
+        "triangulation: row 1 of triangles\n",
+    ),
+    (
+        "[0,0,0,0]",
+        "[0,0,1]",
+        Status::Tin,
+        "triangulation: index in triangle 0\n",
+    ),
+    (
+        "[0,0,0,0],[0,0,0,1e13]",
+        "",
+        Status::Tin,
+        "triangulation: number range in row 1\n",
+    ),
+    (
+        "[0,0,0,0.00000000000000000000000000000000000000000000000000000000000000000]",
+        "",
+        Status::Tin,
+        "triangulation: number long in row 0\n",
+    ),
+];
+
 #[test]
-fn checks_rows(rt: HostRuntime) {
-    let alloc = rt.alloc();
-    for (vertices, triangles, wanted, line) in [
-        (
-            SQUARE,
-            "[0,1,2],[0,2,3]",
-            Status::Same,
-            "sound: corners 4 triangles 2 inexact 0\n",
-        ),
-        (
-            SQUARE,
-            "[0,1,2],[0,2,3],[2,0,1]",
-            Status::Tin,
-            "triangulation: meets 0 2 source\n",
-        ),
-        (
-            "[0,0,100,100],[10,0,110,100],[5,8,105,108],[5,0,105,100],[2,-8,102,92],[8,-8,108,92]",
-            "[0,1,2],[3,4,5]",
-            Status::Tin,
-            "triangulation: meets 0 1 source\n",
-        ),
-        (
-            "[0,0,0,0],[10,0,10,0],[0,10,0,10],[20,0,10,0],[30,0,20,0],[20,10,10,10]",
-            "[0,1,2],[3,4,5]",
-            Status::Tin,
-            "triangulation: meets 0 1 target\n",
-        ),
-        (
-            "[0,0,0,0],[10,0,10,0],[0,10,20,0]",
-            "[0,1,2]",
-            Status::Tin,
-            "triangulation: flat 0 target\n",
-        ),
-        (
-            "[0,0,0,0],[10,10,10,0],[20,20,0,10]",
-            "[0,1,2]",
-            Status::Tin,
-            "triangulation: flat 0 source\n",
-        ),
-        (
-            "[0,0,0,0],[10,0,0,10],[0,10,10,0]",
-            "[0,1,2]",
-            Status::Tin,
-            "triangulation: turns over 0\n",
-        ),
-        (
-            "[0,0,0,0],[0,10,0,10],[10,0,10,0]",
-            "[0,1,2]",
-            Status::Same,
-            "sound: corners 3 triangles 1 inexact 0\n",
-        ),
-        (
-            "[0,0,100,100],[10,0,110.002,100],[0,10,100,110],[0,0,100,100]",
-            "[3,1,2]",
-            Status::Same,
-            "sound: corners 3 triangles 1 inexact 0\n",
-        ),
-        (
-            "[0,0.0004,0,0],[10,0,10,1e-4],[0,10,0,10]",
-            "[0,1,2]",
-            Status::Same,
-            "sound: corners 3 triangles 1 inexact 2\n",
-        ),
-        (
-            "",
-            "",
-            Status::Same,
-            "sound: corners 0 triangles 0 inexact 0\n",
-        ),
-        (
-            "[0,0,0,0],[1073741.824,0,10,0],[0,10,0,10]",
-            "[0,1,2]",
-            Status::Tin,
-            "triangulation: span source x\n",
-        ),
-        (
-            "[0,0,0,0],[0,1073741.824,10,0],[10,0,0,10]",
-            "[0,1,2]",
-            Status::Tin,
-            "triangulation: span source y\n",
-        ),
-        (
-            "[0,0,0,0],[0,10,1073741.824,0],[10,0,0,10]",
-            "[0,1,2]",
-            Status::Tin,
-            "triangulation: span target x\n",
-        ),
-        (
-            "[0,0,0,0],[0,10,0,-1073741.824],[10,0,0,10]",
-            "[0,1,2]",
-            Status::Tin,
-            "triangulation: span target y\n",
-        ),
-        (
-            "[0,0,0]",
-            "",
-            Status::Tin,
-            "triangulation: row 0 of vertices\n",
-        ),
-        (
-            "[0,0,0,0]",
-            "[0,0,0],[0,0]",
-            Status::Tin,
-            "triangulation: row 1 of triangles\n",
-        ),
-        (
-            "[0,0,0,0]",
-            "[0,0,1]",
-            Status::Tin,
-            "triangulation: index in triangle 0\n",
-        ),
-        (
-            "[0,0,0,0],[0,0,0,1e13]",
-            "",
-            Status::Tin,
-            "triangulation: number range in row 1\n",
-        ),
-        (
-            "[0,0,0,0.00000000000000000000000000000000000000000000000000000000000000000]",
-            "",
-            Status::Tin,
-            "triangulation: number long in row 0\n",
-        ),
-    ] {
+fn rows_are_checked(rt: HostRuntime) {
+    for (vertices, triangles, wanted, line) in CHECKED_ROWS {
         assert!(rt;
-            makes_of_rows(
-                alloc,
-                &CHECK,
-                vertices,
-                triangles,
-                "",
-                wanted,
-                "-",
-                Some(line),
-            ),
+            checks_rows(rt.alloc(), vertices, triangles, *wanted, line),
             "at {vertices} {triangles}"
         );
     }
 }
 
+/// Texts that are no triangulation file, and what is said of each.
+const CHECKED_TEXTS: &[(&str, &str)] = &[
+    (r#"{"file_type":"#, "triangulation: json at 13\n"),
+    (
+        "[[[[[[[[[[[[[[[[[[[[[[[[[[[[[[[[[[[[[[[[[[[[[[[[[[[[[[[[[[[[[[[[[",
+        "triangulation: deep at 64\n",
+    ),
+    ("", "triangulation: json at 0\n"),
+    ("[]", "triangulation: key top\n"),
+    ("{}", "triangulation: key file_type\n"),
+    (
+        r#"{"file_type":"triangulation_file"}"#,
+        "triangulation: key format_version\n",
+    ),
+    (
+        r#"{"file_type":"triangulation_file","format_version":"2.0"}"#,
+        "triangulation: version\n",
+    ),
+    (
+        r#"{"file_type":"triangulation_file","format_version":"1.1","fallback_strategy":1}"#,
+        "triangulation: key fallback_strategy\n",
+    ),
+    (
+        r#"{"file_type":"triangulation_file","format_version":"1.1","fallback_strategy":"nearest_side"}"#,
+        "triangulation: fallback nearest_side\n",
+    ),
+    (
+        r#"{"file_type":"triangulation_file","format_version":"1.1","fallback_strategy":"nearest_centroid"}"#,
+        "triangulation: fallback nearest_centroid\n",
+    ),
+    (
+        r#"{"file_type":"triangulation_file","format_version":"1.1"}"#,
+        "triangulation: key transformed_components\n",
+    ),
+    (
+        r#"{"file_type":"triangulation_file","format_version":"1.1","transformed_components":["vertical"]}"#,
+        "triangulation: no horizontal\n",
+    ),
+    (
+        r#"{"file_type":"triangulation_file","format_version":"1.1","transformed_components":["horizontal"]}"#,
+        "triangulation: key vertices_columns\n",
+    ),
+    (
+        r#"{"file_type":"triangulation_file","format_version":"1.1","transformed_components":["horizontal"],"vertices_columns":["source_x","source_y","target_x","target_y"]}"#,
+        "triangulation: key triangles_columns\n",
+    ),
+    (
+        r#"{"file_type":"triangulation_file","format_version":"1.1","transformed_components":["horizontal"],"vertices_columns":["source_x","source_y","target_x","target_y"],"triangles_columns":["idx_vertex1","idx_vertex2","idx_vertex3"]}"#,
+        "triangulation: key vertices\n",
+    ),
+    (
+        r#"{"file_type":"triangulation_file","format_version":"1.1","transformed_components":["horizontal"],"vertices_columns":["source_x","source_y","target_x","target_y"],"triangles_columns":["idx_vertex1","idx_vertex2","idx_vertex3"],"vertices":[]}"#,
+        "triangulation: key triangles\n",
+    ),
+];
+
 #[test]
-fn checks_texts(rt: HostRuntime) {
-    let alloc = rt.alloc();
-    for (text, line) in [
-        (r#"{"file_type":"#, "triangulation: json at 13\n"),
-        (
-            "[[[[[[[[[[[[[[[[[[[[[[[[[[[[[[[[[[[[[[[[[[[[[[[[[[[[[[[[[[[[[[[[[",
-            "triangulation: deep at 64\n",
-        ),
-        ("", "triangulation: json at 0\n"),
-        ("[]", "triangulation: key top\n"),
-        ("{}", "triangulation: key file_type\n"),
-        (
-            r#"{"file_type":"triangulation_file"}"#,
-            "triangulation: key format_version\n",
-        ),
-        (
-            r#"{"file_type":"triangulation_file","format_version":"2.0"}"#,
-            "triangulation: version\n",
-        ),
-        (
-            r#"{"file_type":"triangulation_file","format_version":"1.1","fallback_strategy":1}"#,
-            "triangulation: key fallback_strategy\n",
-        ),
-        (
-            r#"{"file_type":"triangulation_file","format_version":"1.1","fallback_strategy":"nearest_side"}"#,
-            "triangulation: fallback nearest_side\n",
-        ),
-        (
-            r#"{"file_type":"triangulation_file","format_version":"1.1","fallback_strategy":"nearest_centroid"}"#,
-            "triangulation: fallback nearest_centroid\n",
-        ),
-        (
-            r#"{"file_type":"triangulation_file","format_version":"1.1"}"#,
-            "triangulation: key transformed_components\n",
-        ),
-        (
-            r#"{"file_type":"triangulation_file","format_version":"1.1","transformed_components":["vertical"]}"#,
-            "triangulation: no horizontal\n",
-        ),
-        (
-            r#"{"file_type":"triangulation_file","format_version":"1.1","transformed_components":["horizontal"]}"#,
-            "triangulation: key vertices_columns\n",
-        ),
-        (
-            r#"{"file_type":"triangulation_file","format_version":"1.1","transformed_components":["horizontal"],"vertices_columns":["source_x","source_y","target_x","target_y"]}"#,
-            "triangulation: key triangles_columns\n",
-        ),
-        (
-            r#"{"file_type":"triangulation_file","format_version":"1.1","transformed_components":["horizontal"],"vertices_columns":["source_x","source_y","target_x","target_y"],"triangles_columns":["idx_vertex1","idx_vertex2","idx_vertex3"]}"#,
-            "triangulation: key vertices\n",
-        ),
-        (
-            r#"{"file_type":"triangulation_file","format_version":"1.1","transformed_components":["horizontal"],"vertices_columns":["source_x","source_y","target_x","target_y"],"triangles_columns":["idx_vertex1","idx_vertex2","idx_vertex3"],"vertices":[]}"#,
-            "triangulation: key triangles\n",
-        ),
-    ] {
+fn texts_are_checked(rt: HostRuntime) {
+    for (text, line) in CHECKED_TEXTS {
+        assert!(rt; checks(rt.alloc(), text, Status::Tin, line), "at {text}");
+        let made = [("-", Some(*line)), ("o/p.wkt", None)];
         assert!(rt;
-            makes(alloc, &CHECK, text, "", Status::Tin, "-", Some(line)),
-            "at {text}"
-        );
-        assert!(rt;
-            makes(alloc, &MIGRATE, text, "", Status::Tin, "-", Some(line)),
-            "at {text}"
-        );
-        assert!(rt;
-            makes(alloc, &MIGRATE, text, "", Status::Tin, "o/p.wkt", None),
+            migrates(rt.alloc(), text, "", Status::Tin, &made),
             "at {text}"
         );
     }
@@ -306,39 +281,15 @@ fn too_many_rows_pass_a_limit(rt: HostRuntime) -> Result<(), Fail> {
     let alloc = rt.alloc();
     let mut vertices = String::from_str(alloc, "0")?;
     push_many(&mut vertices, ",0", 1 << 20)?;
-    let many_vertices = tin_text(alloc, vertices.as_str(), "")?;
+    assert!(rt; checks_rows(alloc, &vertices, "", Status::Limit, "limit: vertices\n"));
     let mut triangles = String::from_str(alloc, "0")?;
     push_many(&mut triangles, ",0", 1 << 21)?;
-    let many_triangles = tin_text(alloc, "", triangles.as_str())?;
-    let wanted = Status::Limit;
-    assert!(rt;
-        makes(
-            alloc,
-            &CHECK,
-            many_vertices.as_str(),
-            "",
-            wanted,
-            "-",
-            Some("limit: vertices\n"),
-        )
-    );
-    assert!(rt;
-        makes(
-            alloc,
-            &CHECK,
-            many_triangles.as_str(),
-            "",
-            wanted,
-            "-",
-            Some("limit: triangles\n"),
-        )
-    );
+    assert!(rt; checks_rows(alloc, "", &triangles, Status::Limit, "limit: triangles\n"));
     Ok(())
 }
 
 #[test]
 fn carries_through_triangulations(rt: HostRuntime) {
-    let alloc = rt.alloc();
     for (vertices, triangles, layer, written) in [
         (
             SQUARE,
@@ -372,17 +323,10 @@ fn carries_through_triangulations(rt: HostRuntime) {
         ),
         ("", "", "\n", "\n"),
     ] {
+        let rows = (vertices, triangles);
+        let made = [("o/p.wkt", Some(written))];
         assert!(rt;
-            makes_of_rows(
-                alloc,
-                &MIGRATE,
-                vertices,
-                triangles,
-                layer,
-                Status::Same,
-                "o/p.wkt",
-                Some(written),
-            ),
+            migrates_through_rows(rt.alloc(), rows, layer, Status::Same, &made),
             "at {layer}"
         );
     }
@@ -390,7 +334,6 @@ fn carries_through_triangulations(rt: HostRuntime) {
 
 #[test]
 fn points_outside(rt: HostRuntime) {
-    let alloc = rt.alloc();
     for (vertices, triangles, layer, line) in [
         ("", "", "POINT (0 0)", "outside: layer 0 path 0 segment 0\n"),
         (
@@ -400,24 +343,10 @@ fn points_outside(rt: HostRuntime) {
             "outside: layer 0 path 2 segment 0\n",
         ),
     ] {
-        let wanted = Status::Outside;
+        let rows = (vertices, triangles);
+        let made = [("-", Some(line)), ("o/p.wkt", None)];
         assert!(rt;
-            makes_of_rows(
-                alloc,
-                &MIGRATE,
-                vertices,
-                triangles,
-                layer,
-                wanted,
-                "-",
-                Some(line),
-            ),
-            "at {layer}"
-        );
-        assert!(rt;
-            makes_of_rows(
-                alloc, &MIGRATE, vertices, triangles, layer, wanted, "o/p.wkt", None,
-            ),
+            migrates_through_rows(rt.alloc(), rows, layer, Status::Outside, &made),
             "at {layer}"
         );
     }
@@ -450,7 +379,6 @@ const NAMED_ROWS: &str =
 
 #[test]
 fn files_of_the_kind_of_proj(rt: HostRuntime) {
-    let alloc = rt.alloc();
     for (tin, layer, written) in [
         // PROJ answers 209948.3217 6697187.0009.
         (
@@ -460,81 +388,56 @@ fn files_of_the_kind_of_proj(rt: HostRuntime) {
         ),
         (NAMED_ROWS, "POINT (5 0)", "POINT (105.001 100.000)"),
     ] {
+        let made = [("o/p.wkt", Some(written))];
         assert!(rt;
-            makes(
-                alloc,
-                &MIGRATE,
-                tin,
-                layer,
-                Status::Same,
-                "o/p.wkt",
-                Some(written),
-            ),
+            migrates(rt.alloc(), tin, layer, Status::Same, &made),
             "at {layer}"
         );
-        assert!(rt;
-            makes(
-                alloc,
-                &CHECK,
-                tin,
-                "",
-                Status::Same,
-                "-",
-                Some("sound: corners 3 triangles 1 inexact 0\n"),
-            ),
-            "at {layer}"
-        );
+        assert!(rt; checks(rt.alloc(), tin, Status::Same, SOUND), "at {layer}");
     }
 }
 
-/// The words of a check.
-fn check_words(alloc: Global) -> Result<Vec<String>, AllocError> {
-    let mut words = Vec::new(alloc);
-    words.push(String::from_str(alloc, "check")?)?;
-    words.push(String::from_str(alloc, "--tin")?)?;
-    words.push(String::from_str(alloc, "t.json")?)?;
-    Ok(words)
+/// What a check says of either.
+const SOUND: &str = "sound: corners 3 triangles 1 inexact 0\n";
+
+/// A shelf of the example, of which a call fails.
+fn failing_shelf(alloc: Global, call: u64) -> Result<MemShelf, AllocError> {
+    let mut shelf = MemShelf::new(alloc, 4096);
+    shelf.add("t.json", KKJ.as_bytes())?;
+    shelf.fail_at(call)?;
+    Ok(shelf)
 }
 
 #[test]
 fn a_check_writes_its_line_alone(rt: HostRuntime) -> Result<(), Fail> {
     let alloc = rt.alloc();
-    let words = check_words(alloc)?;
     // With writes of 4 bytes: standard output is begun by call 0, and its 39 bytes are written by ten.
     for (call, front) in [
         (0, None),
-        (1, Some(b"".as_slice())),
-        (3, Some(b"sound: c")),
-        (11, Some(b"sound: corners 3 triangles 1 inexact 0\n")),
+        (1, Some("")),
+        (3, Some("sound: c")),
+        (11, Some(SOUND)),
     ] {
-        let mut shelf = MemShelf::new(alloc, 4096);
-        shelf.add("t.json", KKJ.as_bytes())?;
-        let mut press = MemPress::new(alloc, 4);
-        press.fail_at(call)?;
-        let status = run(alloc, &words, &mut shelf, &mut press);
-        assert_eq!(rt; status, Status::Write, "at call {call}");
-        assert_eq!(rt; press.made_bytes("-"), front, "at call {call}");
+        let shelf = failing_shelf(alloc, NEVER)?;
+        let (status, press) = ran_over(alloc, &CHECK, shelf, 4, call)?;
+        let is_left = holds(&press, &[("-", front)]);
+        assert_eq!(rt; (status, is_left), (Status::Write, true), "at call {call}");
     }
     Ok(())
 }
 
 #[test]
+fn a_check_of_a_file_that_is_not_there(rt: HostRuntime) {
+    let made = [("-", Some("read fault: triangulation\n"))];
+    assert!(rt; makes(rt.alloc(), &CHECK, &[], Status::Read, &made));
+}
+
+#[test]
 fn a_check_of_a_file_that_is_not_read(rt: HostRuntime) -> Result<(), Fail> {
     let alloc = rt.alloc();
-    let words = check_words(alloc)?;
-    let line = b"read fault: triangulation\n".as_slice();
-    let mut empty = MemShelf::new(alloc, 4096);
-    let mut press = MemPress::new(alloc, 4096);
-    assert_eq!(rt; run(alloc, &words, &mut empty, &mut press), Status::Read);
-    assert_eq!(rt; press.made_bytes("-"), Some(line));
-    let mut failing = MemShelf::new(alloc, 4096);
-    failing.add("t.json", KKJ.as_bytes())?;
-    failing.fail_at(1)?;
-    let mut other_press = MemPress::new(alloc, 4096);
-    assert_eq!(rt;
-        run(alloc, &words, &mut failing, &mut other_press),
-        Status::Read
-    );
-    assert_eq!(rt; other_press.made_bytes("-"), Some(line));
+    let shelf = failing_shelf(alloc, 1)?;
+    let (status, press) = ran_over(alloc, &CHECK, shelf, 4096, NEVER)?;
+    let is_told = holds(&press, &[("-", Some("read fault: triangulation\n"))]);
+    assert_eq!(rt; (status, is_told), (Status::Read, true));
     Ok(())
 }

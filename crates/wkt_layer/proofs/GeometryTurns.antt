@@ -5,6 +5,7 @@ use Rattle.std.specs.List.{AllByRecursion}
 use Rattle.plane_base.specs.declared.shapes.Pt.{Pt}
 use Rattle.sheet_base.specs.declared.edits.Edit.{Edit}
 use Rattle.sheet_base.specs.declared.paths.PathKind.TheVariants.{Dot, Line, Loop}
+use Rattle.sheet_base.proofs.Redrawn.{suit_parts}
 use Rattle.wkt_layer.specs.Tokens.{Token, opening, closing, comma, word}
 use Rattle.wkt_layer.specs.Geometries.{Geometry, point, line_string, polygon, multi_point, multi_line_string, multi_polygon, collection, Geometries, no_geometry, geometry, point_tokens, behind_item, content_tokens, points_tokens, member_tokens, lists_tokens, geometry_tokens, geometries_tokens, behind_geometry, ArePoints, IsDot, IsRing, IsMember, IsGeometry, AreGeometries}
 use Rattle.wkt_layer.specs.Paths.{Path, path_of, member_path, geometry_paths, geometries_paths}
@@ -12,7 +13,7 @@ use Rattle.wkt_layer.specs.declared.words.Kind.{Kind}
 use Rattle.wkt_layer.specs.declared.words.Kind.TheVariants as kinds
 use Rattle.wkt_layer.specs.declared.words.Word.TheVariants.{Tag, Empty}
 use Rattle.wkt_layer.proofs.TokenCuts.{lexed, Clear, MayFollow, Kept, kept_cut, clear_opening, clear_closing, clear_comma, clear_word}
-use Rattle.wkt_layer.proofs.Turns.{AllSuit, suit_parts, Turned, EachTurns, single, tagged, led, after_empty, content_turned}
+use Rattle.wkt_layer.proofs.Turns.{drawn, AllSuit, Turned, EachTurns, single, tagged, led, after_empty, content_turned}
 use Rattle.wkt_layer.proofs.PointTurns.{DoesSay, points_turned, member_turned}
 
 -- what stands behind a tag goes on no word
@@ -90,7 +91,7 @@ module _ (exact : Bool) (text : Edit → List ℕ) (images : ℕ → List Pt) (s
         single geometries_tokens geometries_paths (AreGeometries exact depth) text images no_geometry (word Empty) refl refl tt (after_empty Empty) nth at bytes others (kept_cut at bytes (word Empty) others tt e)
     geometries_turned depth (geometry first more) good nth at bytes others suit e =
         let k = kept_cut at bytes opening (geometry_tokens first ++ (behind_geometry more ++ others)) tt (e ∙ ap (λ ts. opening ∷ ts) (append_assoc (geometry_tokens first) (behind_geometry more) others)) in
-        let suits = suit_parts images nth (geometry_paths first) (geometries_paths more) suit in
+        let suits = suit_parts drawn images nth (geometry_paths first) (geometries_paths more) suit in
         let a = geometry_turned depth first good.0 nth (at + length k.piece) k.rest (behind_geometry more ++ others) suits.0 k.left in
         led geometry_tokens geometry_paths (IsGeometry exact depth) behind_geometry geometries_paths (AreGeometries exact depth) geometries_tokens geometries_paths (AreGeometries exact depth) text images geometry opening
         (λ x xs. refl) (λ x xs. refl) (λ x xs one all. (one, all)) any_opening first more nth at bytes others k a (behind_clear more (at + length k.piece + length a.taken) a.rest others a.left)
@@ -101,7 +102,7 @@ module _ (exact : Bool) (text : Edit → List ℕ) (images : ℕ → List Pt) (s
         single behind_geometry geometries_paths (AreGeometries exact depth) text images no_geometry closing refl refl tt any_closing nth at bytes others (kept_cut at bytes closing others tt e)
     behind_turned depth (geometry first more) good nth at bytes others suit e =
         let k = kept_cut at bytes comma (geometry_tokens first ++ (behind_geometry more ++ others)) tt (e ∙ ap (λ ts. comma ∷ ts) (append_assoc (geometry_tokens first) (behind_geometry more) others)) in
-        let suits = suit_parts images nth (geometry_paths first) (geometries_paths more) suit in
+        let suits = suit_parts drawn images nth (geometry_paths first) (geometries_paths more) suit in
         let a = geometry_turned depth first good.0 nth (at + length k.piece) k.rest (behind_geometry more ++ others) suits.0 k.left in
         led geometry_tokens geometry_paths (IsGeometry exact depth) behind_geometry geometries_paths (AreGeometries exact depth) behind_geometry geometries_paths (AreGeometries exact depth) text images geometry comma
         (λ x xs. refl) (λ x xs. refl) (λ x xs one all. (one, all)) any_comma first more nth at bytes others k a (behind_clear more (at + length k.piece + length a.taken) a.rest others a.left)

@@ -1,24 +1,20 @@
 -- Reading the tokens of a line, and the lines of a text.
-use Rattle.std.proofs.Common.{◌≡◌, ◌≢◌, ◌==◌, ℕ, zero, suc, ◌+◌, ◌-◌, ◌<◌, ◌≤◌, ◌⊎◌, inl, inr, Bool, true, false, List, [], ◌∷◌, ◌++◌, length, take, drop, get_or, All, refl, sym, ap, ◌∙◌, subst, append_assoc, append-nil, arith, add-one, length-append}
+use Rattle.std.proofs.Common.{◌≡◌, ◌≢◌, ℕ, zero, suc, ◌+◌, ◌-◌, ◌<◌, ◌≤◌, Bool, true, false, List, [], ◌∷◌, ◌++◌, length, take, drop, get_or, refl, sym, ap, ◌∙◌, subst, append_assoc, append-nil, arith, add-one, length-append}
 use Rattle.std.proofs.lemmas.Bool.{and_parts}
-use Rattle.std.specs.Prelude.{◌&&◌, Option, Some, None, Ok, Err, map, if◌then◌else◌}
-use Rattle.std.specs.List.{list_all, AllByRecursion}
-use Rattle.std.proofs.lemmas.List.{map-append, get_or_default, take_all, drop_all, length-drop, get_or-take, length-take-le}
-use Rattle.std.proofs.lemmas.List.Splits.{slice_split_none, slice_split_at}
-use Rattle.std.proofs.Math.Seq.{split_at, drop-cons}
-use Rattle.memchr.specs.Find.{is_byte, Nowhere, NoneBefore, Passes}
+use Rattle.std.specs.Prelude.{◌&&◌, Some, None, Ok, Err, map}
+use Rattle.std.specs.List.{list_all}
+use Rattle.std.proofs.lemmas.List.{map-append, drop_all}
+use Rattle.std.proofs.Math.Seq.{drop-cons}
 use Rattle.text_places.specs.Machine.{run}
-use Rattle.text_places.specs.Places.{IsFirstFault}
 use Rattle.text_places.proofs.Runs.{run_next}
 use Rattle.sheet_base.specs.declared.faults.LayerFault.{LayerFault}
 use Rattle.sheet_base.specs.declared.faults.LayerFault.TheVariants as faults
-use Rattle.wkt_layer.specs.declared.limits.TheConstants.{LINE_FEED}
-use Rattle.wkt_layer.specs.Tokens.{Token, Placed, is_blank, token_of, token_at, token_length, bytes_behind, tokens_behind, tokens_of}
-use Rattle.wkt_layer.specs.Lines.{IsLine, IsLineOf, tokens_in}
-use Rattle.wkt_layer.specs.Faults.{IsFaultOf, IsLineFault, IsTokenFault, IsFaultBehind}
-use Rattle.wkt_layer.specs.Layers.{lines_of}
+use Rattle.sheet_base.proofs.ListParts.{drop_twice, drop_front}
+use Rattle.wkt_layer.specs.Tokens.{Token, Placed, is_blank, token_of, token_length, tokens_behind, tokens_of}
+use Rattle.wkt_layer.specs.Lines.{IsLineOf, tokens_in}
+use Rattle.wkt_layer.specs.Faults.{IsFaultOf, IsLineFault, IsFaultBehind}
 use Rattle.wkt_layer.specs.Paths.{Path}
-use Rattle.wkt_layer.specs.States.{State, state, start, step, IsEnd, fault_of, opened_by}
+use Rattle.wkt_layer.specs.States.{State, start, step, IsEnd, fault_of, opened_by}
 use Rattle.wkt_layer.specs.Passes.{token_for, IsFirstToken, Leads, Stands}
 use Rattle.wkt_layer.specs.declared.pass.Pass.{Pass}
 use Rattle.wkt_layer.specs.declared.tokens.Sign.{Sign}
@@ -62,11 +58,6 @@ token_first at bytes byte more sign size split black some first =
     let here : IsFirstToken (byte ∷ more) sign size = subst (λ (xs : List ℕ). IsFirstToken xs sign size) split first in
     subst (λ (xs : List ℕ). tokens_of at xs ≡ record { start = at; token = token_for at (take size xs) sign } ∷ tokens_of (at + size) (drop size xs)) (sym split)
     (token_first_at at byte more sign size black some here)
-
-pub drop_twice : {A : Type 0} (at size : ℕ) (xs : List A) → drop size (drop at xs) ≡ drop (at + size) xs
-drop_twice zero size xs = let e : size ≡ 0 + size = omega arith in ap (λ n. drop n xs) e
-drop_twice {A} (suc at) size [] = let n : length {A = A} [] ≤ suc at + size = omega arith in let m : length {A = A} [] ≤ size = omega arith in drop_all size [] m ∙ sym (drop_all (suc at + size) [] n)
-drop_twice (suc at) size (x ∷ xs) = let e : suc (at + size) ≡ suc at + size = omega arith in drop_twice at size xs ∙ ap (λ n. drop n (x ∷ xs)) e
 
 left_at : (line : List ℕ) (at : ℕ) → at < length line → drop at line ≡ get_or line at 0 ∷ drop (at + 1) line
 left_at line at within = rw add-one (drop-cons line at 0 within)
@@ -115,10 +106,6 @@ some_fault exact (one ∷ more) end fault some is = is
 pub take_front : {A : Type 0} (front back : List A) → take (length front) (front ++ back) ≡ front
 take_front [] back = refl
 take_front (x ∷ front) back = ap (λ xs. x ∷ xs) (take_front front back)
-
-pub drop_front : {A : Type 0} (front back : List A) → drop (length front) (front ++ back) ≡ back
-drop_front [] back = refl
-drop_front (x ∷ front) back = drop_front front back
 
 tokens_length : (front : List Placed) → length (tokens_in front) ≡ length front
 tokens_length [] = refl

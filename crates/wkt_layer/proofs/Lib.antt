@@ -18,7 +18,6 @@ pub mod EditOrder
 pub mod OneSheet
 pub mod TokenCuts
 pub mod ImageTexts
-pub mod Swaps
 pub mod Turns
 pub mod PointTurns
 pub mod GeometryTurns

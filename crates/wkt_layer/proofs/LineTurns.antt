@@ -1,25 +1,26 @@
 -- How lines turn into those that are written.
-use Rattle.std.proofs.Common.{◌≡◌, ◌==◌, ℕ, zero, suc, ◌+◌, ◌-◌, ◌<◌, ◌≤◌, Bool, true, false, List, [], ◌∷◌, ◌++◌, length, take, drop, refl, sym, ap, ◌∙◌, subst, append_assoc, append-nil, arith, length-append, All}
-use Rattle.std.specs.Prelude.{◌&&◌, not, map, sum_by, cond}
-use Rattle.std.specs.List.{list_all, AllByRecursion, join_with_byte, slice_split, onto_first}
+use Rattle.std.proofs.Common.{◌≡◌, ◌==◌, ℕ, zero, suc, ◌+◌, ◌-◌, Bool, true, false, List, [], ◌∷◌, ◌++◌, length, take, drop, refl, sym, ap, ◌∙◌, subst, append-nil, arith, All}
+use Rattle.std.specs.Prelude.{not, map, sum_by}
+use Rattle.std.specs.List.{list_all, AllByRecursion, join_with_byte, onto_first}
 use Rattle.std.proofs.lemmas.Bool.{and_parts}
 use Rattle.std.proofs.lemmas.List.{map-append}
 use Rattle.std.proofs.lemmas.List.Sums.{sum_by-append}
 use Rattle.std.proofs.lemmas.List.Splits.{slice_split_none, slice_split_at, join_with_byte-slice_split}
 use Rattle.plane_base.specs.declared.shapes.Pt.{Pt}
 use Rattle.sheet_base.specs.declared.edits.Edit.{Edit}
-use Rattle.wkt_layer.specs.Tokens.{Token, Placed, tokens_of, is_blank}
+use Rattle.wkt_layer.specs.Tokens.{Placed, tokens_of, is_blank}
 use Rattle.wkt_layer.specs.Geometries.{Geometry, point, line_string, polygon, multi_point, multi_line_string, multi_polygon, collection, IsGeometry, geometry_tokens}
 use Rattle.wkt_layer.specs.Paths.{Path, geometry_paths, lost_on, edits_from}
 use Rattle.wkt_layer.specs.Lines.{IsLineOf, tokens_in}
 use Rattle.wkt_layer.specs.Layers.{lines_of, AreLinesOf}
 use Rattle.wkt_layer.specs.declared.limits.TheConstants.{DEEPEST, LINE_FEED}
 use Rattle.sheet_base.specs.Splices.{AreInOrder, spliced}
+use Rattle.sheet_base.proofs.Swaps.{Swapped, spliced_on, on_from, kept_swapped, both_swapped}
+use Rattle.sheet_base.proofs.Redrawn.{suit_parts, redrawn_append}
 use Rattle.wkt_layer.proofs.EditOrder.{split_some}
 use Rattle.wkt_layer.proofs.Lexing.{blank_tokens, black_tokens}
 use Rattle.wkt_layer.proofs.TokenCuts.{lexed, clear_end}
-use Rattle.wkt_layer.proofs.Swaps.{Swapped, spliced_on, on_from, kept_swapped, both_swapped}
-use Rattle.wkt_layer.proofs.Turns.{Drawn, drawn, redrawn, redrawn_append, edits_append, AllSuit, suit_parts, IsRead, Turned}
+use Rattle.wkt_layer.proofs.Turns.{drawn, redrawn, edits_append, AllSuit, IsRead, Turned}
 use Rattle.wkt_layer.proofs.PointTurns.{DoesSay}
 use Rattle.wkt_layer.proofs.GeometryTurns.{geometry_turned}
 
@@ -221,7 +222,7 @@ module _ (exact : Bool) (text : Edit → List ℕ) (images : ℕ → List Pt) (s
       on from v w = record {
         others = v.others ++ w.others;
         are_of = (v.others, w.others, v.are_of, w.are_of, refl);
-        drawn_are = map-append drawn v.others w.others ∙ ap (λ ds. ds ++ map drawn w.others) v.drawn_are ∙ ap (λ ds. redrawn images nth here ++ ds) w.drawn_are ∙ sym (redrawn_append images nth here others);
+        drawn_are = map-append drawn v.others w.others ∙ ap (λ ds. ds ++ map drawn w.others) v.drawn_are ∙ ap (λ ds. redrawn images nth here ++ ds) w.drawn_are ∙ sym (redrawn_append drawn images nth here others);
         exact_all = sum_by-append lost_on v.others w.others ∙ omega (arith, v.exact_all, w.exact_all);
       }
 
@@ -231,7 +232,7 @@ module _ (exact : Bool) (text : Edit → List ℕ) (images : ℕ → List Pt) (s
       let all : paths ≡ here = same ∙ ap (λ ps. here ++ ps) none ∙ append-nil here in
       subst (LinesTurned exact text images at (line ∷ []) nth) (sym all) (last_turned at line nth here (subst (AllSuit images nth) all suit) is line_plain.0)
   lines_turned at line (next ∷ lines) nth paths suit (here, others, is, are, same) line_plain =
-      let suits = suit_parts images nth here others (subst (AllSuit images nth) same suit) in
+      let suits = suit_parts drawn images nth here others (subst (AllSuit images nth) same suit) in
       subst (LinesTurned exact text images at (line ∷ next ∷ lines) nth) (sym same)
       (next_turned at line next lines nth here others line_plain.0 (line_turned exact text images says at line nth here suits.0 is)
       (lines_turned (at + length line + 1) next lines (nth + length here) others suits.1 are line_plain.1))

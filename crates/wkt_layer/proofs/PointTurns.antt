@@ -1,6 +1,6 @@
 -- How the points of a path turn into its images.
-use Rattle.std.proofs.Common.{◌≡◌, ◌==◌, ℕ, zero, suc, ◌+◌, ◌<◌, ◌≤◌, Bool, true, false, List, [], ◌∷◌, ◌++◌, length, refl, sym, ap, ◌∙◌, subst, append_assoc, append-nil, arith, length-append}
-use Rattle.std.specs.Prelude.{map, flat_map, sum_by, if◌then◌else◌}
+use Rattle.std.proofs.Common.{◌≡◌, ◌==◌, ℕ, suc, ◌+◌, ◌≤◌, Bool, true, false, List, [], ◌∷◌, ◌++◌, length, refl, sym, ap, ◌∙◌, subst, append_assoc, arith, length-append}
+use Rattle.std.specs.Prelude.{map, sum_by, if◌then◌else◌}
 use Rattle.std.specs.List.{list_all, AllByRecursion}
 use Rattle.std.specs.Char.{is_ascii_alphabetic}
 use Rattle.std.proofs.lemmas.List.Sums.{sum_by-cons}
@@ -9,18 +9,19 @@ use Rattle.sheet_base.specs.declared.edits.Edit.{Edit}
 use Rattle.sheet_base.specs.declared.paths.PathKind.{PathKind}
 use Rattle.sheet_base.specs.declared.paths.PathKind.TheVariants.{Dot, Line, Loop}
 use Rattle.sheet_base.specs.Fitting.{IsWithinReach}
-use Rattle.wkt_layer.specs.Tokens.{Number, Token, opening, closing, comma, word, number, stray, is_blank, is_numeric, token_of, word_of}
+use Rattle.sheet_base.proofs.Swaps.{Swapped, kept_swapped, edit_swapped, both_swapped}
+use Rattle.sheet_base.proofs.Redrawn.{Drawn, DoSuit}
+use Rattle.wkt_layer.specs.Tokens.{Number, Token, opening, closing, comma, word, number, stray, is_blank, is_numeric, token_of}
 use Rattle.wkt_layer.specs.Numbers.{Point, place_of, lost_of}
-use Rattle.wkt_layer.specs.Geometries.{point_tokens, behind_item, points_tokens, Member, dot, bare, member_tokens, last_behind, IsClosed, ArePoints, IsDot, IsRing, IsMember}
+use Rattle.wkt_layer.specs.Geometries.{point_tokens, behind_item, points_tokens, dot, bare, member_tokens, last_behind, ArePoints, IsDot, IsRing, IsMember}
 use Rattle.wkt_layer.specs.Faults.{joined_points}
-use Rattle.wkt_layer.specs.Paths.{Path, path_of, member_path, points_before_last, kept_points, lost_on, edit_of, edits_from}
+use Rattle.wkt_layer.specs.Paths.{Path, path_of, member_path, points_before_last, kept_points, lost_on, edit_of}
 use Rattle.wkt_layer.specs.Texts.{image_text, texts_behind, list_text, ring_text}
 use Rattle.wkt_layer.specs.declared.words.Word.TheVariants.{Empty}
 use Rattle.wkt_layer.proofs.EditOrder.{number_token}
 use Rattle.wkt_layer.proofs.TokenCuts.{lexed, Clear, MayFollow, Cut, first_cut, Kept, kept_cut, gap_lexed, clear_closing}
-use Rattle.wkt_layer.proofs.Swaps.{Swapped, kept_swapped, edit_swapped, both_swapped}
 use Rattle.wkt_layer.proofs.ImageTexts.{new_point, new_points, points_lexed, new_place, new_places, new_is_point, new_are_points, new_loses_none, new_lose_none, new_count}
-use Rattle.wkt_layer.proofs.Turns.{Drawn, drawn, redrawn, DoSuit, AllSuit, IsRead, Turned, EachTurns, single, led, after_empty}
+use Rattle.wkt_layer.proofs.Turns.{drawn, redrawn, IsRead, Turned, EachTurns, single, led, after_empty}
 
 -- ---- where points stand
 not_number : (at byte : ℕ) (text : List ℕ) (n : Number) → is_ascii_alphabetic byte ≡ false → is_numeric byte ≡ false → number n ≡ token_of at byte text → ⊥
@@ -229,7 +230,7 @@ ring_keeps exact Loop first more good is = let few = good.1.0 in let e = kept_co
     kept_count p [] = refl
     kept_count p (next ∷ ps) = let e = kept_count next ps in ap suc e
 
-images_read : (exact : Bool) (kind : PathKind) (path : Path) → path.kind ≡ kind → (kind ≡ Loop → 3 ≤ length (kept_points path)) → (images : List Pt) → DoSuit path images → (from : ℕ) (behind : List ℕ) → Clear behind
+images_read : (exact : Bool) (kind : PathKind) (path : Path) → path.kind ≡ kind → (kind ≡ Loop → 3 ≤ length (kept_points path)) → (images : List Pt) → DoSuit (drawn path) images → (from : ℕ) (behind : List ℕ) → Clear behind
     → (let is : Drawn = record { kind = kind; points = images } in
     IsRead joined_tokens (joined_path kind) (IsJoined exact kind) (is ∷ []) (lexed from (kind_text kind images ++ behind)) (lexed (from + length (kind_text kind images)) behind))
 images_read exact kind path same ring [] suit from behind clear = absurd (omega (arith, suit.some))

@@ -1,20 +1,20 @@
 -- What is written of a layer is read as its images.
-use Rattle.std.proofs.Common.{◌≡◌, ℕ, ◌+◌, Bool, List, [], ◌∷◌, ◌++◌, length, refl, sym, ap, ◌∙◌, subst}
-use Rattle.std.specs.Prelude.{map, flat_map, sum_by}
-use Rattle.std.specs.List.{AllByRecursion}
+use Rattle.std.proofs.Common.{◌≡◌, ℕ, ◌+◌, Bool, List, [], ◌∷◌, length, refl, sym, ap, ◌∙◌, subst}
+use Rattle.std.specs.Prelude.{map}
 use Rattle.sheet_base.specs.Sheets.{Contents}
-use Rattle.sheet_base.specs.Fitting.{Runs, IsWithinReach, DoFit}
+use Rattle.sheet_base.specs.Fitting.{Runs, path_images, IsWithinReach, DoFit}
 use Rattle.sheet_base.specs.Splices.{AreInOrder, spliced}
 use Rattle.sheet_base.specs.ReadBack.{ends_of, imaged, IsReadBack}
+use Rattle.sheet_base.proofs.ListParts.{all_listed}
 use Rattle.wkt_layer.specs.Tokens.{tokens_of}
-use Rattle.wkt_layer.specs.Paths.{Path, kept_points, lost_on, rows_from, edits_from, sheet_of}
-use Rattle.wkt_layer.specs.Texts.{path_images, edit_text}
+use Rattle.wkt_layer.specs.Paths.{Path, rows_from, edits_from, sheet_of}
+use Rattle.wkt_layer.specs.Texts.{edit_text}
 use Rattle.wkt_layer.specs.Layers.{lines_of, AreLinesOf, IsReadAs}
 use Rattle.wkt_layer.specs.Passes.{AreWhole}
 use Rattle.wkt_layer.proofs.EditOrder.{read_in_order}
 use Rattle.wkt_layer.proofs.Sheets.{whole_append, line_paths_whole}
 use Rattle.wkt_layer.proofs.LineTurns.{IsWritten, text_turned}
-use Rattle.wkt_layer.proofs.SheetTurns.{all_listed, texts_plain, texts_say, sheet_suits, points_again, rows_again}
+use Rattle.wkt_layer.proofs.SheetTurns.{texts_plain, texts_say, sheet_suits, points_again, rows_again}
 
 -- a text is read as a sheet of just these images, with the first sheet's paths over them, and no number lost digits
 pub record IsReadAgain (exact : Bool) (text : List ℕ) (sheet : Contents) (images : Runs) : Type 0 where
@@ -33,15 +33,15 @@ paths_again : (exact : Bool) (bytes : List ℕ) (paths : List Path) (images : Ru
     → IsReadAgain exact (spliced bytes (edit_text (sheet_of paths) images) (edits_from 0 paths)) (sheet_of paths) images
 paths_again exact bytes paths images are order fit =
     go (text_turned exact (edit_text (sheet_of paths) images) (path_images (rows_from 0 paths) images) (texts_say (sheet_of paths) images)
-    (texts_plain (sheet_of paths) images (all_listed IsWithinReach images.points fit.in_reach)) bytes paths (sheet_suits paths images (lines_whole exact 0 (lines_of bytes) paths are) fit) are order)
+    (texts_plain (sheet_of paths) images (all_listed IsWithinReach images.points fit.in_reach)) bytes paths (sheet_suits paths images fit (lines_whole exact 0 (lines_of bytes) paths are)) are order)
   where
     go : IsWritten exact (path_images (rows_from 0 paths) images) 0 paths (AreLinesOf exact 0 (lines_of (spliced bytes (edit_text (sheet_of paths) images) (edits_from 0 paths))))
         → IsReadAgain exact (spliced bytes (edit_text (sheet_of paths) images) (edits_from 0 paths)) (sheet_of paths) images
     go w = record {
       back = sheet_of w.others;
       is_read = (w.others, w.are_of, refl);
-      points = points_again paths w.others images fit w.drawn_are;
-      paths = rows_again paths w.others images fit w.drawn_are;
+      points = points_again paths images fit w.others w.drawn_are;
+      paths = rows_again paths images fit w.others w.drawn_are;
       exact_all = w.exact_all;
     }
 

@@ -1,15 +1,16 @@
 -- Cutting bytes between two tokens, and putting other bytes behind a token.
-use Rattle.std.proofs.Common.{◌≡◌, ℕ, zero, suc, ◌+◌, ◌-◌, ◌<◌, ◌≤◌, ◌==◌, Bool, true, false, List, [], ◌∷◌, ◌++◌, length, take, drop, refl, sym, ap, ◌∙◌, subst, append_assoc, arith, length-append}
+use Rattle.std.proofs.Common.{◌≡◌, ℕ, suc, ◌+◌, ◌-◌, ◌==◌, Bool, true, false, List, [], ◌∷◌, ◌++◌, length, take, drop, refl, sym, ap, ◌∙◌, subst, append_assoc, arith, length-append}
 use Rattle.std.specs.Prelude.{◌&&◌, ◌||◌, cond, if◌then◌else◌}
 use Rattle.std.specs.List.{list_all, prefix_len}
 use Rattle.std.specs.Char.{is_ascii_alphabetic}
 use Rattle.std.proofs.lemmas.Bool.{and_parts, eqb-true}
 use Rattle.std.proofs.lemmas.List.{length-take-le, take-append-drop}
+use Rattle.sheet_base.proofs.ListParts.{drop_front}
 use Rattle.wkt_layer.specs.Tokens.{Number, Token, opening, closing, comma, word, number, stray, is_blank, is_numeric, token_length, word_of, token_of, tokens_of, tokens_behind}
 use Rattle.wkt_layer.specs.declared.words.Word.{Word}
 use Rattle.wkt_layer.specs.Lines.{tokens_in}
 use Rattle.wkt_layer.proofs.EditOrder.{token_size}
-use Rattle.wkt_layer.proofs.Lexing.{passed, blank_first, black_first, take_front, drop_front}
+use Rattle.wkt_layer.proofs.Lexing.{passed, blank_first, black_first, take_front}
 
 -- the tokens of bytes that begin at this place
 abbrev pub lexed : ℕ → List ℕ → List Token

@@ -1,60 +1,31 @@
 -- How a part of a line turns into the part that is written, and is read again: its points are replaced by images, and all other tokens stay.
-use Rattle.std.proofs.Common.{◌≡◌, ℕ, zero, suc, ◌+◌, ◌<◌, ◌≤◌, Bool, List, [], ◌∷◌, ◌++◌, length, refl, sym, ap, ◌∙◌, subst, append_assoc, append-nil, arith, length-append}
+use Rattle.std.proofs.Common.{◌≡◌, ℕ, suc, ◌+◌, List, [], ◌∷◌, ◌++◌, length, refl, sym, ap, ◌∙◌, subst, append_assoc, arith, length-append}
 use Rattle.std.specs.Prelude.{map, flat_map, sum_by}
 use Rattle.std.specs.List.{AllByRecursion}
 use Rattle.std.proofs.lemmas.List.{map-append}
 use Rattle.std.proofs.lemmas.List.Sums.{sum_by-append}
 use Rattle.plane_base.specs.declared.shapes.Pt.{Pt}
 use Rattle.sheet_base.specs.declared.edits.Edit.{Edit}
-use Rattle.sheet_base.specs.declared.paths.PathKind.{PathKind}
-use Rattle.sheet_base.specs.declared.paths.PathKind.TheVariants.{Dot}
-use Rattle.sheet_base.specs.Fitting.{IsWithinReach}
+use Rattle.sheet_base.proofs.Swaps.{Swapped, kept_swapped, both_swapped}
+use Rattle.sheet_base.proofs.Redrawn.{Drawn, suit_parts, redrawn_append}
+use Rattle.sheet_base.proofs.Redrawn as sheets
 use Rattle.wkt_layer.specs.Tokens.{Token, opening, closing, comma, word}
 use Rattle.wkt_layer.specs.Geometries.{behind_item, content_tokens}
 use Rattle.wkt_layer.specs.Paths.{Path, kept_points, lost_on, edit_of, edits_from}
 use Rattle.wkt_layer.specs.declared.words.Word.{Word}
 use Rattle.wkt_layer.specs.declared.words.Word.TheVariants.{Empty}
-use Rattle.wkt_layer.proofs.TokenCuts.{lexed, Clear, MayFollow, IsKept, Kept, kept_cut, clear_closing, clear_comma, clear_opening, clear_word}
-use Rattle.wkt_layer.proofs.Swaps.{Swapped, kept_swapped, both_swapped}
+use Rattle.wkt_layer.proofs.TokenCuts.{lexed, Clear, MayFollow, Kept, kept_cut, clear_closing, clear_comma}
 
 -- what a sheet keeps of a path
-pub record Drawn : Type 0 where
-  pub kind : PathKind
-  pub points : List Pt
-
 abbrev pub drawn : Path → Drawn
 drawn path = record { kind = path.kind; points = kept_points path }
 
--- the same paths with images in place of their points: the images of the path of each number are given
+-- the same paths with images in place of their points, and images that may take that place
 abbrev pub redrawn : (ℕ → List Pt) → ℕ → List Path → List Drawn
-redrawn images number [] = []
-redrawn images number (path ∷ paths) = record { kind = path.kind; points = images number } ∷ redrawn images (number + 1) paths
-
--- images that may take the place of a path's points: at least as many, and one where it is a dot
-pub record DoSuit (path : Path) (images : List Pt) : Type 0 where
-  pub some : 0 < length images
-  pub many : length (kept_points path) ≤ length images
-  pub dot : path.kind ≡ Dot → length images ≡ 1
-  pub reach : AllByRecursion IsWithinReach images
+redrawn images number paths = sheets.redrawn images number (map drawn paths)
 
 abbrev pub AllSuit : (ℕ → List Pt) → ℕ → List Path → Type 0
-AllSuit images number [] = Unit {0}
-AllSuit images number (path ∷ paths) = DoSuit path (images number) × AllSuit images (number + 1) paths
-
--- ---- lists of paths, one behind the other
-pub suit_parts : (images : ℕ → List Pt) (number : ℕ) (paths more : List Path) → AllSuit images number (paths ++ more) → AllSuit images number paths × AllSuit images (number + length paths) more
-suit_parts images number [] more all = let e : number ≡ number + 0 = omega arith in (tt, subst (λ n. AllSuit images n more) e all)
-suit_parts images number (path ∷ paths) more all =
-    let e : number + 1 + length paths ≡ number + suc (length paths) = omega arith in
-    let (front, back) = suit_parts images (number + 1) paths more all.1 in
-    ((all.0, front), subst (λ n. AllSuit images n more) e back)
-
-pub redrawn_append : (images : ℕ → List Pt) (number : ℕ) (paths more : List Path) → redrawn images number (paths ++ more) ≡ redrawn images number paths ++ redrawn images (number + length paths) more
-redrawn_append images number [] more = let e : number ≡ number + 0 = omega arith in ap (λ n. redrawn images n more) e
-redrawn_append images number (path ∷ paths) more =
-    let e : number + 1 + length paths ≡ number + suc (length paths) = omega arith in
-    let one : Drawn = record { kind = path.kind; points = images number } in
-    ap (λ xs. one ∷ xs) (redrawn_append images (number + 1) paths more ∙ ap (λ n. redrawn images (number + 1) paths ++ redrawn images n more) e)
+AllSuit images number paths = sheets.AllSuit images number (map drawn paths)
 
 pub edits_append : (number : ℕ) (paths more : List Path) → edits_from number (paths ++ more) ≡ edits_from number paths ++ edits_from (number + length paths) more
 edits_append number [] more = let e : number ≡ number + 0 = omega arith in ap (λ n. edits_from n more) e
@@ -184,7 +155,7 @@ led tokens_a paths_a IsGoodA tokens_b paths_b IsGoodB tokens paths IsGood text i
           good = good r.part s.part r.good s.good;
           drawn_are = ap (map drawn) (paths_are r.part s.part) ∙ map-append drawn (paths_a r.part) (paths_b s.part) ∙ ap (λ ds. ds ++ map drawn (paths_b s.part)) r.drawn_are
               ∙ ap (λ ds. redrawn images number (paths_a first) ++ ds) s.drawn_are
-              ∙ sym (ap (redrawn images number) (paths_are first second) ∙ redrawn_append images number (paths_a first) (paths_b second));
+              ∙ sym (ap (redrawn images number) (paths_are first second) ∙ redrawn_append drawn images number (paths_a first) (paths_b second));
           exact = ap (sum_by lost_on) (paths_are r.part s.part) ∙ sum_by-append lost_on (paths_a r.part) (paths_b s.part) ∙ omega (arith, r.exact, s.exact);
         }
 
@@ -217,7 +188,7 @@ behind_turned tokens paths IsGood text images each [] good number at bytes other
     single (behind_item tokens) (flat_map paths) (AllByRecursion IsGood) text images [] closing refl refl tt any_closing number at bytes others (kept_cut at bytes closing others tt e)
 behind_turned tokens paths IsGood text images each (item ∷ items) good number at bytes others suit e =
     on (kept_cut at bytes comma (tokens item ++ (behind_item tokens items ++ others)) tt (e ∙ ap (λ ts. comma ∷ ts) (append_assoc (tokens item) (behind_item tokens items) others)))
-    (suit_parts images number (paths item) (flat_map paths items) suit)
+    (suit_parts drawn images number (paths item) (flat_map paths items) suit)
     (λ n place xs within f. behind_turned tokens paths IsGood text images each items good.1 n place xs others within f)
   where
     on : Kept at bytes comma (tokens item ++ (behind_item tokens items ++ others)) → AllSuit images number (paths item) × AllSuit images (number + length (paths item)) (flat_map paths items)
@@ -236,7 +207,7 @@ content_turned tokens paths IsGood text images each [] good number at bytes othe
     single (content_tokens tokens) (flat_map paths) (AllByRecursion IsGood) text images [] (word Empty) refl refl tt (after_empty Empty) number at bytes others (kept_cut at bytes (word Empty) others tt e)
 content_turned tokens paths IsGood text images each (item ∷ items) good number at bytes others suit e =
     on (kept_cut at bytes opening (tokens item ++ (behind_item tokens items ++ others)) tt (e ∙ ap (λ ts. opening ∷ ts) (append_assoc (tokens item) (behind_item tokens items) others)))
-    (suit_parts images number (paths item) (flat_map paths items) suit)
+    (suit_parts drawn images number (paths item) (flat_map paths items) suit)
   where
     on : Kept at bytes opening (tokens item ++ (behind_item tokens items ++ others)) → AllSuit images number (paths item) × AllSuit images (number + length (paths item)) (flat_map paths items)
         → Turned (content_tokens tokens) (flat_map paths) (AllByRecursion IsGood) text images (item ∷ items) number at bytes others

@@ -1,14 +1,13 @@
 -- The texts that take the place of edits in well-known text.
-use Rattle.std.specs.Prelude.{ℕ, pos, ◌-◌, List, [], ◌∷◌, ◌++◌, take, drop, length, slice_index_or, codes}
+use Rattle.std.specs.Prelude.{ℕ, List, [], ◌∷◌, ◌++◌, codes}
 use Rattle.mm_decimal.specs.Writing.{written}
 use Rattle.plane_base.specs.declared.shapes.Pt.{Pt}
-use Rattle.sheet_base.specs.declared.paths.PathKind.TheVariants.{Dot}
 use Rattle.sheet_base.specs.declared.paths.PathRow.{PathRow}
 use Rattle.sheet_base.specs.declared.edits.Edit.{Edit}
 use Rattle.sheet_base.specs.declared.edits.What.{What}
 use Rattle.sheet_base.specs.declared.edits.What.TheVariants.{WktList, WktRing}
 use Rattle.sheet_base.specs.Sheets.{Contents}
-use Rattle.sheet_base.specs.Fitting.{Runs, run_begin}
+use Rattle.sheet_base.specs.Fitting.{Runs, path_images}
 
 -- two numbers with a space between them
 abbrev pub image_text : Pt → List ℕ
@@ -28,15 +27,6 @@ list_text (image ∷ images) = image_text image ++ texts_behind images
 abbrev pub ring_text : List Pt → List ℕ
 ring_text [] = []
 ring_text (image ∷ images) = list_text (image ∷ images) ++ texts_behind (image ∷ [])
-
-abbrev pub no_path : PathRow
-no_path = record { kind = Dot; first = 0; past = 0 }
-
--- the images of a path's points and of the crossings behind them
-abbrev pub path_images : List PathRow → Runs → ℕ → List Pt
-path_images paths images number =
-    let row : PathRow = slice_index_or paths number no_path in
-    take (run_begin images row.past - run_begin images row.first) (drop (run_begin images row.first) images.points)
 
 abbrev pub what_text : List PathRow → Runs → What → List ℕ
 what_text paths images (WktList number) = list_text (path_images paths images number)

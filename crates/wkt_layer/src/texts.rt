@@ -1,13 +1,10 @@
 //! The texts that take the place of edits.
 
-ghost use Rattle.std.specs.Prelude.{◌≡◌, ◌-◌, ◌++◌, ◌∷◌, [], List, length, take, drop, slice_index_or, OnOk};
-ghost use Rattle.mm_decimal.specs.Writing.{written};
-ghost use Rattle.sheet_base.specs.Fitting.{run_begin};
-ghost use Rattle.wkt_layer.specs.Texts.{image_text, texts_behind, list_text, ring_text, no_path, path_images, edit_text};
+ghost use Rattle.std.specs.Prelude.{◌≡◌, ◌++◌, OnOk};
+ghost use Rattle.wkt_layer.specs.Texts.{image_text, texts_behind, list_text, ring_text, edit_text};
 
-use mm_decimal::write_mm;
 use plane_base::Pt;
-use sheet_base::{Edit, EditTexts, Images, PathKind, PathRow, Sheet, What};
+use sheet_base::{Edit, EditTexts, Images, Sheet, What, push_mm};
 use std::alloc::AllocError;
 
 /// No image is longer, in bytes, with the comma and the spaces between two.
@@ -18,16 +15,6 @@ const IMAGE_ROOM: usize = 52;
 pub struct Texts<'a> {
     pub sheet: &'a Sheet,
     pub images: &'a Images,
-}
-
-/// Appends a number of millimetres as metres.
-fn push_mm(out: &mut Vec<u8>, mm: i64) -> Result<(), AllocError>
-    ensures { OnOk result (out.new.items ≡ out.old.items ++ written mm) }
-{
-    let mut digits = [0; 24];
-    let count = write_mm(mm, &mut digits);
-    out.extend_from_slice(&digits[..count])?;
-    Ok(())
 }
 
 /// Appends an image.
@@ -80,56 +67,6 @@ fn push_ring(out: &mut Vec<u8>, images: &[Pt]) -> Result<(), AllocError>
     }
 }
 
-/// Where the run of this point begins among the images; behind the last point, where they end.
-fn run_begin(images: &Images, point: u32) -> usize
-    ensures { result ≡ run_begin images.now point }
-{
-    match images.run().get(point as usize) {
-        Some(place) => *place as usize,
-        None => images.points().len(),
-    }
-}
-
-/// The points from this place to before that one, as far as there are some.
-fn part(points: &[Pt], from: usize, past: usize) -> &[Pt]
-    ensures { result.now ≡ take (past - from) (drop from points.now) }
-{
-    let past = if past < points.len() {
-        past
-    } else {
-        points.len()
-    };
-    if from < past {
-        &points[from..past]
-    } else {
-        &points[..0]
-    }
-}
-
-/// The row of this path.
-fn row_of(paths: &[PathRow], path: u32) -> PathRow
-    ensures { result ≡ slice_index_or paths.now path no_path }
-{
-    match paths.get(path as usize) {
-        Some(row) => *row,
-        None => PathRow {
-            kind: PathKind::Dot,
-            first: 0,
-            past: 0,
-        },
-    }
-}
-
-/// The images of a path.
-fn path_images<'a>(sheet: &Sheet, images: &'a Images, path: u32) -> &'a [Pt]
-    ensures { result.now ≡ path_images sheet.now.paths images.now path }
-{
-    let row = row_of(sheet.paths(), path);
-    let from = run_begin(images, row.first);
-    let past = run_begin(images, row.past);
-    part(images.points(), from, past)
-}
-
 impl<'a> EditTexts for Texts<'a> {
     ghost text = { λ texts. edit_text texts.sheet.now texts.images.now };
 
@@ -139,14 +76,14 @@ impl<'a> EditTexts for Texts<'a> {
             What::WktRing { path } => path,
             _ => return 0,
         };
-        let images = path_images(self.sheet, self.images, path);
+        let images = self.images.of_path(self.sheet.paths(), path);
         images.len().saturating_add(1).saturating_mul(IMAGE_ROOM)
     }
 
     fn push(&self, edit: Edit, out: &mut Vec<u8>) -> Result<(), AllocError> {
         match edit.what {
-            What::WktList { path } => push_list(out, path_images(self.sheet, self.images, path)),
-            What::WktRing { path } => push_ring(out, path_images(self.sheet, self.images, path)),
+            What::WktList { path } => push_list(out, self.images.of_path(self.sheet.paths(), path)),
+            What::WktRing { path } => push_ring(out, self.images.of_path(self.sheet.paths(), path)),
             _ => Ok(()),
         }
     }

@@ -1,7 +1,7 @@
-use Rattle.std.proofs.Common.{◌≡◌, List, sym, subst, Ok, Err}
+use Rattle.std.proofs.Common.{◌≡◌, List, sym, subst}
 use Rattle.std.specs.Prelude.{IfOk, Result}
 use Rattle.sheet_base.specs.Splices.{spliced, DoKeep}
-use Rattle.sheet_base.proofs.Splicing.{splices_keep}
+use Rattle.sheet_base.proofs.Splicing.{if_ok_more, splices_keep}
 use Rattle.dxf_pairs.specs.declared.faults.PairFault.{PairFault}
 use Rattle.dxf_pairs.specs.declared.pairs.Pair.{Pair}
 use Rattle.dxf_layer.specs.Rendering.{text_by, text_of, drawing_text}
@@ -11,11 +11,6 @@ use Rattle.dxf_layer.proofs.rendering.render_drawing.Goals as goal
 pub render_page-requires-clause-order : goal.render_page-requires-clause-order
 render_page-requires-clause-order c =
     sheet_in_order c.args.bytes.now c.args.how c.in-Ok.pairs.items c.args.sheet.now c.in-Ok.ensures.tile c.in-Ok.ensures.ok c.requires.sheet
-
--- what holds of a value holds of another fact's
-if_ok_more : {X E : Type 0} (r : Result X E) (P Q : X → Type 0) → ((x : X) → P x → Q x) → IfOk r P → IfOk r Q
-if_ok_more (Ok x) P Q on is = on x is
-if_ok_more (Err e) P Q on is = is
 
 pub returns-in-Ok : goal.returns-in-Ok
 returns-in-Ok c =

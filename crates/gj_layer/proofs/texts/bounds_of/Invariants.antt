@@ -1,6 +1,6 @@
 use Rattle.std.proofs.Common.{◌≡◌, drop}
 use Rattle.std.specs.Prelude.{None, flat_map}
-use Rattle.gj_layer.specs.Texts.{row_images}
+use Rattle.sheet_base.specs.Fitting.{row_images}
 use Rattle.gj_layer.specs.Boxes.{widened_by}
 use Rattle.gj_layer.proofs.texts.bounds_of.Given as goal
 

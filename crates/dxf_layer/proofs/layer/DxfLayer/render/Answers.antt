@@ -1,16 +1,11 @@
-use Rattle.std.proofs.Common.{◌≡◌, sym, subst, Ok, Err}
-use Rattle.std.specs.Prelude.{IfOk, Result}
+use Rattle.std.proofs.Common.{◌≡◌, sym, subst, Ok}
 use Rattle.sheet_base.specs.Splices.{spliced}
 use Rattle.sheet_base.specs.ReadBack.{IsReadBack}
+use Rattle.sheet_base.proofs.Splicing.{if_ok_more}
 use Rattle.dxf_layer.specs.Drawings.{drawing_sheet}
 use Rattle.dxf_layer.specs.Rendering.{drawing_text}
 use Rattle.dxf_layer.specs.ReadBack.{DoesReadBack}
 use Rattle.dxf_layer.proofs.layer.DxfLayer.render.Goals as goal
-
--- what holds of a value holds of another fact's
-if_ok_more : {X E : Type 0} (r : Result X E) (P Q : X → Type 0) → ((x : X) → P x → Q x) → IfOk r P → IfOk r Q
-if_ok_more (Ok x) P Q on is = on x is
-if_ok_more (Err e) P Q on is = is
 
 pub returns-clause-back : goal.returns-clause-back
 returns-clause-back c =

@@ -1,8 +1,7 @@
-use Rattle.std.proofs.Common.{◌≡◌, ℕ, List, length, ap, sym, ◌∙◌, subst, Ok, Err}
-use Rattle.std.specs.Prelude.{IfOk, Result}
+use Rattle.std.proofs.Common.{◌≡◌, List, length, ap, sym, ◌∙◌, subst}
 use Rattle.sheet_base.specs.declared.edits.Edit.{Edit}
 use Rattle.sheet_base.specs.Splices.{AreInOrder, spliced, DoKeep}
-use Rattle.sheet_base.proofs.Splicing.{splices_keep}
+use Rattle.sheet_base.proofs.Splicing.{if_ok_more, splices_keep}
 use Rattle.sheet_base.specs.ReadBack.{IsReadBack}
 use Rattle.wkt_layer.specs.Layers.{IsReadAs}
 use Rattle.wkt_layer.specs.Texts.{edit_text}
@@ -13,11 +12,6 @@ use Rattle.wkt_layer.proofs.layer.WktLayer.render.Goals as goal
 pub splice-requires : goal.splice-requires
 splice-requires c =
     subst (λ (edits : List Edit). AreInOrder 0 edits (length c.args.bytes.now)) (sym c.edits.ensures) (read_in_order c.args.how.exact c.args.bytes.now c.args.sheet.now c.requires.sheet)
-
--- what holds of a value holds of another fact's
-if_ok_more : {X E : Type 0} (r : Result X E) (P Q : X → Type 0) → ((x : X) → P x → Q x) → IfOk r P → IfOk r Q
-if_ok_more (Ok x) P Q on is = on x is
-if_ok_more (Err e) P Q on is = is
 
 pub returns-clause-rest : goal.returns-clause-rest
 returns-clause-rest c =

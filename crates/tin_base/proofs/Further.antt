@@ -1,8 +1,7 @@
 -- From a spot of a segment that is inside, some triangle's part goes on.
-use Rattle.std.proofs.Common.{◌≡◌, ℕ, ◌+◌, ◌*◌, ◌<◌, pos, ◌+ℤ◌, ◌*ℤ◌, ◌<ℤ◌, ℤ, [], ◌∷◌, ap, sym, arith}
+use Rattle.std.proofs.Common.{◌≡◌, ℕ, ◌+◌, ◌*◌, ◌<◌, pos, ◌+ℤ◌, ◌*ℤ◌, ℤ, [], ◌∷◌, ap, sym, arith}
 use Rattle.integer_ring.proofs.Ring.{num, ◌⊕◌, ◌⊖◌, ◌⊗◌}
 use Rattle.integer_ring.proofs.Claims.{◌≐◌, eqn, ◌because◌, ◌⇒◌, solve, follows}
-use lib.Signed.{lt_z_yes}
 use Rattle.plane_base.specs.Plane.{Point, Same, IsMix, whole}
 use Rattle.plane_base.specs.declared.shapes.Pt.{Pt}
 use Rattle.plane_base.proofs.Mixes.{same_refl, same_sym, same_moved, mixed, between_weights, weights_between, between-w, mix_moved}
@@ -14,10 +13,7 @@ use Rattle.tin_base.specs.Segments.{Spot, spot_at, IsBefore, IsNotAfter, IsInsid
 use Rattle.tin_base.proofs.Stepping.{StepsOn, steps_on}
 use Rattle.tin_base.proofs.Ends.{IsSpot, before_trans_right}
 use Rattle.tin_base.proofs.Parts.{part_of}
-use Rattle.seg_walk.proofs.Beginning.{spot-w}
-
-one : pos 0 <ℤ pos 1
-one = lt_z_yes tt
+use Rattle.tin_base.proofs.Spots.{one, spot-w}
 
 -- k times the spot x and l times b
 abbrev further : Spot → ℕ → ℕ → Spot

@@ -1,17 +1,8 @@
 -- Bytes with their edits' texts, put together from front to back.
-use Rattle.std.proofs.Common.{◌≡◌, ℕ, zero, suc, ◌+◌, ◌-◌, ◌≤◌, List, [], ◌∷◌, ◌++◌, length, take, drop, append-nil, refl, sym, ap, ◌∙◌, subst, append_assoc, arith, length-append}
+use Rattle.std.proofs.Common.{◌≡◌, ℕ, suc, ◌+◌, ◌-◌, ◌≤◌, List, [], ◌∷◌, ◌++◌, length, take, drop, append-nil, refl, sym, ap, ◌∙◌, subst, append_assoc, arith, length-append}
 use Rattle.sheet_base.specs.declared.edits.Edit.{Edit}
 use Rattle.sheet_base.specs.Splices.{AreInOrder, spliced_from}
-use Rattle.std.proofs.lemmas.List.{drop_all}
-
-pub drop_twice : {A : Type 0} (at size : ℕ) (xs : List A) → drop size (drop at xs) ≡ drop (at + size) xs
-drop_twice zero size xs = let e : size ≡ 0 + size = omega arith in ap (λ n. drop n xs) e
-drop_twice {A} (suc at) size [] = let n : length {A = A} [] ≤ suc at + size = omega arith in let m : length {A = A} [] ≤ size = omega arith in drop_all size [] m ∙ sym (drop_all (suc at + size) [] n)
-drop_twice (suc at) size (x ∷ xs) = let e : suc (at + size) ≡ suc at + size = omega arith in drop_twice at size xs ∙ ap (λ n. drop n (x ∷ xs)) e
-
-drop_front : (front back : List ℕ) → drop (length front) (front ++ back) ≡ back
-drop_front [] back = refl
-drop_front (x ∷ front) back = drop_front front back
+use Rattle.sheet_base.proofs.ListParts.{drop_twice, drop_front}
 
 -- the bytes that begin at this place, with the texts of edits in place of their spans
 abbrev pub spliced_on : (Edit → List ℕ) → ℕ → List ℕ → List Edit → List ℕ

@@ -1,0 +1,40 @@
+-- Texts that are the same, and tests whether one says another.
+use Rattle.std.proofs.Common.{◌≡◌, ℕ, List, [], ◌∷◌, Bool, true, false, refl, sym, subst, ◌&&◌}
+use Rattle.std.specs.Prelude.{◌↔◌, ◌==◌, IsTrue}
+use Rattle.std.proofs.lemmas.Bool.{eqb-true, eq-eqb}
+use Rattle.jtext.specs.Characters.{Char, units_of}
+use Rattle.jtext.specs.Values.{quoted}
+use Rattle.jtext.specs.Lookups.{Says, are_same}
+
+same_head : (a b : ℕ) (more : Bool) → ((a == b) && more) ≡ true → (a ≡ b) × (more ≡ true)
+same_head a b more h = split (a == b) refl h
+  where
+    split : (test : Bool) → (a == b) ≡ test → (test && more) ≡ true → (a ≡ b) × (more ≡ true)
+    split true is h = (eqb-true a b is, h)
+    split false is h = cc
+
+pub same_is : (xs ys : List ℕ) → are_same xs ys ≡ true → xs ≡ ys
+same_is [] [] h = refl
+same_is [] (b ∷ ys) h = cc
+same_is (a ∷ xs) [] h = cc
+same_is (a ∷ xs) (b ∷ ys) h =
+    let both = same_head a b (are_same xs ys) h in
+    let tails : xs ≡ ys = same_is xs ys both.1 in
+    let heads : a ≡ b = both.0 in cc
+
+pub is_same : (xs : List ℕ) → are_same xs xs ≡ true
+is_same [] = refl
+is_same (a ∷ xs) = rw (eq-eqb a a refl) (is_same xs)
+
+pub true_or_false : (a b : Bool) → (IsTrue a → b ≡ true) → (b ≡ true → IsTrue a) → a ≡ b
+true_or_false true true f g = refl
+true_or_false false false f g = refl
+true_or_false true false f g = sym (f refl)
+true_or_false false true f g = g refl
+
+-- a test whether a text says this
+pub says_quoted : (chars : List Char) (text : List ℕ) (test : Bool) → (IsTrue test ↔ Says (quoted chars) text) → test ≡ are_same (units_of chars) text
+says_quoted chars text test h =
+    true_or_false test (are_same (units_of chars) text)
+    (λ t. subst (λ u. are_same (units_of chars) u ≡ true) (h.0 t) (is_same (units_of chars)))
+    (λ t. h.1 (same_is (units_of chars) text t))
