@@ -1,5 +1,5 @@
 #!/usr/bin/env python3
-"""Prints the rows of plane_base's tests: common parts of segments and triangles, points in triangles, meeting parameters.
+"""Prints the rows of the tests of plane_base: common parts of segments and triangles, points in triangles, meeting parameters.
 
 It works in rational numbers and from the definitions alone: barycentric coordinates are the solution of three linear equations,
 the ends of a common part are sought among the ends of the segment and its meeting points with the sides, and what a side holds is

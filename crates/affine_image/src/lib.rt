@@ -5,8 +5,6 @@
 mod images;
 mod laws;
 mod mixing;
-#[cfg(test)]
-mod tests;
 mod weights;
 
 pub use images::{image_cut, image_of};

@@ -6,5 +6,4 @@ pub mod Stopping
 pub mod Pathing
 pub mod Sheeting
 pub mod Counting
-pub mod Tiling
 pub mod Backing

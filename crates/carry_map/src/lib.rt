@@ -5,14 +5,10 @@
 mod carrying;
 mod crossings;
 mod faults;
-#[cfg(test)]
-mod layer_tests;
 mod layers;
 mod limits;
 mod paths;
 mod segments;
-#[cfg(test)]
-mod tests;
 
 pub use carrying::carry;
 pub use faults::CarryFault;

@@ -5,4 +5,3 @@ pub mod Levels
 pub mod Adding
 pub mod Finding
 pub mod Kept
-pub mod Small

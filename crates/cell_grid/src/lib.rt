@@ -9,8 +9,6 @@ mod laws;
 mod levels;
 mod rects;
 mod spreads;
-#[cfg(test)]
-mod tests;
 
 pub use grids::{Grid, LIMIT};
 pub use laws::boxes_share_a_point_or_are_apart;

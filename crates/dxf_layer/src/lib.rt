@@ -17,8 +17,6 @@ mod points;
 mod polylines;
 mod reading;
 mod rendering;
-#[cfg(test)]
-mod tests;
 mod texts;
 mod walking;
 

@@ -10,8 +10,6 @@ mod line_ends;
 mod pairs;
 mod plain_codes;
 mod reading;
-#[cfg(test)]
-mod tests;
 
 pub use codes::MOST_CODE;
 pub use faults::PairFault;

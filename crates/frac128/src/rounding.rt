@@ -11,38 +11,3 @@ pub fn half_up(num: i128, den: i128) -> i128
 {
     (2 * num + den).div_euclid(2 * den)
 }
-
-#[cfg(test)]
-mod tests {
-    use super::*;
-
-    #[test]
-    fn rounds_half_up(rt: HostRuntime) {
-        for (num, den, want) in [
-            (5, 2, 3),
-            (-5, 2, -2),
-            (-3, 2, -1),
-            (1, 2, 1),
-            (-1, 2, 0),
-            (7, 3, 2),
-            (8, 3, 3),
-            (-7, 3, -2),
-            (-8, 3, -3),
-            (0, 9, 0),
-            (102_500_500, 1000, 102_501),
-        ] {
-            assert_eq!(rt; half_up(num, den), want, "at {num}/{den}");
-        }
-    }
-
-    #[test]
-    fn rounds_the_largest(rt: HostRuntime) {
-        let num = (1 << 120) - 1;
-        let den = (1 << 62) - 1;
-        assert_eq!(rt; half_up(num, den), 288_230_376_151_711_744);
-        assert_eq!(rt;
-            half_up(-num, 2),
-            -664_613_997_892_457_936_451_903_530_140_172_287
-        );
-    }
-}

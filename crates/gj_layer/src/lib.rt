@@ -12,8 +12,6 @@ mod pass;
 mod paths;
 mod positions;
 mod reading;
-#[cfg(test)]
-mod tests;
 mod texts;
 
 pub use laws::sheet_is_one;

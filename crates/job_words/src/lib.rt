@@ -13,8 +13,6 @@ mod modes;
 mod names;
 mod reading;
 mod sizes;
-#[cfg(test)]
-mod tests;
 
 pub use faults::{Which, WordsFault};
 pub use formats::{Format, format_of};

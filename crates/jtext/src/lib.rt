@@ -10,8 +10,6 @@ mod sameness;
 mod signs;
 mod stack;
 mod steps;
-#[cfg(test)]
-mod tests;
 mod text;
 mod word;
 

@@ -8,8 +8,6 @@ mod laws;
 mod ranges;
 mod shapes;
 mod slicing;
-#[cfg(test)]
-mod tests;
 mod turning;
 
 pub use edges::edge_param;

@@ -2,8 +2,6 @@
 //! another way after rounding.
 #![tactic(auto)]
 
-#[cfg(test)]
-mod bad_line_tests;
 mod drafts;
 mod faults;
 mod fields;
@@ -13,8 +11,6 @@ mod lines;
 mod reading;
 mod reports;
 mod rows;
-#[cfg(test)]
-mod tests;
 mod writing;
 
 pub use faults::ReportFault;

@@ -6,8 +6,6 @@ mod cutting;
 mod faults;
 mod slicing;
 mod steps;
-#[cfg(test)]
-mod tests;
 
 pub use cutting::cut;
 pub use faults::WalkFault;

@@ -12,8 +12,6 @@ mod numbers;
 mod paths;
 mod sheets;
 mod splices;
-#[cfg(test)]
-mod tests;
 
 pub use edits::{Edit, What};
 pub use faults::LayerFault;

@@ -10,8 +10,6 @@ mod laws;
 mod orienting;
 mod reading;
 mod spans;
-#[cfg(test)]
-mod tests;
 mod triangles;
 mod vertices;
 

@@ -4,4 +4,3 @@ pub mod InBoxes
 pub mod Nexts
 pub mod OneList
 pub mod Spans
-pub mod Trying

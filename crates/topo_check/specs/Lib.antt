@@ -1,5 +1,4 @@
 pub mod Changes
 pub mod Laws
-pub mod Small
 pub mod Boxes
 pub mod Candidates

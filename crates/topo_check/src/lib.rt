@@ -10,8 +10,6 @@ mod grids;
 mod laws;
 mod limits;
 mod listing;
-#[cfg(test)]
-mod tests;
 
 pub use faults::ChangesFault;
 pub use laws::{changes_are_one, more_stay_more};

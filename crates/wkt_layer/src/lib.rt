@@ -9,8 +9,6 @@ mod places;
 mod reading;
 mod stack;
 mod steps;
-#[cfg(test)]
-mod tests;
 mod texts;
 mod tokens;
 mod words;

@@ -1,7 +1,0 @@
-use Rattle.std.proofs.Common.{take}
-use Rattle.sheet_base.specs.Sheets.{AreTiled}
-use Rattle.carry_map.proofs.tests.are_tiled.Given as goal
-
--- the paths so far follow each other up to this point
-abbrev pub invariant-loop-row : goal.invariant-loop-row
-invariant-loop-row l = AreTiled (take l.row-index l.rows) 0 l.first

@@ -1,0 +1,13 @@
+//! Tests of the formats of layers: what is read of a text and refused, and what is written of it where it is carried.
+#![tactic(auto)]
+
+#[cfg(test)]
+mod drawing_tests;
+#[cfg(test)]
+mod geojson_tests;
+#[cfg(test)]
+mod moves;
+#[cfg(test)]
+mod sheets;
+#[cfg(test)]
+mod wkt_tests;

@@ -1,0 +1,198 @@
+//! Texts whose pairs and faults were written down by hand.
+
+use dxf_pairs::{
+    Pair, PairFault, codes_are_whole_numbers, lines_follow, pairs_are_in_lines,
+    pairs_are_the_groups, pairs_tile, read_pairs,
+};
+use std::alloc::Global;
+use std::test::Fail;
+
+/// The fault of a short text.
+fn fault(alloc: Global, text: &[u8]) -> Option<PairFault> {
+    if text.len() > 1000 {
+        return None;
+    }
+    read_pairs(alloc, text).err()
+}
+
+/// Whether these are the pairs of a short text.
+fn has_pairs(alloc: Global, text: &[u8], want: &[Pair]) -> bool {
+    if text.len() > 1000 {
+        return false;
+    }
+    match read_pairs(alloc, text) {
+        Ok(pairs) => pairs.as_slice() == want,
+        Err(_) => false,
+    }
+}
+
+/// The pair of a code, its place, the places of its value, its end and its line.
+fn pair(code: i32, start: u32, value: u32, value_end: u32, end: u32, line: u32) -> Pair {
+    Pair {
+        code,
+        start,
+        value,
+        value_end,
+        end,
+        line,
+    }
+}
+
+#[test]
+fn reads_the_last_pair(rt: HostRuntime) {
+    for (text, want) in [
+        (b"0\nEOF\n".as_slice(), pair(0, 0, 2, 5, 6, 1)),
+        (b"0\nEOF", pair(0, 0, 2, 5, 5, 1)),
+        (b"0\r\nEOF\r\n", pair(0, 0, 3, 6, 8, 1)),
+        (b"  0 \t\n\t EOF \r\nrest", pair(0, 0, 8, 11, 14, 1)),
+        (b"+0\nEOF\n", pair(0, 0, 3, 6, 7, 1)),
+        (b"-0\nEOF\n", pair(0, 0, 3, 6, 7, 1)),
+        (b"00\nEOF", pair(0, 0, 3, 6, 6, 1)),
+        (b"0\nEOF\nx\ny\n", pair(0, 0, 2, 5, 6, 1)),
+        (b"0\nEOF\n\n", pair(0, 0, 2, 5, 6, 1)),
+    ] {
+        assert!(rt; has_pairs(rt.alloc(), text, &[want]), "{text:?}");
+    }
+}
+
+#[test]
+fn reads_pairs(rt: HostRuntime) {
+    for (text, first, last) in [
+        (
+            b"10\n\n0\nEOF".as_slice(),
+            pair(10, 0, 3, 3, 4, 1),
+            pair(0, 4, 6, 9, 9, 3),
+        ),
+        (
+            b"10\n \t\r\n0\nEOF\n",
+            pair(10, 0, 6, 6, 7, 1),
+            pair(0, 7, 9, 12, 13, 3),
+        ),
+        (
+            b"-9999\nx\n+0\nEOF",
+            pair(-9999, 0, 6, 7, 8, 1),
+            pair(0, 8, 11, 14, 14, 3),
+        ),
+        (
+            b"9999\n a b \n00\nEOF\n",
+            pair(9999, 0, 6, 9, 11, 1),
+            pair(0, 11, 14, 17, 18, 3),
+        ),
+        (
+            b"1\nEOF\n0\nEOF\n",
+            pair(1, 0, 2, 5, 6, 1),
+            pair(0, 6, 8, 11, 12, 3),
+        ),
+        (
+            b"0\neof\n0\nEOF\n",
+            pair(0, 0, 2, 5, 6, 1),
+            pair(0, 6, 8, 11, 12, 3),
+        ),
+        (
+            b"0\n EOF x\n0\nEOF",
+            pair(0, 0, 3, 8, 9, 1),
+            pair(0, 9, 11, 14, 14, 3),
+        ),
+        (
+            b"0\nEOFF\n0\nEOF",
+            pair(0, 0, 2, 6, 7, 1),
+            pair(0, 7, 9, 12, 12, 3),
+        ),
+        (
+            b"+5\n7\n0\nEOF",
+            pair(5, 0, 3, 4, 5, 1),
+            pair(0, 5, 7, 10, 10, 3),
+        ),
+        (
+            b"000000000000000000009999\nz\n0\nEOF",
+            pair(9999, 0, 25, 26, 27, 1),
+            pair(0, 27, 29, 32, 32, 3),
+        ),
+        (
+            b"8\n\xFF\x0C\n0\nEOF",
+            pair(8, 0, 2, 4, 5, 1),
+            pair(0, 5, 7, 10, 10, 3),
+        ),
+    ] {
+        assert!(rt; has_pairs(rt.alloc(), text, &[first, last]), "{text:?}");
+    }
+}
+
+#[test]
+fn reads_sections(rt: HostRuntime) -> Result<(), Fail> {
+    let pairs = read_pairs(rt.alloc(), b"  0\nSECTION\n  2\nHEADER\n0\nEOF\n")?;
+    let want = [
+        pair(0, 0, 4, 11, 12, 1),
+        pair(2, 12, 16, 22, 23, 3),
+        pair(0, 23, 25, 28, 29, 5),
+    ];
+    assert_eq!(rt; pairs.as_slice(), want.as_slice());
+    codes_are_whole_numbers();
+    lines_follow();
+    pairs_tile();
+    pairs_are_in_lines();
+    pairs_are_the_groups();
+    Ok(())
+}
+
+/// Texts without an end, or that are no text, and what is said of each.
+const ENDLESS: &[(&[u8], PairFault)] = &[
+    (b"", PairFault::NoEof),
+    (b"0\nSECTION", PairFault::NoEof),
+    (b"0\nSECTION\n", PairFault::NoEof),
+    (b"0\n\n", PairFault::NoEof),
+    (b"0\nEO\n", PairFault::NoEof),
+    (b"0\nEOF\0\n", PairFault::NoEof),
+    (b"1\nEOF\n", PairFault::NoEof),
+    (b"0", PairFault::Odd { line: 1 }),
+    (b"0\n", PairFault::Odd { line: 1 }),
+    (b"0\r", PairFault::Odd { line: 1 }),
+    (b"0\nSECTION\n2", PairFault::Odd { line: 3 }),
+    (b"0\nSECTION\n2\n", PairFault::Odd { line: 3 }),
+    (b"AutoCAD Binary DXF", PairFault::Binary),
+    (b"AutoCAD Binary DXF\r\n\x1A\0", PairFault::Binary),
+];
+
+#[test]
+fn finds_ends(rt: HostRuntime) {
+    for (text, want) in ENDLESS {
+        assert_eq!(rt; fault(rt.alloc(), text), Some(*want), "{text:?}");
+    }
+}
+
+/// Texts, and the first line of each that should have a code and has none.
+const CODELESS: &[(&[u8], u64)] = &[
+    (b"x\nEOF", 1),
+    (b"x", 1),
+    (b"\n", 1),
+    (b" \t\r\n0\nEOF", 1),
+    (b"0\nSECTION\nx", 3),
+    (b"0\nSECTION\n\n", 3),
+    (b"0\nA\n1\nB\n1e3\nC\n", 5),
+    (b"10000\nx", 1),
+    (b"-10000\nx", 1),
+    (b"99999999999999999999\nx", 1),
+    (b"-\nx", 1),
+    (b"+\nx", 1),
+    (b"+-1\nx", 1),
+    (b"- 1\nx", 1),
+    (b"1 2\nx", 1),
+    (b"1.0\nx", 1),
+    (b"0x1\nx", 1),
+    (b"1\rEOF", 1),
+    (b"\xEF\xBB\xBF0\nEOF", 1),
+    (b"\x0C0\nEOF", 1),
+    (b"\xB2\nEOF", 1),
+    (b"\xD9\xA0\nEOF", 1),
+    (b"AutoCAD Binary DX", 1),
+    (b" AutoCAD Binary DXF", 1),
+    (b"autocad Binary DXF", 1),
+];
+
+#[test]
+fn finds_lines_without_a_code(rt: HostRuntime) {
+    for (text, line) in CODELESS {
+        let want = PairFault::Code { line: *line };
+        assert_eq!(rt; fault(rt.alloc(), text), Some(want), "{text:?}");
+    }
+}

@@ -1,0 +1,281 @@
+//! Words, and the jobs or faults that they give.
+
+use job_words::{Format, Job, Which, WordsFault, format_of, last_part, read_words};
+use sheet_base::How;
+use std::alloc::{AllocError, Global};
+use std::test::Fail;
+
+/// The words of a line, which stand between single blanks.
+fn words_of(alloc: Global, line: &str) -> Result<Vec<String>, AllocError> {
+    let mut words = Vec::new(alloc);
+    for word in line.split(' ') {
+        words.push(word.to_string(alloc)?)?;
+    }
+    Ok(words)
+}
+
+/// How files are read, spelled as the flags that ask for it.
+fn add_flags(text: &mut String, how: How, inverse: bool) -> Result<(), AllocError> {
+    if inverse {
+        text.push_str(" inverse")?;
+    }
+    if how.exact {
+        text.push_str(" exact")?;
+    }
+    if how.inside_only {
+        text.push_str(" inside-only")?;
+    }
+    if how.drop_other {
+        text.push_str(" drop-other")?;
+    }
+    Ok(())
+}
+
+/// A job, spelled.
+fn spelled(alloc: Global, job: &Job) -> Result<String, AllocError> {
+    match job {
+        Job::Migrate {
+            tin,
+            out,
+            how,
+            inverse,
+            layers,
+        } => {
+            let (tin, out) = (tin.text(), out.text());
+            let mut text = format!(in alloc; "migrate tin {tin} out {out}")?;
+            add_flags(&mut text, *how, *inverse)?;
+            for layer in layers.items() {
+                text.push_str(" layer ")?;
+                text.push_str(layer.text())?;
+            }
+            Ok(text)
+        }
+        Job::Check { tin, how } => {
+            let tin = tin.text();
+            let mut text = format!(in alloc; "check tin {tin}")?;
+            add_flags(&mut text, *how, false)?;
+            Ok(text)
+        }
+        Job::Make { n } => format!(in alloc; "make {n}"),
+    }
+}
+
+/// Words, and the job that they give.
+const JOBS: &[(&str, &str)] = &[
+    (
+        "migrate --tin t --out o a.wkt",
+        "migrate tin t out o layer a.wkt",
+    ),
+    (
+        "migrate --tin=t.json a.wkt --out o",
+        "migrate tin t.json out o layer a.wkt",
+    ),
+    (
+        "migrate a.wkt --tin t x/b.JSON --exact --out=o c.dXf --drop-other d.GeoJSON --inverse --inside-only",
+        "migrate tin t out o inverse exact inside-only drop-other layer a.wkt layer x/b.JSON layer c.dXf layer d.GeoJSON",
+    ),
+    (
+        "migrate --tin t --out o -- --a.wkt -b.wkt --tin.wkt",
+        "migrate tin t out o layer --a.wkt layer -b.wkt layer --tin.wkt",
+    ),
+    (
+        "migrate --out t=o --tin=a=b .wkt x/A.wkt a.wkt",
+        "migrate tin a=b out t=o layer .wkt layer x/A.wkt layer a.wkt",
+    ),
+    ("check --tin t", "check tin t"),
+    (
+        "check --inside-only --tin=- --exact",
+        "check tin - exact inside-only",
+    ),
+    ("make 1", "make 1"),
+    ("make 512", "make 512"),
+    ("make -- 40", "make 40"),
+];
+
+#[test]
+fn words_give_jobs(rt: HostRuntime) -> Result<(), Fail> {
+    let alloc = rt.alloc();
+    for (line, wanted) in JOBS {
+        let words = words_of(alloc, line)?;
+        let job = read_words(alloc, &words)?;
+        let text = spelled(alloc, &job)?;
+        assert_eq!(rt; text.as_str(), *wanted, "{line}");
+    }
+    Ok(())
+}
+
+/// Words of which all four have one fault.
+const FAULTS: &[([&str; 4], WordsFault)] = &[
+    (
+        ["", "Migrate --tin t --out o a.wkt", "--tin t", "help"],
+        WordsFault::NoMode,
+    ),
+    (["migrate", "check", "make", "make 1 2"], WordsFault::Parse),
+    (
+        [
+            "migrate --tin t --out o",
+            "migrate --tin t a.wkt",
+            "migrate --out o a.wkt",
+            "migrate --tin t --out o a.wkt --tin",
+        ],
+        WordsFault::Parse,
+    ),
+    (
+        [
+            "migrate --tin t --tin t --out o a.wkt",
+            "migrate --tin t --out=o --out o a.wkt",
+            "migrate --tin t --exact --out o a.wkt --exact",
+            "check --tin t --tin=t",
+        ],
+        WordsFault::Parse,
+    ),
+    (
+        [
+            "migrate --tin t --out o --force a.wkt",
+            "migrate --ti t --out o a.wkt",
+            "migrate --tin t --out o --inv a.wkt",
+            "migrate -t t --out o a.wkt",
+        ],
+        WordsFault::Parse,
+    ),
+    (
+        [
+            "migrate --tin t --out o --inverse=yes a.wkt",
+            "migrate --tin --out o a.wkt",
+            "migrate --tin t --out o a.wkt --help",
+            "make -1",
+        ],
+        WordsFault::Parse,
+    ),
+    (
+        [
+            "check --tin t a.wkt",
+            "check --tin t --inverse",
+            "check --tin t --out o",
+            "check -h",
+        ],
+        WordsFault::Parse,
+    ),
+    (
+        ["make 0", "make 007", "make 513", "make +1"],
+        WordsFault::Size,
+    ),
+    (
+        ["make ", "make 1x", "make 4294967297", "make 1.0"],
+        WordsFault::Size,
+    ),
+    (
+        [
+            "migrate --tin= --out o a.wkt",
+            "migrate --tin  --out  a.tif",
+            "migrate --tin t\n --out o a.wkt",
+            "check --tin ",
+        ],
+        WordsFault::Name { which: Which::Tin },
+    ),
+    (
+        [
+            "migrate --tin t --out= a.tif ",
+            "migrate --tin t --out \u{1f} a.wkt",
+            "migrate --tin t a.wkt --out ",
+            "migrate --out= --tin=t x/a.wkt a.wkt",
+        ],
+        WordsFault::Name { which: Which::Out },
+    ),
+    (
+        [
+            "migrate --tin t --out o a.tif ",
+            "migrate --tin t --out o a.wkt b\tc.wkt ",
+            "migrate a.wkt --tin t  --out o",
+            "migrate --tin t --out o x/a.wkt \u{0}",
+        ],
+        WordsFault::Name {
+            which: Which::Layer(1),
+        },
+    ),
+    (
+        [
+            "migrate --tin t --out o a.tif",
+            "migrate --tin t --out o a.wkt/ b.tif",
+            "migrate --tin t --out o awkt a.wkt x/a.wkt",
+            "migrate --tin t --out o - a.wkt",
+        ],
+        WordsFault::Suffix { layer: 0 },
+    ),
+    (
+        [
+            "migrate --tin t --out o a/x.wkt b/x.wkt",
+            "migrate --tin t --out o x.wkt x.wkt",
+            "migrate --tin t --out o a/x.wkt x.wkt y.wkt x.wkt",
+            "migrate --tin t --out o /x.json --exact a//x.json",
+        ],
+        WordsFault::SameName { layer: 1 },
+    ),
+];
+
+#[test]
+fn words_have_faults(rt: HostRuntime) -> Result<(), Fail> {
+    let alloc = rt.alloc();
+    let none = Vec::new(alloc);
+    assert_eq!(rt; read_words(alloc, &none).err(), Some(WordsFault::NoMode));
+    for (lines, fault) in FAULTS {
+        for line in lines {
+            let words = words_of(alloc, line)?;
+            let got = read_words(alloc, &words);
+            assert_eq!(rt; got.err(), Some(*fault), "{line}");
+        }
+    }
+    Ok(())
+}
+
+/// A migration of so many layers, and a word behind them.
+fn many_layers(alloc: Global, count: usize, last: &str) -> Result<Vec<String>, AllocError> {
+    let mut words = words_of(alloc, "migrate --tin t --out o")?;
+    for number in 0..count {
+        words.push(format!(in alloc; "layer{number}.wkt")?)?;
+    }
+    words.push(last.to_string(alloc)?)?;
+    Ok(words)
+}
+
+#[test]
+fn layers_are_counted(rt: HostRuntime) -> Result<(), Fail> {
+    let alloc = rt.alloc();
+    for (count, last, fault) in [
+        (1023, "last.wkt", None),
+        (1024, "last.wkt", Some(WordsFault::Many)),
+        (1024, "", Some(WordsFault::Many)),
+        (
+            1023,
+            "x/layer7.wkt",
+            Some(WordsFault::SameName { layer: 1023 }),
+        ),
+    ] {
+        let words = many_layers(alloc, count, last)?;
+        let got = read_words(alloc, &words);
+        assert_eq!(rt; got.err(), fault, "{count} {last}");
+    }
+    Ok(())
+}
+
+/// Names, their last parts, and the formats that they end in.
+const NAMES: &[(&str, &str, Option<Format>)] = &[
+    ("a.wkt", "a.wkt", Some(Format::Wkt)),
+    ("x/y/a.WKT", "a.WKT", Some(Format::Wkt)),
+    ("/a.GeoJSON", "a.GeoJSON", Some(Format::GeoJson)),
+    ("b.c.json", "b.c.json", Some(Format::GeoJson)),
+    ("b.Dxf", "b.Dxf", Some(Format::Drawing)),
+    ("dxf", "dxf", None),
+    ("a.wkt/", "", None),
+    ("a.wkt.gz", "a.wkt.gz", None),
+    ("xgeojson", "xgeojson", None),
+    ("", "", None),
+];
+
+#[test]
+fn names_have_formats_and_last_parts(rt: HostRuntime) {
+    for &(name, part, format) in NAMES {
+        assert_eq!(rt; last_part(name), part, "{name}");
+        assert_eq!(rt; format_of(name), format, "{name}");
+    }
+}

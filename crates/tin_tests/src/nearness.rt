@@ -1,0 +1,24 @@
+ghost use Rattle.std.specs.Prelude.{◌-ℤ◌, ◌<ℤ◌, IsTrue};
+ghost use Rattle.plane_base.specs.Plane.{IsNear};
+ghost use Rattle.plane_base.specs.declared.shapes.TheConstants.{SPAN};
+
+use plane_base::{Pt, SPAN};
+
+/// Is each point less than the span from the other, on both axes?
+pub fn is_near(p: Pt, q: Pt) -> bool
+    ensures { IsTrue result → IsNear p q }
+{
+    if !is_less_than_span(q.x, p.x) || !is_less_than_span(p.x, q.x) {
+        return false;
+    }
+    if !is_less_than_span(q.y, p.y) {
+        return false;
+    }
+    is_less_than_span(p.y, q.y)
+}
+
+fn is_less_than_span(from: i64, to: i64) -> bool
+    ensures { IsTrue result → ((to -ℤ from) <ℤ SPAN) }
+{
+    i128::from(to) - i128::from(from) < i128::from(SPAN)
+}

@@ -1,6 +1,0 @@
-use Rattle.std.proofs.Common.{All}
-use Rattle.topo_check.specs.Small.{IsTried}
-use Rattle.topo_check.proofs.tests.line_and_dots.Given as goal
-
-abbrev pub invariant-loop-number : goal.invariant-loop-number
-invariant-loop-number l = All (λ p. IsTried l.tin p) l.pieces.items
