@@ -127,4 +127,4 @@ TEXTS = [
 if __name__ == "__main__":
     for text in TEXTS:
         assert not is_text(text), text
-        print(repr(text)[1:].replace("'", '"') if False else (text, place(text)))
+        print((text, place(text)))

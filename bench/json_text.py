@@ -2,7 +2,7 @@
 """Writes a triangulation file of (N + 1) * (N + 1) corners, and times Python's json on a file.
 
     json_text.py make N FILE     writes the text
-    json_text.py time FILE       prints the megabytes a second of Python's json over it
+    json_text.py time FILE       prints what Python's json takes over it
 """
 import json
 import sys
@@ -52,4 +52,4 @@ else:
         json.loads(data)
         taken = time.process_time() - start
         best = taken if best is None or taken < best else best
-    print("python json: %.0f MB a second" % (len(data) / best / 1e6))
+    print("python json: %d ms, %.0f MB a second" % (best * 1000, len(data) / best / 1e6))

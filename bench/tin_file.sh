@@ -61,41 +61,11 @@ fn main(rt: HostRuntime) -> anyhow::Result<()> {
     Ok(())
 }
 END
-cat > "$work/text.py" <<'END'
-import json, sys, time
-
-def metres(mm):
-    return '%d.%03d' % divmod(mm, 1000)
-
-def make(n):
-    side = range(n + 1)
-    vertices = ','.join('[%d,%d,%s,%s]' % (
-        10 * i, 10 * j, metres(1000000 + 10000 * i + (7 * i + 13 * j) % 41), metres(2000000 + 10000 * j + (11 * i + 5 * j) % 37))
-        for j in side for i in side)
-    at = lambda i, j: j * (n + 1) + i
-    triangles = ','.join('[%d,%d,%d],[%d,%d,%d]' % (
-        at(i, j), at(i + 1, j), at(i + 1, j + 1), at(i, j), at(i + 1, j + 1), at(i, j + 1))
-        for j in range(n) for i in range(n))
-    return ('{"file_type":"triangulation_file","format_version":"1.1","transformed_components":["horizontal"],'
-        '"vertices_columns":["source_x","source_y","target_x","target_y"],'
-        '"triangles_columns":["idx_vertex1","idx_vertex2","idx_vertex3"],"vertices":[%s],"triangles":[%s]}') % (vertices, triangles)
-
-if sys.argv[1] == 'make':
-    open(sys.argv[3], 'w').write(make(int(sys.argv[2])))
-else:
-    taken = []
-    for _ in range(5):
-        with open(sys.argv[2]) as file:
-            start = time.process_time()
-            json.load(file)
-            taken.append(time.process_time() - start)
-    print('Python json.load: %d ms' % (sum(taken) / len(taken) * 1000))
-END
-python3 "$work/text.py" make "$count" "$work/made.json"
+python3 "$top/bench/json_text.py" make "$count" "$work/made.json"
 # The run that builds the program has no file at hand and is not counted.
 (cd "$work/crates/tin_bench" && rt run > "$work/log" 2>&1) || true
 program="$work/crates/tin_bench/out/tin_bench"
 [ -x "$program" ] || { tail -n 20 "$work/log"; exit 1; }
 cd "$work"
 "$program"
-python3 "$work/text.py" time "$work/made.json"
+python3 "$top/bench/json_text.py" time "$work/made.json"

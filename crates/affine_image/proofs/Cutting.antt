@@ -3,10 +3,11 @@ use Rattle.std.proofs.Common.{◌≡◌, ℕ, ◌<◌, ℤ, pos, ◌+ℤ◌, ◌
 use Rattle.std.proofs.lemmas.Int.{ints}
 use Rattle.integer_ring.proofs.Ring.{num, ◌⊕◌, ◌⊖◌, ◌⊗◌}
 use Rattle.integer_ring.proofs.Order.{to_nat, ≤-to-nonneg}
-use Rattle.integer_ring.proofs.Claims.{◌≐◌, ◌≺◌, over, eqn, ◌⊞◌, ◌because◌, ◌⇒◌, follows, solve}
+use Rattle.integer_ring.proofs.Claims.{◌≐◌, eqn, ◌⊞◌, ◌because◌, ◌⇒◌, follows, solve}
 use Rattle.frac128.specs.Rounding.{half_up_of}
 use Rattle.plane_base.specs.Plane.{Point, Same, weighed, whole, along, IsNearAll}
 use Rattle.plane_base.specs.declared.shapes.Pt.{Pt}
+use Rattle.plane_base.proofs.Along.{along-w}
 use Rattle.tin_base.specs.declared.frames.Frame.TheVariants.{Source, Target}
 use Rattle.tin_base.specs.Triangulation.{Triangulation, place, corner_at, numbers_of}
 use Rattle.tin_base.specs.Images.{AreLikeMixes}
@@ -28,9 +29,6 @@ edge_is_near tin p q a b limits hp hq ea eb =
     let near = near_points tin Target p q a b limits hp hq ea eb in (near, itself a, turned a b near)
 
 -- ---- what is rounded
-along_positive : (n d : ℤ) → pos 0 <ℤ d → pos 0 <ℤ ((d -ℤ n) *ℤ pos 1 +ℤ n *ℤ pos 1)
-along_positive = follows 2 (λ n d. num (pos 0) ≺ d ⇒ num (pos 0) ≺ (d ⊖ n) ⊗ num (pos 1) ⊕ n ⊗ num (pos 1) because over 0) tt
-
 spelled : (n d a b u v w : ℤ) → u ≡ n → v ≡ pos 0 → w ≡ d → (w -ℤ u -ℤ v) *ℤ a +ℤ u *ℤ b +ℤ v *ℤ a ≡ (d -ℤ n) *ℤ a +ℤ n *ℤ b
 spelled =
     follows 7 (λ n d a b u v w. u ≐ n ⇒ v ≐ num (pos 0) ⇒ w ≐ d ⇒ (w ⊖ u ⊖ v) ⊗ a ⊕ u ⊗ b ⊕ v ⊗ a ≐ (d ⊖ n) ⊗ a ⊕ n ⊗ b because eqn 0 (b ⊖ a) ⊞ eqn 2 a) tt
@@ -47,8 +45,8 @@ pub cut_is : (tin : Triangulation) (p q : ℕ) (a b r : Pt) (n d : ℤ) (w : Wei
     → w.second ≡ n → w.third ≡ pos 0 → w.whole ≡ d → AreMixed (record { a = a; b = b; c = a }) w r → r ≡ rounded (cut_of tin Target p q n d)
 cut_is tin p q a b r n d w ea eb h eu ev ew is =
     let z = (d -ℤ n) *ℤ pos 1 +ℤ n *ℤ pos 1 in
-    let x : r.x ≡ half_up_of ((d -ℤ n) *ℤ a.x +ℤ n *ℤ b.x) z = is.x ∙ same_rounded (numerator w a.x b.x a.x) w.whole ((d -ℤ n) *ℤ a.x +ℤ n *ℤ b.x) z w.positive (along_positive n d h) (on_axis n d a.x b.x w.second w.third w.whole eu ev ew) in
-    let y : r.y ≡ half_up_of ((d -ℤ n) *ℤ a.y +ℤ n *ℤ b.y) z = is.y ∙ same_rounded (numerator w a.y b.y a.y) w.whole ((d -ℤ n) *ℤ a.y +ℤ n *ℤ b.y) z w.positive (along_positive n d h) (on_axis n d a.y b.y w.second w.third w.whole eu ev ew) in
+    let x : r.x ≡ half_up_of ((d -ℤ n) *ℤ a.x +ℤ n *ℤ b.x) z = is.x ∙ same_rounded (numerator w a.x b.x a.x) w.whole ((d -ℤ n) *ℤ a.x +ℤ n *ℤ b.x) z w.positive (along-w n d h) (on_axis n d a.x b.x w.second w.third w.whole eu ev ew) in
+    let y : r.y ≡ half_up_of ((d -ℤ n) *ℤ a.y +ℤ n *ℤ b.y) z = is.y ∙ same_rounded (numerator w a.y b.y a.y) w.whole ((d -ℤ n) *ℤ a.y +ℤ n *ℤ b.y) z w.positive (along-w n d h) (on_axis n d a.y b.y w.second w.third w.whole eu ev ew) in
     let there : r ≡ rounded (along (whole a) (whole b) n d) = ap₂ at x y in
     there ∙ ap₂ (λ (u v : Point). rounded (along u v n d)) ea eb
 
@@ -75,4 +73,4 @@ cuts_are_images tin t p q n d r ht hp hq param same =
       along_weighed (place Source (corner_at tin p)) (place Source (corner_at tin q)) r n d k.0 l.0 l.1 k.1 same,
       along_weighed (place Target (corner_at tin p)) (place Target (corner_at tin q)) image n d k.0 l.0 l.1 k.1 (same_refl image),
     ) in
-    (image, along_positive n d param.0, (t, ht, alike_more tin Source (numbers_of tin t) (p ∷ q ∷ []) r image (hp, (hq, tt)) like), refl)
+    (image, along-w n d param.0, (t, ht, alike_more tin Source (numbers_of tin t) (p ∷ q ∷ []) r image (hp, (hq, tt)) like), refl)

@@ -1,6 +1,6 @@
 -- The images of a sheet's paths have the segments between the images of its pieces' ends.
 use Rattle.std.proofs.Common.{◌≡◌, ◌≢◌, ◌⊎◌, inl, inr, ℕ, zero, suc, ◌+◌, ◌-◌, ◌<◌, ◌≤◌, true, false, ltb, List, [], ◌∷◌, ◌++◌, Option, Some, None, take, map, length, append_assoc, append-nil, length-append, ap, ap₂, refl, sym, ◌∙◌, subst, arith}
-use Rattle.std.specs.Prelude.{slice_get, flat_map}
+use Rattle.std.specs.Prelude.{slice_get}
 use Rattle.std.specs.List.{cons_option, range_with_len}
 use Rattle.std.proofs.lemmas.Grind.{flat_map-append}
 use Rattle.std.proofs.lemmas.List.{map-append}
@@ -381,7 +381,7 @@ split_runs tin (v ∷ vs) ws (run ∷ runs) are =
     let s = split_runs tin vs ws runs are.1 in
     record { front = run ∷ s.front; back = s.back; split = ap (λ rs. run ∷ rs) s.split; of_front = (are.0, s.of_front); of_back = s.of_back }
 
-begun_append : (vs ws : List PathVertex) → segments_begun (vs ++ ws) ≡ segments_begun vs ++ segments_begun ws
+pub begun_append : (vs ws : List PathVertex) → segments_begun (vs ++ ws) ≡ segments_begun vs ++ segments_begun ws
 begun_append [] ws = refl
 begun_append (v ∷ vs) ws = go v.segment (begun_append vs ws)
   where

@@ -52,12 +52,6 @@ ArePiecesOfAll tin layer (segment ∷ segments) pieces =
 abbrev pub ArePiecesOfSheet : Triangulation → ℕ → Contents → List Piece → Type 0
 ArePiecesOfSheet tin layer sheet pieces = ArePiecesOfAll tin layer (sheet_segments sheet) pieces
 
--- of a run: those of its sheets in order, the layers numbered from this number on
-abbrev pub ArePiecesOfRun : Triangulation → ℕ → List Contents → List Piece → Type 0
-ArePiecesOfRun tin layer [] pieces = pieces ≡ []
-ArePiecesOfRun tin layer (sheet ∷ sheets) pieces =
-    (own : List Piece) × (rest : List Piece) × (pieces ≡ own ++ rest) × ArePiecesOfSheet tin layer sheet own × ArePiecesOfRun tin (layer + 1) sheets rest
-
 -- ---- inside
 -- each of some segments is inside
 abbrev pub AreInside : Triangulation → List Segment → Type 0

@@ -2,8 +2,7 @@ ghost use Rattle.std.specs.Prelude.{◌≡◌, ◌<◌, length};
 ghost use Rattle.plane_base.specs.Plane.{whole};
 ghost use Rattle.plane_base.specs.Slices.{IsParam};
 ghost use Rattle.tin_base.specs.declared.frames.Frame.TheVariants.{Source, Target};
-ghost use Rattle.tin_base.specs.Triangulation.{IsInTriangle, place, corner_at};
-ghost use Rattle.tin_base.specs.Limits.{IsWithinLimits};
+ghost use Rattle.tin_base.specs.Triangulation.{IsInTriangle};
 ghost use Rattle.affine_image.specs.Rounded.{rounded, IsRoundedImage};
 ghost use Rattle.affine_image.specs.Cuts.{cut_of};
 
@@ -32,20 +31,12 @@ pub fn image_cut(tin: &SoundTin, p: u32, q: u32, s: Frac) -> Pt
     requires between { IsParam s.num s.den }
     ensures { result ≡ rounded (cut_of tin.now Target p q s.num s.den) }
 {
-    let from = target_place(tin, p);
-    let to = target_place(tin, q);
+    let from = tin.place(p, Frame::Target);
+    let to = tin.place(q, Frame::Target);
     let edge = Tri {
         a: from,
         b: to,
         c: from,
     };
     mixed(weights_between(s), &edge)
-}
-
-fn target_place(tin: &SoundTin, number: u32) -> Pt
-    requires { number < length tin.now.corners }
-    ensures place { whole result ≡ place Target (corner_at tin.now number) }
-    ensures limits { IsWithinLimits tin.now }
-{
-    tin.corners()[number as usize].at(Frame::Target)
 }

@@ -11,8 +11,8 @@ use Rattle.sheet_base.specs.declared.paths.PathRow.{PathRow}
 use Rattle.sheet_base.specs.Segments.{points_in, segments_of, segments_in}
 use Rattle.sheet_base.specs.Sheets.{Contents, IsPathFrom, AreTiled, IsSheet}
 use Rattle.affine_image.specs.SheetSegments.{Segment, segment_at, vertex_at, path_vertices, vertices_from, segments_begun, sheet_segments}
+use Rattle.affine_image.proofs.Segmenting.{begun_append}
 use Rattle.carry_map.specs.Layers.{ends_open_of, ends_open}
-use Rattle.carry_map.proofs.Gathering.{begun_more}
 use Rattle.carry_map.proofs.Pathing.{few}
 
 -- ---- the segments of a path
@@ -73,7 +73,7 @@ begun_of points n (row ∷ rows) first past h =
     let path = h.0 in
     let rest = segments_begun (vertices_from points (n + 1) rows) in
     let from : IsPathFrom row.first row = record { begins = refl; some = path.some; dot = path.dot } in
-    let all = ap (λ (ss : List Segment). length ss) (begun_more (path_vertices points n row) (vertices_from points (n + 1) rows)) ∙ length-append (segments_begun (path_vertices points n row)) rest in
+    let all = ap (λ (ss : List Segment). length ss) (begun_append (path_vertices points n row) (vertices_from points (n + 1) rows)) ∙ length-append (segments_begun (path_vertices points n row)) rest in
     go (ends_open row) (length (segments_begun (vertices_from points n (row ∷ rows)))) (length (segments_begun (path_vertices points n row))) (segments_in row) (length rest) (open_in rows) all (begun_in points n row from) (path_opens row from) path.begins path.some (begun_of points (n + 1) rows row.past past h.1)
   where
     go : (b : Bool) (l m s k o : ℕ) → l ≡ m + k → m ≡ s → s + cond b 1 0 ≡ row.past - row.first → row.first ≡ first → row.first < row.past → row.past + (k + o) ≡ past → first + (l + cond b (1 + o) o) ≡ past

@@ -1,23 +1,16 @@
 -- Where a segment leaves a triangle through a side: the parameter on the side, and the image of the crossing.
 use Rattle.std.proofs.Common.{◌≡◌, ℤ, pos, negsuc, ◌+ℤ◌, ◌-ℤ◌, ◌*ℤ◌, ◌≤ℤ◌, ◌<ℤ◌, [], ◌∷◌, sym, ◌∙◌}
-use lib.Signed.{lt_z_yes}
 use Rattle.integer_ring.proofs.Ring.{num, neg, ◌⊕◌, ◌⊖◌, ◌⊗◌}
 use Rattle.integer_ring.proofs.Signs.{≡_of_mul, nonneg_of_mul, ≤_of_mul}
-use Rattle.integer_ring.proofs.Claims.{◌≐◌, ◌≼◌, ◌≺◌, gap, over, eqn, ◌⊞◌, ◌⊠◌, ◌because◌, ◌⇒◌, follows}
+use Rattle.integer_ring.proofs.Claims.{◌≐◌, ◌≼◌, ◌≺◌, gap, eqn, ◌⊞◌, ◌⊠◌, ◌because◌, ◌⇒◌, follows}
 use Rattle.plane_base.specs.Plane.{Point, Same, whole, along, turn_of, IsMix}
 use Rattle.plane_base.specs.Laws.{HasParameter}
 use Rattle.plane_base.specs.Slices.{IsParam, IsParallel}
 use Rattle.plane_base.specs.declared.shapes.Pt.{Pt}
 use Rattle.plane_base.proofs.Mixes.{same_trans}
 use Rattle.plane_base.proofs.Turns.{turn_cycle, turn_twice, turn_same}
-use Rattle.plane_base.proofs.Along.{turn_along}
+use Rattle.plane_base.proofs.Along.{turn_along, along-w}
 use Rattle.plane_base.proofs.Parameters.{segments_have_parameters}
-
-one : pos 0 <ℤ pos 1
-one = lt_z_yes tt
-
-pub along-w : (n d : ℤ) → pos 0 <ℤ d → pos 0 <ℤ ((d -ℤ n) *ℤ pos 1 +ℤ n *ℤ pos 1)
-along-w = follows 2 (λ n d. num (pos 0) ≺ d ⇒ num (pos 0) ≺ (d ⊖ n) ⊗ num (pos 1) ⊕ n ⊗ num (pos 1) because over 0) tt
 
 -- ---- the points of the segment are on its line
 none_of : (m n u v : ℤ) → u ≡ pos 0 → v ≡ pos 0 → m *ℤ u +ℤ n *ℤ v ≡ pos 0

@@ -13,7 +13,8 @@ use Rattle.affine_image.specs.SheetSegments.{Segment, PathVertex, segments_begun
 use Rattle.affine_image.specs.SheetPieces.{first_place, ArePiecesOfAll, AreInside}
 use Rattle.affine_image.specs.SheetImages.{AreCrossings, AreRuns, joined, begins_from}
 use Rattle.affine_image.proofs.Told.{inner_ends}
-use Rattle.carry_map.specs.Carried.{Grows, inner_images, AreSegmentTold, IsSegmentCarried, AreCarried}
+use Rattle.affine_image.proofs.Segmenting.{begun_append}
+use Rattle.carry_map.specs.Carried.{inner_images, AreSegmentTold, IsSegmentCarried, AreCarried}
 
 -- ---- what stands behind the front of a list
 pub behind_front : {X : Type 0} (before own all : List X) (n : ℕ) → all ≡ before ++ own → n ≡ length before → take (length all - n) (drop n all) ≡ own
@@ -24,13 +25,6 @@ behind_front before own all n e f = subst (λ (xs : List _). take (length xs - n
       where
         enough : length (before ++ own) ≡ length before + length own → length own ≤ length (before ++ own) - length before
         enough h = omega arith
-
--- ---- more and more
-pub grows_none : {X : Type 0} (xs : List X) → Grows xs xs
-grows_none xs = record { more = []; are = sym (append-nil xs) }
-
-pub grows_on : {X : Type 0} (xs ys zs : List X) → Grows xs ys → Grows ys zs → Grows xs zs
-grows_on xs ys zs g h = record { more = g.more ++ h.more; are = h.are ∙ ap (λ (ws : List _). ws ++ h.more) g.are ∙ append_assoc xs g.more h.more }
 
 -- ---- runs
 pub runs_more : (tin : Triangulation) (vs ws : List PathVertex) (rs ss : List (List Pt)) → AreRuns tin vs rs → AreRuns tin ws ss → AreRuns tin (vs ++ ws) (rs ++ ss)
@@ -47,14 +41,6 @@ begins_more n (r ∷ rs) ss = ap (λ (ms : List ℕ). n ∷ ms) (begins_more (n 
     moved h = omega arith
 
 -- ---- segments and pieces
-pub begun_more : (vs ws : List PathVertex) → segments_begun (vs ++ ws) ≡ segments_begun vs ++ segments_begun ws
-begun_more [] ws = refl
-begun_more (v ∷ vs) ws = go v.segment (begun_more vs ws)
-  where
-    go : (s : Option Segment) → segments_begun (vs ++ ws) ≡ segments_begun vs ++ segments_begun ws → cons_option s (segments_begun (vs ++ ws)) ≡ cons_option s (segments_begun vs) ++ segments_begun ws
-    go None e = e
-    go (Some s) e = ap (λ (ss : List Segment). s ∷ ss) e
-
 pub pieces_more : (tin : Triangulation) (layer : ℕ) (ss ts : List Segment) (ps qs : List Piece) → ArePiecesOfAll tin layer ss ps → ArePiecesOfAll tin layer ts qs → ArePiecesOfAll tin layer (ss ++ ts) (ps ++ qs)
 pieces_more tin layer [] ts ps qs h k = subst (λ (xs : List Piece). ArePiecesOfAll tin layer ts (xs ++ qs)) (sym h) k
 pieces_more tin layer (s ∷ ss) ts ps qs h k = (
@@ -91,8 +77,8 @@ carried_on tin layer vs ws x y z r s t p q o g h = record {
       ∙ ap (λ (ms : List ℕ). r ++ ms) (ap (λ (m : ℕ). begins_from (length x) g.runs ++ begins_from m h.runs) (ap (λ (xs : List Pt). length xs) g.points_are ∙ length-append x (joined g.runs)) ∙ sym (begins_more (length x) g.runs h.runs));
   own = g.own ++ h.own;
   pieces_are = h.pieces_are ∙ ap (λ (xs : List Piece). xs ++ h.own) g.pieces_are ∙ append_assoc p g.own h.own;
-  of_segments = subst (λ (ss : List Segment). ArePiecesOfAll tin layer ss (g.own ++ h.own)) (sym (begun_more vs ws)) (pieces_more tin layer (segments_begun vs) (segments_begun ws) g.own h.own g.of_segments h.of_segments);
-  inside = subst (λ (ss : List Segment). AreInside tin ss) (sym (begun_more vs ws)) (inside_more tin (segments_begun vs) (segments_begun ws) g.inside h.inside);
+  of_segments = subst (λ (ss : List Segment). ArePiecesOfAll tin layer ss (g.own ++ h.own)) (sym (begun_append vs ws)) (pieces_more tin layer (segments_begun vs) (segments_begun ws) g.own h.own g.of_segments h.of_segments);
+  inside = subst (λ (ss : List Segment). AreInside tin ss) (sym (begun_append vs ws)) (inside_more tin (segments_begun vs) (segments_begun ws) g.inside h.inside);
 }
 
 -- a vertex that begins no segment

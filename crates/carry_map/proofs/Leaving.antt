@@ -12,6 +12,7 @@ use Rattle.plane_base.specs.declared.slicing.End.{End}
 use Rattle.plane_base.specs.declared.slicing.End.TheVariants.{Vertex, Side}
 use Rattle.plane_base.specs.declared.slicing.Stretch.{Stretch}
 use Rattle.plane_base.proofs.Mixes.{same_refl, same_sym, same_trans, same_moved, mix_moved}
+use Rattle.plane_base.proofs.Along.{along-w}
 use Rattle.tin_base.specs.declared.frames.Frame.TheVariants.{Source, Target}
 use Rattle.tin_base.specs.Triangulation.{Triangulation, place, corner_at, numbers_of, places, IsInTriangle}
 use Rattle.tin_base.specs.Images.{IsInSome}
@@ -27,7 +28,7 @@ use Rattle.seg_walk.proofs.Spots.{at_spot}
 use Rattle.seg_walk.proofs.Beginning.{params}
 use Rattle.seg_walk.proofs.Standing.{source_at, near_corner, near_ends, stands}
 use Rattle.carry_map.specs.Sides.{corner_number, next_corner}
-use Rattle.carry_map.proofs.Crossing.{along-w, parallel, crossing, IsOnSide}
+use Rattle.carry_map.proofs.Crossing.{parallel, crossing, IsOnSide}
 
 -- ---- near each other
 turned : (p q : Pt) → IsNear p q → IsNear q p

@@ -22,13 +22,14 @@ use Rattle.tin_base.specs.Images.{IsInSome}
 use Rattle.tin_base.specs.Segments.{IsInside}
 use Rattle.affine_image.specs.Rounded.{IsRoundedImage}
 use Rattle.affine_image.specs.SheetSegments.{Segment, PathVertex, segment_at, vertex_at, path_vertices, segments_begun}
+use Rattle.affine_image.proofs.Segmenting.{begun_append}
 use Rattle.seg_walk.proofs.Taking.{first_inside}
 use Rattle.carry_map.specs.declared.segments.Way.{Way}
 use Rattle.carry_map.specs.declared.paths.Track.{Track}
 use Rattle.carry_map.specs.declared.faults.CarryFault.{CarryFault}
 use Rattle.carry_map.specs.Carried.{IsSegmentCarried, AreCarried}
 use Rattle.carry_map.specs.Causes.{IsFirstOutside, IsCause, IsWayCause}
-use Rattle.carry_map.proofs.Gathering.{carried_none, carried_on, carried_last, carried_way, begun_more}
+use Rattle.carry_map.proofs.Gathering.{carried_none, carried_on, carried_last, carried_way}
 use Rattle.carry_map.proofs.Stopping.{cause_of_way, cause_between}
 
 -- ---- how many segments
@@ -143,11 +144,7 @@ path_next tin points track most x x' y z r r' s p p' q j image end way path h st
     grown h k = omega arith
 
 -- ---- the end of the path
--- each vertex begins a segment
-pub path_all : (tin : Triangulation) (layer : ℕ) (points : List Pt) (path : ℕ) (row : PathRow) (most : ℕ) (x x' : List Pt) (r r' : List ℕ) (p p' : List Piece) (j : ℕ) (image : Pt) → j ≡ points_in row → IsPathCarried tin layer points path row most x x' r r' p p' j image → AreCarried tin layer (path_vertices points path row) x x' r r' p p'
-path_all tin layer points path row most x x' r r' p p' j image e state = subst (λ (n : ℕ). AreCarried tin layer (first_vertices points path row n) x x' r r' p p') e state.carried
-
--- all but the last do
+-- each vertex but the last begins a segment
 pub path_but_last : (tin : Triangulation) (layer : ℕ) (points : List Pt) (path : ℕ) (row : PathRow) (most : ℕ) (x x' y : List Pt) (r r' s : List ℕ) (p p' : List Piece) (j : ℕ) (image : Pt) → IsPathFrom row.first row → j ≡ segments_in row → (j ≡ points_in row → ⊥)
     → IsPathCarried tin layer points path row most x x' r r' p p' j image → y ≡ x' ++ image ∷ [] → s ≡ r' ++ length x' ∷ [] → AreCarried tin layer (path_vertices points path row) x y r s p p'
 path_but_last tin layer points path row most x x' y r r' s p p' j image from e other state ey es =
@@ -172,7 +169,7 @@ path_but_last tin layer points path row most x x' y r r' s p p' j image from e o
 split_at : (points : List Pt) (path : ℕ) (row : PathRow) (j : ℕ) → IsPathFrom row.first row → j < segments_in row
     → segments_begun (path_vertices points path row) ≡ segments_begun (first_vertices points path row j) ++ ((segment_at points path row j ∷ []) ++ segments_begun (drop (suc j) (path_vertices points path row)))
 split_at points path row j from h =
-    ap segments_begun (sym (take-append-drop j (path_vertices points path row))) ∙ begun_more (take j (path_vertices points path row)) (drop j (path_vertices points path row))
+    ap segments_begun (sym (take-append-drop j (path_vertices points path row))) ∙ begun_append (take j (path_vertices points path row)) (drop j (path_vertices points path row))
     ∙ ap₂ (λ (vs ws : List PathVertex). segments_begun vs ++ segments_begun ws) (take-map-range_with_len (vertex_at points path row) 0 (points_in row) j up)
     (drop-cons (path_vertices points path row) j (vertex_at points path row j) (subst (λ (n : ℕ). j < n) (sym (length-map-range_with_len (vertex_at points path row) 0 (points_in row))) here)
     ∙ ap (λ (v : PathVertex). v ∷ drop (suc j) (path_vertices points path row)) (get_or-map-range_with_len (vertex_at points path row) 0 (points_in row) j j (vertex_at points path row j) here (omega arith)))

@@ -1,7 +1,7 @@
 -- A sheet, path by path.
 use Rattle.std.proofs.Common.{◌≡◌, ℕ, zero, suc, ◌+◌, ◌*◌, ◌^◌, ◌<◌, ◌≤◌, List, [], ◌∷◌, ◌++◌, take, drop, length, get_or, append_assoc, take-append-drop, ap, refl, sym, ◌∙◌, subst, arith}
 use Rattle.std.proofs.Math.Seq.{drop-cons}
-use Rattle.std.proofs.lemmas.List.{take_more, take_all, append-nil, length-append, length-take-le, get_or_default}
+use Rattle.std.proofs.lemmas.List.{take_more, append-nil, length-append, length-take-le, get_or_default}
 use Rattle.plane_base.specs.declared.shapes.Pt.{Pt}
 use Rattle.sheet_base.specs.declared.paths.PathRow.{PathRow}
 use Rattle.sheet_base.specs.Sheets.{Contents, IsPathFrom, AreTiled, IsSheet}
@@ -9,10 +9,11 @@ use Rattle.sheet_base.specs.declared.paths.PathKind.TheVariants.{Dot}
 use Rattle.tin_base.specs.declared.pieces.Piece.{Piece}
 use Rattle.tin_base.specs.Triangulation.{Triangulation}
 use Rattle.affine_image.specs.SheetSegments.{Segment, PathVertex, path_vertices, vertices_from, segments_begun}
+use Rattle.affine_image.proofs.Segmenting.{begun_append}
 use Rattle.carry_map.specs.declared.faults.CarryFault.{CarryFault}
 use Rattle.carry_map.specs.Carried.{AreCarried}
 use Rattle.carry_map.specs.Causes.{IsCause}
-use Rattle.carry_map.proofs.Gathering.{carried_none, carried_on, begun_more}
+use Rattle.carry_map.proofs.Gathering.{carried_on}
 use Rattle.carry_map.proofs.Stopping.{cause_between}
 
 -- ---- the paths of a sheet
@@ -63,13 +64,6 @@ pub record IsSheetCarried (tin : Triangulation) (layer : ℕ) (points : List Pt)
   pub room : length p' ≤ most
   pub few : length x ≤ 2 * length p'
 
-pub sheet_start : (tin : Triangulation) (layer : ℕ) (points : List Pt) (rows : List PathRow) (most : ℕ) (x : List Pt) (r : List ℕ) (p : List Piece) → x ≡ [] → r ≡ [] → length p ≤ most → IsSheetCarried tin layer points rows most x r p p 0
-sheet_start tin layer points rows most x r p e f room = subst (λ (ys : List Pt). IsSheetCarried tin layer points rows most ys r p p 0) (sym e) (subst (λ (s : List ℕ). IsSheetCarried tin layer points rows most [] s p p 0) (sym f) (record {
-  carried = carried_none tin layer [] [] p;
-  room = room;
-  few = omega arith;
-}))
-
 pub sheet_next : (tin : Triangulation) (layer : ℕ) (points : List Pt) (rows : List PathRow) (most : ℕ) (x y : List Pt) (r s : List ℕ) (p p' q : List Piece) (i : ℕ) (row : PathRow) → i < length rows → IsRowAt rows i row → IsSheetCarried tin layer points rows most x r p p' i
     → AreCarried tin layer (path_vertices points i row) x y r s p' q → length q ≤ most → length y ≤ 2 * length q → IsSheetCarried tin layer points rows most y s p q (i + 1)
 sheet_next tin layer points rows most x y r s p p' q i row h e state carried room few = record {
@@ -85,9 +79,6 @@ sheet_next tin layer points rows most x y r s p p' q i row h e state carried roo
     more =
         ap (λ (xs : List PathRow). vertices_from points 0 xs) (take_more rows i row h ∙ ap (λ (last : PathRow). take i rows ++ last ∷ []) (sym e)) ∙ vertices_more points 0 (take i rows) (row ∷ [])
         ∙ ap (λ (n : ℕ). vertices_from points 0 (take i rows) ++ (path_vertices points n row ++ [])) (counted rows i (below (length rows) h)) ∙ ap (λ (vs : List PathVertex). vertices_from points 0 (take i rows) ++ vs) (append-nil (path_vertices points i row))
-
-pub sheet_all : (tin : Triangulation) (layer : ℕ) (points : List Pt) (rows : List PathRow) (most : ℕ) (x : List Pt) (r : List ℕ) (p p' : List Piece) (i : ℕ) → length rows ≤ i → IsSheetCarried tin layer points rows most x r p p' i → AreCarried tin layer (vertices_from points 0 rows) [] x [] r p p'
-sheet_all tin layer points rows most x r p p' i h state = subst (λ (rs : List PathRow). AreCarried tin layer (vertices_from points 0 rs) [] x [] r p p') (take_all i rows h) state.carried
 
 -- ---- why it is not carried
 pub sheet_cause : (tin : Triangulation) (layer : ℕ) (points : List Pt) (rows : List PathRow) (most : ℕ) (x : List Pt) (r : List ℕ) (p p' : List Piece) (i : ℕ) (row : PathRow) (fault : CarryFault) → i < length rows → IsRowAt rows i row → IsSheetCarried tin layer points rows most x r p p' i
@@ -105,8 +96,8 @@ sheet_cause tin layer points rows most x r p p' i row fault h e state cause = go
 
     begun : segments_begun (vertices_from points 0 rows) ≡ segments_begun (vertices_from points 0 (take i rows)) ++ (segments_begun (path_vertices points i row) ++ segments_begun (vertices_from points (i + 1) (drop (suc i) rows)))
     begun =
-        ap segments_begun split ∙ begun_more (vertices_from points 0 (take i rows)) (path_vertices points i row ++ vertices_from points (i + 1) (drop (suc i) rows))
-        ∙ ap (λ (ss : List Segment). segments_begun (vertices_from points 0 (take i rows)) ++ ss) (begun_more (path_vertices points i row) (vertices_from points (i + 1) (drop (suc i) rows)))
+        ap segments_begun split ∙ begun_append (vertices_from points 0 (take i rows)) (path_vertices points i row ++ vertices_from points (i + 1) (drop (suc i) rows))
+        ∙ ap (λ (ss : List Segment). segments_begun (vertices_from points 0 (take i rows)) ++ ss) (begun_append (path_vertices points i row) (vertices_from points (i + 1) (drop (suc i) rows)))
 
     go : AreCarried tin layer (vertices_from points 0 (take i rows)) [] x [] r p p' → IsCause tin layer (length p) most (segments_begun (vertices_from points 0 rows)) fault
     go carried =

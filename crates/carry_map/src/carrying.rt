@@ -1,4 +1,4 @@
-ghost use Rattle.std.specs.Prelude.{◌≡◌, ℕ, ◌*◌, ◌≤◌, [], ◌++◌, List, length, drop, vec_len, IfOk, IfErr, OnOk, OnErr, IsErrOf};
+ghost use Rattle.std.specs.Prelude.{◌≡◌, ℕ, ◌*◌, ◌≤◌, [], ◌++◌, List, drop, vec_len, IfOk, IfErr, OnOk, OnErr, IsErrOf};
 ghost use Rattle.tin_base.specs.declared.pieces.Piece.{Piece};
 ghost use Rattle.sheet_base.specs.declared.faults.LayerFault.{LayerFault};
 ghost use Rattle.sheet_base.specs.Fitting.{DoFit};
@@ -12,7 +12,6 @@ ghost use Rattle.carry_map.specs.Causes.{IsFirstOutside, IsFirstTooMany, IsCause
 
 use crate::CarryFault;
 use crate::paths::{Gathered, Track, carry_path};
-use crate::segments::known;
 use sheet_base::{Images, Listed, Sheet};
 use std::alloc::Global;
 use tin_base::{Piece, Place};
@@ -92,7 +91,7 @@ pub fn carry(
         → IsFirstTooMany index.now layer (vec_len pieces.old) most (sheet_segments sheet.now) }
     ensures unchanged { OnErr result (pieces.new.items ≡ pieces.old.items) }
 {
-    known(index.tin());
+    index.tin().known();
     sheet_known(sheet);
     let before = pieces.len();
     match carry_paths(alloc, index, sheet, layer, most, pieces) {

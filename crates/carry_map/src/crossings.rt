@@ -47,14 +47,6 @@ fn side_of(tin: &SoundTin, triangle: u32, side: u8) -> Side
     }
 }
 
-fn source_place(tin: &SoundTin, number: u32) -> Pt
-    requires { number < length tin.now.corners }
-    ensures place { whole result ≡ place Source (corner_at tin.now number) }
-    ensures limits { IsWithinLimits tin.now }
-{
-    tin.corners()[number as usize].at(Frame::Source)
-}
-
 /// The parameter, from a side's first corner to its second, of the point at which the line through `a` and `b` meets the
 /// line of the side, in the source.
 fn side_param(tin: &SoundTin, a: Pt, b: Pt, side: Side) -> Frac
@@ -69,8 +61,8 @@ fn side_param(tin: &SoundTin, a: Pt, b: Pt, side: Side) -> Frac
     edge_param(
         a,
         b,
-        source_place(tin, side.from),
-        source_place(tin, side.to),
+        tin.place(side.from, Frame::Source),
+        tin.place(side.to, Frame::Source),
     )
 }
 

@@ -1,4 +1,4 @@
-ghost use Rattle.std.specs.Prelude.{◌≡◌, ◌≢◌, ℕ, ◌+◌, ◌≤◌, ◌^◌, length, drop, vec_len, count_by, IfOk, OnOk, OnErr, IsErrOf};
+ghost use Rattle.std.specs.Prelude.{◌≡◌, ◌≢◌, ℕ, ◌≤◌, ◌^◌, length, drop, vec_len, count_by, IfOk, OnOk, OnErr, IsErrOf};
 ghost use Rattle.sheet_base.specs.declared.faults.LayerFault.{LayerFault};
 ghost use Rattle.sheet_base.specs.declared.faults.LayerFault.TheVariants.{NoMemory};
 ghost use Rattle.affine_image.specs.SheetSegments.{sheet_segments};

@@ -1,8 +1,8 @@
-ghost use Rattle.std.specs.Prelude.{◌≡◌, ℕ, ◌+◌, ◌*◌, ◌<◌, ◌≤◌, ◌^◌, [], ◌∷◌, ◌++◌, length, vec_len, IfSome, IfNone, IfOk, IfErr, OnOk};
+ghost use Rattle.std.specs.Prelude.{◌≡◌, ◌+◌, ◌*◌, ◌<◌, ◌≤◌, ◌^◌, [], ◌∷◌, ◌++◌, length, vec_len, IfSome, IfNone, IfErr, OnOk};
 ghost use Rattle.plane_base.specs.Plane.{whole};
 ghost use Rattle.tin_base.specs.declared.frames.Frame.TheVariants.{Source};
 ghost use Rattle.tin_base.specs.Images.{IsInSome};
-ghost use Rattle.sheet_base.specs.Segments.{points_in, segments_in, next_in, begin_of, end_of, point_at};
+ghost use Rattle.sheet_base.specs.Segments.{points_in, segments_in, next_in, begin_of, end_of};
 ghost use Rattle.sheet_base.specs.Sheets.{IsPathFrom};
 ghost use Rattle.affine_image.specs.Rounded.{IsRoundedImage};
 ghost use Rattle.affine_image.specs.SheetSegments.{path_vertices, segments_begun};

@@ -1,4 +1,4 @@
-ghost use Rattle.std.specs.Prelude.{◌≡◌, ◌≢◌, ℕ, ◌+◌, ◌<◌, ◌≤◌, ◌^◌, ◌++◌, List, map, length, vec_len, IfOk, IfErr, OnOk, IsErrOf};
+ghost use Rattle.std.specs.Prelude.{◌≡◌, ◌+◌, ◌<◌, ◌≤◌, ◌++◌, map, length, vec_len, IfOk, IfErr, OnOk};
 ghost use Rattle.seg_walk.specs.Steps.{AreSteps};
 ghost use Rattle.tin_base.specs.Limits.{IsWithinLimits};
 ghost use Rattle.tin_base.specs.Segments.{IsInside};
@@ -94,14 +94,6 @@ fn cut_way(alloc: Global, index: &TinIndex, way: Way) -> Result<Steps, CarryFaul
     }
 }
 
-/// What the type keeps of a sound triangulation.
-pub(crate) fn known(tin: &SoundTin)
-    ensures limits { IsWithinLimits tin.now }
-    ensures sound { IsSound tin.now }
-{
-    let _ = tin.triangles();
-}
-
 /// Cuts a segment, whose first end has this image, and appends its pieces where they find room. Answers the image of its
 /// last end.
 fn tell_segment(
@@ -126,7 +118,7 @@ fn tell_segment(
 {
     let steps = cut_way(alloc, index, way)?;
     let tin = index.tin();
-    known(tin);
+    tin.known();
     let found = steps.as_slice();
     if found.len() > most as usize - pieces.len() {
         return Err(CarryFault::TooMany);

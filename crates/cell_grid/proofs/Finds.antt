@@ -5,9 +5,6 @@ use Rattle.plane_base.specs.declared.shapes.Rect.{Rect}
 use Rattle.cell_grid.specs.Boxes.{IsNear}
 use Rattle.cell_grid.specs.Finding.{DoesFind}
 
-pub find_start : (boxes : List Rect) (r : Rect) (L : ℕ → Type 0) (xs : List ℕ) → ((n : ℕ) → L n → IsNear boxes r n → ⊥) → DoesFind boxes r L xs xs
-find_start boxes r L xs none = record { kept = λ n h. h; found = λ n l near. absurd (none n l near); near = λ n h. inl h }
-
 pub find_more : (boxes : List Rect) (r : Rect) (L M N : ℕ → Type 0) (xs ys zs : List ℕ) → DoesFind boxes r L xs ys → DoesFind boxes r M ys zs
     → ((n : ℕ) → N n → IsNear boxes r n → L n ⊎ M n) → DoesFind boxes r N xs zs
 find_more boxes r L M N xs ys zs first second split =

@@ -8,13 +8,13 @@ use Rattle.plane_base.specs.declared.shapes.Pt.{Pt}
 use Rattle.plane_base.specs.declared.shapes.Rect.{Rect}
 use Rattle.cell_grid.specs.Boxes.{box_at, no_box, IsHolder, IsNearList}
 use Rattle.cell_grid.specs.Sizes.{level_of, AreOfLevels}
-use Rattle.cell_grid.specs.Levels.{numbers_at, place_of, stripe_of, IsInRow, IsUnder, IsLevelOf, IsFresh}
+use Rattle.cell_grid.specs.Levels.{numbers_at, place_of, stripe_of, IsInRow, IsUnder, IsLevelOf}
 use Rattle.cell_grid.specs.Adding.{AddsTo, IsInRowBefore, IsUnderBefore}
 use Rattle.cell_grid.specs.Finding.{DoesFind, StandsIn, IsOnLevelBefore}
 use Rattle.cell_grid.specs.Kept.{AreLevelsOf}
 use Rattle.cell_grid.specs.declared.levels.Level.{Level}
 use Rattle.cell_grid.proofs.Stripes.{under}
-use Rattle.cell_grid.proofs.Steps.{level_more, level_other, level_none}
+use Rattle.cell_grid.proofs.Steps.{level_more, level_other}
 
 -- ---- cells one after another
 pub column_found : (level : Level) (r : Rect) (row column place : ℕ) (cell : List ℕ) → place ≡ place_of level.columns column row → cell ≡ numbers_at level.cells place
@@ -83,10 +83,6 @@ levels_with boxes done l levels old new are of_it within is adds k d inside =
     subst (λ (v : Level). IsLevelOf boxes k (done + 1) v) (sym (get_or-set_other levels l k new d other))
     (level_other boxes k done (get_or levels k d) (are k d there) (λ e. other (sym (of_it ∙ e)))))
     (cases_eq k l)
-
--- ---- no boxes yet
-pub levels_start : (boxes : List Rect) (levels : List Level) → All (λ level. IsFresh level) levels → AreLevelsOf boxes 0 levels
-levels_start boxes levels fresh k d within = level_none boxes k (get_or levels k d) (fresh k d within)
 
 -- the same boxes are of more levels too
 pub of_more : (few many : ℕ) (boxes : List Rect) → few ≤ many → AreOfLevels few boxes → AreOfLevels many boxes

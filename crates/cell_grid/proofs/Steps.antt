@@ -7,7 +7,7 @@ use Rattle.std.specs.List.Sorted.{IsStrictlyIncreasing}
 use Rattle.plane_base.specs.declared.shapes.Rect.{Rect}
 use Rattle.cell_grid.specs.Boxes.{box_at}
 use Rattle.cell_grid.specs.Sizes.{level_of}
-use Rattle.cell_grid.specs.Levels.{numbers_at, place_of, stripe_of, IsInRow, IsUnder, IsWhole, IsLevelOf, IsFresh}
+use Rattle.cell_grid.specs.Levels.{numbers_at, place_of, stripe_of, IsInRow, IsUnder, IsWhole, IsLevelOf}
 use Rattle.cell_grid.specs.Adding.{HasAtMost, DoesAdd, AreSameAxes, AddsToRow, AddsTo, IsInRowBefore, IsUnderBefore}
 use Rattle.cell_grid.specs.Finding.{DoesFind, StandsIn, IsOnLevel, IsOnLevelBefore}
 use Rattle.cell_grid.specs.declared.axes.Axis.{Axis}
@@ -65,20 +65,6 @@ level_other boxes number done level is other =
           (λ apart. is.held p k (omega arith) of_level u)
           (cases_eq k done);
     }
-
--- a level with no boxes
-pub level_none : (boxes : List Rect) (number : ℕ) (level : Level) → IsFresh level → IsLevelOf boxes number 0 level
-level_none boxes number level fresh =
-    record {
-      whole = fresh.whole;
-      ascending = λ p. rw (fresh.none p) (λ k within. absurd (omega arith));
-      earlier = λ p k c. absurd (nothing p k c);
-      of_level = λ p k c. absurd (nothing p k c);
-      held = λ p k lt of_level u. absurd (omega arith);
-    }
-  where
-    nothing : (p k : ℕ) → Contains (numbers_at level.cells p) k → ⊥
-    nothing p k c = let d = subst (λ (l : List ℕ). Contains l k) (fresh.none p) c in omega (arith, d.1)
 
 -- ---- rows one after another
 pub row_more : (number row : ℕ) (rect : Rect) (first old new : Level) → AreSameAxes first old

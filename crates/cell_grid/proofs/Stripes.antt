@@ -21,10 +21,6 @@ stripe_up axis x y h =
     let up = div_up (unsigned_abs (int_max x axis.low -ℤ axis.low)) (unsigned_abs (int_max y axis.low -ℤ axis.low)) (2 ^ axis.shift) (pow_pos axis.shift) (way_up axis.low x y h) in
     omega arith
 
-pub stripe_within : (axis : Axis) (x : ℤ) → stripe_of axis x ≤ axis.last
-unfolding stripe_of
-stripe_within axis x = omega arith
-
 -- a point between two others is in a stripe between theirs
 pub met : (axis : Axis) (first x last : ℤ) → first ≤ℤ x → x ≤ℤ last → IsMet axis first last (stripe_of axis x)
 met axis first x last a b = record { from = stripe_up axis first x a; to = stripe_up axis x last b }

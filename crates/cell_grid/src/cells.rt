@@ -1,4 +1,4 @@
-ghost use Rattle.std.specs.Prelude.{◌≡◌, ◌<◌, [], ◌∷◌, ◌++◌, length, set, replicate, slice_index_or, IfOk, OnOk, OnErr};
+ghost use Rattle.std.specs.Prelude.{◌≡◌, ◌<◌, [], ◌∷◌, ◌++◌, length, set, replicate, slice_index_or, IfOk, OnOk};
 
 use std::alloc::{AllocError, Global};
 use std::marker::Model;
@@ -22,8 +22,7 @@ impl Cells {
     pub(crate) fn new(alloc: Global, count: usize) -> Result<Self, AllocError>
         ensures { IfOk result (λ cells. cells ≡ replicate count []) }
     {
-        let mut lists = Vec::new(alloc);
-        lists.reserve(count)?;
+        let mut lists = Vec::with_capacity(alloc, count)?;
         for _ in 0..count {
             lists.push(Vec::new(alloc))?;
         }

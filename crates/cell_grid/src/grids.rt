@@ -91,8 +91,7 @@ fn levels_for(alloc: Global, boxes: &[Rect]) -> Result<Vec<Level>, AllocError>
     ensures few { IfOk result (λ levels. length levels.items ≤ 65) }
 {
     let spreads = spreads_of(alloc, boxes)?;
-    let mut levels = Vec::new(alloc);
-    levels.reserve(spreads.len())?;
+    let mut levels = Vec::with_capacity(alloc, spreads.len())?;
     for level in 0..spreads.len() {
         levels.push(Level::new(alloc, level as u32, &spreads[level])?)?;
     }

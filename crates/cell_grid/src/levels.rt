@@ -1,4 +1,4 @@
-ghost use Rattle.std.specs.Prelude.{◌≡◌, ℕ, ◌<◌, ◌≤◌, List, length, Contains, IfOk, OnOk};
+ghost use Rattle.std.specs.Prelude.{◌≡◌, ℕ, ◌<◌, ◌≤◌, length, Contains, IfOk, OnOk};
 ghost use Rattle.cell_grid.specs.Boxes.{IsOrdered, AreOrdered};
 ghost use Rattle.cell_grid.specs.Levels.{stripe_of, place_of, numbers_at, IsInRow, IsUnder, IsWhole, IsFresh, HasNumbersBelow};
 ghost use Rattle.cell_grid.specs.Adding.{AddsTo, AddsToRow};

@@ -130,9 +130,6 @@ one_more p q r points =
         let b : 0 + (0 + 1 + k) + 1 ≡ suc (0 + (0 + k) + 1) = omega arith in
         rw (inside, inside_too) (ap (λ (n : ℕ). record { from = point_at all n; to = point_at all (0 + (0 + 1 + k) + 1) }) a ∙ ap (λ (n : ℕ). record { from = point_at all (suc (0 + (0 + k))); to = point_at all n }) b)
 
-two_ends : (p q : Pt) → line_ends (p ∷ q ∷ []) ≡ (record { from = p; to = q }) ∷ []
-two_ends p q = refl
-
 pub line_list_ends : (p q : Pt) (points : List Pt) → all_ends (line_list (p ∷ q ∷ points)) ≡ line_ends (p ∷ q ∷ points)
 line_list_ends p q [] = refl
 line_list_ends p q (r ∷ points) = ap (λ more. (record { from = p; to = q }) ∷ more) (line_list_ends q r points) ∙ sym (one_more p q r points)

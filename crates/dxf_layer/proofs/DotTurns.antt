@@ -108,9 +108,6 @@ point_valued read exact x y entity own spot point has within east north =
 zero_agrees : (old new : List Group) (code : ℤ) → Agree old new → may_change code ≡ false → zero_in code new ≡ zero_in code old
 zero_agrees old new code agree stays = rw (value_same old new code agree stays) refl
 
-ten_twenty : pos 10 ≡ pos 20 → ⊥
-ten_twenty is = cc
-
 twenty_ten : pos 20 ≡ pos 10 → ⊥
 twenty_ten is = cc
 

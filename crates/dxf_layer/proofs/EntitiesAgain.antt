@@ -1,5 +1,5 @@
 -- What is written of the entities of a drawing is read again, entity by entity.
-use Rattle.std.proofs.Common.{◌≡◌, ℕ, zero, suc, ◌+◌, ◌<◌, ◌≤◌, pos, Bool, true, false, refl, ap, sym, ◌∙◌, subst, List, [], ◌∷◌, ◌++◌, flat_map, length, Option, Ok, arith, inl, inr}
+use Rattle.std.proofs.Common.{◌≡◌, ℕ, zero, suc, ◌+◌, ◌<◌, ◌≤◌, pos, Bool, true, false, refl, ap, sym, ◌∙◌, subst, List, [], ◌∷◌, ◌++◌, flat_map, length, Option, Ok, arith, inl}
 use Rattle.std.proofs.lemmas.List.{append_assoc, append-nil, length-append}
 use Rattle.sheet_base.specs.declared.edits.Edit.{Edit}
 use Rattle.sheet_base.specs.declared.flags.How.{How}
@@ -49,10 +49,6 @@ use Rattle.dxf_layer.proofs.WalkAgain.{step_written, Known, no_pairs, single, se
 body_end : (start line past : ℕ) (body : List Pair) (pair : Pair) (pairs : List Pair) → AreTiles start line (body ++ pair ∷ pairs) past → pair.start ≡ past_pairs start body
 body_end start line past [] pair pairs tiles = tiles.0
 body_end start line past (first ∷ body) pair pairs tiles = body_end first.end (line + 2) past body pair pairs tiles.5
-
-in_front_part : (body : List Pair) (rest : List Pair) (pair : Pair) → IsIn pair rest → IsIn pair (body ++ rest)
-in_front_part [] rest pair is_in = is_in
-in_front_part (first ∷ body) rest pair is_in = inr (in_front_part body rest pair is_in)
 
 module _ (read : Reading) (how : How) (seed : Option Pair) (count : ℕ) (follow : GroupsFollow) (good : AreGoodImages read.images count) (lights : LightsAreWritten read how seed count) (past : ℕ) (tiles : AreTiles 0 1 read.pairs past)
     (lines : AreInLines read.bytes read.pairs) (extra : List Edit) (harmless : (pair : Pair) → IsIn pair read.pairs → IsHarmless read extra pair) where

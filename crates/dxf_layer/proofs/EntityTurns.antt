@@ -36,10 +36,6 @@ pub no_head_both : (groups more : List Group) → HaveNoHead groups → HaveNoHe
 no_head_both [] more first second = second
 no_head_both (group ∷ groups) more first second = (first.0, no_head_both groups more first.1 second)
 
-pub whole_both : (entities more : List Told) → AreWholeTold entities → AreWholeTold more → AreWholeTold (entities ++ more)
-whole_both [] more first second = second
-whole_both (entity ∷ entities) more first second = (first.0, whole_both entities more first.1 second)
-
 -- all begin with this group
 abbrev pub AreOf : Group → List Told → Type 0
 AreOf head [] = ⊤

@@ -1,5 +1,5 @@
 -- What is written in the place of each entity.
-use Rattle.std.proofs.Common.{◌≡◌, ◌==◌, ℕ, zero, suc, ◌+◌, ◌-◌, ◌<◌, ◌≤◌, Bool, true, false, refl, ap, sym, ◌∙◌, subst, List, [], ◌∷◌, ◌++◌, map, filter, flat_map, length, take, drop, Option, Some, Ok, arith, codes, get_or}
+use Rattle.std.proofs.Common.{◌≡◌, ◌==◌, ℕ, zero, suc, ◌+◌, ◌-◌, ◌<◌, ◌≤◌, Bool, true, false, refl, ap, sym, ◌∙◌, subst, List, [], ◌∷◌, ◌++◌, map, filter, flat_map, length, take, drop, Option, Some, arith, codes, get_or}
 use Rattle.std.proofs.lemmas.List.{append-nil, length-take-le, length-drop, get_or-append-add}
 use Rattle.plane_base.specs.declared.shapes.Pt.{Pt}
 use Rattle.sheet_base.specs.declared.flags.How.{How}
@@ -14,12 +14,11 @@ use Rattle.dxf_layer.specs.Entities.{Entity, is_kind, entity_end}
 use Rattle.dxf_layer.specs.Shapes.{point_of}
 use Rattle.dxf_layer.specs.Polylines.{kind_with, heavy_shape}
 use Rattle.dxf_layer.specs.Rendering.{Reading}
-use Rattle.dxf_layer.specs.Walks.{Place, free, staying, reading, step}
-use Rattle.dxf_layer.proofs.Telling.{told}
+use Rattle.dxf_layer.specs.Walks.{Place, free, staying, reading}
 use Rattle.dxf_layer.proofs.GroupShapes.{Outline, is_seeded}
 use Rattle.dxf_layer.proofs.GroupPolylines.{kind_of_points, light_outline}
-use Rattle.dxf_layer.proofs.GroupWalks.{entity_told, Spot, alone, kept, open_line, spot_told, Turn, turn_told, turn_of, ends_sections}
-use Rattle.dxf_layer.proofs.GroupDrawings.{turn, step_told}
+use Rattle.dxf_layer.proofs.GroupWalks.{entity_told, Spot, alone, kept, open_line, Turn, turn_of, ends_sections}
+use Rattle.dxf_layer.proofs.GroupDrawings.{turn}
 use Rattle.dxf_layer.proofs.StandingEdits.{stand, texts_in}
 use Rattle.dxf_layer.proofs.ValueTurns.{AreGoodImages}
 use Rattle.dxf_layer.proofs.DotTurns.{IsSet}
@@ -98,16 +97,6 @@ stays_written read how seeded from entity here wanted set goes_on is ends =
     let groups : written_for read [] entity ≡ told_groups (entity_told read.bytes entity) = append-nil (flat_map (stand read []) (entity.head ∷ entity.pairs)) ∙ each_stays read (entity.head ∷ entity.pairs) in
     subst (IsWritten (group_in read.bytes entity.head) how seeded from here.next wanted) (sym groups)
     (one_written how seeded from (entity_told read.bytes entity) here wanted (record { head = set.is_head; goes_on = goes_on; body = grouped_no_head read.bytes entity.pairs set.lines.body }) is ends)
-
--- a step that reads nothing of an entity that is not behind vertices
-pub nothing_written : (read : Reading) (how : How) (seed : Option Pair) (place : Place) (entity : Entity) (next_place : Place) (first : ℕ) → imaged_spot read.images first place ≡ spot_told place → spot_told next_place ≡ imaged_spot read.images first next_place
-    → IsSet read.bytes entity → ends_sections (group_in read.bytes entity.head) ≡ false → step read.bytes how seed place entity ≡ Ok (record { shapes = []; next = next_place })
-    → IsWritten (group_in read.bytes entity.head) how (is_seeded seed) (imaged_spot read.images first place) (imaged_spot read.images first next_place) [] (written_for read [] entity)
-nothing_written read how seed place entity next_place first from_is to_is set goes_on is =
-    let here : turn how (is_seeded seed) (spot_told place) (entity_told read.bytes entity) ≡ Some (record { shapes = []; next = spot_told next_place }) = sym (step_told read.bytes how seed place entity) ∙ ap (told turn_told) is in
-    subst (λ (from : Spot). IsWritten (group_in read.bytes entity.head) how (is_seeded seed) from (imaged_spot read.images first next_place) [] (written_for read [] entity)) (sym from_is)
-    (subst (λ (to : Spot). IsWritten (group_in read.bytes entity.head) how (is_seeded seed) (spot_told place) to [] (written_for read [] entity)) to_is
-    (stays_written read how (is_seeded seed) (spot_told place) entity (record { shapes = []; next = spot_told next_place }) [] set goes_on here refl))
 
 -- the end of a polyline
 pub kinds_same : (images : Runs) (count first : ℕ) (kind : PathKind) (vertices : List Vertex) → AreGoodImages images count → first + length vertices ≤ count → kind_of_points kind (images_of images first (first + length vertices)) ≡ kind_with kind vertices

@@ -1,7 +1,6 @@
 -- The points that are read of a polyline's fields where further points stand behind each of its vertices.
-use Rattle.std.proofs.Common.{◌≡◌, ℕ, ◌+◌, ◌<◌, ◌≤◌, pos, Bool, true, false, cond, refl, sym, ◌∙◌, List, [], ◌∷◌, ◌++◌, None, Some, Result, Ok, arith}
+use Rattle.std.proofs.Common.{◌≡◌, ℕ, ◌+◌, ◌<◌, ◌≤◌, pos, Bool, true, false, cond, refl, List, [], ◌∷◌, ◌++◌, None, Some, Result, Ok, arith}
 use Rattle.std.specs.Prelude.{◌||◌, not, ⊤}
-use Rattle.std.proofs.lemmas.Bool.Decides.{Decides-int_eq}
 use Rattle.mm_decimal.specs.Writing.{written}
 use Rattle.plane_base.specs.declared.shapes.Pt.{Pt}
 use Rattle.sheet_base.specs.declared.faults.LayerFault.{LayerFault}
@@ -12,7 +11,7 @@ use Rattle.dxf_pairs.specs.Groups.{Group, group_in}
 use Rattle.dxf_layer.specs.declared.drawing.Vertex.{Vertex}
 use Rattle.dxf_layer.specs.Entities.{has_code}
 use Rattle.dxf_layer.specs.Fields.{equals}
-use Rattle.dxf_layer.specs.Polylines.{is_group_code, fault_in_group, first_fault, past_group, is_number}
+use Rattle.dxf_layer.specs.Polylines.{is_group_code, fault_in_group, first_fault, past_group}
 use Rattle.dxf_layer.specs.Rendering.{image_of, crossings_of}
 use Rattle.dxf_layer.proofs.Members.{Follow}
 use Rattle.dxf_layer.proofs.GroupFields.{coded}
@@ -69,16 +68,6 @@ either_off false b off = (refl, off)
 pub not_number : (exact : Bool) (group : Group) (more : List Group) → is_coordinate group ≡ false → points_in exact (group ∷ more) ≡ points_in exact more
 not_number exact group [] off = rw off refl
 not_number exact group (second ∷ more) off = let both = either_off (coded (pos 10) group) (coded (pos 20) group) off in let ten = both.0 in let twenty = both.1 in rw (ten, twenty) refl
-
-pub group_number : (pair : Pair) → is_group_code pair ≡ true → is_number pair ≡ false
-group_number pair group = by_tests (has_code (pos 10) pair) (has_code (pos 20) pair) refl refl where
-  never : is_group_code pair ≡ false → ⊥
-  never off = let both : true ≡ false = sym group ∙ off in cc
-
-  by_tests : (a b : Bool) → has_code (pos 10) pair ≡ a → has_code (pos 20) pair ≡ b → (a || b) ≡ false
-  by_tests true b one two = let code : pair.code ≡ pos 10 = (Decides-int_eq pair.code (pos 10)).0 one in absurd (never (rw code refl))
-  by_tests false true one two = let code : pair.code ≡ pos 20 = (Decides-int_eq pair.code (pos 20)).0 two in absurd (never (rw code refl))
-  by_tests false false one two = refl
 
 -- a field of a group was good
 pub was_good : (bytes : List ℕ) (pair : Pair) (rest : Result ℕ LayerFault) (upto : ℕ) → first_fault (fault_in_group bytes pair) rest ≡ Ok upto → is_good_in_vertex (group_in bytes pair) ≡ true

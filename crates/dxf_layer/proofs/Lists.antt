@@ -1,7 +1,9 @@
 -- Fields found so far.
-use Rattle.std.proofs.Common.{suc, arith, subst, ◌-◌, ◌≡◌, List, [], ◌∷◌, ◌++◌, ◌<◌, ℕ, length, take, drop, get_or, Bool, true, refl, ◌∙◌, ap, Option, None, Some, Err}
-use Rattle.std.specs.Prelude.{filter, is_some, slice_get}
+use Rattle.std.proofs.Common.{suc, arith, subst, ◌-◌, ◌≡◌, List, [], ◌∷◌, ◌++◌, ◌<◌, ℕ, length, take, drop, get_or, Bool, true, false, refl, sym, ◌∙◌, ap, Option, None, Some, Err}
+use Rattle.std.specs.Prelude.{nat_lt, ◌||◌, if◌then◌else◌, filter, is_some, slice_get}
+use Rattle.std.specs.List.{list_any}
 use Rattle.std.proofs.Math.Seq.{split_at}
+use Rattle.std.proofs.lemmas.Bool.Decides.{nat_tests}
 use Rattle.std.proofs.lemmas.List.Elements.{filter-append}
 use Rattle.sheet_base.specs.declared.faults.LayerFault.TheVariants.{Count}
 use Rattle.dxf_pairs.specs.declared.pairs.Pair.{Pair}
@@ -12,6 +14,14 @@ use Rattle.dxf_layer.specs.Entities.{past_pairs}
 abbrev pub list_of : Option Pair → List Pair
 list_of None = []
 list_of (Some pair) = pair ∷ []
+
+-- one is among those that pass
+pub some_pass : (p : Pair → Bool) (items : List Pair) → list_any p items ≡ nat_lt 0 (length (filter p items))
+some_pass p [] = refl
+some_pass p (item ∷ items) = by_test (p item) (some_pass p items) where
+  by_test : (passes : Bool) → list_any p items ≡ nat_lt 0 (length (filter p items)) → (passes || list_any p items) ≡ nat_lt 0 (length (if passes then item ∷ filter p items else filter p items))
+  by_test true rest = let more : nat_lt 0 (length (item ∷ filter p items)) ≡ true = grind (arith, nat_tests) in sym more
+  by_test false rest = rest
 
 -- a second one is refused at its line
 pub second_found : (p : Pair → Bool) (items : List Pair) (i : ℕ) (d : Pair) (found : Option Pair) → i < length items → filter p (take i items) ≡ list_of found → is_some found ≡ true

@@ -1,7 +1,6 @@
 -- Fields that are looked up are pairs of the entity, and pairs follow each other.
-use Rattle.std.proofs.Common.{◌≡◌, inl, inr, ℕ, zero, suc, ◌+◌, ◌≤◌, ◌<◌, ℤ, pos, List, [], ◌∷◌, take, Bool, true, false, cond, refl, ap, sym, ◌∙◌, subst, arith, Result, Ok, Err, Option, None, Some}
-use Rattle.std.specs.Prelude.{◌⊎◌, filter, int_lt, ◌&&◌, not}
-use Rattle.std.specs.List.{prefix_len}
+use Rattle.std.proofs.Common.{◌≡◌, inl, inr, ℕ, zero, suc, ◌+◌, ◌≤◌, ◌<◌, ℤ, List, [], ◌∷◌, take, Bool, true, false, cond, refl, ap, sym, ◌∙◌, subst, arith, Result, Ok, Err, Option, None, Some}
+use Rattle.std.specs.Prelude.{◌⊎◌, filter, ◌&&◌, not}
 use Rattle.std.proofs.lemmas.Bool.Decides.{Decides-int_eq}
 use Rattle.sheet_base.specs.declared.faults.LayerFault.{LayerFault}
 use Rattle.sheet_base.specs.declared.faults.LayerFault.TheVariants.{Inexact}
@@ -40,10 +39,6 @@ tiles_follow start line (pair ∷ pairs) past tiles =
 pub by_past : (from : ℕ) (pairs : List Pair) (past : ℕ) → Follow from pairs past → from ≤ past
 by_past from [] past follow = follow
 by_past from (pair ∷ pairs) past follow = omega (arith, follow.0, follow.1, follow.2, follow.3, by_past pair.end pairs past follow.4)
-
-pub follow_earlier : (less from : ℕ) (pairs : List Pair) (past : ℕ) → less ≤ from → Follow from pairs past → Follow less pairs past
-follow_earlier less from [] past below follow = omega (arith, follow)
-follow_earlier less from (pair ∷ pairs) past below follow = (omega (arith, follow.0), follow.1, follow.2, follow.3, follow.4)
 
 -- a pair of the list
 abbrev pub IsIn : Pair → List Pair → Type 0
@@ -100,9 +95,6 @@ one_is (first ∷ second ∷ more) pair is = absurd (cc)
 -- a field that is found, among the entity's fields
 pub field_is : (code : ℤ) (entity : Entity) (pair : Pair) → field code entity ≡ Ok (Some pair) → IsField code pair (fields_of entity)
 field_is code entity pair is = in_filter code pair (fields_of entity) (one_is (filter (has_code code) (fields_of entity)) pair is)
-
-pub in_pairs : (code : ℤ) (entity : Entity) (pair : Pair) → IsField code pair (fields_of entity) → IsField code pair entity.pairs
-in_pairs code entity pair found = record { is_in = in_taken (prefix_len (λ (p : Pair). int_lt p.code (pos 1000)) entity.pairs) pair entity.pairs found.is_in; coded = found.coded }
 
 some_there : (entity : Entity) (found : Option Pair) (pair : Pair) → there entity found ≡ Ok pair → found ≡ Some pair
 some_there entity None pair is = absurd (cc)

@@ -1,6 +1,6 @@
 -- The code's steps are those of the walk.
-use Rattle.std.proofs.Common.{◌≡◌, ℕ, ◌+◌, List, [], ◌∷◌, ◌++◌, length, map, refl, ap, ◌∙◌, arith, Result, Ok, Err, None}
-use Rattle.std.specs.Prelude.{sum_by}
+use Rattle.std.proofs.Common.{◌≡◌, ℕ, ◌+◌, List, [], ◌∷◌, ◌++◌, length, map, refl, sym, ap, subst, ◌∙◌, arith, Result, Ok, Err, None}
+use Rattle.std.specs.Prelude.{sum_by, IsErrAnd}
 use Rattle.std.proofs.lemmas.List.{append_assoc, length-append, length-map, map-append}
 use Rattle.std.proofs.lemmas.List.Sums.{sum_by-append}
 use Rattle.sheet_base.specs.Sheets.{Contents}
@@ -12,8 +12,14 @@ use Rattle.dxf_layer.specs.Fields.{and_then}
 use Rattle.dxf_layer.specs.Shapes.{Shape, with_shape}
 use Rattle.dxf_layer.specs.Polylines.{copy_edits, own_shape}
 use Rattle.dxf_layer.specs.Walks.{shapes_read}
-use Rattle.dxf_layer.specs.Held.{with_own_vertex, AddsAs, GoesTo}
+use Rattle.dxf_layer.specs.Held.{with_own_vertex, AddsAs, RefusesBy, Reads, GoesTo}
 use Rattle.dxf_layer.proofs.Vertices.{same_contents, point_in, lost_in}
+
+-- a fault that is handed on is the one of what is read
+pub handed_on : (wanted : Result (List Shape) LayerFault) (before now : Contents) (fault : LayerFault) (answer : Result (Unit {0}) LayerFault) → IsErrAnd answer (λ other. other ≡ fault) → RefusesBy wanted fault
+    → Reads wanted before answer now
+handed_on wanted before now fault (Ok done) is refused = absurd is
+handed_on wanted before now fault (Err other) is refused = subst (RefusesBy wanted) (sym is) refused
 
 pub alone_goes : (wanted : Result (List Shape) LayerFault) (before now : Contents) → AddsAs before wanted now → GoesTo (and_then (λ shapes. Ok (shapes_read shapes)) wanted) before Free now
 alone_goes (Ok shapes) before now added = record { held = added; shows = tt }

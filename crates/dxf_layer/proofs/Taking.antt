@@ -117,9 +117,6 @@ pub record AreCounted (read : Reading) (edits : List Edit) (size i number next :
   pub so_far : next ≡ first_handle read + sum_by (taken read) (take i edits)
   pub small : next ≤ first_handle read + 2 ^ 32 * from
 
-pub none_counted : (read : Reading) (edits : List Edit) (size first : ℕ) → AreInOrder 0 edits size → first ≡ first_handle read → AreCounted read edits size 0 0 first
-none_counted read edits size first order is = record { from = 0; order = order; front = omega arith; so_far = omega (arith, is); small = omega (arith, is) }
-
 pub one_counted : (read : Reading) (edits : List Edit) (i number next place taking : ℕ) → length read.images.points < 2 ^ 32 → i < length edits → AreCounted read edits (length read.bytes) i number next
     → place ≤ number_at read (slice_index_or edits i no_edit).start → taking ≡ taken read (slice_index_or edits i no_edit) → AreCounted read edits (length read.bytes) (i + 1) place (next + taking)
 one_counted read edits i number next place taking few more counted passed taking_is =

@@ -1,23 +1,21 @@
 -- The entities of a drawing, read so far.
 use Rattle.std.proofs.Common.{◌≡◌, ℕ, ◌+◌, ◌*◌, ◌≤◌, ◌<◌, List, [], ◌∷◌, ◌++◌, length, drop, get_or, Bool, true, false, refl, ap, sym, ◌∙◌, subst, arith, Result, Ok, Err, Option, pos}
 use Rattle.std.specs.Prelude.{OnOk}
-use Rattle.std.proofs.lemmas.List.{append_assoc, append-nil, length-drop, drop_all}
+use Rattle.std.proofs.lemmas.List.{append_assoc, length-drop}
 use Rattle.std.proofs.lemmas.List.Sums.{prefix_len-le-length}
 use Rattle.sheet_base.specs.Sheets.{Contents}
 use Rattle.sheet_base.specs.declared.flags.How.{How}
 use Rattle.sheet_base.specs.declared.faults.LayerFault.{LayerFault}
-use Rattle.sheet_base.specs.declared.faults.LayerFault.TheVariants.{NoEof}
-use Rattle.sheet_base.specs.declared.paths.PathKind.{PathKind}
 use Rattle.dxf_pairs.specs.declared.pairs.Pair.{Pair}
 use Rattle.dxf_layer.specs.declared.entities.Where.{Where}
 use Rattle.dxf_layer.specs.declared.entities.Where.TheVariants.{Outside, Begun, Header, Entities, Other}
 use Rattle.dxf_layer.specs.declared.walking.Place.{Place as Held}
-use Rattle.dxf_layer.specs.declared.walking.Place.TheVariants.{Free, Staying, Reading}
+use Rattle.dxf_layer.specs.declared.walking.Place.TheVariants.{Free}
 use Rattle.dxf_layer.specs.Fields.{and_then}
 use Rattle.dxf_layer.specs.Entities.{is_no_head, begins_entity, behind, entities_from, entities_of}
 use Rattle.dxf_layer.specs.Shapes.{Shape, with_shape, with_shapes}
-use Rattle.dxf_layer.specs.Walks.{Place, free, staying, reading, Step, visited, walk_end, walked}
-use Rattle.dxf_layer.specs.Held.{HoldsAtMost, GrowsBy, GrowsAlong, Stands, GoesTo, AddsAs, room_before}
+use Rattle.dxf_layer.specs.Walks.{Place, free, Step, visited, walked}
+use Rattle.dxf_layer.specs.Held.{HoldsAtMost, GrowsBy, GrowsAlong, Stands, GoesTo, room_before}
 
 abbrev pub behind_shapes : List Shape → Result (List Shape) LayerFault → Result (List Shape) LayerFault
 behind_shapes done rest = and_then (λ more. Ok (done ++ more)) rest
@@ -87,6 +85,17 @@ pair_walked bytes how seed pairs section place next number before now new head s
             room = subst (λ n. HoldsAtMost n new) count (grown (2 * number) so_far.room);
           }
 
+-- a fault at a pair is the fault of the walk
+pub walk_refused : (bytes : List ℕ) (how : How) (seed : Option Pair) (pairs : List Pair) (section : Where) (place : Held) (number : ℕ) (before now : Contents) (head : Pair) (fault : LayerFault)
+    → (so_far : IsWalkedTo bytes how seed pairs section place number before now) → drop number pairs ≡ head ∷ drop (number + 1) pairs
+    → visited bytes how seed section so_far.spot (drop number pairs) ≡ Err fault → walked bytes how seed free (entities_of bytes pairs) ≡ Err fault
+walk_refused bytes how seed pairs section place number before now head fault so_far split refused =
+    let here : visited bytes how seed section so_far.spot (head ∷ drop (number + 1) pairs) ≡ Err fault = ap (visited bytes how seed section so_far.spot) (sym split) ∙ refused in
+    let left : walked bytes how seed so_far.spot (entities_from bytes section (drop number pairs)) ≡ Err fault =
+    ap (λ rest. walked bytes how seed so_far.spot (entities_from bytes section rest)) split ∙ (visit_goes bytes how seed section so_far.spot head (drop (number + 1) pairs)
+    ∙ ap (onward bytes how seed (behind bytes section head) (drop (number + 1) pairs)) here) in
+    so_far.whole ∙ ap (behind_shapes so_far.shapes) left
+
 no_room : (section : Where) (head : Pair) (pairs : List Pair) → begins_entity section head ≡ true → room_before (head ∷ pairs) ≡ 0
 no_room Outside head pairs begins = absurd (cc)
 no_room Begun head pairs begins = absurd (cc)
@@ -113,35 +122,3 @@ no_pair = record { code = pos 0; start = 0; value = 0; value_end = 0; end = 0; l
 
 pub room_short : (n : ℕ) (pairs : List Pair) → room_before (drop n pairs) ≤ length pairs
 room_short n pairs = omega (arith, prefix_len-le-length is_no_head (drop n pairs), length-drop n pairs)
-
--- the code's end, at which no polyline is open
-abbrev pub IsClosed : Held → Type 0
-IsClosed Free = Unit {0}
-IsClosed Staying = Unit {0}
-IsClosed (Reading kind first) = ⊥
-
-at_end : (place : Held) (now before : Contents) (spot : Place) (shapes : List Shape) → IsClosed place → Stands place now (with_shapes before shapes) spot → AddsAs before (behind_shapes shapes (walk_end spot)) now
-at_end Free now before free shapes closed stands = stands.held ∙ ap (with_shapes before) (sym (append-nil shapes))
-at_end Free now before staying shapes closed stands = absurd stands.shows
-at_end Free now before (reading kind vertices) shapes closed stands = absurd stands.shows
-at_end Staying now before free shapes closed stands = absurd stands.shows
-at_end Staying now before staying shapes closed stands = stands.held ∙ ap (with_shapes before) (sym (append-nil shapes))
-at_end Staying now before (reading kind vertices) shapes closed stands = absurd stands.shows
-at_end (Reading kind first) now before spot shapes closed stands = absurd closed
-
-pub all_walked : (bytes : List ℕ) (how : How) (seed : Option Pair) (pairs : List Pair) (section : Where) (place : Held) (number : ℕ) (before now : Contents) → IsWalkedTo bytes how seed pairs section place number before now
-    → length pairs ≤ number → IsClosed place → AddsAs before (walked bytes how seed free (entities_of bytes pairs)) now
-all_walked bytes how seed pairs section place number before now so_far past closed =
-    let none : drop number pairs ≡ [] = drop_all number pairs past in
-    rw (so_far.whole, none) (at_end place now before so_far.spot so_far.shapes closed so_far.stands)
-
-open_end : (kind : PathKind) (first : ℕ) (now before : Contents) (spot : Place) (shapes : List Shape) → Stands (Reading kind first) now (with_shapes before shapes) spot → behind_shapes shapes (walk_end spot) ≡ Err NoEof
-open_end kind first now before free shapes stands = absurd stands.shows
-open_end kind first now before staying shapes stands = absurd stands.shows
-open_end kind first now before (reading other vertices) shapes stands = refl
-
-pub ends_open : (bytes : List ℕ) (how : How) (seed : Option Pair) (pairs : List Pair) (section : Where) (kind : PathKind) (first number : ℕ) (before now : Contents) → IsWalkedTo bytes how seed pairs section (Reading kind first) number before now
-    → length pairs ≤ number → walked bytes how seed free (entities_of bytes pairs) ≡ Err NoEof
-ends_open bytes how seed pairs section kind first number before now so_far past =
-    let none : drop number pairs ≡ [] = drop_all number pairs past in
-    rw (so_far.whole, none) (open_end kind first now before so_far.spot so_far.shapes so_far.stands)

@@ -37,18 +37,9 @@ impl Copied {
         match code {
             10 => Some(Value::Metres(self.begin.x)),
             20 => Some(Value::Metres(self.begin.y)),
-            11 => match self.end {
-                Some(end) => Some(Value::Metres(end.x)),
-                None => None,
-            },
-            21 => match self.end {
-                Some(end) => Some(Value::Metres(end.y)),
-                None => None,
-            },
-            5 => match self.handle {
-                Some(handle) => Some(Value::Handle(handle)),
-                None => None,
-            },
+            11 => self.end.map(|end| Value::Metres(end.x)),
+            21 => self.end.map(|end| Value::Metres(end.y)),
+            5 => self.handle.map(Value::Handle),
             _ => None,
         }
     }

@@ -1,19 +1,17 @@
 //! The handles that copies take.
 
-ghost use Rattle.std.specs.Prelude.{◌≡◌, ◌<◌, ◌≤◌, ◌^◌, length, filter, nat_lt, pos, true};
+ghost use Rattle.std.specs.Prelude.{◌≡◌, ◌<◌, ◌≤◌, ◌^◌, length, true};
 ghost use Rattle.sheet_base.specs.Splices.{AreInOrder};
-ghost use Rattle.dxf_layer.specs.Entities.{has_code};
 ghost use Rattle.dxf_layer.specs.Handles.{is_handle};
 ghost use Rattle.dxf_layer.specs.Told.{told};
 ghost use Rattle.dxf_layer.specs.Paged.{read_of};
 ghost use Rattle.dxf_layer.specs.Rendering.{digit_of, handle_number, number_at, has_handle, taken_by, entity_at, taken, first_handle, next_behind};
 
-use crate::entities::{Entity, has_code, value_in};
-use crate::fields::fields_of;
+use crate::entities::{Entity, value_in};
+use crate::fields::{fields_of, has_field};
 use crate::handles::seed_of;
 use crate::pages::{Page, number_at};
 use crate::texts::{first_entity, run_of};
-use dxf_pairs::Pair;
 use sheet_base::{Edit, What};
 
 /// The number of a hexadecimal digit.
@@ -21,9 +19,9 @@ fn digit_of(byte: u8) -> u64
     ensures { result ≡ digit_of byte }
 {
     match byte {
-        0..=57 => u64::from(byte.saturating_sub(48)),
-        58..=70 => u64::from(byte - 55),
-        _ => u64::from(byte.saturating_sub(87)),
+        ..=b'9' => u64::from(byte.saturating_sub(b'0')),
+        ..=b'F' => u64::from(byte - (b'A' - 10)),
+        _ => u64::from(byte.saturating_sub(b'a' - 10)),
     }
 }
 
@@ -49,18 +47,6 @@ pub fn first_handle(page: &Page) -> u64
         Some(pair) => handle_number(value_in(page.bytes, &pair)),
         None => 0,
     }
-}
-
-/// Whether one of the fields has the code.
-fn has_field(code: i32, fields: &[Pair]) -> bool
-    ensures { result ≡ nat_lt 0 (length (filter (has_code code) fields.now)) }
-{
-    for pair in fields {
-        if has_code(code, pair) {
-            return true;
-        }
-    }
-    false
 }
 
 /// Whether an entity has a handle.

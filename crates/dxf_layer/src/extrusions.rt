@@ -3,10 +3,10 @@
 ghost use Rattle.std.specs.Prelude.{◌≡◌, []};
 ghost use Rattle.std.specs.List.{list_all};
 ghost use Rattle.dxf_layer.specs.Told.{told};
-ghost use Rattle.dxf_layer.specs.Walks.{any_has_code, is_extrusion, is_upright, repeated, upright};
+ghost use Rattle.dxf_layer.specs.Walks.{is_extrusion, is_upright, repeated, upright};
 
 use crate::entities::{Entity, has_code};
-use crate::fields::{equals, fields_of};
+use crate::fields::{equals, fields_of, has_field};
 use dxf_pairs::Pair;
 use sheet_base::LayerFault;
 
@@ -30,19 +30,12 @@ fn is_upright(bytes: &[u8], pair: &Pair) -> bool
     }
 }
 
-/// Whether one of the pairs has the code.
-fn has_any(code: i32, pairs: &[Pair]) -> bool
-    ensures { result ≡ any_has_code code pairs.now }
-{
-    pairs.iter().any(|other| other.code == code)
-}
-
 /// The first field of an extrusion that repeats the code of one before it.
 fn repeated(fields: &[Pair]) -> Option<Pair>
     ensures { result ≡ repeated [] fields.now }
 {
     for (number, pair) in fields.iter().enumerate() {
-        if is_extrusion(pair) && has_any(pair.code, &fields[..number]) {
+        if is_extrusion(pair) && has_field(pair.code, &fields[..number]) {
             return Some(*pair);
         }
     }

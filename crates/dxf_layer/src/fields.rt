@@ -3,6 +3,7 @@
 ghost use Rattle.std.specs.Prelude.{◌≡◌};
 ghost use Rattle.dxf_layer.specs.Told.{told};
 ghost use Rattle.dxf_layer.specs.Fields.{fields_of as fields, field as field_at, wanted as wanted_at, coordinate as coordinate_of, coordinate_at as coordinate_read, equals as is_number, is_there_as as there_as, is_not_zero as not_zero, not_zero_at as not_zero_line};
+ghost use Rattle.dxf_layer.specs.Walks.{any_has_code};
 
 use crate::entities::{Entity, has_code, value_in};
 use dxf_pairs::Pair;
@@ -27,6 +28,13 @@ pub fn fields_of<'a>(entity: &Entity<'a>) -> &'a [Pair]
         count += 1;
     }
     &pairs[..count]
+}
+
+/// Whether one of the fields has the code.
+pub fn has_field(code: i32, fields: &[Pair]) -> bool
+    ensures { result ≡ any_has_code code fields.now }
+{
+    fields.iter().any(|field| has_code(code, field))
 }
 
 /// The field of the code, where there is one; a second one is refused.
@@ -84,10 +92,8 @@ pub fn coordinate_at(
 ) -> Result<Read, LayerFault>
     ensures { result ≡ coordinate_read bytes.now exact code (told entity.now) }
 {
-    match wanted(code, entity) {
-        Ok(pair) => coordinate(bytes, exact, &pair),
-        Err(fault) => Err(fault),
-    }
+    let pair = wanted(code, entity)?;
+    coordinate(bytes, exact, &pair)
 }
 
 /// Whether the value is a numeral of just this number.
@@ -124,9 +130,8 @@ pub fn is_not_zero(bytes: &[u8], pair: Option<Pair>) -> bool
 pub fn not_zero_at(bytes: &[u8], code: i32, entity: &Entity) -> Result<Option<u64>, LayerFault>
     ensures { result ≡ not_zero_line bytes.now code (told entity.now) }
 {
-    match field(code, entity) {
-        Ok(Some(pair)) if !equals(bytes, 0, &pair) => Ok(Some(u64::from(pair.line))),
-        Ok(_) => Ok(None),
-        Err(fault) => Err(fault),
+    match field(code, entity)? {
+        Some(pair) if !equals(bytes, 0, &pair) => Ok(Some(u64::from(pair.line))),
+        _ => Ok(None),
     }
 }

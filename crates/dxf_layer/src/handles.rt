@@ -67,11 +67,10 @@ pub fn seed_of(bytes: &[u8], pairs: &[Pair]) -> Option<Pair>
 pub fn check_handle(seed: Option<Pair>, entity: &Entity) -> Result<(), LayerFault>
     ensures { result ≡ handle seed (told entity.now) }
 {
-    match field(5, entity) {
-        Ok(Some(pair)) if seed.is_none() => Err(LayerFault::Seed {
+    match field(5, entity)? {
+        Some(pair) if seed.is_none() => Err(LayerFault::Seed {
             line: u64::from(pair.line),
         }),
-        Ok(_) => Ok(()),
-        Err(fault) => Err(fault),
+        _ => Ok(()),
     }
 }

@@ -18,26 +18,19 @@ use std::alloc::AllocError;
 fn check_plain(bytes: &[u8], entity: &Entity) -> Result<(), LayerFault>
     ensures { result ≡ plain bytes.now (told entity.now) }
 {
-    match not_zero_at(bytes, 40, entity) {
-        Ok(None) => (),
-        Ok(Some(line)) => return Err(LayerFault::Width { line }),
-        Err(fault) => return Err(fault),
+    if let Some(line) = not_zero_at(bytes, 40, entity)? {
+        return Err(LayerFault::Width { line });
     }
-    match not_zero_at(bytes, 41, entity) {
-        Ok(None) => (),
-        Ok(Some(line)) => return Err(LayerFault::Width { line }),
-        Err(fault) => return Err(fault),
+    if let Some(line) = not_zero_at(bytes, 41, entity)? {
+        return Err(LayerFault::Width { line });
     }
-    match not_zero_at(bytes, 42, entity) {
-        Ok(None) => (),
-        Ok(Some(line)) => return Err(LayerFault::Bulge { line }),
-        Err(fault) => return Err(fault),
+    if let Some(line) = not_zero_at(bytes, 42, entity)? {
+        return Err(LayerFault::Bulge { line });
     }
-    match not_zero_at(bytes, 70, entity) {
-        Ok(None) => Ok(()),
-        Ok(Some(line)) => Err(LayerFault::Flags { line }),
-        Err(fault) => Err(fault),
+    if let Some(line) = not_zero_at(bytes, 70, entity)? {
+        return Err(LayerFault::Flags { line });
     }
+    Ok(())
 }
 
 /// The vertex of an entity of its own.
@@ -49,22 +42,14 @@ pub fn entity_vertex(
 ) -> Result<Vertex, LayerFault>
     ensures { result ≡ entity_vertex bytes.now exact seed (told entity.now) }
 {
-    match check_handle(seed, entity) {
-        Ok(()) => (),
-        Err(fault) => return Err(fault),
-    }
-    let spot = match spot_at(bytes, exact, 10, 20, entity) {
-        Ok(spot) => spot,
-        Err(fault) => return Err(fault),
-    };
-    match check_plain(bytes, entity) {
-        Ok(()) => Ok(Vertex {
-            spot,
-            start: entity.head.start,
-            past: entity.end(),
-        }),
-        Err(fault) => Err(fault),
-    }
+    check_handle(seed, entity)?;
+    let spot = spot_at(bytes, exact, 10, 20, entity)?;
+    check_plain(bytes, entity)?;
+    Ok(Vertex {
+        spot,
+        start: entity.head.start,
+        past: entity.end(),
+    })
 }
 
 /// Adds a vertex with an entity of its own, which is replaced.

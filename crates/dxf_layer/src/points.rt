@@ -1,7 +1,6 @@
 //! Points, inserts, texts and lines.
 
-ghost use Rattle.std.specs.Prelude.{◌≡◌, ◌+◌, ◌^◌, OnOk, [], ◌∷◌};
-ghost use Rattle.sheet_base.specs.declared.faults.LayerFault.TheVariants.{Attribs};
+ghost use Rattle.std.specs.Prelude.{◌≡◌, ◌+◌, ◌^◌, OnOk, ◌∷◌};
 ghost use Rattle.dxf_layer.specs.Told.{told};
 ghost use Rattle.dxf_layer.specs.Shapes.{with_shape, with_shapes};
 ghost use Rattle.dxf_layer.specs.Points.{spot_at, dot_of, dots_of, point_shapes, insert_shapes, second_spot, text_shapes, height, level, line_of, line_ends, line_shapes};
@@ -26,14 +25,9 @@ pub fn spot_at(
 ) -> Result<Spot, LayerFault>
     ensures { result ≡ spot_at bytes.now exact east north (told entity.now) }
 {
-    let x = match coordinate_at(bytes, exact, east, entity) {
-        Ok(x) => x,
-        Err(fault) => return Err(fault),
-    };
-    match coordinate_at(bytes, exact, north, entity) {
-        Ok(y) => Ok(Spot { x, y }),
-        Err(fault) => Err(fault),
-    }
+    let x = coordinate_at(bytes, exact, east, entity)?;
+    let y = coordinate_at(bytes, exact, north, entity)?;
+    Ok(Spot { x, y })
 }
 
 /// Adds a dot.
@@ -60,13 +54,9 @@ pub fn read_point(
     ensures reads { Reads (point_shapes bytes.now exact (told entity.now)) (seen drawing.old) result (seen drawing.new) }
     ensures grown { OnOk result (GrowsBy 2 (seen drawing.old) (seen drawing.new)) }
 {
-    match spot_at(bytes, exact, 10, 20, entity) {
-        Ok(spot) => {
-            add_dot(drawing, &spot)?;
-            Ok(())
-        }
-        Err(fault) => Err(fault),
-    }
+    let spot = spot_at(bytes, exact, 10, 20, entity)?;
+    add_dot(drawing, &spot)?;
+    Ok(())
 }
 
 /// Reads an insert, which has no attributes.
@@ -80,10 +70,9 @@ pub fn read_insert(
     ensures reads { Reads (insert_shapes bytes.now exact (told entity.now)) (seen drawing.old) result (seen drawing.new) }
     ensures grown { OnOk result (GrowsBy 2 (seen drawing.old) (seen drawing.new)) }
 {
-    match not_zero_at(bytes, 66, entity) {
-        Ok(None) => read_point(bytes, exact, entity, drawing),
-        Ok(Some(line)) => Err(LayerFault::Attribs { line }),
-        Err(fault) => Err(fault),
+    match not_zero_at(bytes, 66, entity)? {
+        None => read_point(bytes, exact, entity, drawing),
+        Some(line) => Err(LayerFault::Attribs { line }),
     }
 }
 
@@ -91,19 +80,11 @@ pub fn read_insert(
 fn second_spot(bytes: &[u8], exact: bool, entity: &Entity) -> Result<Option<Spot>, LayerFault>
     ensures { result ≡ second_spot bytes.now exact (told entity.now) }
 {
-    let across = match field(72, entity) {
-        Ok(pair) => pair,
-        Err(fault) => return Err(fault),
-    };
-    let along = match field(73, entity) {
-        Ok(pair) => pair,
-        Err(fault) => return Err(fault),
-    };
+    let across = field(72, entity)?;
+    let along = field(73, entity)?;
     if is_not_zero(bytes, across) || is_not_zero(bytes, along) {
-        match spot_at(bytes, exact, 11, 21, entity) {
-            Ok(spot) => Ok(Some(spot)),
-            Err(fault) => Err(fault),
-        }
+        let spot = spot_at(bytes, exact, 11, 21, entity)?;
+        Ok(Some(spot))
     } else {
         Ok(None)
     }
@@ -133,17 +114,10 @@ pub fn read_text(
     ensures reads { Reads (text_shapes bytes.now exact (told entity.now)) (seen drawing.old) result (seen drawing.new) }
     ensures grown { OnOk result (GrowsBy 2 (seen drawing.old) (seen drawing.new)) }
 {
-    let spot = match spot_at(bytes, exact, 10, 20, entity) {
-        Ok(spot) => spot,
-        Err(fault) => return Err(fault),
-    };
-    match second_spot(bytes, exact, entity) {
-        Ok(second) => {
-            add_dots(drawing, &spot, second)?;
-            Ok(())
-        }
-        Err(fault) => Err(fault),
-    }
+    let spot = spot_at(bytes, exact, 10, 20, entity)?;
+    let second = second_spot(bytes, exact, entity)?;
+    add_dots(drawing, &spot, second)?;
+    Ok(())
 }
 
 /// The millimetres of a height, of which a missing one is 0.
@@ -163,14 +137,8 @@ fn height(bytes: &[u8], pair: Option<Pair>) -> Option<i64>
 fn check_level(bytes: &[u8], entity: &Entity) -> Result<(), LayerFault>
     ensures { result ≡ level bytes.now (told entity.now) }
 {
-    let first = match field(30, entity) {
-        Ok(pair) => pair,
-        Err(fault) => return Err(fault),
-    };
-    let second = match field(31, entity) {
-        Ok(pair) => pair,
-        Err(fault) => return Err(fault),
-    };
+    let first = field(30, entity)?;
+    let second = field(31, entity)?;
     match (height(bytes, first), height(bytes, second)) {
         (Some(low), Some(high)) if low == high => Ok(()),
         _ => Err(LayerFault::Slope {
@@ -188,22 +156,11 @@ fn line_ends(
 ) -> Result<(Spot, Spot), LayerFault>
     ensures { result ≡ line_ends bytes.now exact seed (told entity.now) }
 {
-    match check_handle(seed, entity) {
-        Ok(()) => (),
-        Err(fault) => return Err(fault),
-    }
-    let begin = match spot_at(bytes, exact, 10, 20, entity) {
-        Ok(spot) => spot,
-        Err(fault) => return Err(fault),
-    };
-    let end = match spot_at(bytes, exact, 11, 21, entity) {
-        Ok(spot) => spot,
-        Err(fault) => return Err(fault),
-    };
-    match check_level(bytes, entity) {
-        Ok(()) => Ok((begin, end)),
-        Err(fault) => Err(fault),
-    }
+    check_handle(seed, entity)?;
+    let begin = spot_at(bytes, exact, 10, 20, entity)?;
+    let end = spot_at(bytes, exact, 11, 21, entity)?;
+    check_level(bytes, entity)?;
+    Ok((begin, end))
 }
 
 /// Adds a line between two points, whose entity is replaced.
@@ -242,11 +199,7 @@ pub fn read_line(
     ensures reads { Reads (line_shapes bytes.now exact seed (told entity.now)) (seen drawing.old) result (seen drawing.new) }
     ensures grown { OnOk result (GrowsBy 2 (seen drawing.old) (seen drawing.new)) }
 {
-    match line_ends(bytes, exact, seed, entity) {
-        Ok((begin, end)) => {
-            add_line(drawing, entity, &begin, &end)?;
-            Ok(())
-        }
-        Err(fault) => Err(fault),
-    }
+    let (begin, end) = line_ends(bytes, exact, seed, entity)?;
+    add_line(drawing, entity, &begin, &end)?;
+    Ok(())
 }

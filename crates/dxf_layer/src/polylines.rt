@@ -16,10 +16,8 @@ use std::alloc::AllocError;
 pub fn kind_of(bytes: &[u8], entity: &Entity) -> Result<PathKind, LayerFault>
     ensures { result ≡ kind_of bytes.now (told entity.now) }
 {
-    let pair = match field(70, entity) {
-        Ok(Some(pair)) => pair,
-        Ok(None) => return Ok(PathKind::Line),
-        Err(fault) => return Err(fault),
+    let Some(pair) = field(70, entity)? else {
+        return Ok(PathKind::Line);
     };
     if equals(bytes, 0, &pair) || equals(bytes, 128, &pair) {
         Ok(PathKind::Line)
@@ -82,22 +80,14 @@ fn vertex_of(
 ) -> Result<Vertex, LayerFault>
     ensures { result ≡ vertex_of bytes.now exact x.now y.now behind.now }
 {
-    let east = match coordinate(bytes, exact, x) {
-        Ok(read) => read,
-        Err(fault) => return Err(fault),
-    };
-    let north = match coordinate(bytes, exact, y) {
-        Ok(read) => read,
-        Err(fault) => return Err(fault),
-    };
-    match past_group(bytes, y.end, behind) {
-        Ok(past) => Ok(Vertex {
-            spot: Spot { x: east, y: north },
-            start: x.start,
-            past,
-        }),
-        Err(fault) => Err(fault),
-    }
+    let east = coordinate(bytes, exact, x)?;
+    let north = coordinate(bytes, exact, y)?;
+    let past = past_group(bytes, y.end, behind)?;
+    Ok(Vertex {
+        spot: Spot { x: east, y: north },
+        start: x.start,
+        past,
+    })
 }
 
 /// Adds a vertex in fields, with room behind it.
@@ -138,10 +128,8 @@ fn first_vertex(bytes: &[u8], exact: bool, fields: &[Pair]) -> Result<Option<Ver
     ensures two { IfOk result (λ vertex. IfSome vertex (λ v. 2 ≤ length fields.now)) }
 {
     if fields.len() >= 2 && begins_vertex(&fields[0], &fields[1]) {
-        match vertex_of(bytes, exact, &fields[0], &fields[1], &fields[2..]) {
-            Ok(vertex) => Ok(Some(vertex)),
-            Err(fault) => Err(fault),
-        }
+        let vertex = vertex_of(bytes, exact, &fields[0], &fields[1], &fields[2..])?;
+        Ok(Some(vertex))
     } else if is_number(&fields[0]) {
         Err(LayerFault::Count {
             line: u64::from(fields[0].line),
@@ -165,13 +153,12 @@ fn read_vertices(
 {
     let mut at = 0;
     while at < fields.len() {
-        match first_vertex(bytes, exact, &fields[at..]) {
-            Ok(Some(vertex)) => {
+        match first_vertex(bytes, exact, &fields[at..])? {
+            Some(vertex) => {
                 add_vertex(drawing, &vertex)?;
                 at += 2;
             }
-            Ok(None) => at += 1,
-            Err(fault) => return Err(fault),
+            None => at += 1,
         }
     }
     Ok(())
@@ -181,12 +168,13 @@ fn read_vertices(
 fn counted(bytes: &[u8], number: u32, entity: &Entity) -> Result<Pair, LayerFault>
     ensures { result ≡ count_of bytes.now number (told entity.now) }
 {
-    match wanted(90, entity) {
-        Ok(pair) if equals(bytes, number, &pair) => Ok(pair),
-        Ok(pair) => Err(LayerFault::Count {
+    let pair = wanted(90, entity)?;
+    if equals(bytes, number, &pair) {
+        Ok(pair)
+    } else {
+        Err(LayerFault::Count {
             line: u64::from(pair.line),
-        }),
-        Err(fault) => Err(fault),
+        })
     }
 }
 
@@ -215,20 +203,11 @@ pub fn read_light(
     ensures reads { Reads (light_shapes bytes.now exact (told entity.now)) (seen drawing.old) result (seen drawing.new) }
     ensures grown { OnOk result (GrowsBy (length entity.now.pairs.now + 1) (seen drawing.old) (seen drawing.new)) }
 {
-    let kind = match kind_of(bytes, entity) {
-        Ok(kind) => kind,
-        Err(fault) => return Err(fault),
-    };
+    let kind = kind_of(bytes, entity)?;
     let first = drawing.point();
-    match read_vertices(bytes, exact, fields_of(entity), drawing) {
-        Ok(()) => (),
-        Err(fault) => return Err(fault),
-    }
+    read_vertices(bytes, exact, fields_of(entity), drawing)?;
     let past = drawing.point();
-    let count = match counted(bytes, past - first, entity) {
-        Ok(pair) => pair,
-        Err(fault) => return Err(fault),
-    };
+    let count = counted(bytes, past - first, entity)?;
     drawing.add_edit(value_edit(What::Tally { first, past }, &count))?;
     add_path_from(drawing, kind, first)?;
     Ok(())

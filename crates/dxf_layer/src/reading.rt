@@ -16,7 +16,7 @@ use crate::handles::seed_of;
 use crate::ordering::in_order;
 use crate::walking::{Place, Source, step};
 use dxf_pairs::{Pair, PairFault, read_pairs};
-use sheet_base::{Edit, How, LayerFault, Listed, Sheet, What};
+use sheet_base::{How, LayerFault, Listed, Sheet, What};
 use std::alloc::{AllocError, Global};
 
 /// The refusal of pairs, by the same name.
@@ -78,10 +78,7 @@ fn read_entities(source: &Source, pairs: &[Pair], drawing: &mut Drawing) -> Resu
     let mut section = Where::Outside;
     let mut place = Place::Free;
     for (number, head) in pairs.iter().enumerate() {
-        match visit(source, section, place, &pairs[number..], drawing) {
-            Ok(next) => place = next,
-            Err(fault) => return Err(fault),
-        }
+        place = visit(source, section, place, &pairs[number..], drawing)?;
         section = behind(source.bytes, section, head);
     }
     match place {
@@ -115,10 +112,7 @@ pub fn read_drawing(alloc: Global, bytes: &[u8], how: How) -> Result<Sheet, Laye
     let seed = seed_of(bytes, &pairs);
     let mut drawing = begin(alloc, seed)?;
     let source = Source { bytes, how, seed };
-    match read_entities(&source, &pairs, &mut drawing) {
-        Ok(()) => (),
-        Err(fault) => return Err(fault),
-    }
+    read_entities(&source, &pairs, &mut drawing)?;
     let Drawing {
         paths,
         points,

@@ -100,14 +100,9 @@ fn is_read_alone(bytes: &[u8], entity: &Entity) -> bool
 fn begin_polyline(bytes: &[u8], entity: &Entity, first: u32) -> Result<Place, LayerFault>
     ensures { (before : Contents) → first ≡ length before.points → Goes (polyline_step bytes.now (told entity.now)) before result before }
 {
-    match check_upright(bytes, entity) {
-        Ok(()) => (),
-        Err(fault) => return Err(fault),
-    }
-    match kind_of(bytes, entity) {
-        Ok(kind) => Ok(Place::Reading { kind, first }),
-        Err(fault) => Err(fault),
-    }
+    check_upright(bytes, entity)?;
+    let kind = kind_of(bytes, entity)?;
+    Ok(Place::Reading { kind, first })
 }
 
 /// Reads an upright entity that stands by itself.
@@ -117,14 +112,9 @@ fn step_alone(source: &Source, entity: &Entity, drawing: &mut Drawing) -> Result
     ensures goes { Goes (alone_step source.now.bytes.now source.now.how source.now.seed (told entity.now)) (seen drawing.old) result (seen drawing.new) }
     ensures grown { OnOk result (GrowsBy (length entity.now.pairs.now + 2) (seen drawing.old) (seen drawing.new)) }
 {
-    match check_upright(source.bytes, entity) {
-        Ok(()) => (),
-        Err(fault) => return Err(fault),
-    }
-    match read_alone(source, entity, drawing) {
-        Ok(()) => Ok(Place::Free),
-        Err(fault) => Err(fault),
-    }
+    check_upright(source.bytes, entity)?;
+    read_alone(source, entity, drawing)?;
+    Ok(Place::Free)
 }
 
 /// Reads an entity that does not stay, by its kind.
@@ -157,17 +147,13 @@ fn step_free(source: &Source, entity: &Entity, drawing: &mut Drawing) -> Result<
     if ends_section(source.bytes, &entity.head) {
         return Ok(Place::Free);
     }
-    match field(67, entity) {
-        Ok(paper) => {
-            if !is_there_as(source.bytes, 1, paper) {
-                step_by_kind(source, entity, drawing)
-            } else if is_kind(source.bytes, b"POLYLINE".as_slice(), entity) {
-                Ok(Place::Staying)
-            } else {
-                Ok(Place::Free)
-            }
-        }
-        Err(fault) => Err(fault),
+    let paper = field(67, entity)?;
+    if !is_there_as(source.bytes, 1, paper) {
+        step_by_kind(source, entity, drawing)
+    } else if is_kind(source.bytes, b"POLYLINE".as_slice(), entity) {
+        Ok(Place::Staying)
+    } else {
+        Ok(Place::Free)
     }
 }
 
@@ -205,10 +191,8 @@ fn step_reading(
     ensures grown { OnOk result (GrowsBy 2 (seen drawing.old) (seen drawing.new)) }
 {
     if is_kind(source.bytes, b"VERTEX".as_slice(), entity) {
-        match entity_vertex(source.bytes, source.how.exact, source.seed, entity) {
-            Ok(vertex) => add_own_vertex(drawing, &vertex)?,
-            Err(fault) => return Err(fault),
-        }
+        let vertex = entity_vertex(source.bytes, source.how.exact, source.seed, entity)?;
+        add_own_vertex(drawing, &vertex)?;
         Ok(Place::Reading { kind, first })
     } else if is_kind(source.bytes, b"SEQEND".as_slice(), entity) {
         add_path_from(drawing, kind, first)?;

@@ -1,5 +1,5 @@
 -- Texts of group codes.
-use Rattle.std.proofs.Common.{◌≡◌, ◌==◌, ℕ, ◌<◌, ◌≤◌, ℤ, pos, List, [], ◌∷◌, length, drop, Bool, true, false, cond, refl, sym, arith, FitsSigned, w32, nat_lt, nat_le, ◌&&◌, Some, None, neg_ℤ}
+use Rattle.std.proofs.Common.{◌≡◌, ◌==◌, ℕ, ◌≤◌, ℤ, pos, List, [], ◌∷◌, length, drop, Bool, true, false, cond, refl, sym, arith, FitsSigned, w32, nat_lt, nat_le, ◌&&◌, Some, None, neg_ℤ}
 use Rattle.std.specs.Prelude.{unsigned_abs}
 use Rattle.std.proofs.lemmas.Int.{ints}
 use Rattle.std.specs.Str.{all_ascii_digits, IsUtf8}
@@ -92,9 +92,3 @@ pub read_code : (text : List ℕ) (code : ℤ) → IsNumeral 10 (without_leading
 read_code text code numeral is small =
     let size : unsigned_abs code ≡ digits_value 10 (without_leading_sign text) = rw is (magnitude (starts_with_minus text) (digits_value 10 (without_leading_sign text))) in
     rw is (sym (the_number text (record { numeral = numeral; small = omega arith })))
-
--- what is read as a number of another magnitude is none
-pub greater_code : (text : List ℕ) (code : ℤ) → code ≡ signed_digits_value 10 text → MOST_CODE < unsigned_abs code → None ≡ number_of text
-greater_code text code is great =
-    let size : unsigned_abs code ≡ digits_value 10 (without_leading_sign text) = rw is (magnitude (starts_with_minus text) (digits_value 10 (without_leading_sign text))) in
-    no_number text (λ digits. let small = digits.small in absurd (omega arith))

@@ -8,9 +8,6 @@ use Rattle.memchr.specs.Find.{is_byte, Nowhere, NoneBefore, Passes}
 use Rattle.dxf_pairs.specs.declared.line_ends.TheConstants.{LINE_FEED}
 use Rattle.dxf_pairs.specs.Lines.{lines_of, without_empty_last, lines_from, placed, between}
 
-is_feed : ℕ → Bool
-is_feed byte = byte == LINE_FEED
-
 fails : (b : Bool) → (b ≡ true → ⊥) → b ≡ false
 fails true never = absurd (never refl)
 fails false never = refl

@@ -1,8 +1,7 @@
 -- Steps of reading pairs.
-use Rattle.std.proofs.Common.{append_assoc, ◌≡◌, ◌+◌, length, arith, ℕ, ℤ, List, [], ◌∷◌, ◌++◌, refl, ap, ◌∙◌, Option, Some, None, Result, Ok, Err, Bool, false, sym}
+use Rattle.std.proofs.Common.{append_assoc, ◌≡◌, ◌+◌, length, arith, ℕ, ℤ, List, [], ◌∷◌, ◌++◌, refl, ap, ◌∙◌, Option, Some, Result, Ok, Err, Bool, false, sym}
 use Rattle.dxf_pairs.specs.declared.pairs.Pair.{Pair}
 use Rattle.dxf_pairs.specs.declared.faults.PairFault.{PairFault}
-use Rattle.dxf_pairs.specs.declared.faults.PairFault.TheVariants.{Code, Odd}
 use Rattle.std.specs.List.{prefix_len, starts_with}
 use Rattle.std.specs.Prelude.{nat_eq}
 use Rattle.dxf_pairs.specs.declared.reading.TheConstants.{BINARY}
@@ -10,22 +9,13 @@ use Rattle.dxf_pairs.specs.declared.line_ends.LineEnds.{LineEnds}
 use Rattle.dxf_pairs.specs.Lines.{Line, lines, lines_from, line_at, between}
 use Rattle.dxf_pairs.specs.Values.{is_blank, value_of}
 use Rattle.dxf_pairs.specs.Codes.{code_of}
-use Rattle.dxf_pairs.specs.Pairs.{drawing, reading, pair_of, first_pair, is_last, of_two, of_one, behind}
+use Rattle.dxf_pairs.specs.Pairs.{drawing, reading, pair_of, first_pair, is_last, of_two, behind}
 
 -- two lines, of which the first is a group code
 pub two_read : (all lines rest : List Line) (first second : Line) (code : ℤ) → all ≡ first ∷ lines → lines ≡ second ∷ rest → code_of first.text ≡ Some code
     → reading all ≡ first_pair (pair_of code first second) (is_last code (value_of second.text)) (reading rest)
 two_read all lines rest first second code all_is lines_is has =
     ap reading all_is ∙ ap (λ (ls : List Line). reading (first ∷ ls)) lines_is ∙ ap (λ (o : Option ℤ). of_two first second o (reading rest)) has
-
--- a group code on the last line
-pub one_read : (all : List Line) (first : Line) (code : ℤ) → all ≡ first ∷ [] → code_of first.text ≡ Some code → reading all ≡ Err (Odd first.number)
-one_read all first code all_is has = ap reading all_is ∙ ap (of_one first) has
-
--- a line that is no group code
-pub none_read : (all lines : List Line) (first : Line) → all ≡ first ∷ lines → code_of first.text ≡ None → reading all ≡ Err (Code first.number)
-none_read all [] first all_is has = ap reading all_is ∙ ap (of_one first) has
-none_read all (second ∷ rest) first all_is has = ap reading all_is ∙ ap (λ (o : Option ℤ). of_two first second o (reading rest)) has
 
 -- the pair of two lines of the bytes, by their places
 pub pair_read : (bytes : List ℕ) (start line value value_end : ℕ) (first second : LineEnds) (code : ℤ) → first.start ≡ start

@@ -1,13 +1,15 @@
-//! Fractions of whole numbers below `TURN` in magnitude: their order, and rounding half up.
+//! Fractions of whole numbers below `TURN` in magnitude: their order, the greater and the lesser of two, and rounding half up.
 //! Fractions are compared by value, and no product passes 128 bits.
 #![tactic(auto)]
 
+mod choosing;
 mod frac;
 mod laws;
 mod ordering;
 mod rounding;
 
+pub use choosing::{earlier, later};
 pub use frac::{Frac, TURN};
 pub use laws::{half_up_is_nearest, half_up_is_within_half, values_are_in_total_order};
-pub use ordering::order;
+pub use ordering::{is_below, order};
 pub use rounding::half_up;

@@ -1,4 +1,4 @@
-ghost use Rattle.std.specs.Prelude.{◌≡◌};
+ghost use Rattle.std.specs.Prelude.{◌≡◌, ◌↔◌, IsTrue};
 ghost use Rattle.std.specs.Ordering.{MatchOrdering};
 ghost use Rattle.frac128.specs.Fractions.{order_of, IsBelow, IsSameValue};
 
@@ -11,4 +11,11 @@ pub fn order(a: Frac, b: Frac) -> Ordering
     ensures cases { MatchOrdering result (IsBelow a b) (IsSameValue a b) (IsBelow b a) }
 {
     (a.num * b.den).cmp(&(b.num * a.den))
+}
+
+/// Is the value of `a` below that of `b`?
+pub fn is_below(a: Frac, b: Frac) -> bool
+    ensures { IsTrue result ↔ IsBelow a b }
+{
+    order(a, b) == Ordering::Less
 }

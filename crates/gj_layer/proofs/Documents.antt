@@ -1,6 +1,6 @@
 -- A whole document, from its value on.
 use Rattle.std.proofs.Common.{◌≡◌, ℕ, ◌+◌, ◌<◌, ◌^◌, List, [], ◌∷◌, ◌++◌, length, refl, sym, ap, ◌∙◌, subst, arith, append-nil, length-append, Bool}
-use Rattle.std.specs.Prelude.{Option, Some, None, Result, Ok, Err, IfOk, slice_get, flat_map}
+use Rattle.std.specs.Prelude.{Some, None, Result, Ok, Err, IfOk, slice_get, flat_map}
 use Rattle.jtext.specs.Texts.{Whole, IsWhole, mark_text}
 use Rattle.jtext.specs.Values.{spelling}
 use Rattle.jtext.specs.declared.reading.TheConstants.{DEEPEST}
@@ -14,20 +14,14 @@ use Rattle.sheet_base.specs.declared.faults.LayerFault.{LayerFault}
 use Rattle.sheet_base.specs.Sheets.{Contents, IsSheet}
 use Rattle.gj_layer.specs.declared.forms.Holder.TheVariants as holders
 use Rattle.gj_layer.specs.declared.forms.Form.TheVariants as forms
-use Rattle.gj_layer.specs.declared.frames.Frame.{Frame}
 use Rattle.gj_layer.specs.declared.pass.Pass.{Pass}
-use Rattle.gj_layer.specs.Faults.{and_then}
-use Rattle.gj_layer.specs.Paths.{Part, nothing, joined, rows_from, points_in, sheet_of}
+use Rattle.gj_layer.specs.Paths.{Part, nothing, rows_from, points_in, sheet_of}
 use Rattle.gj_layer.specs.Layers.{layer_reading, IsReadAs}
 use Rattle.gj_layer.specs.Standing.{Gives, Holds}
-use Rattle.gj_layer.specs.Opening.{Open, whole_of, Going}
+use Rattle.gj_layer.specs.Opening.{Going}
 use Rattle.gj_layer.proofs.There.{first_is}
-use Rattle.gj_layer.proofs.Opened.{alone, alone_read}
+use Rattle.gj_layer.proofs.Opened.{alone, alone_read, ok_same}
 use Rattle.gj_layer.proofs.Fine.{value_fine, part_is_sheet, order_wider}
-
-ok_same : (r : Result Part LayerFault) → and_then (λ others. Ok (joined nothing others)) r ≡ r
-ok_same (Ok part) = refl
-ok_same (Err fault) = refl
 
 -- the frame of the whole value
 pub begins : (doc : Doc) (bytes : List ℕ) (exact : Bool) (whole : Whole) (node : Node) (pass : Pass) → IsReading whole doc bytes → slice_get doc.nodes 0 ≡ Some node → Holds pass nothing

@@ -1,5 +1,5 @@
 -- The end of an object.
-use Rattle.std.proofs.Common.{◌≡◌, ℕ, ◌+◌, List, [], ◌∷◌, ◌++◌, length, refl, sym, ap, ◌∙◌, subst, arith, append_assoc, length-append, Bool, true, false}
+use Rattle.std.proofs.Common.{◌≡◌, ℕ, ◌+◌, List, [], ◌∷◌, ◌++◌, length, refl, sym, ap, ◌∙◌, append_assoc, length-append, Bool, true, false}
 use Rattle.std.specs.Prelude.{nat_lt, flat_map, Option, if◌then◌else◌}
 use Rattle.sheet_base.specs.declared.edits.Edit.{Edit}
 use Rattle.sheet_base.specs.declared.edits.What.{What}
@@ -9,7 +9,7 @@ use Rattle.gj_layer.specs.declared.pass.Pass.{Pass}
 use Rattle.gj_layer.specs.Objects.{member_edits, object_part}
 use Rattle.gj_layer.specs.Paths.{Part, joined}
 use Rattle.gj_layer.specs.Standing.{Holds}
-use Rattle.gj_layer.specs.Opening.{Own, edit_at, in_order, fronts, behinds, listed, own_edits, laid, IsEndingOf}
+use Rattle.gj_layer.specs.Opening.{Own, edit_at, in_order, fronts, behinds, listed, own_edits, IsEndingOf}
 use Rattle.gj_layer.proofs.Holding.{length-rows_from}
 
 fronts-append : (place : ℕ) (one other : List Edit) → fronts place (one ++ other) ≡ fronts place one ++ fronts place other

@@ -1,18 +1,14 @@
 -- What was found of an object's members.
-use Rattle.std.proofs.Common.{◌≡◌, ℕ, ◌+◌, ◌<◌, List, [], ◌∷◌, length, refl, sym, ap, ◌∙◌, subst, arith, ◌≤◌}
-use Rattle.std.specs.Prelude.{Option, Some, None, slice_get, Err}
+use Rattle.std.proofs.Common.{◌≡◌, ℕ, ◌+◌, ◌<◌, List, [], ◌∷◌, length, refl, sym, ap, ◌∙◌, subst, arith}
+use Rattle.std.specs.Prelude.{Option, Some, None, slice_get}
 use Rattle.std.proofs.lemmas.Option.{slice_get_within}
-use Rattle.jtext.specs.Values.{Json}
 use Rattle.jtext.specs.Nodes.{node_count, first_node}
 use Rattle.jtext.specs.Places.{Stands}
 use Rattle.jtext.specs.declared.document.Node.{Node}
 use Rattle.jtext.proofs.Standing.{first_there}
 use Rattle.sheet_base.specs.declared.edits.Edit.{Edit}
 use Rattle.sheet_base.specs.declared.edits.What.{What}
-use Rattle.sheet_base.specs.declared.faults.LayerFault.TheVariants.{Shape}
-use Rattle.gj_layer.specs.declared.forms.Holder.{Holder}
 use Rattle.gj_layer.specs.Members.{Member}
-use Rattle.gj_layer.specs.Objects.{type_in}
 use Rattle.gj_layer.specs.Standing.{AreFound}
 use Rattle.gj_layer.specs.Opening.{value_edits, IsContentAt}
 use Rattle.gj_layer.proofs.There.{first_is}

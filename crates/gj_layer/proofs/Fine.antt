@@ -1,6 +1,6 @@
 -- What is read of a value: each path has points, and the edits stand in order inside the value's text.
-use Rattle.std.proofs.Common.{◌≡◌, ℕ, ◌+◌, ◌-◌, ◌<◌, ◌≤◌, ◌⊎◌, inl, inr, List, [], ◌∷◌, ◌++◌, length, map, take, refl, sym, ap, ◌∙◌, subst, arith, length-append, append-nil, Bool, true, false, ◌&&◌, ◌^◌}
-use Rattle.std.specs.Prelude.{Option, Some, None, Result, Ok, Err, flat_map, sum_by, codes, if◌then◌else◌}
+use Rattle.std.proofs.Common.{◌≡◌, ℕ, ◌+◌, ◌-◌, ◌<◌, ◌≤◌, ◌⊎◌, inl, inr, List, [], ◌∷◌, ◌++◌, length, map, take, refl, sym, ap, ◌∙◌, subst, arith, length-append, Bool, true, false, ◌^◌}
+use Rattle.std.specs.Prelude.{Option, Some, None, Result, Ok, Err, flat_map, codes, if◌then◌else◌}
 use Rattle.std.specs.List.{AllByRecursion}
 use Rattle.std.proofs.lemmas.List.{length-map, length-take}
 use Rattle.jtext.specs.Characters.{Char, units_of}
@@ -22,12 +22,11 @@ use Rattle.gj_layer.specs.declared.forms.Holder.{Holder}
 use Rattle.gj_layer.specs.declared.forms.Holder.TheVariants as holders
 use Rattle.gj_layer.specs.declared.forms.Trace.{Trace}
 use Rattle.gj_layer.specs.declared.forms.Trace.TheVariants as traces
-use Rattle.gj_layer.specs.declared.forms.Items.{Items}
 use Rattle.gj_layer.specs.declared.forms.Form.{Form}
 use Rattle.gj_layer.specs.declared.forms.Form.TheVariants as forms
 use Rattle.gj_layer.specs.declared.positions.Position.{Position}
 use Rattle.gj_layer.specs.Faults.{and_then}
-use Rattle.gj_layer.specs.Members.{Member, members_at, is_named, all_named, at_most_one, find_member}
+use Rattle.gj_layer.specs.Members.{Member, members_at, all_named, find_member}
 use Rattle.gj_layer.specs.Positions.{position_from, number, pair, position, positions, in_front, point_of}
 use Rattle.gj_layer.specs.Paths.{Path, Part, nothing, joined, path_of, end_of, is_closed, dot_of, line_of, ring_of, traced, part_of, edits_from, rows_from, points_in, sheet_of}
 use Rattle.gj_layer.specs.Objects.{content_key, content_form, find_crs, type_in, object_type, with_content, member_edits, object_part}
@@ -35,7 +34,7 @@ use Rattle.gj_layer.specs.Reading.{item_form, null_part, part_in, reading, readi
 use Rattle.gj_layer.proofs.Tracing.{closed_some}
 use Rattle.gj_layer.proofs.Laying.{MembersFine}
 use Rattle.gj_layer.proofs.Looking.{kept_type}
-use Rattle.gj_layer.proofs.Opened.{content_is_read, no_content_read, fits_content, fits_without, at_most_is, at_most_none}
+use Rattle.gj_layer.proofs.Opened.{no_content_read, fits_content, fits_without, at_most_is, at_most_none}
 
 -- a step that came to a value
 pub split_then : {A B : Type 0} (f : A → Result B LayerFault) (r : Result A LayerFault) (made : B) → and_then f r ≡ Ok made → (value : A) × (r ≡ Ok value) × (f value ≡ Ok made)

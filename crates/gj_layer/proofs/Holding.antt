@@ -1,6 +1,6 @@
 -- What the sheet so far holds, one path more.
-use Rattle.std.proofs.Common.{◌≡◌, ℕ, ◌+◌, ◌*◌, ◌<◌, ◌≤◌, List, [], ◌∷◌, ◌++◌, length, map, refl, sym, ap, ◌∙◌, subst, arith, append_assoc, append-nil, length-append}
-use Rattle.std.specs.Prelude.{flat_map, sum_by, Result, Ok, Err}
+use Rattle.std.proofs.Common.{◌≡◌, ℕ, ◌+◌, List, [], ◌∷◌, ◌++◌, length, refl, sym, ap, ◌∙◌, subst, arith, append-nil, length-append}
+use Rattle.std.specs.Prelude.{flat_map, sum_by}
 use Rattle.std.proofs.lemmas.Grind.{flat_map-append}
 use Rattle.std.proofs.lemmas.List.Sums.{sum_by_push}
 use Rattle.plane_base.specs.declared.shapes.Pt.{Pt}
@@ -8,7 +8,7 @@ use Rattle.sheet_base.specs.declared.paths.PathKind.{PathKind}
 use Rattle.sheet_base.specs.declared.paths.PathRow.{PathRow}
 use Rattle.sheet_base.specs.declared.edits.Edit.{Edit}
 use Rattle.gj_layer.specs.declared.pass.Pass.{Pass}
-use Rattle.gj_layer.specs.Paths.{Path, Part, nothing, joined, rows_from, edits_from, edit_of, text_for, points_in, lost_in}
+use Rattle.gj_layer.specs.Paths.{Path, Part, nothing, joined, rows_from, edit_of, text_for, points_in, lost_in}
 use Rattle.gj_layer.specs.Standing.{Holds, HoldsMore, path_part}
 
 -- the row of a path whose first point has this number

@@ -1,16 +1,15 @@
 -- The texts of images are JSON values, and are read as positions at these images.
-use Rattle.std.proofs.Common.{◌≡◌, ℕ, zero, suc, ◌+◌, ◌-◌, ◌*◌, ◌/◌, ◌%◌, ◌^◌, ◌<◌, ◌≤◌, ◌⊎◌, inl, inr, Bool, true, false, List, [], ◌∷◌, ◌++◌, length, refl, sym, ap, ◌∙◌, subst, append_assoc, append-nil, arith, length-append, decimal, ℤ, pos, negsuc}
-use Rattle.std.specs.Prelude.{map, sum_by, unsigned_abs, codes, Result, Ok}
+use Rattle.std.proofs.Common.{◌≡◌, ℕ, zero, suc, ◌+◌, ◌/◌, ◌^◌, ◌<◌, ◌≤◌, inl, inr, Bool, true, false, List, [], ◌∷◌, ◌++◌, length, refl, sym, ap, ◌∙◌, subst, append_assoc, append-nil, arith, decimal, ℤ, pos, negsuc}
+use Rattle.std.specs.Prelude.{map, sum_by, unsigned_abs, Result, Ok}
 use Rattle.std.specs.List.{AllByRecursion}
 use Rattle.std.proofs.lemmas.Fmt.{decimal_by_steps}
 use Rattle.std.proofs.lemmas.List.Sums.{sum_by-cons}
 use Rattle.mm_decimal.specs.Writing.{written, metres_text, digit_text}
-use Rattle.mm_decimal.specs.Measured.{measured}
 use Rattle.mm_decimal.specs.declared.limits.TheConstants.{LIMIT}
 use Rattle.mm_decimal.specs.declared.reading.MmRead.{MmRead}
 use Rattle.mm_decimal.proofs.RoundTrip.{written_reads}
 use Rattle.mm_decimal.proofs.MeasuredAnswers.{answer_is_measured}
-use Rattle.jtext.specs.Numbers.{IsDigit, AreDigits, IsInt, IsMinus, IsNumber}
+use Rattle.jtext.specs.Numbers.{IsDigit, IsInt, IsMinus, IsNumber}
 use Rattle.jtext.specs.Values.{Json, Elements, numeral, array, no_element, element, spelling, elements_text, elements_behind, AreBlank, IsValue, AreElements}
 use Rattle.jtext.specs.Nodes.{inner_place, element_start, next_place}
 use Rattle.plane_base.specs.declared.shapes.Pt.{Pt}
@@ -18,7 +17,7 @@ use Rattle.sheet_base.specs.declared.faults.LayerFault.{LayerFault}
 use Rattle.sheet_base.specs.Fitting.{IsWithinReach}
 use Rattle.gj_layer.specs.declared.positions.Position.{Position}
 use Rattle.gj_layer.specs.Faults.{and_then}
-use Rattle.gj_layer.specs.Positions.{accepted, number, position_from, pair, position, positions, in_front, point_of, lost, lost_of}
+use Rattle.gj_layer.specs.Positions.{accepted, number, position_from, position, positions, in_front, point_of, lost_of}
 use Rattle.gj_layer.specs.Texts.{image_text, texts_behind, list_text, ring_text}
 
 -- ---- a written number is a JSON number

@@ -1,9 +1,9 @@
 -- The edits of an object's members in order of the text: those of its own before those of its content, and behind them.
 use Rattle.std.proofs.Common.{◌≡◌, ℕ, ◌+◌, ◌<◌, ◌≤◌, List, [], ◌∷◌, ◌++◌, length, refl, sym, ap, ◌∙◌, subst, arith, Bool, true, false, ◌⊎◌, inl, inr}
-use Rattle.std.specs.Prelude.{◌&&◌, nat_lt, codes, flat_map, Option, Some, None, Result, Ok, Err, if◌then◌else◌}
+use Rattle.std.specs.Prelude.{flat_map, Option, Some, None, Ok, if◌then◌else◌}
 use Rattle.std.proofs.lemmas.Bool.{lt-ltb, le-ltb}
-use Rattle.jtext.specs.Values.{Json, Members, no_member, member, spelling}
-use Rattle.jtext.specs.Nodes.{element_start, member_start, next_place}
+use Rattle.jtext.specs.Values.{Members, no_member, member, spelling}
+use Rattle.jtext.specs.Nodes.{member_start, next_place}
 use Rattle.sheet_base.specs.declared.edits.Edit.{Edit}
 use Rattle.sheet_base.specs.declared.edits.What.{What}
 use Rattle.sheet_base.specs.declared.edits.What.TheVariants.{Null}

@@ -14,7 +14,7 @@ use Rattle.gj_layer.specs.declared.forms.Items.TheVariants as items
 use Rattle.gj_layer.specs.declared.forms.Form.{Form}
 use Rattle.gj_layer.specs.declared.forms.Form.TheVariants as forms
 use Rattle.gj_layer.specs.Members.{Member, members_at, all_named, find_member}
-use Rattle.gj_layer.specs.Paths.{Part, nothing}
+use Rattle.gj_layer.specs.Paths.{Part}
 use Rattle.gj_layer.specs.Objects.{content_key, content_form, is_allowed, with_content}
 use Rattle.gj_layer.specs.Reading.{item_form, reading, content_reading}
 use Rattle.gj_layer.proofs.Fine.{tested}

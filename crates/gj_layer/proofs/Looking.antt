@@ -1,7 +1,6 @@
 -- The first fault of an object's members, or its type.
-use Rattle.std.proofs.Common.{◌≡◌, ℕ, List, refl, sym, ap, ◌∙◌, subst}
+use Rattle.std.proofs.Common.{◌≡◌, ℕ, List, sym, ap, ◌∙◌, subst}
 use Rattle.std.specs.Prelude.{Option, Some, None, Result, Ok, Err, codes}
-use Rattle.jtext.specs.Values.{Json}
 use Rattle.jtext.specs.declared.document.Node.{Node}
 use Rattle.sheet_base.specs.declared.faults.LayerFault.{LayerFault}
 use Rattle.gj_layer.specs.declared.forms.GeoType.{GeoType}

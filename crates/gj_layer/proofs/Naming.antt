@@ -1,8 +1,8 @@
 -- Members that are found by their names.
-use Rattle.std.proofs.Common.{◌≡◌, ℕ, ◌+◌, ◌<◌, ◌≤◌, List, [], ◌∷◌, Bool, true, false, refl, sym, ap, ◌∙◌, subst, arith}
+use Rattle.std.proofs.Common.{◌≡◌, ℕ, ◌+◌, ◌<◌, ◌≤◌, List, [], ◌∷◌, Bool, true, false, refl, sym, ap, subst, arith}
 use Rattle.std.specs.Prelude.{Option, Some, None, Result, Ok, Err, if◌then◌else◌}
 use Rattle.jtext.specs.Characters.{units_of}
-use Rattle.jtext.specs.Values.{Json, Members, object, no_member, member}
+use Rattle.jtext.specs.Values.{Members, object, no_member, member}
 use Rattle.jtext.specs.Nodes.{node_count, member_count, inner_place, element_start, member_start, next_place}
 use Rattle.jtext.specs.Places.{Stands, Entry, entries_at}
 use Rattle.jtext.specs.Lookups.{are_same, named, only_one}
@@ -11,7 +11,7 @@ use Rattle.jtext.specs.declared.lookup.Repeat.{Repeat}
 use Rattle.jtext.proofs.Standing.{MembersStand, object_stands, member_stands, members_rest_stand}
 use Rattle.sheet_base.specs.declared.faults.LayerFault.{LayerFault}
 use Rattle.sheet_base.specs.declared.faults.LayerFault.TheVariants as faults
-use Rattle.gj_layer.specs.Members.{Member, members_at, is_named, all_named, at_most_one, find_member}
+use Rattle.gj_layer.specs.Members.{Member, members_at, all_named, at_most_one, find_member}
 use Rattle.gj_layer.specs.Standing.{IsFound, Finds}
 
 -- a look for a name, with the places of this crate

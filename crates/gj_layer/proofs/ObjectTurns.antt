@@ -1,26 +1,19 @@
 -- How an object turns: its members do, its type is told as before, and its content is read with images.
-use Rattle.std.proofs.Common.{◌≡◌, ℕ, zero, suc, ◌+◌, ◌<◌, ◌≤◌, ◌⊎◌, inl, inr, Bool, true, false, List, [], ◌∷◌, ◌++◌, length, refl, sym, ap, ◌∙◌, subst, arith}
-use Rattle.std.specs.Prelude.{codes, flat_map, Option, Some, None, Result, Ok, Err, if◌then◌else◌}
-use Rattle.jtext.specs.Characters.{Char, units_of}
-use Rattle.jtext.specs.Values.{Json, Members, null, truth, numeral, quoted, array, object, no_member, member, spelling, IsValue, AreMembers}
-use Rattle.jtext.specs.Nodes.{inner_place, element_start, member_start, next_place}
-use Rattle.sheet_base.specs.declared.faults.LayerFault.{LayerFault}
+use Rattle.std.proofs.Common.{◌≡◌, ℕ, inl, inr, Bool, true, false, List, [], ◌∷◌, refl, sym, ap, ◌∙◌, subst}
+use Rattle.std.specs.Prelude.{codes, Option, Some, None, Ok, Err, if◌then◌else◌}
+use Rattle.jtext.specs.Characters.{units_of}
+use Rattle.jtext.specs.Values.{Json, null, truth, numeral, quoted, array, object}
 use Rattle.sheet_base.specs.declared.faults.LayerFault.TheVariants.{Kind}
 use Rattle.gj_layer.specs.declared.forms.GeoType.{GeoType}
 use Rattle.gj_layer.specs.declared.forms.GeoType.TheVariants as types
 use Rattle.gj_layer.specs.declared.forms.Holder.{Holder}
 use Rattle.gj_layer.specs.declared.forms.Holder.TheVariants as holders
-use Rattle.gj_layer.specs.declared.forms.Items.TheVariants as items
-use Rattle.gj_layer.specs.declared.forms.Form.{Form}
-use Rattle.gj_layer.specs.declared.forms.Form.TheVariants as forms
 use Rattle.gj_layer.specs.Faults.{and_then}
-use Rattle.gj_layer.specs.Members.{Member, members_at, is_named, all_named, at_most_one, find_member}
-use Rattle.gj_layer.specs.Objects.{content_key, content_form, is_allowed, allowed, type_of, type_in, type_named, has_crs, find_crs, with_content, object_type}
-use Rattle.gj_layer.specs.Paths.{Part}
-use Rattle.gj_layer.specs.Reading.{reading}
+use Rattle.gj_layer.specs.Members.{Member, is_named, all_named, at_most_one, find_member}
+use Rattle.gj_layer.specs.Objects.{content_key, is_allowed, allowed, type_of, type_in, type_named, find_crs, with_content, object_type}
 use Rattle.gj_layer.proofs.Fine.{split_then, tested}
 use Rattle.gj_layer.proofs.Looking.{kept_type, type_so}
-use Rattle.gj_layer.proofs.Opened.{at_most_is, at_most_none}
+use Rattle.gj_layer.proofs.Opened.{at_most_is}
 use Rattle.gj_layer.proofs.MemberTurns.{IsLike, AreLike}
 
 -- ---- members of the same names

@@ -1,10 +1,9 @@
 -- A layer has one sheet, or one fault.
-use Rattle.std.proofs.Common.{◌≡◌, ℕ, ◌+◌, ◌<◌, ◌≤◌, ◌⊎◌, inl, inr, List, [], ◌∷◌, ◌++◌, length, refl, sym, ap, ◌∙◌, subst, arith, append_assoc, Bool, true, false}
+use Rattle.std.proofs.Common.{◌≡◌, ℕ, ◌+◌, ◌<◌, ◌≤◌, inl, inr, List, [], ◌∷◌, ◌++◌, length, sym, ap, ◌∙◌, subst, arith, append_assoc, Bool, true, false}
 use Rattle.std.specs.Prelude.{Result, Ok, Err}
-use Rattle.text_places.proofs.Fronts.{first_fault_unique}
 use Rattle.jtext.specs.Numbers.{IsNumber, IsMinus, IsInt}
 use Rattle.jtext.specs.Values.{Json, null, truth, numeral, quoted, array, object, spelling, IsBlank, AreBlank, IsValue}
-use Rattle.jtext.specs.Texts.{Whole, IsWhole, IsText, IsAnyText, IsBad, IsDeep, mark_text}
+use Rattle.jtext.specs.Texts.{Whole, IsWhole, mark_text}
 use Rattle.jtext.specs.Places.{whole_start}
 use Rattle.jtext.specs.declared.reading.TheConstants.{DEEPEST}
 use Rattle.jtext.proofs.OneValue.{StopsAt, one_cut, one_value}
@@ -16,7 +15,7 @@ use Rattle.gj_layer.specs.declared.forms.Holder.TheVariants as holders
 use Rattle.gj_layer.specs.declared.forms.Form.TheVariants as forms
 use Rattle.gj_layer.specs.Paths.{Part, sheet_of}
 use Rattle.gj_layer.specs.Reading.{reading}
-use Rattle.gj_layer.specs.Layers.{layer_reading, Answers, IsReadAs, IsTextFault, IsRefusedBy}
+use Rattle.gj_layer.specs.Layers.{Answers, IsReadAs, IsTextFault, IsRefusedBy}
 
 -- a value begins with a byte of ASCII that is no white space
 abbrev Begins : List ℕ → Type 0

@@ -1,9 +1,9 @@
 -- Objects and arrays that are opened.
-use Rattle.std.proofs.Common.{◌≡◌, ℕ, ◌+◌, ◌-◌, ◌<◌, ◌≤◌, ◌⊎◌, inl, inr, List, [], ◌∷◌, ◌++◌, length, refl, sym, ap, ◌∙◌, subst, arith, append-nil, Bool, true, false, ◌&&◌}
+use Rattle.std.proofs.Common.{◌≡◌, ℕ, ◌+◌, ◌-◌, ◌<◌, ◌⊎◌, inl, inr, List, [], ◌∷◌, ◌++◌, length, refl, sym, ap, ◌∙◌, subst, arith, append-nil, Bool, true, false, ◌&&◌}
 use Rattle.std.specs.Prelude.{codes, flat_map, Option, Some, None, Result, Ok, Err, if◌then◌else◌, slice_get}
 use Rattle.jtext.specs.Characters.{units_of}
 use Rattle.jtext.specs.Values.{Json, Elements, Members, spelling, null, truth, numeral, quoted, array, object, no_element, element, no_member, member}
-use Rattle.jtext.specs.Nodes.{kind_of, node_count, inner_place, element_start, member_start, next_place}
+use Rattle.jtext.specs.Nodes.{kind_of, inner_place, element_start, member_start, next_place}
 use Rattle.jtext.specs.Places.{Stands}
 use Rattle.jtext.specs.Lookups.{are_same}
 use Rattle.jtext.specs.declared.document.Kind.TheVariants as kinds
@@ -33,8 +33,8 @@ use Rattle.gj_layer.specs.Objects.{content_key, content_form, has_crs, find_crs,
 use Rattle.gj_layer.specs.Paths.{Part, nothing, joined, traced, part_of}
 use Rattle.gj_layer.specs.Reading.{item_form, reading, readings, content_reading}
 use Rattle.gj_layer.specs.declared.pass.Pass.{Pass}
-use Rattle.gj_layer.specs.Standing.{AreFound, AreLeft, Holds}
-use Rattle.gj_layer.specs.Opening.{Own, Open, Takes, whole_of, edit_at, value_edits, own_edits, in_order, fronts, behinds, laid, IsContentAt, IsFrame, Opens, AreLooked}
+use Rattle.gj_layer.specs.Standing.{AreFound, Holds}
+use Rattle.gj_layer.specs.Opening.{Open, Takes, edit_at, value_edits, own_edits, in_order, fronts, behinds, IsContentAt, Opens, AreLooked}
 use Rattle.gj_layer.proofs.There.{array_left}
 use Rattle.gj_layer.proofs.Holding.{length-rows_from}
 use Rattle.gj_layer.proofs.Saying.{says_one}
@@ -53,11 +53,6 @@ no_object exact holder number start (truth is) never = refl
 no_object exact holder number start (numeral text) never = refl
 no_object exact holder number start (quoted chars) never = refl
 no_object exact holder number start (array blank elements) never = refl
-
--- an array of which the elements are read one by one is what they are
-pub list_read : (exact : Bool) (all : Items) (number start : ℕ) (blank : List ℕ) (elements : Elements)
-    → reading exact (forms.List all) number start (array blank elements) ≡ readings exact (item_form all) number (inner_place start blank) elements
-list_read exact all number start blank elements = refl
 
 pub no_array : (exact : Bool) (all : Items) (number start : ℕ) (value : Json) → (kind_of value ≡ kinds.Array → ⊥) → reading exact (forms.List all) number start value ≡ Err (Shape start)
 no_array exact all number start (array blank elements) never = absurd (never refl)
@@ -311,6 +306,11 @@ module _ (nodes : List Node) (bytes : List ℕ) (exact : Bool) (holder : Holder)
         by (Some one) found at = with_one one found at
         by None found at = with_none found at
 
+-- what follows nothing
+pub ok_same : (r : Result Part LayerFault) → and_then (λ others. Ok (joined nothing others)) r ≡ r
+ok_same (Ok part) = refl
+ok_same (Err fault) = refl
+
 -- an array of which the elements are read one by one
 pub list_opens : (nodes : List Node) (bytes : List ℕ) (exact : Bool) (all : Items) (number start : ℕ) (blank : List ℕ) (elements : Elements) (part : Part) (node : Node) (form : Form) → form ≡ item_form all
     → Stands nodes bytes number start (array blank elements) → slice_get nodes number ≡ Some node
@@ -322,10 +322,6 @@ list_opens nodes bytes exact all number start blank elements part node form form
       refl,
       ap (λ f. readings exact f (length part.paths) (inner_place start blank) elements) (sym form_is) ∙ sym (ok_same (readings exact form (length part.paths) (inner_place start blank) elements)),
     )
-  where
-    ok_same : (r : Result Part LayerFault) → and_then (λ others. Ok (joined nothing others)) r ≡ r
-    ok_same (Ok part) = refl
-    ok_same (Err fault) = refl
 
 pub opens_fault : (nodes : List Node) (bytes : List ℕ) (exact : Bool) (part : Part) (r : Result Frame LayerFault) (wanted : Result Part LayerFault) (fault : LayerFault) → r ≡ Err fault → wanted ≡ Err fault
     → Opens nodes bytes exact part r wanted
@@ -375,7 +371,3 @@ path_read exact trace number start (object blank members) = sym (not_traced exac
 pub takes_fault : (nodes : List Node) (bytes : List ℕ) (exact : Bool) (part : Part) (new : Pass) (r : Result (Option Frame) LayerFault) (wanted : Result Part LayerFault) (fault : LayerFault) → r ≡ Err fault
     → ((fault ≡ faults.NoMemory → ⊥) → wanted ≡ Err fault) → Takes nodes bytes exact part new r wanted
 takes_fault nodes bytes exact part new r wanted fault is same = subst (λ q. Takes nodes bytes exact part new q wanted) (sym is) same
-
-pub takes_same : (nodes : List Node) (bytes : List ℕ) (exact : Bool) (part : Part) (new : Pass) (r : Result (Option Frame) LayerFault) (wanted other : Result Part LayerFault) → wanted ≡ other
-    → Takes nodes bytes exact part new r other → Takes nodes bytes exact part new r wanted
-takes_same nodes bytes exact part new r wanted other same takes = subst (Takes nodes bytes exact part new r) (sym same) takes

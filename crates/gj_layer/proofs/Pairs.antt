@@ -1,8 +1,8 @@
 -- The elements of a position, by their nodes.
 use Rattle.std.proofs.Common.{◌≡◌, ℕ, ◌+◌, ◌<◌, ◌≤◌, List, refl, sym, ap, ◌∙◌, arith, Bool}
-use Rattle.std.specs.Prelude.{Some, slice_get, Result, Ok, Err}
-use Rattle.jtext.specs.Values.{Json, Elements, null, truth, numeral, quoted, array, object, no_element, element, spelling}
-use Rattle.jtext.specs.Nodes.{kind_of, node_count, element_count, element_start, next_place}
+use Rattle.std.specs.Prelude.{Some, slice_get, Result, Err}
+use Rattle.jtext.specs.Values.{Json, Elements, numeral, array, no_element, element, spelling}
+use Rattle.jtext.specs.Nodes.{kind_of, node_count, element_start, next_place}
 use Rattle.jtext.specs.Places.{Stands}
 use Rattle.jtext.specs.declared.document.Node.{Node}
 use Rattle.jtext.specs.declared.document.Kind.TheVariants as kinds

@@ -1,5 +1,5 @@
 -- What is written of a layer is read as its images.
-use Rattle.std.proofs.Common.{◌≡◌, ℕ, ◌+◌, Bool, List, ◌++◌, length, refl, sym, ap, ◌∙◌, subst, arith}
+use Rattle.std.proofs.Common.{◌≡◌, ℕ, Bool, List, ◌++◌, length, refl, sym, ap, ◌∙◌, subst, arith}
 use Rattle.std.specs.Prelude.{map, Ok}
 use Rattle.jtext.specs.Values.{spelling}
 use Rattle.jtext.specs.Texts.{Whole, IsWhole, mark_text, whole_text}

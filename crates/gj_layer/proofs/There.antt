@@ -1,8 +1,7 @@
 -- What stands at a node.
-use Rattle.std.proofs.Common.{◌≡◌, ℕ, ◌+◌, ◌-◌, ◌<◌, ◌≤◌, List, [], ◌∷◌, length, take, drop, refl, sym, ap, ◌∙◌, subst, arith, Bool}
+use Rattle.std.proofs.Common.{◌≡◌, ℕ, ◌+◌, ◌-◌, ◌<◌, ◌≤◌, List, length, refl, sym, ap, ◌∙◌, subst, arith, Bool}
 use Rattle.std.specs.Prelude.{Some, slice_get, slice_range}
 use Rattle.std.proofs.lemmas.Option.{same_Some, slice_get_within}
-use Rattle.jtext.specs.Characters.{Char}
 use Rattle.jtext.specs.Values.{Json, Elements, Members, null, truth, numeral, quoted, array, object, no_element, element, spelling}
 use Rattle.jtext.specs.Nodes.{kind_of, node_count, element_count, first_node, element_start, next_place, inner_place}
 use Rattle.jtext.specs.Places.{Stands, IsReadFrom, HasKind}
@@ -10,6 +9,7 @@ use Rattle.jtext.specs.declared.document.Doc.{Doc}
 use Rattle.jtext.specs.declared.document.Kind.{Kind}
 use Rattle.jtext.specs.declared.document.Kind.TheVariants as kinds
 use Rattle.jtext.specs.declared.document.Node.{Node}
+use Rattle.jtext.proofs.MemberLoops.{object_of}
 use Rattle.jtext.proofs.Standing.{ElementsStand, first_there, text_there, ends_within, array_stands, element_stands, rest_stands, node_stands, node_count_positive}
 use Rattle.gj_layer.specs.Standing.{AreLeft}
 
@@ -99,24 +99,6 @@ array_of (truth Bool.false) h = cc
 array_of (numeral text) h = cc
 array_of (quoted chars) h = cc
 array_of (object blank members) h = cc
-
-pub object_of : (value : Json) → kind_of value ≡ kinds.Object → (blank : List ℕ) × (members : Members) × (value ≡ object blank members)
-object_of (object blank members) h = (blank, members, refl)
-object_of null h = cc
-object_of (truth Bool.true) h = cc
-object_of (truth Bool.false) h = cc
-object_of (numeral text) h = cc
-object_of (quoted chars) h = cc
-object_of (array blank elements) h = cc
-
-pub quoted_of : (value : Json) → kind_of value ≡ kinds.Text → (chars : List Char) × (value ≡ quoted chars)
-quoted_of (quoted chars) h = (chars, refl)
-quoted_of null h = cc
-quoted_of (truth Bool.true) h = cc
-quoted_of (truth Bool.false) h = cc
-quoted_of (numeral text) h = cc
-quoted_of (array blank elements) h = cc
-quoted_of (object blank members) h = cc
 
 -- the node's kind is the value's
 pub kind_there : (nodes : List Node) (bytes : List ℕ) (number start : ℕ) (value : Json) (node : Node) (kind : Kind) → Stands nodes bytes number start value → slice_get nodes number ≡ Some node

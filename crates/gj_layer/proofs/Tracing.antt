@@ -1,7 +1,7 @@
 -- The path of coordinates that were read.
-use Rattle.std.proofs.Common.{◌≡◌, ℕ, ◌+◌, ◌-◌, ◌<◌, ◌≤◌, List, [], ◌∷◌, ◌++◌, length, map, take, drop, refl, sym, ap, ◌∙◌, subst, arith, append_assoc, append-nil, length-append, length-drop, get_or, Bool, true, false}
-use Rattle.std.specs.Prelude.{◌&&◌, nat_le, sum_by, Result, Ok, Err, Some, slice_get, pos, if◌then◌else◌}
-use Rattle.std.proofs.lemmas.List.{take_more, take_all, drop_at, length-map}
+use Rattle.std.proofs.Common.{◌≡◌, ℕ, ◌+◌, ◌-◌, ◌<◌, ◌≤◌, List, [], ◌∷◌, ◌++◌, length, map, take, drop, refl, sym, ap, ◌∙◌, arith, length-drop, get_or, Bool, true, false}
+use Rattle.std.specs.Prelude.{◌&&◌, nat_le, sum_by, Result, Ok, Err, pos, if◌then◌else◌}
+use Rattle.std.proofs.lemmas.List.{take_more, take_all, drop_at}
 use Rattle.std.proofs.lemmas.List.Sums.{sum_by-cons}
 use Rattle.std.proofs.lemmas.Bool.{leb-true}
 use Rattle.jtext.specs.Values.{Json, Elements, null, truth, numeral, quoted, array, object, no_element, element}
@@ -17,10 +17,9 @@ use Rattle.sheet_base.specs.Segments.{point_at}
 use Rattle.gj_layer.specs.declared.forms.Trace.{Trace}
 use Rattle.gj_layer.specs.declared.forms.Trace.TheVariants as traces
 use Rattle.gj_layer.specs.declared.positions.Position.{Position}
-use Rattle.gj_layer.specs.declared.positions.Run.{Run}
 use Rattle.gj_layer.specs.Faults.{and_then}
 use Rattle.gj_layer.specs.Positions.{position, positions, point_of, lost_of}
-use Rattle.gj_layer.specs.Paths.{Path, Part, nothing, path_of, is_same, is_closed, dot_of, line_of, ring_of, traced, part_of, end_of}
+use Rattle.gj_layer.specs.Paths.{Path, nothing, path_of, is_same, is_closed, dot_of, line_of, ring_of, traced, part_of, end_of}
 use Rattle.gj_layer.specs.Standing.{AreFrom, path_part}
 
 -- the path of these points that was read in this run
@@ -42,9 +41,6 @@ dot_traced exact number start value one lost is lost_is =
     let sum = sum_by-cons lost_of one [] in
     ap (λ r. and_then (part_of number) (and_then dot_of r)) (sym is)
     ∙ part_of_run number paths.Dot (point_of one ∷ []) (one ∷ []) lost one.start one.end (omega arith) (omega (arith, lost_is, sum, none)) (refl, refl)
-
-pub dot_refused : (exact : Bool) (number start : ℕ) (value : Json) (fault : LayerFault) → Err fault ≡ position exact start value → and_then (part_of number) (traced exact traces.Position start value) ≡ Err fault
-dot_refused exact number start value fault is = ap (λ r. and_then (part_of number) (and_then dot_of r)) (sym is)
 
 module _ (exact : Bool) (number start : ℕ) (blank : List ℕ) (elements : Elements) where
   abbrev all_in : Result (List Position) LayerFault

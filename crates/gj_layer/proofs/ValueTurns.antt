@@ -1,6 +1,6 @@
 -- How a value turns by the recursion that reads it.
 use Rattle.std.proofs.Common.{◌≡◌, ℕ, zero, suc, ◌+◌, inl, inr, Bool, List, [], ◌∷◌, ◌++◌, length, map, refl, sym, ap, ◌∙◌, subst, arith}
-use Rattle.std.specs.Prelude.{sum_by, Some, Result, Ok, if◌then◌else◌}
+use Rattle.std.specs.Prelude.{Some, Result, Ok, if◌then◌else◌}
 use Rattle.std.proofs.lemmas.List.{map-append}
 use Rattle.std.proofs.lemmas.List.Sums.{sum_by-append}
 use Rattle.jtext.specs.Characters.{units_of}

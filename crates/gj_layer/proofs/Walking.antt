@@ -1,6 +1,6 @@
 -- The walk over values that are open, one value or one end further.
-use Rattle.std.proofs.Common.{◌≡◌, ℕ, ◌+◌, ◌-◌, ◌*◌, ◌<◌, ◌≤◌, List, [], ◌∷◌, ◌++◌, length, refl, sym, ap, ◌∙◌, subst, arith, append_assoc, append-nil, length-append, Bool, true}
-use Rattle.std.specs.Prelude.{Option, Some, None, Result, Ok, Err, slice_get, flat_map, sum_by}
+use Rattle.std.proofs.Common.{◌≡◌, ℕ, ◌+◌, ◌-◌, ◌<◌, ◌≤◌, List, [], ◌∷◌, ◌++◌, length, refl, sym, ap, ◌∙◌, subst, arith, append_assoc, length-append, Bool}
+use Rattle.std.specs.Prelude.{Option, Some, None, Result, Ok, Err, slice_get}
 use Rattle.jtext.specs.Values.{Json, Elements, no_element, element}
 use Rattle.jtext.specs.Nodes.{node_count, element_start, next_place}
 use Rattle.jtext.specs.Places.{Stands}
@@ -8,15 +8,14 @@ use Rattle.jtext.specs.declared.document.Node.{Node}
 use Rattle.jtext.proofs.Standing.{node_count_positive, ends_within}
 use Rattle.sheet_base.specs.declared.faults.LayerFault.{LayerFault}
 use Rattle.sheet_base.specs.declared.faults.LayerFault.TheVariants as faults
-use Rattle.gj_layer.specs.declared.forms.Form.{Form}
 use Rattle.gj_layer.specs.declared.frames.Frame.{Frame}
 use Rattle.gj_layer.specs.declared.frames.Ending.{Ending}
 use Rattle.gj_layer.specs.declared.pass.Pass.{Pass}
 use Rattle.gj_layer.specs.Faults.{and_then}
-use Rattle.gj_layer.specs.Paths.{Part, nothing, joined, rows_from, points_in, lost_in}
+use Rattle.gj_layer.specs.Paths.{Part, nothing, joined}
 use Rattle.gj_layer.specs.Reading.{reading, readings}
 use Rattle.gj_layer.specs.Standing.{AreLeft, Holds, HasRoom, Grows}
-use Rattle.gj_layer.specs.Opening.{Own, Open, ended, finished, whole_of, with_more, outcome, held_by, IsBare, IsEndingOf, IsEnding, IsFrame, IsFrameWithin, GrowsBy, AreOuter, Going, Goes, Opens, Takes}
+use Rattle.gj_layer.specs.Opening.{Own, Open, ended, finished, whole_of, with_more, outcome, held_by, IsBare, IsEndingOf, IsEnding, IsFrameWithin, GrowsBy, AreOuter, Going, Goes, Opens, Takes}
 use Rattle.gj_layer.proofs.There.{first_is, left_count}
 use Rattle.gj_layer.proofs.Opened.{joined_nothing}
 
@@ -149,10 +148,6 @@ module _ (exact : Bool) (nodes : List Node) (bytes : List ℕ) (frame : Frame) (
     pub bare : IsBare own → done ≡ nothing
     pub held : Holds pass (joined before done)
     pub onward : (new : Pass) → Holds new (joined before (ended own (length before.paths) done)) → Going exact nodes bytes frames new wanted
-
-  ended_paths : (own : Option Own) (number : ℕ) (part : Part) → (ended own number part).paths ≡ part.paths
-  ended_paths None number part = refl
-  ended_paths (Some own) number part = refl
 
   go_out : (frames : List Frame) (outer : List Open) (new : Pass) (here : Part) → AreOuter nodes bytes frames outer → wanted ≡ outcome exact outer (Ok here) → Holds new (joined (held_by outer) here)
       → Going exact nodes bytes frames new wanted

@@ -13,7 +13,6 @@ use Rattle.gj_layer.specs.declared.forms.GeoType.TheVariants as types
 use Rattle.gj_layer.specs.declared.forms.Holder.{Holder}
 use Rattle.gj_layer.specs.declared.forms.Holder.TheVariants as holders
 use Rattle.gj_layer.specs.declared.forms.Trace.TheVariants as traces
-use Rattle.gj_layer.specs.declared.forms.Items.{Items}
 use Rattle.gj_layer.specs.declared.forms.Items.TheVariants as items
 use Rattle.gj_layer.specs.declared.forms.Form.{Form}
 use Rattle.gj_layer.specs.declared.forms.Form.TheVariants as forms

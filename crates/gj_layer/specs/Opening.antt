@@ -1,6 +1,6 @@
 -- The arrays and objects that are open while a layer is read. Only private functions speak of them.
 use Rattle.std.specs.Prelude.{◌≡◌, ℕ, ◌+◌, ◌-◌, ◌<◌, ◌≤◌, Bool, true, nat_lt, codes, List, [], ◌∷◌, ◌++◌, length, slice_get, flat_map, Option, Some, None, Result, Ok, Err, if◌then◌else◌}
-use Rattle.jtext.specs.Values.{Json, Elements, no_element}
+use Rattle.jtext.specs.Values.{Elements, no_element}
 use Rattle.jtext.specs.Nodes.{node_count}
 use Rattle.jtext.specs.Places.{Stands}
 use Rattle.jtext.specs.declared.document.Node.{Node}

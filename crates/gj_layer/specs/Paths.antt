@@ -1,7 +1,7 @@
 -- Paths of positions, and the sheet of a list of paths.
 use Rattle.std.specs.Prelude.{ℕ, ◌+◌, ◌-◌, Bool, ◌&&◌, nat_le, List, [], ◌∷◌, ◌++◌, take, length, map, flat_map, sum_by, Result, Ok, Err, if◌then◌else◌}
 use Rattle.std.specs.Ordering.{int_eq}
-use Rattle.jtext.specs.Values.{Json, array, no_element, element}
+use Rattle.jtext.specs.Values.{Json, array, no_element}
 use Rattle.jtext.specs.Nodes.{inner_place}
 use Rattle.plane_base.specs.declared.shapes.Pt.{Pt}
 use Rattle.sheet_base.specs.declared.faults.LayerFault.{LayerFault}

@@ -1,5 +1,5 @@
 -- A layer is read as the recursion over its value (RFC 7946, sections 3 and 3.1).
-use Rattle.std.specs.Prelude.{ℕ, ◌+◌, Bool, List, [], ◌∷◌, length, Option, Some, None, Result, Ok, Err, if◌then◌else◌}
+use Rattle.std.specs.Prelude.{ℕ, ◌+◌, Bool, List, length, Option, Some, None, Result, Ok, Err, if◌then◌else◌}
 use Rattle.jtext.specs.Characters.{units_of}
 use Rattle.jtext.specs.Values.{Json, Elements, Members, null, truth, numeral, quoted, array, object, no_element, element, no_member, member}
 use Rattle.jtext.specs.Nodes.{inner_place, element_start, member_start, next_place}

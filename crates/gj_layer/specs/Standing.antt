@@ -1,6 +1,6 @@
 -- What stands where in the document that is read, and what the code makes of it. Only private functions speak of it.
 use Rattle.std.specs.Prelude.{◌≡◌, ℕ, ◌+◌, ◌*◌, ◌<◌, ◌≤◌, ◌^◌, List, [], ◌∷◌, ◌++◌, length, map, flat_map, sum_by, Option, Some, None, Result, Ok, Err}
-use Rattle.jtext.specs.Values.{Json, Elements, no_element, element}
+use Rattle.jtext.specs.Values.{Elements, no_element, element}
 use Rattle.jtext.specs.Nodes.{node_count, element_start, next_place}
 use Rattle.jtext.specs.Places.{Stands}
 use Rattle.jtext.specs.declared.document.Node.{Node}

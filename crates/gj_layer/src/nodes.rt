@@ -4,7 +4,7 @@ ghost use Rattle.std.specs.Prelude.{◌≡◌, ℕ, ◌+◌, ◌<◌, ◌≤◌,
 ghost use Rattle.jtext.specs.Values.{Json, Members};
 ghost use Rattle.jtext.specs.Nodes.{node_count, inner_place};
 ghost use Rattle.jtext.specs.Places.{IsReadFrom, Stands, HasKind};
-ghost use Rattle.jtext.specs.Lookups.{IsAscii, Says};
+ghost use Rattle.jtext.specs.Lookups.{IsAscii};
 ghost use Rattle.sheet_base.specs.declared.faults.LayerFault.TheVariants.{Shape};
 ghost use Rattle.gj_layer.specs.Members.{members_at, find_member};
 ghost use Rattle.gj_layer.specs.Standing.{Finds};

@@ -1,6 +1,6 @@
 //! Objects: their types, and the members that are looked at.
 
-ghost use Rattle.std.specs.Prelude.{◌≡◌, ◌≢◌, ℕ, ◌+◌, ◌-◌, ◌<◌, ◌^◌, Bool, List, length, slice_get, Option, Some, Ok, IfOk, IsTrue};
+ghost use Rattle.std.specs.Prelude.{◌≡◌, ℕ, ◌+◌, ◌-◌, ◌<◌, ◌^◌, Bool, List, length, slice_get, Option, Some, Ok, IfOk};
 ghost use Rattle.jtext.specs.Characters.{Char, units_of};
 ghost use Rattle.jtext.specs.Values.{Json, Members};
 ghost use Rattle.jtext.specs.Nodes.{node_count, inner_place};

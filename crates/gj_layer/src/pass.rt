@@ -1,6 +1,6 @@
 //! The sheet so far, while a layer is read.
 
-ghost use Rattle.std.specs.Prelude.{◌≡◌, ◌+◌, ◌<◌, ◌^◌, [], List, length, flat_map, OnOk};
+ghost use Rattle.std.specs.Prelude.{◌≡◌, ◌+◌, ◌<◌, ◌^◌, List, length, flat_map, OnOk};
 ghost use Rattle.plane_base.specs.declared.shapes.Pt.{Pt};
 ghost use Rattle.gj_layer.specs.Paths.{Part, nothing, joined, text_for, points_in};
 ghost use Rattle.gj_layer.specs.Standing.{Holds, HoldsMore, path_part};

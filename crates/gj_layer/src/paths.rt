@@ -21,7 +21,7 @@ use sheet_base::{LayerFault, PathKind};
 fn is_same(p: Pt, q: Pt) -> bool
     ensures { result ≡ is_same p q }
 {
-    p.x == q.x && p.y == q.y
+    p == q
 }
 
 /// A ring has at least four points, of which the last is the first again.

@@ -3,16 +3,16 @@
 ghost use Rattle.std.specs.Prelude.{◌≡◌, ◌≢◌, ℕ, ◌+◌, ◌-◌, ◌*◌, ◌<◌, ◌≤◌, ◌^◌, Bool, List, [], ◌∷◌, Result, length, slice_get, Some, Ok, IfOk, OnOk, IsErrOf};
 ghost use Rattle.jtext.specs.Values.{Json};
 ghost use Rattle.jtext.specs.Texts.{Whole};
-ghost use Rattle.jtext.specs.Places.{IsReadFrom, Stands, HasKind, whole_start, IsReading as IsDocOf};
+ghost use Rattle.jtext.specs.Places.{IsReadFrom, Stands, IsReading as IsDocOf};
 ghost use Rattle.jtext.specs.declared.document.Node.{Node};
 ghost use Rattle.sheet_base.specs.declared.faults.LayerFault.{LayerFault};
 ghost use Rattle.sheet_base.specs.declared.faults.LayerFault.TheVariants.{NoMemory};
 ghost use Rattle.sheet_base.specs.Splices.{AreInOrder};
 ghost use Rattle.gj_layer.specs.declared.frames.Frame.{Frame};
 ghost use Rattle.gj_layer.specs.Paths.{Part, sheet_of};
-ghost use Rattle.gj_layer.specs.Reading.{item_form, reading};
+ghost use Rattle.gj_layer.specs.Reading.{reading};
 ghost use Rattle.gj_layer.specs.Layers.{layer_reading, IsReadAs, IsRefusedBy};
-ghost use Rattle.gj_layer.specs.Standing.{Gives, Holds, HasRoom, Grows};
+ghost use Rattle.gj_layer.specs.Standing.{Gives, Holds, HasRoom};
 ghost use Rattle.gj_layer.specs.Opening.{Opens, Takes, IsFrameWithin, GrowsBy, Going, Goes, AreGoing, left_in};
 
 use crate::forms::{Form, Holder, Items};

@@ -3,7 +3,6 @@
 ghost use Rattle.std.specs.Prelude.{◌≡◌, ◌++◌, ◌∷◌, [], Option, codes, flat_map, OnOk};
 ghost use Rattle.plane_base.specs.declared.shapes.Rect.{Rect};
 ghost use Rattle.sheet_base.specs.Fitting.{row_images};
-ghost use Rattle.std.specs.Int.{int_min, int_max};
 ghost use Rattle.gj_layer.specs.Texts.{pair_text, image_text, texts_behind, list_text, ring_text, box_of, widened, box_text, bounds_text, edit_text};
 ghost use Rattle.gj_layer.specs.Boxes.{widened_by, bounded_text};
 
@@ -111,29 +110,15 @@ fn push_null(out: &mut Vec<u8>) -> Result<(), AllocError>
     Ok(())
 }
 
-/// The lesser of two numbers.
-fn least(one: i64, other: i64) -> i64
-    ensures { result ≡ int_min one other }
-{
-    if other < one { other } else { one }
-}
-
-/// The greater of two numbers.
-fn greatest(one: i64, other: i64) -> i64
-    ensures { result ≡ int_max one other }
-{
-    if other < one { one } else { other }
-}
-
 /// The least box with this one and the image.
 fn widened(bounds: Rect, image: Pt) -> Rect
     ensures { result ≡ widened bounds image }
 {
     Rect {
-        x0: least(bounds.x0, image.x),
-        y0: least(bounds.y0, image.y),
-        x1: greatest(bounds.x1, image.x),
-        y1: greatest(bounds.y1, image.y),
+        x0: bounds.x0.min(image.x),
+        y0: bounds.y0.min(image.y),
+        x1: bounds.x1.max(image.x),
+        y1: bounds.y1.max(image.y),
     }
 }
 

@@ -1,5 +1,5 @@
 -- The first text that stands before it too.
-use Rattle.std.proofs.Common.{◌≡◌, ◌<◌, ◌≤◌, ◌+◌, ℕ, List, [], ◌∷◌, ◌++◌, Bool, true, false, Option, Some, None, take, drop, map, length, sym, ap, ap₂, ◌∙◌, add-one, drop-cons, drop_of_length-le, get_or, option_map, Bor}
+use Rattle.std.proofs.Common.{◌≡◌, ◌<◌, ◌+◌, ℕ, List, [], ◌∷◌, ◌++◌, Bool, true, false, Option, Some, take, drop, map, length, sym, ap, ap₂, ◌∙◌, add-one, drop-cons, get_or, option_map, Bor}
 use Rattle.std.specs.Prelude.{if◌then◌else◌, find}
 use Rattle.std.specs.List.{enumerate_from, list_any}
 use Rattle.std.specs.Str.{bytes_eq}
@@ -38,11 +38,6 @@ module _ (seen texts : List (List ℕ)) (count : ℕ) (text : List ℕ) (scanned
   text-again old =
       let known : list_any (bytes_eq text) (take count texts) ≡ true = ap (list_any (bytes_eq text)) (sym scanned.front) ∙ old in
       ap (option_map (λ (found : ℕ × List ℕ). found.0)) (sym scanned.none ∙ again-step texts count text within is true known)
-
--- no text stands before it
-pub none-again : (seen texts : List (List ℕ)) (count : ℕ) → Scanned seen texts count → length texts ≤ count → first_again texts ≡ None
-none-again seen texts count scanned past =
-    ap (option_map (λ (found : ℕ × List ℕ). found.0)) (sym scanned.none ∙ ap (λ xs. find (stands_before texts) (enumerate_from count xs)) (drop_of_length-le texts past))
 
 -- the texts behind references
 abbrev pub behind : List (Bor (List ℕ)) → List (List ℕ)

@@ -98,10 +98,6 @@ pub closing_sign : (bracket : Bracket) → byte_sign (closing bracket) ≡ signs
 closing_sign Square = refl
 closing_sign Curly = refl
 
-pub opening_sign : (bracket : Bracket) → byte_sign (opening bracket) ≡ signs.Opening bracket
-opening_sign Square = refl
-opening_sign Curly = refl
-
 -- Bytes in texts.
 
 abbrev pub HasLead : Lead → ℕ → Type 0

@@ -1,6 +1,6 @@
 -- Going over the members of an object for those of one key.
-use Rattle.std.proofs.Common.{◌≡◌, ℕ, zero, suc, ◌+◌, ◌<◌, ◌≤◌, List, [], ◌∷◌, ◌++◌, length, get_or, Bool, true, false, refl, sym, ap, ◌∙◌, arith, subst, append-nil, ◌==◌}
-use Rattle.std.specs.Prelude.{Option, Some, None, Ok, Err, slice_get}
+use Rattle.std.proofs.Common.{◌≡◌, ℕ, zero, suc, ◌+◌, ◌<◌, List, [], ◌∷◌, ◌++◌, length, get_or, Bool, true, false, refl, sym, ap, ◌∙◌, arith, subst, ◌==◌}
+use Rattle.std.specs.Prelude.{Option, Some, None, Err, slice_get}
 use Rattle.std.proofs.lemmas.Bool.{eqb-true, eq-eqb, and_parts}
 use Rattle.std.proofs.lemmas.Option.{same_Some}
 use Rattle.jtext.specs.Characters.{units_of}
@@ -150,28 +150,14 @@ module _ (nodes : List Node) (bytes key : List ℕ) (end at : ℕ) (found : Opti
       ap only_one (n.split ∙ ap (λ (es : List Entry). n.before ++ es) (taken n same)
       ∙ ap (λ (es : List Entry). es ++ n.entry ∷ named key (entries_at (at + 1 + node_count n.entry.value) n.place n.rest)) one.1)
 
-  none_left : (rest : Members) → member_count rest ≡ 0 → rest ≡ no_member
-  none_left no_member none = refl
-  none_left (member blank chars behind ahead value after rest) none = absurd (omega arith)
-
-  only_found : (o : Option ℕ) (before : List Entry) → FoundIs o before → only_one before ≡ Ok o
-  only_found None before is = ap only_one is
-  only_found (Some number) before (entry, is, same) = ap only_one is ∙ ap (λ (k : ℕ). Ok (Some k)) (sym same)
-
-  -- none is left
-  pub all_found : Going nodes bytes key end at found entries → end ≤ at → only_one (named key entries) ≡ Ok found
-  all_found g past =
-      let none : g.rest ≡ no_member = none_left g.rest (omega (arith, g.counted)) in
-      ap only_one (g.split ∙ ap (λ (m : Members). g.before ++ named key (entries_at at g.place m)) none ∙ append-nil g.before) ∙ only_found found g.before g.found_is
-
-object_value : (value : Json) → kind_of value ≡ kinds.Object → (blank : List ℕ) × (members : Members) × (value ≡ object blank members)
-object_value (object blank members) is = (blank, members, refl)
-object_value null is = cc
-object_value (truth true) is = cc
-object_value (truth false) is = cc
-object_value (numeral text) is = cc
-object_value (quoted chars) is = cc
-object_value (array blank elements) is = cc
+pub object_of : (value : Json) → kind_of value ≡ kinds.Object → (blank : List ℕ) × (members : Members) × (value ≡ object blank members)
+object_of (object blank members) is = (blank, members, refl)
+object_of null is = cc
+object_of (truth true) is = cc
+object_of (truth false) is = cc
+object_of (numeral text) is = cc
+object_of (quoted chars) is = cc
+object_of (array blank elements) is = cc
 
 within_nodes : (nodes : List Node) (number : ℕ) (node : Node) → slice_get nodes number ≡ Some node → number < length nodes
 within_nodes [] number node h = cc
@@ -185,7 +171,7 @@ object_there doc bytes number (whole, r) (node, there, kind) =
     let below = within_nodes doc.nodes number node there in
     let (start, value, s) = node_stands whole doc bytes r number below in
     let same : node ≡ first_node number start value = same_Some node (first_node number start value) (sym there ∙ first_there doc.nodes bytes number start value s) in
-    let (blank, members, is) = object_value value (sym (ap (λ (n : Node). n.kind) same) ∙ kind) in
+    let (blank, members, is) = object_of value (sym (ap (λ (n : Node). n.kind) same) ∙ kind) in
     (below, (start, blank, members, subst (Stands doc.nodes bytes number start) is s))
 
 pub object_next : (nodes : List Node) (bytes : List ℕ) (number start : ℕ) (blank : List ℕ) (members : Members) (end : ℕ) → ((node : Node) → slice_get nodes number ≡ Some node → end ≡ node.next)

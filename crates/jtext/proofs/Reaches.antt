@@ -239,9 +239,6 @@ close_reached bytes bracket stack nodes at one outer top same t =
     (ap (λ (s : List Open). closed_one bracket s nodes at) top ∙ rw same refl) (omega (arith, t.few)) (omega (arith, t.shallow))
     (theirs_more outer (length nodes) (length (ended one nodes at)) (omega arith) all.1)
 
-pub one_of_theirs : (stack : List Open) (count : ℕ) (one : Open) (outer : List Open) → stack ≡ one ∷ outer → AllByRecursion (λ (o : Open). o.node < count) stack → one.node < count
-one_of_theirs stack count one outer top all = let here : AllByRecursion (λ (o : Open). o.node < count) (one ∷ outer) = subst (AllByRecursion (λ (o : Open). o.node < count)) top all in here.0
-
 pub close_other : (bytes : List ℕ) (bracket : Bracket) (stack : List Open) (nodes : List Node) (at : ℕ) (one : Open) (outer : List Open) → stack ≡ one ∷ outer → same_bracket bracket one.bracket ≡ false
     → Takes bytes stack nodes at (λ room. closed_one bracket stack nodes at) → IsBad bytes at
 close_other bytes bracket stack nodes at one outer top other t =
@@ -294,17 +291,6 @@ first_key_none signs.Quote black a b room stack nodes at = absurd (a refl)
 first_key_none (signs.Closing bracket) black a b room stack nodes at = absurd (b bracket refl)
 first_key_none signs.Blank black a b room stack nodes at = absurd black
 first_key_none sign black a b room stack nodes at = refl
-
--- a value's sign leads where a value may begin
-pub value_black : (sign : Sign) → IsBlack sign → (room : ℕ → Bool) (stack : List Open) (nodes : List Node) (at : ℕ) → stand_step room places.Value stack nodes at sign ≡ value_step room stack nodes at sign
-value_black signs.Blank black room stack nodes at = absurd black
-value_black sign black room stack nodes at = refl
-
-pub element_black : (sign : Sign) → IsBlack sign → ((bracket : Bracket) → sign ≡ signs.Closing bracket → ⊥) → (room : ℕ → Bool) (stack : List Open) (nodes : List Node) (at : ℕ)
-    → stand_step room places.FirstElement stack nodes at sign ≡ value_step room stack nodes at sign
-element_black signs.Blank black a room stack nodes at = absurd black
-element_black (signs.Closing bracket) black a room stack nodes at = absurd (a bracket refl)
-element_black sign black a room stack nodes at = refl
 
 pub takes_so : (bytes : List ℕ) (stack : List Open) (nodes : List Node) (at : ℕ) (next more : (ℕ → Bool) → Option State) → ((room : ℕ → Bool) → next room ≡ more room) → Takes bytes stack nodes at next → Takes bytes stack nodes at more
 takes_so bytes stack nodes at next more same t = record {

@@ -13,14 +13,14 @@ use Rattle.jtext.specs.declared.document.Node.{Node}
 use Rattle.jtext.specs.declared.document.Doc.{Doc}
 use Rattle.jtext.proofs.Standing.{first_there, ends_within, part_left, part_right, part_at, node_stands}
 
-text_value : (value : Json) → kind_of value ≡ kinds.Text → (chars : List Char) × (value ≡ quoted chars)
-text_value (quoted chars) is = (chars, refl)
-text_value null is = cc
-text_value (truth true) is = cc
-text_value (truth false) is = cc
-text_value (numeral text) is = cc
-text_value (array blank elements) is = cc
-text_value (object blank members) is = cc
+pub quoted_of : (value : Json) → kind_of value ≡ kinds.Text → (chars : List Char) × (value ≡ quoted chars)
+quoted_of (quoted chars) is = (chars, refl)
+quoted_of null is = cc
+quoted_of (truth true) is = cc
+quoted_of (truth false) is = cc
+quoted_of (numeral text) is = cc
+quoted_of (array blank elements) is = cc
+quoted_of (object blank members) is = cc
 
 -- the node that is found is that of what stands there
 pub found_node : (nodes : List Node) (bytes : List ℕ) (number start : ℕ) (value : Json) (d : Node) → number < length nodes → Stands nodes bytes number start value
@@ -37,7 +37,7 @@ pub marks_there : (doc : Doc) (bytes : List ℕ) (number : ℕ) (d : Node) → I
 marks_there doc bytes number d (whole, r) below kind =
     let (start, value, s) = node_stands whole doc bytes r number below in
     let here = found_node doc.nodes bytes number start value d below s in
-    let (chars, is) = text_value value (sym (ap (λ (n : Node). n.kind) here) ∙ kind) in
+    let (chars, is) = quoted_of value (sym (ap (λ (n : Node). n.kind) here) ∙ kind) in
     let long : length (spelling value) ≡ 2 + length (chars_text chars) = ap (λ (v : Json). length (spelling v)) is ∙ quoted_long chars in
     let within = ends_within doc.nodes bytes number start value s in
     rw here (omega arith, within.0)
@@ -69,7 +69,7 @@ pub says_value : (nodes : List Node) (bytes : List ℕ) (number start : ℕ) (va
     → (IsTrue answer) ↔ (Says value text)
 says_value nodes bytes number start value d text answer below s kind said =
     let here = found_node nodes bytes number start value d below s in
-    let (chars, is) = text_value value (sym (ap (λ (n : Node). n.kind) here) ∙ kind) in
+    let (chars, is) = quoted_of value (sym (ap (λ (n : Node). n.kind) here) ∙ kind) in
     says_quoted nodes bytes number start value d text answer chars is here s said
 
 -- what the code reads past the end of a list of nodes

@@ -1,6 +1,6 @@
 -- One byte of a word, a text or a number.
 use Rattle.std.proofs.Common.{◌≡◌, ℕ, ◌+◌, ◌<◌, List, ◌∷◌, length, drop, get_or, refl, ap, ◌∙◌, arith, true, false}
-use Rattle.std.specs.Prelude.{Some, None, Result, Ok, Err, IfOk}
+use Rattle.std.specs.Prelude.{Some, None, Result, Ok, Err}
 use Rattle.std.proofs.lemmas.List.{drop_more}
 use Rattle.std.proofs.lemmas.Bool.{ne_eqb, eq-eqb}
 use Rattle.jtext.specs.Tokens.{word_step, is_done, Inner, inner_step, needing, takes, GoesOn, TextEnds}
@@ -43,8 +43,3 @@ ends_on first middle last bytes from at (Ok to) (begun, within, passes) (below, 
     (omega arith, inside, passes_on inner_step first bytes from at to middle last begun below inside passes more)
 ends_on first middle last bytes from at (Err to) (begun, within, passes) (below, inside, inner, more, still, stops) =
     (omega arith, inside, inner, passes_on inner_step first bytes from at to middle inner begun below inside passes more, still, stops)
-
--- it leads further
-pub ends_further : (first last : Inner) (bytes : List ℕ) (at : ℕ) (result : Result ℕ ℕ) → TextEnds first last bytes (at + 1) result → IfOk result (λ to. at < to)
-ends_further first last bytes at (Ok to) ends = omega (arith, ends.0)
-ends_further first last bytes at (Err to) ends = tt

@@ -1,9 +1,9 @@
 -- The units of a character by its first bytes.
 use Rattle.std.proofs.Common.{◌≡◌, ℕ, ◌+◌, ◌*◌, ◌<◌, ◌≤◌, ◌⊎◌, inl, inr, List, [], ◌∷◌, ◌++◌, length, drop, get_or, refl, sym, ap, ◌∙◌, arith, subst}
 use Rattle.std.specs.Prelude.{nat_lt}
-use Rattle.std.proofs.lemmas.Bool.{lt-ltb, cond_both}
+use Rattle.std.proofs.lemmas.Bool.{cond_both}
 use Rattle.std.proofs.lemmas.List.{drop_more, length-drop}
-use Rattle.jtext.specs.Characters.{Class, from_to, hexadecimal, IsOf, Fits, Form, classes, IsUnescaped, Char, unescaped, escaped, coded, IsEscape, IsChar, IsHexadecimal, char_text, code_point, units_of_point, meaning, digit_value, hexadecimal_value, units_of_char}
+use Rattle.jtext.specs.Characters.{Class, from_to, hexadecimal, IsOf, Fits, Form, classes, IsUnescaped, Char, unescaped, escaped, coded, IsEscape, IsChar, IsHexadecimal, char_text, code_point, units_of_point, digit_value, hexadecimal_value, units_of_char}
 use Rattle.jtext.specs.Units.{IsOutside}
 
 pub one_byte : (c : Class) (bytes : List ℕ) → Fits (c ∷ []) bytes → (a : ℕ) × (bytes ≡ a ∷ []) × IsOf c a
@@ -100,49 +100,12 @@ wide_unit first tail (unescaped bytes) rest (form, fits) text above = elim (alon
 wide_unit first tail (escaped byte) rest is text above = absurd (omega (arith, same_first first 92 tail (byte ∷ rest) text))
 wide_unit first tail (coded digits) rest is text above = absurd (omega (arith, same_first first 92 tail (117 ∷ (digits ++ rest)) text))
 
-point_alone : (byte : ℕ) → byte < 128 → units_of_point byte ≡ byte ∷ []
-point_alone byte small = rw (lt-ltb byte 0x10000 (omega arith)) refl
-
--- a byte of ASCII that stands by itself
-pub plain_unit : (first : ℕ) (tail : List ℕ) (char : Char) (rest : List ℕ) → IsChar char → first ∷ tail ≡ char_text char ++ rest → first < 128 → (first ≡ 92 → ⊥)
-    → (units_of_char char ≡ first ∷ []) × (tail ≡ rest)
-plain_unit first tail (unescaped bytes) rest (form, fits) text small other = elim (alone_or_wide form bytes fits) [
-  | inl (byte, is, low, plain) ↦
-      let all : first ∷ tail ≡ byte ∷ rest = text ∙ ap (λ (t : List ℕ). t ++ rest) is in
-      let same = same_first first byte tail rest all in (
-        ap (λ (t : List ℕ). units_of_point (code_point t)) is ∙ point_alone byte low ∙ ap (λ (b : ℕ). b ∷ []) (sym same),
-        same_rest first byte tail rest all,
-      )
-  | inr (byte, more, is, large, point) ↦ absurd (omega (arith, same_first first byte tail (more ++ rest) (text ∙ ap (λ (t : List ℕ). t ++ rest) is)))
-]
-plain_unit first tail (escaped byte) rest is text small other = absurd (other (same_first first 92 tail (byte ∷ rest) text))
-plain_unit first tail (coded digits) rest is text small other = absurd (other (same_first first 92 tail (117 ∷ (digits ++ rest)) text))
-
 -- no character that stands by itself begins with a reverse solidus
 not_solidus : (tail bytes rest : List ℕ) → IsUnescaped bytes → 92 ∷ tail ≡ bytes ++ rest → ⊥
 not_solidus tail bytes rest (form, fits) text = elim (alone_or_wide form bytes fits) [
   | inl (byte, is, small, other) ↦ other (sym (same_first 92 byte tail rest (text ∙ ap (λ (t : List ℕ). t ++ rest) is)))
   | inr (byte, more, is, large, point) ↦ absurd (omega (arith, same_first 92 byte tail (more ++ rest) (text ∙ ap (λ (t : List ℕ). t ++ rest) is)))
 ]
-
-no_end : (tail : List ℕ) (a : ℕ) (b : List ℕ) → 92 ∷ [] ≡ 92 ∷ a ∷ b → ⊥
-no_end tail a b h = cc
-
--- something follows a reverse solidus
-pub escape_goes_on : (char : Char) (rest : List ℕ) → IsChar char → 92 ∷ [] ≡ char_text char ++ rest → ⊥
-escape_goes_on (unescaped bytes) rest is text = not_solidus [] bytes rest is text
-escape_goes_on (escaped byte) rest is text = no_end [] byte rest text
-escape_goes_on (coded digits) rest is text = no_end [] 117 (digits ++ rest) text
-
--- an escape of one byte
-pub escape_unit : (byte : ℕ) (tail : List ℕ) (char : Char) (rest : List ℕ) → IsChar char → 92 ∷ byte ∷ tail ≡ char_text char ++ rest → (byte ≡ 117 → ⊥)
-    → (units_of_char char ≡ meaning byte ∷ []) × (tail ≡ rest)
-escape_unit byte tail (unescaped bytes) rest is text other = absurd (not_solidus (byte ∷ tail) bytes rest is text)
-escape_unit byte tail (escaped behind) rest is text other =
-    let all : byte ∷ tail ≡ behind ∷ rest = same_rest 92 92 (byte ∷ tail) (behind ∷ rest) text in
-    (ap (λ (b : ℕ). meaning b ∷ []) (sym (same_first byte behind tail rest all)), same_rest byte behind tail rest all)
-escape_unit byte tail (coded digits) rest is text other =
-    absurd (other (same_first byte 117 tail (digits ++ rest) (same_rest 92 92 (byte ∷ tail) (117 ∷ (digits ++ rest)) text)))
 
 no_escape : IsEscape 117 → ⊥
 no_escape (inl h) = absurd (omega arith)

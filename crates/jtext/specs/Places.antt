@@ -1,7 +1,7 @@
 -- What stands where in a text that was read.
 use Rattle.std.specs.Prelude.{◌≡◌, ℕ, ◌+◌, List, [], ◌∷◌, ◌++◌, length, slice_get, Some}
 use Rattle.jtext.specs.Characters.{Char}
-use Rattle.jtext.specs.Values.{Json, Elements, Members, no_element, element, no_member, member, spelling, IsValue}
+use Rattle.jtext.specs.Values.{Json, Members, no_member, member, spelling, IsValue}
 use Rattle.jtext.specs.Nodes.{node_count, nodes_of, element_start, member_start, next_place}
 use Rattle.jtext.specs.Texts.{Whole, mark_text, IsWhole}
 use Rattle.jtext.specs.declared.document.Kind.{Kind}
@@ -37,19 +37,6 @@ pub record Stands (nodes : List Node) (bytes : List ℕ) (number start : ℕ) (v
   pub value_is : IsValue depth value
   pub nodes_there : IsPartAt nodes number (nodes_of number start value)
   pub text_there : IsPartAt bytes start (spelling value)
-
--- an element: its first node's number, its first byte's place, and what it is
-pub record Item : Type 0 where
-  pub number : ℕ
-  pub start : ℕ
-  pub value : Json
-
--- the elements, where the first node has this number and the text begins at this place
-abbrev pub items_at : ℕ → ℕ → Elements → List Item
-items_at number place no_element = []
-items_at number place (element before value after rest) =
-    record { number = number; start = element_start place before; value = value }
-    ∷ items_at (number + node_count value) (next_place (element_start place before) value after) rest
 
 -- a member: its key's node and place, its key, its value's first node and place, and its value
 pub record Entry : Type 0 where

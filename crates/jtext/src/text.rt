@@ -1,8 +1,8 @@
 //! Where a text in quotation marks ends.
 
-ghost use Rattle.std.specs.Prelude.{◌≡◌, ◌≤◌, ◌<◌, ◌↔◌, List, [], ◌∷◌, length, slice_range, slice_index, Some, None, IsTrue, IsFalse, IfOk, IfErr, MatchResult};
+ghost use Rattle.std.specs.Prelude.{◌≡◌, ◌≤◌, ◌<◌, ◌↔◌, length, slice_range, slice_index, Some, IsTrue, IfOk};
 ghost use Rattle.text_places.specs.Machine.{run};
-ghost use Rattle.jtext.specs.Tokens.{Inner, text_sign, escape_sign, lead_needs, takes, needing, hexadecimal_needs, inner_step, TextEnds, NeedsEnd};
+ghost use Rattle.jtext.specs.Tokens.{Inner, text_sign, escape_sign, lead_needs, takes, inner_step, TextEnds, NeedsEnd};
 
 /// What a byte can be in a text.
 #[derive(Clone, Copy)]

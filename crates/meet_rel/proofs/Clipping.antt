@@ -1,5 +1,5 @@
 -- The clips of pieces in a triangulation.
-use Rattle.std.proofs.Common.{◌≡◌, ◌⊎◌, inl, inr, ◌<◌, ℤ, pos, ◌+ℤ◌, ◌*ℤ◌, ◌<ℤ◌, List, [], ◌∷◌, length, refl, sym, subst, arith}
+use Rattle.std.proofs.Common.{◌≡◌, ◌<◌, ℤ, pos, ◌+ℤ◌, ◌*ℤ◌, ◌<ℤ◌, List, [], ◌∷◌, length, refl, sym, subst, arith}
 use Rattle.integer_ring.proofs.Ring.{num, ◌⊕◌, ◌⊗◌}
 use Rattle.integer_ring.proofs.Claims.{◌≐◌, solve}
 use Rattle.plane_base.specs.Plane.{Point, IsMix, whole, corners, turn_of, IsNear, IsNearAll, IsNearTri}
@@ -10,14 +10,12 @@ use Rattle.tin_base.specs.declared.pieces.Piece.{Piece}
 use Rattle.tin_base.specs.Triangulation.{Triangulation}
 use Rattle.tin_base.specs.Images.{IsInSome}
 use Rattle.tin_base.specs.Limits.{IsWithinLimits}
-use Rattle.tin_base.specs.Segments.{Part}
-use Rattle.tin_base.specs.Pieces.{IsPieceOf, IsPieceInside, first_point, last_point}
+use Rattle.tin_base.specs.Pieces.{IsPieceInside, first_point, last_point}
 use Rattle.tin_base.proofs.Closeness.{near_inside}
 use Rattle.meet_rel.specs.declared.clips.Clip.{Clip}
 use Rattle.meet_rel.specs.Clips.{IsProper, AreClose}
 use Rattle.meet_rel.proofs.Scale.{mix_first}
-use Rattle.meet_rel.proofs.Ways.{AreDifferent}
-use Rattle.meet_rel.proofs.Ending.{IsClipOf, same_or_different, different_not, piece_ends}
+use Rattle.meet_rel.proofs.Ending.{IsClipOf, piece_ends, has_ends}
 
 -- each corner is in the triangle
 first_z : (x y z : ℤ) → x *ℤ (pos 1 *ℤ pos 1 +ℤ (pos 0 *ℤ pos 1 +ℤ (pos 0 *ℤ pos 1 +ℤ pos 0))) ≡ (pos 1 *ℤ x +ℤ (pos 0 *ℤ y +ℤ (pos 0 *ℤ z +ℤ pos 0))) *ℤ pos 1
@@ -38,15 +36,8 @@ at_b t = (0 ∷ 1 ∷ 0 ∷ [], refl, omega arith, (second_z t.a.x t.b.x t.c.x, 
 at_c : (t : Tri) → IsMix (whole t.c) (corners t)
 at_c t = (0 ∷ 0 ∷ 1 ∷ [], refl, omega arith, (third_z t.a.x t.b.x t.c.x, third_z t.a.y t.b.y t.c.y))
 
-tri_range : (tin : Triangulation) (piece : Piece) (part : Part) → IsPieceOf tin piece part → piece.tri < length tin.triangles
-tri_range tin piece part h = go (same_or_different piece.a piece.b)
-  where
-    go : (piece.a ≡ piece.b) ⊎ AreDifferent piece.a piece.b → piece.tri < length tin.triangles
-    go (inl e) = let p = h.of_point e in p.in_range
-    go (inr d) = let p = h.of_segment (different_not piece.a piece.b d) in p.in_range
-
 pub range_of : (tin : Triangulation) (piece : Piece) → IsPieceInside tin piece → piece.tri < length tin.triangles
-range_of tin piece h = let k = h.is_piece in tri_range tin piece k.0 k.1
+range_of tin piece h = let k = h.is_piece in let e = has_ends tin piece k.0 k.1 in e.in_range
 
 -- a whole point inside is near the corners of any triangle
 near_tri : (tin : Triangulation) (piece : Piece) (clip : Clip) (p : Pt) → IsWithinLimits tin → IsPieceInside tin piece → IsClipOf tin piece clip → IsInSome tin Source (whole p) → IsNearTri clip.tri p

@@ -1,5 +1,5 @@
 -- A piece is its clip: its exact ends are the ends of what its triangle has of its segment.
-use Rattle.std.proofs.Common.{◌≡◌, ◌≢◌, ◌⊎◌, inl, inr, ℕ, ◌+◌, ◌<◌, ℤ, pos, ◌*ℤ◌, ◌+ℤ◌, ◌-ℤ◌, ◌<ℤ◌, List, [], ◌∷◌, sym, ap₂, subst, arith}
+use Rattle.std.proofs.Common.{◌≡◌, ◌≢◌, ◌⊎◌, inl, inr, ℕ, ◌+◌, ◌<◌, ℤ, pos, ◌*ℤ◌, ◌+ℤ◌, ◌-ℤ◌, ◌<ℤ◌, List, [], ◌∷◌, length, sym, ap₂, subst, arith}
 use Rattle.integer_ring.proofs.Ring.{num, ◌⊕◌, ◌⊖◌, ◌⊗◌}
 use Rattle.integer_ring.proofs.Claims.{◌≐◌, ◌≺◌, never, over, ◌because◌, ◌⇒◌, follows, solve}
 use Rattle.plane_base.specs.Plane.{Point, Same, IsMix, whole, corners}
@@ -151,6 +151,41 @@ piece_ends tin piece clip part is h = go (same_or_different piece.a piece.b)
         (subst (λ (s : Spot). AreEnds clip (spot_at piece.a piece.b at_a) (spot_at piece.a piece.b s)) (sym p.ends)
         (point_ends tin piece.a piece.b piece.tri clip is.a_is is.b_is is.tri_is e p.has_point))
     go (inr d) = part_ends tin piece.a piece.b piece.tri clip part.first part.last is.a_is is.b_is is.tri_is d (h.of_segment (different_not piece.a piece.b d))
+
+-- ---- the triangle of a piece has its exact ends
+pub record HasEnds (tin : Triangulation) (piece : Piece) (part : Part) : Type 0 where
+  pub in_range : piece.tri < length tin.triangles
+  pub first : IsInTriangle tin Source piece.tri (first_point piece part)
+  pub last : IsInTriangle tin Source piece.tri (last_point piece part)
+  pub first_positive : pos 0 <ℤ (first_point piece part).w
+  pub last_positive : pos 0 <ℤ (last_point piece part).w
+
+pub has_ends : (tin : Triangulation) (piece : Piece) (part : Part) → IsPieceOf tin piece part → HasEnds tin piece part
+has_ends tin piece part h = go (same_or_different piece.a piece.b)
+  where
+    at_point : IsInTriangle tin Source piece.tri (whole piece.a) → IsInTriangle tin Source piece.tri (spot_at piece.a piece.b at_a)
+    at_point m = mix_moved (whole piece.a) (spot_at piece.a piece.b at_a) (places tin Source (numbers_of tin piece.tri)) one (spot_whole piece.a piece.b) m
+
+    go : (piece.a ≡ piece.b) ⊎ AreDifferent piece.a piece.b → HasEnds tin piece part
+    go (inl e) =
+        let p = h.of_point e in
+        record {
+          in_range = p.in_range;
+          first = subst (λ (s : Spot). IsInTriangle tin Source piece.tri (spot_at piece.a piece.b s)) (sym p.begins) (at_point p.has_point);
+          last = subst (λ (s : Spot). IsInTriangle tin Source piece.tri (spot_at piece.a piece.b s)) (sym p.ends) (at_point p.has_point);
+          first_positive = subst (λ (s : Spot). pos 0 <ℤ (spot_at piece.a piece.b s).w) (sym p.begins) (spot-w piece.a piece.b at_a some_a);
+          last_positive = subst (λ (s : Spot). pos 0 <ℤ (spot_at piece.a piece.b s).w) (sym p.ends) (spot-w piece.a piece.b at_a some_a);
+        }
+    go (inr d) =
+        let p = h.of_segment (different_not piece.a piece.b d) in
+        let f = p.has_first in let l = p.has_last in
+        record {
+          in_range = p.in_range;
+          first = f.inside;
+          last = l.inside;
+          first_positive = spot-w piece.a piece.b part.first f.some;
+          last_positive = spot-w piece.a piece.b part.last l.some;
+        }
 
 pub different_of : (a b : Pt) → a ≢ b → AreDifferent a b
 different_of a b n = go (same_or_different a b)

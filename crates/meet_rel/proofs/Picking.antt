@@ -43,9 +43,6 @@ not_after_trans p q r (inl h) (inr k) = inl (subst (λ (z : ℤ). p.x <ℤ z) k.
 not_after_trans p q r (inr h) (inl k) = inl (subst (λ (z : ℤ). z <ℤ r.x) (sym h.0) k)
 not_after_trans p q r (inr h) (inr k) = inr (h.0 ∙ k.0, up_trans p.y q.y r.y h.1 k.1)
 
-no_both : (a b : ℤ) → a <ℤ b → b ≤ℤ a → ⊥
-no_both a b h k = absurd (omega (arith, ints))
-
 no_loop : (a b : ℤ) → a <ℤ b → b <ℤ a → ⊥
 no_loop a b h k = absurd (omega (arith, ints))
 
@@ -82,16 +79,6 @@ not_after_of p q n = go (≤_or_> p.x q.x) (same_or_not p.x q.x) (≤_or_> p.y q
 
 weaker : (a b : ℤ) → a <ℤ b → a ≤ℤ b
 weaker a b h = omega (arith, ints)
-
-pub not_after_before : (p q : Pt) → IsBefore p q → IsNotAfter p q
-not_after_before p q (inl h) = inl h
-not_after_before p q (inr h) = inr (h.0, weaker p.y q.y h.1)
-
-pub not_after_itself : (p : Pt) → IsNotAfter p p
-not_after_itself p = inr (refl, own p.y)
-  where
-    own : (a : ℤ) → a ≤ℤ a
-    own a = omega (arith, ints)
 
 pub not_before_itself : (p q : Pt) → p ≡ q → IsBefore p q → ⊥
 not_before_itself p q e b = no q (subst (λ (r : Pt). IsBefore r q) e b)

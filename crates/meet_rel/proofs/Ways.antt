@@ -1,7 +1,6 @@
 -- The way from u to v: its points by their parameters, in order.
 use Rattle.std.proofs.Common.{◌≡◌, ◌⊎◌, inl, inr, ℕ, ◌*◌, ◌≤◌, ℤ, pos, ◌+ℤ◌, ◌-ℤ◌, ◌*ℤ◌, ◌≤ℤ◌, ◌<ℤ◌, arith}
 use Rattle.std.proofs.lemmas.Int.{ints}
-use lib.Signed.{lt_z_yes}
 use Rattle.integer_ring.proofs.Ring.{num, ◌⊕◌, ◌⊖◌, ◌⊗◌}
 use Rattle.integer_ring.proofs.Order.{nonneg_square, ≤_or_>}
 use Rattle.integer_ring.proofs.Claims.{◌≐◌, ◌≼◌, ◌≺◌, gap, over, ◌⊞◌, ◌⊠◌, ◌because◌, ◌otherwise◌, ◌⇒◌, follows}
@@ -10,13 +9,10 @@ use Rattle.frac128.specs.declared.frac.Frac.{Frac}
 use Rattle.plane_base.specs.Plane.{Point, turn_of, whole, along}
 use Rattle.plane_base.specs.declared.shapes.Pt.{Pt}
 use Rattle.plane_base.proofs.Points.{turn, solve_at}
-use Rattle.plane_base.proofs.Along.{along_e}
+use Rattle.plane_base.proofs.Along.{along_e, along-w}
 use Rattle.tin_base.specs.Segments.{Spot, spot_at}
 use Rattle.meet_rel.specs.Clips.{at}
 use Rattle.meet_rel.proofs.Scale.{Scale, IsOn, IsUpTo, IsBefore}
-
-one : pos 0 <ℤ pos 1
-one = lt_z_yes tt
 
 -- ---- two different points are some way apart
 abbrev pub far : Pt → Pt → ℤ
@@ -59,9 +55,6 @@ way u v d = record { u = u; v = v; dx = v.x -ℤ u.x; dy = v.y -ℤ u.y; tells =
   where
     no : (z : ℤ) → pos 0 <ℤ z → z ≡ pos 0 → ⊥
     no z h e = absurd (omega (arith, ints))
-
-pub along-w : (n d : ℤ) → pos 0 <ℤ d → pos 0 <ℤ ((d -ℤ n) *ℤ pos 1 +ℤ n *ℤ pos 1)
-along-w = follows 2 (λ n d. num (pos 0) ≺ d ⇒ num (pos 0) ≺ (d ⊖ n) ⊗ num (pos 1) ⊕ n ⊗ num (pos 1) because over 0) tt
 
 pub at-w : (u v : Pt) (f : Frac) → pos 0 <ℤ (at u v f).w
 at-w u v f = along-w f.num f.den f.positive

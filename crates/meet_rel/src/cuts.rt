@@ -1,5 +1,4 @@
 ghost use Rattle.std.specs.Prelude.{◌≡◌, ◌≢◌, ◌↔◌, ◌⊎◌, pos, ◌-ℤ◌, ◌≤ℤ◌, ◌<ℤ◌, IsTrue};
-ghost use Rattle.frac128.specs.Fractions.{IsAtMost, IsBelow};
 ghost use Rattle.plane_base.specs.Plane.{Point, whole, turn_of, IsNear};
 ghost use Rattle.plane_base.specs.declared.shapes.TheConstants.{SPAN};
 ghost use Rattle.tin_base.specs.Relations.{HaveRelation};
@@ -8,7 +7,7 @@ ghost use Rattle.meet_rel.specs.Signs.{AreOnOneLine};
 ghost use Rattle.meet_rel.specs.Clips.{AreEnds, IsRelOf, IsProper, AreClose, IsCut, IsBefore, IsNotAfter, AreOuter, IsWayFor, StandsAt};
 
 use crate::clips::Clip;
-use frac128::{Frac, order};
+use frac128::{Frac, earlier, later, order};
 use plane_base::{Pt, slice};
 use std::cmp::Ordering;
 use tin_base::Rel;
@@ -150,29 +149,4 @@ fn last_of(p: Pt, q: Pt) -> Pt
     ensures to_q { IsNotAfter q result }
 {
     if is_before(q, p) { p } else { q }
-}
-
-/// Is `a` below `b`?
-pub(crate) fn is_below(a: Frac, b: Frac) -> bool
-    ensures { IsTrue result ↔ IsBelow a b }
-{
-    order(a, b) == Ordering::Less
-}
-
-// The greater of two.
-fn later(a: Frac, b: Frac) -> Frac
-    ensures one { (result ≡ a) ⊎ (result ≡ b) }
-    ensures from_a { IsAtMost a result }
-    ensures from_b { IsAtMost b result }
-{
-    if is_below(a, b) { b } else { a }
-}
-
-// The lesser of two.
-fn earlier(a: Frac, b: Frac) -> Frac
-    ensures one { (result ≡ a) ⊎ (result ≡ b) }
-    ensures to_a { IsAtMost result a }
-    ensures to_b { IsAtMost result b }
-{
-    if is_below(a, b) { a } else { b }
 }

@@ -1,13 +1,12 @@
-ghost use Rattle.std.specs.Prelude.{◌≡◌, ◌≢◌, ◌↔◌, ◌⊎◌, pos, IsTrue};
+ghost use Rattle.std.specs.Prelude.{◌≢◌, ◌↔◌, ◌⊎◌, IsTrue};
 ghost use Rattle.frac128.specs.Fractions.{IsBelow, IsSameValue};
 ghost use Rattle.plane_base.specs.Plane.{Point, whole, turn_of};
 ghost use Rattle.tin_base.specs.Relations.{HaveRelation};
 ghost use Rattle.meet_rel.specs.Clips.{AreEnds, IsProper, AreClose};
-ghost use Rattle.meet_rel.specs.Signs.{AreOnOneLine};
 
 use crate::clips::Clip;
-use crate::cuts::{Span, is_below, own_span, rel_of_cuts};
-use frac128::{Frac, order};
+use crate::cuts::{Span, own_span, rel_of_cuts};
+use frac128::{Frac, is_below, order};
 use plane_base::{edge_param, turn};
 use std::cmp::Ordering;
 use tin_base::Rel;

@@ -1,5 +1,5 @@
-ghost use Rattle.std.specs.Prelude.{◌≡◌, ◌↔◌, pos, IsTrue};
-ghost use Rattle.plane_base.specs.Plane.{whole, turn_of};
+ghost use Rattle.std.specs.Prelude.{◌↔◌, IsTrue};
+ghost use Rattle.plane_base.specs.Plane.{whole};
 ghost use Rattle.tin_base.specs.Relations.{HaveRelation};
 ghost use Rattle.meet_rel.specs.Near.{AreNear};
 ghost use Rattle.meet_rel.specs.Signs.{AreOnOneSide, AreBelow, AreBeside, AreBoxesApart, IsSomeZero};

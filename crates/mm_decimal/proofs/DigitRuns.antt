@@ -1,5 +1,5 @@
 -- A run of digits is read as its digits are, one by one.
-use Rattle.std.proofs.Common.{◌≡◌, ℕ, ◌+◌, ◌-◌, ◌*◌, ◌≤◌, List, [], ◌∷◌, ◌++◌, refl, sym, arith, add-zero}
+use Rattle.std.proofs.Common.{◌≡◌, ℕ, ◌+◌, ◌-◌, ◌*◌, ◌≤◌, List, [], ◌∷◌, ◌++◌, refl, sym, arith}
 use Rattle.std.specs.Prelude.{Some}
 use Rattle.mm_decimal.specs.Numerals.{IsDigit}
 use Rattle.mm_decimal.specs.Phases.{phase_after, IsRun}
@@ -47,21 +47,6 @@ run_view phases.Fraction h scan kept next count digit bytes read cut dropped vie
   power = view.power;
 }
 run_view phase h scan kept next count digit bytes read cut dropped view = absurd h
-
--- no digit more
-nothing_more : (phase : Phase) (front : List ℕ) (scan : Scan) → HasRead front (with_phase scan phase)
-    → HasRead front (run_read (with_phase scan phase) scan.kept 0)
-nothing_more phases.Start front scan h = h
-nothing_more phases.Signed front scan h = h
-nothing_more phases.Whole front scan h = h
-nothing_more phases.Point front scan h = h
-nothing_more phases.Fraction front scan h = rw (add-zero scan.places) h
-nothing_more phases.Mark front scan h = h
-nothing_more phases.PowerSigned front scan h = h
-nothing_more phases.Power front scan h = h
-
-pub run_begins : (front : List ℕ) (scan : Scan) → HasRead front scan → HasRead front (run_read scan scan.kept 0)
-run_begins front scan h = nothing_more scan.phase front scan h
 
 pub run_taken : (front : List ℕ) (byte : ℕ) (scan : Scan) (kept next : Kept) (count : ℕ) → IsRun scan.phase → IsDigit byte
     → ((number : ℕ) → IsCut kept number → IsCut next (10 * number + (byte - 48))) → next.dropped ≤ kept.dropped + 1

@@ -1,6 +1,6 @@
 -- The answer as a function is the answer.
 use Rattle.std.proofs.Common.{◌≡◌, ℕ, ◌+◌, ◌*◌, ◌%◌, ◌<◌, ◌≤◌, inl, inr, List, [], ◌∷◌, ◌++◌, length, take, Bool, true, false, refl, sym, ap, ◌∙◌, subst, arith, append_assoc, append-nil, length-append}
-use Rattle.std.specs.Prelude.{◌||◌, ◌==◌, nat_lt, if◌then◌else◌, Option, Some, None, Result, Ok, Err, unsigned_abs, IsTrue}
+use Rattle.std.specs.Prelude.{◌||◌, ◌==◌, nat_lt, if◌then◌else◌, Option, Some, None, Result, Ok, Err, unsigned_abs}
 use Rattle.std.specs.Option.{option_map_or}
 use Rattle.std.proofs.Math.Seq.{take-append_seam}
 use Rattle.std.proofs.lemmas.Bool.{ltb-true, ltb-false, eqb-true, eq-eqb}
@@ -10,7 +10,7 @@ use Rattle.text_places.specs.Places.{IsFirstFault}
 use Rattle.text_places.proofs.Runs.{run_next}
 use Rattle.text_places.proofs.Reading.{fault_at, fault_at_end}
 use Rattle.mm_decimal.specs.Numerals.{Value, IsNumeral, HasValue, value_of}
-use Rattle.mm_decimal.specs.Millimetres.{numerator, denominator, mm_of, IsExact}
+use Rattle.mm_decimal.specs.Millimetres.{numerator, denominator, mm_of}
 use Rattle.mm_decimal.specs.Phases.{IsLast}
 use Rattle.mm_decimal.specs.Scans.{Read, nothing_read, read_after, value_read}
 use Rattle.mm_decimal.specs.Answers.{Answers}
@@ -78,9 +78,6 @@ module _ (text : List ℕ) where
           → Passes text (option_map_or (λ next. read_with next (count + 1) rest) o (Err count))
       step on None is = subst (IsFirstFault IsNumeral text) (sym long) (refused_there front rest byte read whole was is)
       step on (Some next) is = on next is
-
-exact_is : (value : Value) (n : ℕ) → n ≡ (1000 * numerator value) % denominator value → IsTrue (n == 0) → IsExact value
-exact_is value n is h = sym is ∙ eqb-true n 0 h
 
 module _ (text : List ℕ) (short : length text ≤ LONGEST) where
   in_bounds : (value : Value) → HasValue text value → (high far : Bool) → nat_lt HIGHEST value.power ≡ high → nat_lt LIMIT (unsigned_abs (mm_of value)) ≡ far

@@ -44,10 +44,6 @@ below number count small few = let grows : 10 ^ count ≤ 10 ^ 16 = pow-le-pow_r
 pub stays_small : (number count digit : ℕ) → number < 10 ^ count → digit ≤ 9 → number * 10 + digit < 10 ^ (count + 1)
 stays_small number count digit small few = rw (add-one, pow-succ' 10 count) (omega (arith, small))
 
-pub head_is : (text : List ℕ) (byte : ℕ) → 0 < length text → get_or text 0 0 ≡ byte → text ≡ byte ∷ drop 1 text
-head_is [] byte some is = absurd (omega (arith, some))
-head_is (first ∷ more) byte some is = ap (λ b. b ∷ more) is
-
 -- ---- a plain numeral
 module _ (whole fraction : List ℕ) (number rest : ℕ) where
   -- the thousandths of the digits before the point and of those behind it

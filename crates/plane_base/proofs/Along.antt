@@ -1,14 +1,18 @@
--- Points along a segment by their parameter n/d, how a side cuts the parameters, where two lines meet, and that the weights of a mix are unique.
-use Rattle.std.proofs.Common.{◌≡◌, ◌↔◌, ℤ, pos, negsuc, ◌+ℤ◌, ◌-ℤ◌, ◌*ℤ◌, ◌≤ℤ◌, ◌<ℤ◌, neg_ℤ}
+-- Points along a segment by their parameter n/d, how a side cuts the parameters, and that the weights of a mix are unique.
+use Rattle.std.proofs.Common.{◌≡◌, ◌↔◌, ℤ, pos, ◌+ℤ◌, ◌-ℤ◌, ◌*ℤ◌, ◌≤ℤ◌, ◌<ℤ◌, neg_ℤ}
 use Rattle.integer_ring.proofs.Ring.{Expr, num, neg, ◌⊕◌, ◌⊖◌, ◌⊗◌}
 use Rattle.integer_ring.proofs.Signs.{≡_of_mul}
-use Rattle.integer_ring.proofs.Claims.{◌≐◌, ◌≼◌, gap, eqn, ◌⊞◌, ◌because◌, ◌⇒◌, follows}
+use Rattle.integer_ring.proofs.Claims.{◌≐◌, ◌≼◌, ◌≺◌, gap, over, eqn, ◌⊞◌, ◌because◌, ◌⇒◌, follows}
 use Rattle.plane_base.specs.Plane.{Point, Same, turn_of, along}
 use Rattle.plane_base.proofs.Points.{PointE, turn, plus, nothing, follows_at, solve_at}
 
 -- ---- along a segment
 abbrev pub along_e : PointE → PointE → Expr → Expr → PointE
 along_e a b n d = record { x = (d ⊖ n) ⊗ a.x ⊕ n ⊗ b.x; y = (d ⊖ n) ⊗ a.y ⊕ n ⊗ b.y; w = (d ⊖ n) ⊗ a.w ⊕ n ⊗ b.w }
+
+-- between whole points it has a positive w
+pub along-w : (n d : ℤ) → pos 0 <ℤ d → pos 0 <ℤ ((d -ℤ n) *ℤ pos 1 +ℤ n *ℤ pos 1)
+along-w = follows 2 (λ n d. num (pos 0) ≺ d ⇒ num (pos 0) ≺ (d ⊖ n) ⊗ num (pos 1) ⊕ n ⊗ num (pos 1) because over 0) tt
 
 -- a turn is linear in the parameter
 pub turn_along : (p q a b : Point) (n d : ℤ) → turn_of p q (along a b n d) ≡ (d -ℤ n) *ℤ turn_of p q a +ℤ n *ℤ turn_of p q b
@@ -27,14 +31,6 @@ rises u v n d = (
   follows 4 (λ u v n d. num (pos 0) ≼ (d ⊖ n) ⊗ u ⊕ n ⊗ v ⇒ neg u ⊗ d ≼ n ⊗ (v ⊖ u) because gap 0) tt u v n d,
   follows 4 (λ u v n d. neg u ⊗ d ≼ n ⊗ (v ⊖ u) ⇒ num (pos 0) ≼ (d ⊖ n) ⊗ u ⊕ n ⊗ v because gap 0) tt u v n d,
 )
-
--- ---- where the line through a and b meets the line through p and q: at u/(u - v), for the turns u of p and v of q
-pub meets : (a b p q : Point) → turn_of a b (along p q (turn_of a b p) (turn_of a b p -ℤ turn_of a b q)) ≡ pos 0
-meets = solve_at 4 0 (λ a b p q. turn a b (along_e p q (turn a b p) (turn a b p ⊖ turn a b q)) ≐ num (pos 0)) tt
-
--- and nowhere else
-pub meets_once : (a b p q : Point) (n d : ℤ) → turn_of a b (along p q n d) ≡ pos 0 → n *ℤ (turn_of a b p -ℤ turn_of a b q) ≡ turn_of a b p *ℤ d
-meets_once = follows_at 4 2 (λ a b p q n d. turn a b (along_e p q n d) ≐ num (pos 0) ⇒ n ⊗ (turn a b p ⊖ turn a b q) ≐ turn a b p ⊗ d because eqn 0 (num (negsuc 0))) tt
 
 -- ---- the weights of a mix are unique up to a factor
 abbrev three : Expr → Expr → Expr → PointE → PointE → PointE → PointE

@@ -102,7 +102,7 @@ turn_on_side c d p hc hd on =
     ≡_of_mul (turn_of c d p) (pos 0) q.w (between-w c d p i hc hd) (zero_turn q.w (turn_of c d p) p.w (turn_same c d p q i.same ∙ ap (λ (z : ℤ). p.w *ℤ z) (side_turn c d i.k i.l)))
 
 -- ---- m times some weights and n times others
-pub combined : ℕ → ℕ → List ℕ → List ℕ → List ℕ
+unfoldable pub combined : ℕ → ℕ → List ℕ → List ℕ → List ℕ
 combined m n [] ls = []
 combined m n (k ∷ ks) [] = []
 combined m n (k ∷ ks) (l ∷ ls) = (m * k + n * l) ∷ combined m n ks ls

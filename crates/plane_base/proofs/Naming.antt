@@ -17,6 +17,7 @@ use Rattle.plane_base.specs.declared.slicing.End.{End}
 use Rattle.plane_base.specs.declared.slicing.End.TheVariants.{Vertex, Side}
 use Rattle.plane_base.proofs.Points.{turn}
 use Rattle.plane_base.proofs.Turns.{turn_cycle}
+use Rattle.plane_base.proofs.Along.{along-w}
 use Rattle.plane_base.proofs.Mixes.{turn_on_side, mix_moved}
 use Rattle.plane_base.proofs.Meeting.{mix_of_side}
 use Rattle.plane_base.proofs.Slices.{along_is}
@@ -70,9 +71,6 @@ same_parallel =
     ≐ turn (record { x = px; y = py; w = num (pos 1) }) (record { x = qx; y = qy; w = num (pos 1) }) (record { x = bx; y = by; w = num (pos 1) })
     ⇒ (bx ⊖ ax) ⊗ (qy ⊖ py) ≐ (by ⊖ ay) ⊗ (qx ⊖ px) because eqn 0 (num (pos 1))) tt
 
-along_positive : (n d : ℤ) → pos 0 <ℤ d → pos 0 <ℤ ((d -ℤ n) *ℤ pos 1 +ℤ n *ℤ pos 1)
-along_positive = follows 2 (λ n d. num (pos 0) ≺ d ⇒ num (pos 0) ≺ (d ⊖ n) ⊗ num (pos 1) ⊕ n ⊗ num (pos 1) because over 0) tt
-
 abbrev NonNeg : ℤ → Type 0
 NonNeg z = pos 0 ≤ℤ z
 
@@ -85,7 +83,7 @@ crossed_iff : (a b p q r : Pt) (u v s t y z : ℤ) (f : Frac) → pos 0 <ℤ tur
 crossed_iff a b p q r u v s t y z f positive eu ev es et ey ez left_s left_y =
     let x = along (whole a) (whole b) f.num f.den in (
       λ h. record {
-        holds = mix_of_side (whole p) (whole q) (whole r) x one one (along_positive f.num f.den f.positive) positive (along_is p q a b u v f.num f.den eu ev ∙ h.1)
+        holds = mix_of_side (whole p) (whole q) (whole r) x one one (along-w f.num f.den f.positive) positive (along_is p q a b u v f.num f.den eu ev ∙ h.1)
             (subst NonNeg (sym (along_is q r a b s t f.num f.den es et)) left_s) (subst NonNeg (sym (along_is r p a b y z f.num f.den ey ez)) left_y);
         across = λ parallel. h.0 (eu ∙ parallel_same a.x a.y b.x b.y p.x p.y q.x q.y parallel ∙ sym ev);
       },
@@ -124,7 +122,7 @@ one_place =
 
 in_at_each : (a : Pt) (t : Tri) (n d m k : ℤ) → IsIn a a t n d → IsParam m k → IsIn a a t m k
 in_at_each a t n d m k i p =
-    (p, mix_moved (along (whole a) (whole a) n d) (along (whole a) (whole a) m k) (corners t) (along_positive n d i.0.0) (one_place a.x n d m k, one_place a.y n d m k) i.1)
+    (p, mix_moved (along (whole a) (whole a) n d) (along (whole a) (whole a) m k) (corners t) (along-w n d i.0.0) (one_place a.x n d m k, one_place a.y n d m k) i.1)
 
 is_vertex : (a b : Pt) (t : Tri) (f : Frac) (V : Type 0) (e : End) → V → LiesAt a b t f V e → e ≡ Vertex
 is_vertex a b t f V Vertex v h = refl

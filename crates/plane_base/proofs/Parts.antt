@@ -42,10 +42,6 @@ left_falls u v s f n d h z start p = (
       otherwise gap 0 ⊠ gap 3 ⊞ eqn 2 (neg d) ⊞ over 4 ⊠ gap 1 ⊞ over 1) tt u v f.num f.den n d h f.positive z k.1,
 )
 
--- the same number all the way: every parameter or none
-same_number : (u v n d : ℤ) → u ≡ v → value_at u v n d ≡ u *ℤ d
-same_number = follows 4 (λ u v n d. u ≐ v ⇒ (d ⊖ n) ⊗ u ⊕ n ⊗ v ≐ u ⊗ d because eqn 0 (neg n)) tt
-
 pub left_never : (u v : ℤ) (s e : Frac) (n d : ℤ) → u ≡ v → u <ℤ pos 0 → s.num ≡ s.den → e.num ≡ pos 0 → IsParam n d → (pos 0 ≤ℤ value_at u v n d) ↔ IsWithin s e n d
 left_never u v s e n d h below es ee p = (
   λ k. absurd (follows 4 (λ u v n d. u ≐ v ⇒ u ≺ num (pos 0) ⇒ num (pos 0) ≺ d ⇒ num (pos 0) ≼ (d ⊖ n) ⊗ u ⊕ n ⊗ v ⇒ never because gap 3 ⊞ eqn 0 (neg n) ⊞ over 1 ⊠ gap 2 ⊞ over 2) tt u v n d h below p.0 k),

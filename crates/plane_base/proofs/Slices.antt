@@ -2,7 +2,7 @@
 use Rattle.std.proofs.Common.{◌≡◌, ◌↔◌, ℤ, pos, ◌+ℤ◌, ◌-ℤ◌, ◌*ℤ◌, ◌≤ℤ◌, ◌<ℤ◌, sym, subst, refl, arith}
 use Rattle.std.proofs.lemmas.Int.{ints}
 use lib.Signed.{lt_z_yes}
-use Rattle.integer_ring.proofs.Ring.{num, ◌⊕◌, ◌⊖◌, ◌⊗◌}
+use Rattle.integer_ring.proofs.Ring.{num, ◌⊖◌, ◌⊗◌}
 use Rattle.integer_ring.proofs.Order.{≤_of_≡}
 use Rattle.integer_ring.proofs.Signs.{frac-≤_trans}
 use Rattle.integer_ring.proofs.Claims.{◌≐◌, ◌≼◌, ◌≺◌, never, gap, over, ◌⊞◌, ◌because◌, ◌⇒◌, follows, solve}
@@ -14,7 +14,7 @@ use Rattle.plane_base.specs.declared.shapes.TheConstants.{SPAN}
 use Rattle.plane_base.specs.declared.shapes.Pt.{Pt}
 use Rattle.plane_base.specs.declared.shapes.Tri.{Tri}
 use Rattle.plane_base.proofs.Points.{turn}
-use Rattle.plane_base.proofs.Along.{turn_along}
+use Rattle.plane_base.proofs.Along.{turn_along, along-w}
 use Rattle.plane_base.proofs.InTriangle.{turns_of_mix, mix_of_turns}
 use Rattle.plane_base.proofs.Sizes.{cross_size}
 use Rattle.plane_base.specs.Slices.{IsParam, IsWithin, IsIn}
@@ -49,9 +49,6 @@ pub along_is : (p q a b : Pt) (u v n d : ℤ) → u ≡ turn_of (whole p) (whole
 along_is p q a b u v n d eu ev = rw (eu, ev) (turn_along (whole p) (whole q) (whole a) (whole b) n d)
 
 -- ---- all sides
-along_positive : (n d : ℤ) → pos 0 <ℤ d → pos 0 <ℤ ((d -ℤ n) *ℤ pos 1 +ℤ n *ℤ pos 1)
-along_positive = follows 2 (λ n d. num (pos 0) ≺ d ⇒ num (pos 0) ≺ (d ⊖ n) ⊗ num (pos 1) ⊕ n ⊗ num (pos 1) because over 0) tt
-
 -- a point of the segment is in the triangle exactly where no side has it on its right
 pub in_iff : (a b : Pt) (t : Tri) (c : Courses) (n d : ℤ) → pos 0 <ℤ turn_of (whole t.a) (whole t.b) (whole t.c) → AreOfSides a b t c → IsIn a b t n d ↔ IsLeftOfAll c n d
 in_iff a b t c n d positive e = (there, back)
@@ -70,12 +67,12 @@ in_iff a b t c n d positive e = (there, back)
 
     there : IsIn a b t n d → IsLeftOfAll c n d
     there i =
-        let r = turns_of_mix (whole t.a) (whole t.b) (whole t.c) (along (whole a) (whole b) n d) one one one (along_positive n d i.0.0) positive i.1 in
+        let r = turns_of_mix (whole t.a) (whole t.b) (whole t.c) (along (whole a) (whole b) n d) one one one (along-w n d i.0.0) positive i.1 in
         (i.0, subst NonNeg e0 r.0, subst NonNeg e1 r.1, subst NonNeg e2 r.2)
 
     back : IsLeftOfAll c n d → IsIn a b t n d
     back l =
-        (l.0, mix_of_turns (whole t.a) (whole t.b) (whole t.c) (along (whole a) (whole b) n d) one one one (along_positive n d l.0.0) positive (subst NonNeg (sym e0) l.1) (subst NonNeg (sym e1) l.2) (subst NonNeg (sym e2) l.3))
+        (l.0, mix_of_turns (whole t.a) (whole t.b) (whole t.c) (along (whole a) (whole b) n d) one one one (along-w n d l.0.0) positive (subst NonNeg (sym e0) l.1) (subst NonNeg (sym e1) l.2) (subst NonNeg (sym e2) l.3))
 
 -- the range of each side, and three uses of `both`
 pub all_of : (c : Courses) (w x y z yz xyz s : Range)

@@ -19,9 +19,6 @@ turn_twice = solve_at 2 0 (λ a b. turn a a b ≐ num (pos 0)) tt
 pub turn_split : (a b c p : Point) → p.w *ℤ turn_of a b c ≡ c.w *ℤ turn_of a b p +ℤ a.w *ℤ turn_of b c p +ℤ b.w *ℤ turn_of c a p
 turn_split = solve_at 4 0 (λ a b c p. p.w ⊗ turn a b c ≐ c.w ⊗ turn a b p ⊕ a.w ⊗ turn b c p ⊕ b.w ⊗ turn c a p) tt
 
-pub pluecker : (a b c d e : Point) → turn_of a b c *ℤ turn_of a d e +ℤ turn_of a b e *ℤ turn_of a c d ≡ turn_of a b d *ℤ turn_of a c e
-pluecker = solve_at 5 0 (λ a b c d e. turn a b c ⊗ turn a d e ⊕ turn a b e ⊗ turn a c d ≐ turn a b d ⊗ turn a c e) tt
-
 -- ---- the same place, and mixes
 -- a point may stand for another of the same place, up to a factor
 pub turn_same : (a b p q : Point) → Same p q → q.w *ℤ turn_of a b p ≡ p.w *ℤ turn_of a b q

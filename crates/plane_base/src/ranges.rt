@@ -1,9 +1,7 @@
-ghost use Rattle.std.specs.Prelude.{◌≡◌, ◌↔◌, ◌⊎◌, ℤ, pos, ◌<ℤ◌, ◌≤ℤ◌, IsTrue};
-ghost use Rattle.frac128.specs.Fractions.{IsBelow, IsFrom, IsUpTo};
+ghost use Rattle.std.specs.Prelude.{◌≡◌, ◌↔◌, ◌⊎◌, ℤ, pos, ◌<ℤ◌, ◌≤ℤ◌};
 ghost use Rattle.plane_base.specs.Slices.{IsWithin};
 
-use frac128::{Frac, order};
-use std::cmp::Ordering;
+use frac128::{Frac, earlier, later};
 
 /// The values from `lo` to `hi`. There is none where `hi` is below `lo`.
 #[derive(Clone, Copy)]
@@ -36,29 +34,6 @@ pub(crate) fn whole_way() -> Range
         lo: at_start(),
         hi: at_end(),
     }
-}
-
-/// Is `a` below `b`?
-pub(crate) fn is_below(a: Frac, b: Frac) -> bool
-    ensures { IsTrue result ↔ IsBelow a b }
-{
-    order(a, b) == Ordering::Less
-}
-
-// The greater of two.
-fn later(a: Frac, b: Frac) -> Frac
-    ensures one { (result ≡ a) ⊎ (result ≡ b) }
-    ensures bound { (n d : ℤ) → pos 0 <ℤ d → (IsFrom result n d ↔ (IsFrom a n d × IsFrom b n d)) }
-{
-    if is_below(a, b) { b } else { a }
-}
-
-// The lesser of two.
-fn earlier(a: Frac, b: Frac) -> Frac
-    ensures one { (result ≡ a) ⊎ (result ≡ b) }
-    ensures bound { (n d : ℤ) → pos 0 <ℤ d → (IsUpTo result n d ↔ (IsUpTo a n d × IsUpTo b n d)) }
-{
-    if is_below(a, b) { a } else { b }
 }
 
 /// What two ranges have in common.

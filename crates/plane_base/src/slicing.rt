@@ -4,9 +4,9 @@ ghost use Rattle.plane_base.specs.Slices.{IsWithin, AreEnds, IsWholeWay, slice_o
 ghost use Rattle.plane_base.specs.Sides.{AreOfSides, IsLeftOfAll, IsBoundOfOne, IsZeroOfOne, IsEndBy};
 
 use crate::courses::{Course, course_of, is_zero_at, where_left};
-use crate::ranges::{Range, both, is_below, whole_way};
+use crate::ranges::{Range, both, whole_way};
 use crate::{Pt, Tri};
-use frac128::Frac;
+use frac128::{Frac, is_below};
 
 /// Where an end of a stretch lies.
 #[derive(Clone, Copy, PartialEq, Eq, Debug)]

@@ -13,3 +13,4 @@ pub mod Running
 pub mod Recognizing
 pub mod Reaching
 pub mod OneReport
+pub mod Worked

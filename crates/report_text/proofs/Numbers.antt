@@ -25,9 +25,6 @@ digits_utf8 digits all = IsUtf8-from_ascii digits (IsAscii-from_digits digits (d
 abbrev tested : Bool → Bool → Bool → Bool
 tested some lead small = (some && not lead) && small
 
-all_pass : (some lead small : Bool) → some ≡ true → lead ≡ false → small ≡ true → tested some lead small ≡ true
-all_pass some lead small is_some not_lead is_small = rw (is_some, not_lead, is_small) refl
-
 some_fails : (some lead small : Bool) → lead ≡ false → (some ≡ true → small ≡ true → ⊥) → tested some lead small ≡ false
 some_fails some true small not_lead never = absurd cc
 some_fails true false true not_lead never = absurd (never refl refl)

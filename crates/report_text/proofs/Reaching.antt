@@ -36,9 +36,6 @@ pub record Reached (bytes rest : List ℕ) (number : ℕ) (state : State) : Type
   pub counted : number ≡ length lines + 1
   pub leads : run step at_title lines ≡ Some state
 
-pub nothing_yet : (bytes : List ℕ) → Reached bytes bytes 1 at_title
-nothing_yet bytes = record { lines = []; whole = refl; are_lines = tt; counted = refl; leads = refl }
-
 -- one line more
 pub one_more : (bytes rest line behind : List ℕ) (number : ℕ) (state next : State) → Reached bytes rest number state → IsLine line → rest ≡ line ++ LINE_FEED ∷ behind
     → step state line ≡ Some next → Reached bytes behind (number + 1) next

@@ -6,4 +6,3 @@ pub mod Laws
 pub mod Fields
 pub mod LineKinds
 pub mod Steps
-pub mod Worked

@@ -1,11 +1,10 @@
-ghost use Rattle.std.specs.Prelude.{◌≡◌};
 ghost use Rattle.report_text.specs.LineKinds.{tin_of};
 ghost use Rattle.report_text.specs.Steps.{Leads, seen, step, behind_tin, step_of_layers, step_of_row, step_of_changes};
 
 use crate::line_kinds::{change_line, count_line, is_extents, layer_line, tin_line};
 use crate::{LayerRow, ReportFault};
 use shelf_io::Name;
-use std::alloc::{AllocError, Global};
+use std::alloc::Global;
 use tin_base::Change;
 
 /// What the line of the triangulation says.

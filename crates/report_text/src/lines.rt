@@ -1,2 +1,2 @@
 /// The byte that ends each line.
-pub const LINE_FEED: u8 = 10;
+pub const LINE_FEED: u8 = b'\n';

@@ -1,12 +1,9 @@
 -- The slice of a triangle, and the part that begins at a parameter.
-use Rattle.std.proofs.Common.{◌≡◌, ℕ, ◌+◌, ◌*◌, ◌<◌, ◌≤◌, ℤ, pos, ◌+ℤ◌, ◌-ℤ◌, ◌*ℤ◌, ◌≤ℤ◌, List, sym, subst, refl, length, arith}
-use Rattle.std.proofs.lemmas.Int.{ints}
-use Rattle.integer_ring.proofs.Ring.{num, neg, ◌⊕◌, ◌⊖◌, ◌⊗◌}
-use Rattle.integer_ring.proofs.Claims.{◌≐◌, ◌≼◌, gap, eqn, ◌⊞◌, ◌because◌, ◌⇒◌, follows}
+use Rattle.std.proofs.Common.{◌≡◌, ℕ, ◌*◌, ◌<◌, ℤ, pos, ◌+ℤ◌, List, sym, subst, length}
 use Rattle.frac128.specs.declared.frac.Frac.{Frac}
 use Rattle.frac128.specs.Fractions.{IsSameValue, IsBelow}
-use Rattle.plane_base.specs.Plane.{Point, IsMix, whole, corners, along}
-use Rattle.plane_base.specs.Slices.{IsParam, IsIn}
+use Rattle.plane_base.specs.Plane.{Point, IsMix, corners}
+use Rattle.plane_base.specs.Slices.{IsParam}
 use Rattle.plane_base.specs.declared.shapes.Pt.{Pt}
 use Rattle.plane_base.specs.declared.shapes.Tri.{Tri}
 use Rattle.plane_base.specs.declared.slicing.Stretch.{Stretch}
@@ -14,24 +11,13 @@ use Rattle.tin_base.specs.declared.frames.Frame.TheVariants.{Source}
 use Rattle.tin_base.specs.Triangulation.{Triangulation, numbers_of, places}
 use Rattle.tin_base.specs.Limits.{IsWithinLimits}
 use Rattle.tin_base.specs.Segments.{Spot, spot_at, IsNotAfter, IsSameSpot, IsShared, IsPart}
-use Rattle.tin_base.proofs.Spots.{spot-w}
-use Rattle.tin_base.proofs.Ends.{IsSpot, before_trans_left, before_trans_right, no_later_trans}
-use Rattle.tin_base.proofs.Slicing.{SlicePart, slice_part, param_of, itself, one_axis, mix_by}
+use Rattle.tin_base.proofs.Ends.{out_z, before_trans_left, before_trans_right, no_later_trans}
+use Rattle.tin_base.proofs.Slicing.{SlicePart, slice_part, in_spot, from_z, upto_z}
 use Rattle.seg_walk.specs.Steps.{spot_of, IsSliceIn}
 use Rattle.seg_walk.specs.Beginning.{MissesTriangle}
 use Rattle.seg_walk.proofs.Standing.{stands}
 use Rattle.seg_walk.proofs.Spots.{at_spot, spot_is, spot_some, same_value, below}
 use Rattle.seg_walk.proofs.Apart.{same_of, from_same, up_to_same}
-
--- ---- the spots of a triangle are parameters of its points
-pub in_spot : (a b : Pt) (r : Tri) (s : Spot) → IsSpot s → IsMix (spot_at a b s) (corners r) → IsIn a b r (pos s.of_b) (pos s.of_a +ℤ pos s.of_b)
-in_spot a b r s some m =
-    let k = pos s.of_b in let l = pos s.of_a in
-    let e = itself s.of_b s.of_a in (
-      param_of s.of_b s.of_a some,
-      mix_by (spot_at a b s) (along (whole a) (whole b) k (l +ℤ k)) (corners r) (spot-w a b s some)
-          (one_axis k (l +ℤ k) k l a.x b.x refl e) (one_axis k (l +ℤ k) k l a.y b.y refl e) (one_axis k (l +ℤ k) k l (pos 1) (pos 1) refl e) m,
-    )
 
 -- ---- a triangle with a part is not missed
 pub not_missed : (tin : Triangulation) (a b : Pt) (t : ℕ) (s : Spot) → IsWithinLimits tin → t < length tin.triangles → MissesTriangle tin a b t → IsShared tin a b t s → ⊥
@@ -62,15 +48,6 @@ params tin a b t slice limits ht told = go (stands tin t limits ht)
     go r = let common = (told r.0 r.1).0 in record { lo = common.0.0; hi = common.1.0 }
 
 -- ---- each spot of the triangle is from the slice's first to its last
-from_z : (n d k l s t : ℤ) → n ≡ k → d -ℤ n ≡ l → (n *ℤ (s +ℤ t)) ≤ℤ (t *ℤ d) → (k *ℤ s) ≤ℤ (t *ℤ l)
-from_z = follows 6 (λ n d k l s t. n ≐ k ⇒ d ⊖ n ≐ l ⇒ n ⊗ (s ⊕ t) ≼ t ⊗ d ⇒ k ⊗ s ≼ t ⊗ l because gap 2 ⊞ eqn 0 (neg s) ⊞ eqn 1 t) tt
-
-upto_z : (n d k l s t : ℤ) → n ≡ k → d -ℤ n ≡ l → (t *ℤ d) ≤ℤ (n *ℤ (s +ℤ t)) → (t *ℤ l) ≤ℤ (k *ℤ s)
-upto_z = follows 6 (λ n d k l s t. n ≐ k ⇒ d ⊖ n ≐ l ⇒ t ⊗ d ≼ n ⊗ (s ⊕ t) ⇒ t ⊗ l ≼ k ⊗ s because gap 2 ⊞ eqn 0 s ⊞ eqn 1 (neg t)) tt
-
-out_z : (m n : ℕ) → pos m ≤ℤ pos n → m ≤ n
-out_z m n h = omega (arith, ints)
-
 within : (tin : Triangulation) (a b : Pt) (t : ℕ) (slice : Stretch) (s : Spot) → IsWithinLimits tin → t < length tin.triangles → IsSliceIn tin a b t slice → IsShared tin a b t s → IsNotAfter (spot_of slice.lo) s × IsNotAfter s (spot_of slice.hi)
 within tin a b t slice s limits ht told h = go (stands tin t limits ht) (params tin a b t slice limits ht told)
   where

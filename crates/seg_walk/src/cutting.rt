@@ -6,11 +6,10 @@ ghost use Rattle.tin_base.specs.Limits.{IsWithinLimits};
 ghost use Rattle.tin_base.specs.Segments.{IsInside};
 ghost use Rattle.tin_base.specs.Soundness.{IsSound};
 ghost use Rattle.tin_base.specs.Triangulation.{IsInTriangle};
-ghost use Rattle.seg_walk.specs.declared.faults.WalkFault.{WalkFault};
 ghost use Rattle.seg_walk.specs.declared.faults.WalkFault.TheVariants.{Outside};
 ghost use Rattle.seg_walk.specs.Steps.{AreSteps};
 
-use crate::slicing::{known, slice_in, step_from};
+use crate::slicing::{slice_in, step_from};
 use crate::{Step, Steps, WalkFault};
 use frac128::Frac;
 use plane_base::Pt;
@@ -90,7 +89,7 @@ pub fn cut(alloc: Global, index: &TinIndex, a: Pt, b: Pt) -> Result<Steps, WalkF
         return Err(WalkFault::Outside);
     }
     let tin = index.tin();
-    known(tin);
+    tin.known();
     if is_same(a, b) {
         return cut_point(alloc, tin, triangle, a);
     }

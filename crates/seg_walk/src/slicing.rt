@@ -1,11 +1,10 @@
-ghost use Rattle.std.specs.Prelude.{◌≡◌, ◌↔◌, ◌<◌, length, IsTrue, IfSome, IfNone};
+ghost use Rattle.std.specs.Prelude.{◌↔◌, ◌<◌, length, IsTrue, IfSome, IfNone};
 ghost use Rattle.frac128.specs.Fractions.{IsSameValue, IsBelow};
 ghost use Rattle.plane_base.specs.Plane.{whole};
 ghost use Rattle.plane_base.specs.Slices.{IsParam};
 ghost use Rattle.tin_base.specs.declared.frames.Frame.TheVariants.{Source};
 ghost use Rattle.tin_base.specs.Images.{IsInSome};
 ghost use Rattle.tin_base.specs.Limits.{IsWithinLimits};
-ghost use Rattle.tin_base.specs.Soundness.{IsSound};
 ghost use Rattle.seg_walk.specs.Steps.{IsSliceIn};
 ghost use Rattle.seg_walk.specs.Beginning.{IsStepFrom, HasNoneFrom, MissesTriangle};
 
@@ -14,20 +13,6 @@ use frac128::{Frac, order};
 use plane_base::{Pt, Stretch, slice};
 use std::cmp::Ordering;
 use tin_base::{Frame, SoundTin};
-
-/// What the type keeps of a sound triangulation.
-pub fn known(tin: &SoundTin)
-    ensures limits { IsWithinLimits tin.now }
-    ensures sound { IsSound tin.now }
-{
-    let _ = tin.triangles();
-}
-
-fn triangle_count(tin: &SoundTin) -> u32
-    ensures { result ≡ length tin.now.triangles }
-{
-    tin.triangles().len() as u32
-}
 
 /// The part of the segment in a source triangle, or none where they have no common point.
 pub fn slice_in(tin: &SoundTin, triangle: u32, a: Pt, b: Pt) -> Option<Stretch>
@@ -60,7 +45,7 @@ pub fn step_from(tin: &SoundTin, a: Pt, b: Pt, at: Frac) -> Option<Step>
     ensures some { IfSome result (λ step. IsStepFrom tin.now a b at step) }
     ensures none { IfNone result (HasNoneFrom tin.now a b at (length tin.now.triangles)) }
 {
-    for triangle in 0..triangle_count(tin) {
+    for triangle in 0..tin.triangle_count() {
         if let Some(slice) = slice_in(tin, triangle, a, b) {
             if goes_on_from(slice, at) {
                 return Some(Step {

@@ -3,3 +3,4 @@ pub mod Splicing
 pub mod Swaps
 pub mod ImageRuns
 pub mod Redrawn
+pub mod HandedOn

@@ -36,11 +36,7 @@ impl<T> Listed<T> {
 pub fn between<T>(items: &[T], from: usize, past: usize) -> &[T]
     ensures { result.now ≡ take (past - from) (drop from items.now) }
 {
-    let past = if past < items.len() {
-        past
-    } else {
-        items.len()
-    };
+    let past = past.min(items.len());
     if from < past {
         &items[from..past]
     } else {

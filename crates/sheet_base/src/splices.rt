@@ -1,6 +1,6 @@
-ghost use Rattle.std.specs.Prelude.{◌≡◌, ◌++◌, ◌≤◌, List, ℕ, length, IfOk, OnOk};
+ghost use Rattle.std.specs.Prelude.{◌≡◌, ◌++◌, List, ℕ, length, IfOk, OnOk};
 ghost use Rattle.sheet_base.specs.declared.edits.Edit.{Edit};
-ghost use Rattle.sheet_base.specs.Splices.{AreInOrder, between, spliced, SplicesKeep};
+ghost use Rattle.sheet_base.specs.Splices.{AreInOrder, spliced, SplicesKeep};
 
 use crate::Edit;
 use std::alloc::{AllocError, Global};

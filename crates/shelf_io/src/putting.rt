@@ -1,5 +1,5 @@
-ghost use Rattle.std.specs.Prelude.{◌≡◌, ◌≤◌, true, OnOk, OnErr, IsTrue};
-ghost use Rattle.shelf_io.specs.Count.{HasCause, Rose};
+ghost use Rattle.std.specs.Prelude.{◌≡◌, true, OnOk, OnErr, IsTrue};
+ghost use Rattle.shelf_io.specs.Count.{HasCause};
 ghost use Rattle.shelf_io.specs.Made.{Appends, AppendsFront};
 
 use crate::{Failed, Press};

@@ -1,8 +1,6 @@
 //! Files that are read and made in memory and as real files, and each call that fails once.
 
-ghost use Rattle.std.specs.Prelude.{◌≡◌, ◌≤◌, ◌<◌, [], ◌∷◌, length, true, false, None, IsTrue, IfOk, OnOk, OnErr};
-ghost use Rattle.std.proofs.Common.{string_bytes};
-ghost use Rattle.shelf_io.specs.Count.{HasCause};
+ghost use Rattle.std.specs.Prelude.{◌≡◌, ◌<◌, [], true, false, None, IfOk};
 
 use shelf_io::{
     Failed, FilePress, FileShelf, LoadFault, MemPress, MemShelf, Name, Press, PrintFault, load,

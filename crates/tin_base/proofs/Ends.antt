@@ -13,7 +13,7 @@ IsSpot s = 0 < s.of_a + s.of_b
 in_z : (m n : ℕ) → m ≤ n → pos m ≤ℤ pos n
 in_z m n h = omega (arith, ints)
 
-out_z : (m n : ℕ) → pos m ≤ℤ pos n → m ≤ n
+pub out_z : (m n : ℕ) → pos m ≤ℤ pos n → m ≤ n
 out_z m n h = omega (arith, ints)
 
 some_z : (m n : ℕ) → 0 < m + n → pos 0 <ℤ (pos m +ℤ pos n)

@@ -1,17 +1,17 @@
 -- Mixes of two mixes of corners: the same in both frames.
-use Rattle.std.proofs.Common.{◌≡◌, ℕ, ◌+◌, ◌*◌, ◌<◌, ℤ, pos, ◌+ℤ◌, ◌*ℤ◌, ◌≤ℤ◌, ◌<ℤ◌, List, [], ◌∷◌, length, map, sum, sym, ◌∙◌, ap, subst, refl, arith}
+use Rattle.std.proofs.Common.{◌≡◌, ℕ, ◌+◌, ◌*◌, ◌<◌, ℤ, pos, ◌+ℤ◌, ◌*ℤ◌, ◌≤ℤ◌, ◌<ℤ◌, List, [], ◌∷◌, length, map, sum, sym, ◌∙◌, subst, arith}
 use Rattle.std.proofs.lemmas.Int.{ints}
 use Rattle.integer_ring.proofs.Ring.{num, ◌⊕◌, ◌⊗◌}
 use Rattle.integer_ring.proofs.Order.{nonneg_pos, to_nat, ≤_of_<}
 use Rattle.integer_ring.proofs.Claims.{◌≐◌, ◌≺◌, ◌≼◌, gap, over, eqn, ◌⊞◌, ◌⊠◌, ◌because◌, ◌⇒◌, follows}
 use Rattle.plane_base.specs.Plane.{Point, Same, weighed}
-use Rattle.plane_base.proofs.Mixes.{same_sym, same_trans, same_refl, same_moved}
+use Rattle.plane_base.proofs.Mixes.{same_sym, same_trans, same_refl, same_moved, combined, combined-length, combined-sum}
 pub use Rattle.plane_base.proofs.Mixes.{Between, mixed, between_weights, weights_between, between-w}
 use Rattle.tin_base.specs.declared.frames.Frame.{Frame}
 use Rattle.tin_base.specs.Triangulation.{Triangulation, other, place, corner_at, places}
 use Rattle.tin_base.specs.Images.{AreLikeMixes}
 use Rattle.tin_base.specs.Relations.{IsBetween}
-use Rattle.tin_base.proofs.Weights.{total, weighed-x, weighed-y, weighed-w, sum-cons}
+use Rattle.tin_base.proofs.Weights.{total, weighed-x, weighed-y, weighed-w}
 use Rattle.tin_base.proofs.Alike.{mix-w}
 
 some_weight : (k l : ℕ) → 0 < k + l → pos 0 <ℤ (pos k +ℤ pos l)
@@ -70,29 +70,6 @@ remix p q u v r hp hq hu hv same_p same_q b =
     remixed p q u v r a.0 c.0 d.0 e.0 a.1 c.1 d.1 e.1 hp hq hu hv same_p same_q b
 
 -- ---- mixes of two mixes of corners
-abbrev pub combined : ℕ → ℕ → List ℕ → List ℕ → List ℕ
-combined m n [] ls = []
-combined m n (k ∷ ks) [] = []
-combined m n (k ∷ ks) (l ∷ ls) = (m * k + n * l) ∷ combined m n ks ls
-
-combined-length : (m n : ℕ) (ks ls : List ℕ) → length ks ≡ length ls → length (combined m n ks ls) ≡ length ls
-combined-length m n [] [] e = refl
-combined-length m n [] (l ∷ ls) e = absurd (omega arith)
-combined-length m n (k ∷ ks) [] e = absurd (omega arith)
-combined-length m n (k ∷ ks) (l ∷ ls) e = let rest = combined-length m n ks ls (omega arith) in omega arith
-
-one_sum : (m n k l s t r : ℕ) → r ≡ m * s + n * t → m * k + n * l + r ≡ m * (k + s) + n * (l + t)
-one_sum m n k l s t r e = omega arith
-
-combined-sum : (m n : ℕ) (ks ls : List ℕ) → length ks ≡ length ls → sum (combined m n ks ls) ≡ m * sum ks + n * sum ls
-combined-sum m n [] [] e = omega arith
-combined-sum m n [] (l ∷ ls) e = absurd (omega arith)
-combined-sum m n (k ∷ ks) [] e = absurd (omega arith)
-combined-sum m n (k ∷ ks) (l ∷ ls) e =
-    sum-cons (m * k + n * l) (combined m n ks ls)
-    ∙ one_sum m n k l (sum ks) (sum ls) (sum (combined m n ks ls)) (combined-sum m n ks ls (omega arith))
-    ∙ sym (ap (λ (z : ℕ). m * z + n * sum (l ∷ ls)) (sum-cons k ks) ∙ ap (λ (z : ℕ). m * (k + sum ks) + n * z) (sum-cons l ls))
-
 one_total : (m n k l v s t r : ℤ) → r ≡ m *ℤ s +ℤ (n *ℤ t +ℤ pos 0) → (m *ℤ k +ℤ n *ℤ l) *ℤ v +ℤ r ≡ m *ℤ (k *ℤ v +ℤ s) +ℤ (n *ℤ (l *ℤ v +ℤ t) +ℤ pos 0)
 one_total =
     follows 8 (λ m n k l v s t r. r ≐ m ⊗ s ⊕ (n ⊗ t ⊕ num (pos 0)) ⇒ (m ⊗ k ⊕ n ⊗ l) ⊗ v ⊕ r ≐ m ⊗ (k ⊗ v ⊕ s) ⊕ (n ⊗ (l ⊗ v ⊕ t) ⊕ num (pos 0)) because eqn 0 (num (pos 1))) tt
@@ -101,6 +78,7 @@ no_total : (m n : ℤ) → pos 0 ≡ m *ℤ pos 0 +ℤ (n *ℤ pos 0 +ℤ pos 0)
 no_total = follows 2 (λ m n. num (pos 0) ≐ m ⊗ num (pos 0) ⊕ (n ⊗ num (pos 0) ⊕ num (pos 0)) because eqn 0 (num (pos 0))) tt
 
 combined-total : (value : ℕ → ℤ) (m n : ℕ) (ks ls ns : List ℕ) → length ks ≡ length ns → length ls ≡ length ns → total value (combined m n ks ls) ns ≡ pos m *ℤ total value ks ns +ℤ (pos n *ℤ total value ls ns +ℤ pos 0)
+unfolding combined
 combined-total value m n [] [] ns e f = no_total (pos m) (pos n)
 combined-total value m n [] (l ∷ ls) ns e f = absurd (omega arith)
 combined-total value m n (k ∷ ks) [] ns e f = absurd (omega arith)

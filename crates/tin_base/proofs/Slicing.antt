@@ -1,5 +1,5 @@
 -- The slice of a segment by a triangle is the triangle's part: fractions along the segment as spots.
-use Rattle.std.proofs.Common.{◌≡◌, ℕ, ◌+◌, ◌*◌, ◌<◌, ◌≤◌, ℤ, pos, ◌+ℤ◌, ◌-ℤ◌, ◌*ℤ◌, ◌≤ℤ◌, ◌<ℤ◌, List, sym, subst, refl, length, arith}
+use Rattle.std.proofs.Common.{◌≡◌, ℕ, ◌+◌, ◌*◌, ◌<◌, ℤ, pos, ◌+ℤ◌, ◌-ℤ◌, ◌*ℤ◌, ◌≤ℤ◌, ◌<ℤ◌, List, sym, subst, refl, length, arith}
 use Rattle.std.proofs.lemmas.Int.{ints}
 use Rattle.integer_ring.proofs.Ring.{num, neg, ◌⊕◌, ◌⊖◌, ◌⊗◌}
 use Rattle.integer_ring.proofs.Order.{to_nat, ≤-to-nonneg}
@@ -10,11 +10,12 @@ use Rattle.plane_base.specs.declared.shapes.Tri.{Tri}
 use Rattle.plane_base.specs.Slices.{IsParam, IsIn, IsCommon}
 use Rattle.plane_base.specs.declared.slicing.Stretch.{Stretch}
 use Rattle.plane_base.proofs.Mixes.{same_refl, same_moved, same_trans}
+use Rattle.plane_base.proofs.Along.{along-w}
 use Rattle.tin_base.specs.declared.frames.Frame.TheVariants.{Source}
 use Rattle.tin_base.specs.Triangulation.{Triangulation, numbers_of, places}
 use Rattle.tin_base.specs.Segments.{Spot, spot_at, IsPart}
 use Rattle.tin_base.proofs.Spots.{spot-w}
-use Rattle.tin_base.proofs.Ends.{IsSpot}
+use Rattle.tin_base.proofs.Ends.{IsSpot, out_z}
 
 -- the spot at n/d
 pub record IsSpotAt (n d : ℤ) (s : Spot) : Type 0 where
@@ -42,16 +43,13 @@ one_axis = follows 6 (λ n d k l a b. n ≐ k ⇒ d ⊖ n ≐ l ⇒ (d ⊖ n) �
 pub mix_by : (p q : Point) (ps : List Point) → pos 0 <ℤ p.w → q.x ≡ p.x → q.y ≡ p.y → q.w ≡ p.w → IsMix p ps → IsMix q ps
 mix_by p q ps h ex ey ew m = (m.0, m.1, m.2, same_trans q p _ h (same_moved q q p ex ey ew (same_refl q)) m.3)
 
-along-w : (n d : ℤ) → pos 0 <ℤ d → pos 0 <ℤ ((d -ℤ n) *ℤ pos 1 +ℤ n *ℤ pos 1)
-along-w = follows 2 (λ n d. num (pos 0) ≺ d ⇒ num (pos 0) ≺ (d ⊖ n) ⊗ num (pos 1) ⊕ n ⊗ num (pos 1) because over 0) tt
-
 spot_in : (a b : Pt) (r : Tri) (n d : ℤ) (s : Spot) → IsSpotAt n d s → IsIn a b r n d → IsMix (spot_at a b s) (corners r)
 spot_in a b r n d s at h =
     let k = pos s.of_b in let l = pos s.of_a in
     mix_by (along (whole a) (whole b) n d) (spot_at a b s) (corners r) (along-w n d h.0.0)
     (sym (one_axis n d k l a.x b.x at.share at.rest)) (sym (one_axis n d k l a.y b.y at.share at.rest)) (sym (one_axis n d k l (pos 1) (pos 1) at.share at.rest)) h.1
 
-in_spot : (a b : Pt) (r : Tri) (s : Spot) → IsSpot s → IsMix (spot_at a b s) (corners r) → IsIn a b r (pos s.of_b) (pos s.of_a +ℤ pos s.of_b)
+pub in_spot : (a b : Pt) (r : Tri) (s : Spot) → IsSpot s → IsMix (spot_at a b s) (corners r) → IsIn a b r (pos s.of_b) (pos s.of_a +ℤ pos s.of_b)
 in_spot a b r s some m =
     let k = pos s.of_b in let l = pos s.of_a in
     let e = itself s.of_b s.of_a in (
@@ -61,17 +59,14 @@ in_spot a b r s some m =
     )
 
 -- orders: of fractions, as of spots
-from_z : (n d k l s t : ℤ) → n ≡ k → d -ℤ n ≡ l → (n *ℤ (s +ℤ t)) ≤ℤ (t *ℤ d) → (k *ℤ s) ≤ℤ (t *ℤ l)
+pub from_z : (n d k l s t : ℤ) → n ≡ k → d -ℤ n ≡ l → (n *ℤ (s +ℤ t)) ≤ℤ (t *ℤ d) → (k *ℤ s) ≤ℤ (t *ℤ l)
 from_z = follows 6 (λ n d k l s t. n ≐ k ⇒ d ⊖ n ≐ l ⇒ n ⊗ (s ⊕ t) ≼ t ⊗ d ⇒ k ⊗ s ≼ t ⊗ l because gap 2 ⊞ eqn 0 (neg s) ⊞ eqn 1 t) tt
 
-upto_z : (n d k l s t : ℤ) → n ≡ k → d -ℤ n ≡ l → (t *ℤ d) ≤ℤ (n *ℤ (s +ℤ t)) → (t *ℤ l) ≤ℤ (k *ℤ s)
+pub upto_z : (n d k l s t : ℤ) → n ≡ k → d -ℤ n ≡ l → (t *ℤ d) ≤ℤ (n *ℤ (s +ℤ t)) → (t *ℤ l) ≤ℤ (k *ℤ s)
 upto_z = follows 6 (λ n d k l s t. n ≐ k ⇒ d ⊖ n ≐ l ⇒ t ⊗ d ≼ n ⊗ (s ⊕ t) ⇒ t ⊗ l ≼ k ⊗ s because gap 2 ⊞ eqn 0 s ⊞ eqn 1 (neg t)) tt
 
 less_z : (n d m e k l s t : ℤ) → n ≡ k → d -ℤ n ≡ l → m ≡ t → e -ℤ m ≡ s → (n *ℤ e) <ℤ (m *ℤ d) → (k *ℤ s) <ℤ (t *ℤ l)
 less_z = follows 8 (λ n d m e k l s t. n ≐ k ⇒ d ⊖ n ≐ l ⇒ m ≐ t ⇒ e ⊖ m ≐ s ⇒ n ⊗ e ≺ m ⊗ d ⇒ k ⊗ s ≺ t ⊗ l because over 4 ⊞ eqn 0 (neg (e ⊖ m)) ⊞ eqn 3 (neg k) ⊞ eqn 2 (d ⊖ n) ⊞ eqn 1 t) tt
-
-out_z : (m n : ℕ) → pos m ≤ℤ pos n → m ≤ n
-out_z m n h = omega (arith, ints)
 
 less_out : (m n : ℕ) → pos m <ℤ pos n → m < n
 less_out m n h = omega (arith, ints)

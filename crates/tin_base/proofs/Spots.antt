@@ -1,5 +1,5 @@
 -- Points of a segment have positive weight.
-use Rattle.std.proofs.Common.{◌<◌, pos, ◌<ℤ◌}
+use Rattle.std.proofs.Common.{pos, ◌<ℤ◌}
 use lib.Signed.{lt_z_yes}
 use Rattle.plane_base.specs.Plane.{whole}
 use Rattle.plane_base.specs.declared.shapes.Pt.{Pt}

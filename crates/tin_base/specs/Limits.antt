@@ -1,10 +1,10 @@
 -- What each triangulation keeps, sound or not: its numbers are those of corners, and its corners are few, different and near each other.
-use Rattle.std.specs.Prelude.{◌≡◌, ◌≢◌, ℕ, ◌<◌, ◌≤◌, ℤ, neg_ℤ, ◌-ℤ◌, ◌≤ℤ◌, ◌<ℤ◌, length, All, List, [], slice_index_or}
+use Rattle.std.specs.Prelude.{◌≡◌, ℕ, ◌<◌, ◌≤◌, ℤ, neg_ℤ, ◌-ℤ◌, ◌≤ℤ◌, ◌<ℤ◌, length, All}
 use Rattle.plane_base.specs.declared.shapes.TheConstants.{SPAN}
 use Rattle.tin_base.specs.declared.corners.Corner.{Corner}
 use Rattle.tin_base.specs.declared.frames.Frame.{Frame}
 use Rattle.tin_base.specs.declared.limits.TheConstants.{REACH, MOST_CORNERS, MOST_TRIANGLES}
-use Rattle.tin_base.specs.Triangulation.{Triangulation, x_in, y_in, no_corner, corner_at, numbers_of}
+use Rattle.tin_base.specs.Triangulation.{Triangulation, x_in, y_in, corner_at, numbers_of}
 
 -- a number within the reach of the frames
 abbrev pub IsInReach : ℤ → Type 0
@@ -17,22 +17,6 @@ IsCornerInReach frame corner = IsInReach (x_in frame corner) × IsInReach (y_in 
 -- on no axis is the second far below the first
 abbrev pub IsNotFarBelow : Frame → Corner → Corner → Type 0
 IsNotFarBelow frame c d = ((x_in frame c -ℤ x_in frame d) <ℤ SPAN) × ((y_in frame c -ℤ y_in frame d) <ℤ SPAN)
-
--- two corners of one triangulation: they differ, and in both frames neither is far from the other
-abbrev pub AreBeside : Corner → Corner → Type 0
-AreBeside c d = (c ≢ d) × ((frame : Frame) → IsNotFarBelow frame c d × IsNotFarBelow frame d c)
-
--- the n-th corner is beside the first k
-abbrev pub IsBesideFirst : List Corner → ℕ → ℕ → Type 0
-IsBesideFirst corners n k = (m : ℕ) → m < k → AreBeside (slice_index_or corners m no_corner) (slice_index_or corners n no_corner)
-
--- the first k corners are in reach, and each of them is beside those before it
-abbrev pub AreFirstFine : List Corner → ℕ → Type 0
-AreFirstFine corners k = (n : ℕ) → n < k → ((frame : Frame) → IsCornerInReach frame (slice_index_or corners n no_corner)) × IsBesideFirst corners n n
-
--- the numbers of the first k rows are below the count
-abbrev pub AreRowsBelow : List (List ℕ) → ℕ → ℕ → Type 0
-AreRowsBelow rows count k = (t : ℕ) → t < k → All (λ n. n < count) (slice_index_or rows t [])
 
 -- what each triangulation keeps
 pub record IsWithinLimits (tin : Triangulation) : Type 0 where

@@ -1,12 +1,12 @@
 ghost use Rattle.std.specs.Prelude.{◌≡◌, ◌<◌, pos, ◌<ℤ◌, length};
 ghost use Rattle.plane_base.specs.Plane.{whole, turn_of, corners as corners_of, IsNearAll};
-ghost use Rattle.tin_base.specs.Triangulation.{places, numbers_of};
+ghost use Rattle.tin_base.specs.Triangulation.{place, places, corner_at, numbers_of};
 ghost use Rattle.tin_base.specs.Soundness.{turn_in, IsSound};
 ghost use Rattle.tin_base.specs.Limits.{IsWithinLimits};
 ghost use Rattle.tin_base.specs.Turned.{turned_of};
 
 use crate::{Corner, Frame, Tin};
-use plane_base::Tri;
+use plane_base::{Pt, Tri};
 use std::marker::Model;
 
 /// A sound triangulation.
@@ -36,6 +36,14 @@ impl SoundTin {
         SoundTin { tin }
     }
 
+    /// Tells what the type keeps: the triangulation is within the limits, and sound.
+    pub fn known(&self)
+        ensures limits { IsWithinLimits self.now }
+        ensures sound { IsSound self.now }
+    {
+        let _ = self.tin.triangles();
+    }
+
     /// The corners, in order of their numbers.
     pub fn corners(&self) -> &[Corner]
         ensures corners { result.now ≡ self.now.corners }
@@ -54,11 +62,27 @@ impl SoundTin {
         self.tin.triangles()
     }
 
+    /// How many triangles it has.
+    pub fn triangle_count(&self) -> u32
+        ensures { result ≡ length self.now.triangles }
+    {
+        self.tin.triangle_count()
+    }
+
     /// How many of the numbers that it was read from lost digits.
     pub fn inexact(&self) -> u64
         ensures { result ≡ self.now.inexact }
     {
         self.tin.inexact()
+    }
+
+    /// Where a corner stands in a frame.
+    pub fn place(&self, number: u32, frame: Frame) -> Pt
+        requires { number < length self.now.corners }
+        ensures place { whole result ≡ place frame (corner_at self.now number) }
+        ensures limits { IsWithinLimits self.now }
+    {
+        self.tin.place(number, frame)
     }
 
     /// Where a triangle stands in a frame.

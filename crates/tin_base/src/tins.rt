@@ -58,6 +58,13 @@ impl Tin {
         &self.triangles
     }
 
+    /// How many triangles it has.
+    pub fn triangle_count(&self) -> u32
+        ensures { result ≡ length self.now.triangles }
+    {
+        self.triangles().len() as u32
+    }
+
     /// How many of the numbers that it was read from lost digits.
     pub fn inexact(&self) -> u64
         ensures { result ≡ self.now.inexact }
@@ -68,7 +75,8 @@ impl Tin {
     /// Where a corner stands in a frame.
     pub fn place(&self, number: u32, frame: Frame) -> Pt
         requires { number < length self.now.corners }
-        ensures { whole result ≡ place frame (corner_at self.now number) }
+        ensures place { whole result ≡ place frame (corner_at self.now number) }
+        ensures limits { IsWithinLimits self.now }
     {
         self.corners[number as usize].at(frame)
     }

@@ -1,18 +1,14 @@
 -- The slice of a segment by a triangle tells whether they have a common point.
-use Rattle.std.proofs.Common.{◌≡◌, ◌↔◌, ℤ, pos, ◌+ℤ◌, ◌-ℤ◌, ◌*ℤ◌, ◌<ℤ◌, Bool, IsTrue, [], ◌∷◌, Option, Some, None, is_some, refl, sym, subst}
-use Rattle.integer_ring.proofs.Ring.{num, ◌⊕◌, ◌⊖◌, ◌⊗◌}
-use Rattle.integer_ring.proofs.Claims.{◌≺◌, over, ◌because◌, ◌⇒◌, follows}
+use Rattle.std.proofs.Common.{◌≡◌, ◌↔◌, ℤ, pos, ◌+ℤ◌, Bool, IsTrue, [], ◌∷◌, Option, Some, None, is_some, refl, sym, subst}
 use Rattle.plane_base.specs.Plane.{whole, corners, along}
 use Rattle.plane_base.specs.declared.shapes.Pt.{Pt}
 use Rattle.plane_base.specs.declared.shapes.Tri.{Tri}
 use Rattle.plane_base.specs.Slices.{slice_of}
 use Rattle.plane_base.specs.declared.slicing.Stretch.{Stretch}
 use Rattle.plane_base.proofs.Mixes.{same_sym, mix_moved, between_weights}
+use Rattle.plane_base.proofs.Along.{along-w}
 use Rattle.tin_check.specs.Meeting.{HaveCommonPoint}
 use Rattle.tin_check.proofs.Places.{side_along, along_side}
-
-along-w : (n d : ℤ) → pos 0 <ℤ d → pos 0 <ℤ ((d -ℤ n) *ℤ pos 1 +ℤ n *ℤ pos 1)
-along-w = follows 2 (λ n d. num (pos 0) ≺ d ⇒ num (pos 0) ≺ (d ⊖ n) ⊗ num (pos 1) ⊕ n ⊗ num (pos 1) because over 0) tt
 
 tells : (a b : Pt) (t : Tri) (r : Option Stretch) → slice_of a b t r → IsTrue (is_some r) ↔ HaveCommonPoint (whole a ∷ whole b ∷ []) (corners t)
 tells a b t None none = (λ h. cc, λ h. absurd (none_met h))

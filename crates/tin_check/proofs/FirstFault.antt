@@ -44,23 +44,6 @@ flat_source tin t within positive flat = record { is_one = (within, flat); none_
     go (inl h) = absurd (omega arith)
     go (inr h) = absurd (omega arith)
 
-pub flat_target : (tin : Triangulation) (t : ℕ) → t < length tin.triangles → ArePositive tin t → (turn_in tin Source t ≡ pos 0 → ⊥) → turn_in tin Target t ≡ pos 0 → IsFirstFault tin (Flat t Target)
-flat_target tin t within positive source flat = record { is_one = (within, flat); none_before = λ other before fault. go (earlier tin t 1 other positive before fault) }
-  where
-    go : HasEarlier tin t 1 → ⊥
-    go (inl (Source, h, k)) = source h
-    go (inl (Target, h, k)) = absurd (omega arith)
-    go (inr h) = absurd (omega arith)
-
-pub turns_over : (tin : Triangulation) (t : ℕ) → t < length tin.triangles → ArePositive tin t → (turn_in tin Source t ≡ pos 0 → ⊥) → (turn_in tin Target t ≡ pos 0 → ⊥)
-    → (turn_in tin Source t <ℤ pos 0) ⊎ (turn_in tin Target t <ℤ pos 0) → IsFirstFault tin (TurnsOver t)
-turns_over tin t within positive source target over = record { is_one = (within, over); none_before = λ other before fault. go (earlier tin t 2 other positive before fault) }
-  where
-    go : HasEarlier tin t 2 → ⊥
-    go (inl (Source, h, k)) = source h
-    go (inl (Target, h, k)) = target h
-    go (inr h) = absurd (omega arith)
-
 pub one_more_positive : (tin : Triangulation) (t : ℕ) → ArePositive tin t → pos 0 <ℤ turn_in tin Source t → pos 0 <ℤ turn_in tin Target t → ArePositive tin (t + 1)
 one_more_positive tin t positive source target frame u h = go (last_or_not u t h)
   where

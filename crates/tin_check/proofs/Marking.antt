@@ -1,13 +1,13 @@
 -- Corners that are marked by their numbers.
-use Rattle.std.proofs.Common.{◌≡◌, ◌⊎◌, ◌↔◌, inl, inr, ℕ, suc, ◌<◌, ◌≤◌, pos, ◌<ℤ◌, Bool, true, false, ◌||◌, IsTrue, eqb, cond, List, [], ◌∷◌, ◌++◌, length, map, get_or, ap, ap₂, sym, ◌∙◌, subst, refl, arith}
+use Rattle.std.proofs.Common.{◌≡◌, ◌⊎◌, ◌↔◌, inl, inr, ℕ, suc, ◌<◌, ◌≤◌, Bool, true, false, ◌||◌, IsTrue, eqb, cond, List, [], ◌∷◌, ◌++◌, length, map, get_or, ap, ap₂, sym, ◌∙◌, subst, refl, arith}
 use Rattle.std.proofs.lemmas.Bool.{eq-eqb, eqb-true}
 use Rattle.std.proofs.lemmas.List.{length-map}
-use Rattle.plane_base.specs.Plane.{Point, turn_of, IsMix, whole, corners}
+use Rattle.plane_base.specs.Plane.{Point, IsMix, whole, corners}
 use Rattle.plane_base.specs.declared.shapes.Pt.{Pt}
 use Rattle.plane_base.specs.declared.shapes.Tri.{Tri}
 use Rattle.tin_base.specs.declared.frames.Frame.{Frame}
 use Rattle.tin_base.specs.Triangulation.{Triangulation, place, corner_at, numbers_of, places}
-use Rattle.tin_base.specs.Soundness.{turn_of_three, has, common, DoFit}
+use Rattle.tin_base.specs.Soundness.{has, common, DoFit}
 use Rattle.tin_base.specs.Limits.{IsWithinLimits}
 use Rattle.tin_base.proofs.Standing.{near_points}
 use Rattle.tin_check.specs.Meeting.{MeetOnlyIn}
@@ -126,10 +126,6 @@ all_near tin frame t u r s limits ht hu e f p q h k =
     any : (p : Pt) → IsAmong (points_of r) p ⊎ IsAmong (points_of s) p → IsCorner tin frame p
     any p (inl h) = corner_of tin frame (numbers_of tin t) (points_of r) p (λ i k. limits.in_range t ht i 0 k) e h
     any p (inr h) = corner_of tin frame (numbers_of tin u) (points_of s) p (λ i k. limits.in_range u hu i 0 k) f h
-
--- ---- the turn of a triangle that stands there
-pub turn_there : (tin : Triangulation) (frame : Frame) (t : ℕ) (r : Tri) → corners r ≡ places tin frame (numbers_of tin t) → pos 0 <ℤ turn_of_three (places tin frame (numbers_of tin t)) → pos 0 <ℤ turn_of (whole r.a) (whole r.b) (whole r.c)
-turn_there tin frame t r e h = subst (λ (ps : List Point). pos 0 <ℤ turn_of_three ps) (sym e) h
 
 -- ---- the answer, in the words of the triangulation
 pub told : (tin : Triangulation) (frame : Frame) (t u : ℕ) (r s : Tri) (found : Bool) → corners r ≡ places tin frame (numbers_of tin t) → corners s ≡ places tin frame (numbers_of tin u)

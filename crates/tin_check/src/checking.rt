@@ -28,18 +28,12 @@ pub fn check_tin(alloc: Global, tin: Tin) -> Result<SoundTin, CheckFault>
     Ok(SoundTin::of(tin))
 }
 
-fn triangle_count(tin: &Tin) -> u32
-    ensures { result ≡ length tin.now.triangles }
-{
-    tin.triangles().len() as u32
-}
-
 /// Looks at each triangle.
 fn check_triangles(tin: &Tin) -> Result<(), CheckFault>
     ensures on { OnOk result (ArePositive tin.now (length tin.now.triangles)) }
     ensures first { IfErr result (λ fault. IsFirstFault tin.now fault) }
 {
-    for triangle in 0..triangle_count(tin) {
+    for triangle in 0..tin.triangle_count() {
         check_turns(tin, triangle)?;
     }
     Ok(())
@@ -78,8 +72,8 @@ fn check_pairs(alloc: Global, tin: &Tin) -> Result<(), CheckFault>
     ensures on { OnOk result (DoFirstsFit tin.now (length tin.now.triangles)) }
     ensures first { IfErr result (λ fault. IsCause tin.now fault) }
 {
-    let numbers = numbers_below(alloc, triangle_count(tin))?;
-    for first in 0..triangle_count(tin) {
+    let numbers = numbers_below(alloc, tin.triangle_count())?;
+    for first in 0..tin.triangle_count() {
         check_seconds(tin, first, &numbers[first as usize + 1..])?;
     }
     Ok(())
@@ -89,7 +83,7 @@ fn check_pairs(alloc: Global, tin: &Tin) -> Result<(), CheckFault>
 fn numbers_below(alloc: Global, count: u32) -> Result<Vec<u32>, AllocError>
     ensures { IfOk result (λ numbers. (length numbers.items ≡ count) × IsCounting numbers.items) }
 {
-    let mut numbers = Vec::new(alloc);
+    let mut numbers = Vec::with_capacity(alloc, count as usize)?;
     for number in 0..count {
         numbers.push(number)?;
     }

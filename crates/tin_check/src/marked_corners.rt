@@ -34,7 +34,7 @@ pub(crate) fn next(t: Tri) -> Tri
 pub(crate) fn is_same(p: Pt, q: Pt) -> bool
     ensures { IsTrue result ↔ (p ≡ q) }
 {
-    p.x == q.x && p.y == q.y
+    p == q
 }
 
 /// The triangle, counted from the corner `p` on.

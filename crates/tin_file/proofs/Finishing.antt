@@ -3,7 +3,7 @@ use Rattle.std.proofs.Common.{◌≡◌, ℕ, suc, zero, ◌<◌, List, [], ◌�
 use Rattle.std.specs.Prelude.{◌||◌, if◌then◌else◌, not, Result, Ok, Err, All, ℤ, pos, ◌-ℤ◌, ◌≤ℤ◌, ◌<ℤ◌, int_le, int_lt}
 use Rattle.std.specs.List.{list_any, AllByRecursion}
 use Rattle.std.proofs.lemmas.List.{length-map}
-use Rattle.std.specs.Int.Signed.{le_z, lt_z, lt_z_yes, lt_z_no}
+use Rattle.std.specs.Int.Signed.{lt_z, lt_z_yes, lt_z_no}
 use Rattle.std.proofs.lemmas.Float.{T_from_true}
 use Rattle.tin_base.specs.declared.frames.Axis.TheVariants as axes
 use Rattle.tin_file.specs.declared.faults.TinFault.TheVariants.{Span}
@@ -222,9 +222,6 @@ module _ (vertices : Vertices) (triangles : List (List ℕ)) (rows : List Vertex
       ∙ ap (λ ts. triangulation (corners_of all) (map (oriented (corners_of all)) ts) vertices.inexact) triangles_are
       ∙ ap (λ ts. triangulation (corners_of all) ts vertices.inexact) (map_twice (oriented (corners_of all)) (map (number_of_row all)) faces)
       ∙ ap (triangulation (corners_of all) (map (λ face. oriented (corners_of all) (map (number_of_row all) face)) faces)) h.gathered.inexact
-
-  pub spans_fail : (fault : TinFault) → Err fault ≡ spans vertices.corners.items → Err fault ≡ within_spans rows faces
-  spans_fail fault is = ap (λ r. checked r (Ok (made_of rows faces))) (is ∙ ap spans h.gathered.corners)
 
   pub spans_pass : Ok tt ≡ spans vertices.corners.items → Ok (triangulation vertices.corners.items (map (oriented vertices.corners.items) triangles) vertices.inexact) ≡ within_spans rows faces
   spans_pass is = ap Ok made_so ∙ ap (λ r. checked r (Ok (made_of rows faces))) (is ∙ ap spans h.gathered.corners)

@@ -1,7 +1,7 @@
 -- The least and the greatest of the corners' numbers on an axis.
 use Rattle.std.proofs.Common.{◌≡◌, ℕ, suc, zero, ◌+◌, ◌<◌, ◌≤◌, List, [], ◌∷◌, length, get_or, Bool, true, false, refl, sym, ◌∙◌, subst, arith, cond, ◌⊎◌, inl, inr}
 use Rattle.std.proofs.lemmas.Int.{ints, int_min_is, int_max_is}
-use Rattle.std.specs.Int.Signed.{le_z, le_z_yes}
+use Rattle.std.specs.Int.Signed.{le_z_yes}
 use Rattle.std.proofs.lemmas.Float.{T_from_true}
 use Rattle.std.specs.Int.{int_min, int_max}
 use Rattle.std.specs.Prelude.{◌||◌, ℤ, pos, negsuc, ◌-ℤ◌, ◌≤ℤ◌, int_le, int_lt, neg_ℤ, T, FitsSigned}
@@ -50,13 +50,6 @@ max_second : (x y : ℤ) → y ≤ℤ int_max x y
 max_second x y = omega (arith, ints, int_max_is x y)
 
 module _ (coordinate : Corner → ℤ) (corners : List Corner) where
-  pub reach_begins : 0 < length corners → (first : ℤ) → first ≡ coordinate (at corners 0) → IsReached coordinate corners 0 first first
-  reach_begins some first is = record {
-    below = λ k h. absurd (omega arith);
-    low = (0, some, is);
-    high = (0, some, is);
-  }
-
   pub reach_goes_on : (i : ℕ) (least greatest here : ℤ) → IsReached coordinate corners i least greatest → i < length corners → here ≡ coordinate (at corners i)
       → IsReached coordinate corners (i + 1) (int_min least here) (int_max greatest here)
   reach_goes_on i least greatest here h within is = record {

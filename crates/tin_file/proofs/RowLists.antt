@@ -47,13 +47,6 @@ module _ {A : Type 0} (of_row : ℕ → Json → Result A TinFault) (rows : ℕ 
     pub rows_end : AreRead done n [] whole → whole ≡ Ok done
     rows_end h = h.whole_is ∙ ap (behind done) (by_row.0 n) ∙ ap Ok (append-nil done)
 
-pub rows_begin : {A : Type 0} (of_row : ℕ → Json → Result A TinFault) (rows : ℕ → List Json → Result (List A) TinFault) (all : List Json) → AreRead of_row rows [] 0 all (rows 0 all)
-rows_begin {A} of_row rows all = record { whole_is = none (rows 0 all) }
-  where
-    none : (r : Result (List A) TinFault) → r ≡ behind [] r
-    none (Ok more) = refl
-    none (Err fault) = refl
-
 -- what an error is that a `?` passed on
 pub passed_on : {A : Type 0} (fault : TinFault) (r : Result A TinFault) → IsErrAnd r (λ e. e ≡ fault) → r ≡ Err fault
 passed_on fault (Ok value) h = absurd h

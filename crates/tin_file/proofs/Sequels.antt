@@ -1,7 +1,7 @@
 -- What follows on a value that was found, and on a fault.
 use Rattle.std.proofs.Common.{◌≡◌, refl, subst}
 use Rattle.std.specs.Prelude.{Result, Ok, Err}
-use Rattle.tin_file.specs.Keys.{checked, and_then}
+use Rattle.tin_file.specs.Keys.{and_then}
 use Rattle.tin_file.specs.Standing.{Gives, Equals}
 use Rattle.tin_file.specs.declared.faults.TinFault.{TinFault}
 use Rattle.tin_file.specs.declared.faults.TinFault.TheVariants.{NoMemory}
@@ -22,14 +22,3 @@ pub then_made : {A B C D : Type 0} (R : A → B → Type 0) (S : C → D → Typ
     → Gives R (Ok one) r → ((other : B) → R one other → Gives S made (f other)) → Gives S made (and_then f r)
 then_made R S f one (Ok other) made h on = on other h
 then_made R S f one (Err fault) made h on = absurd h
-
--- the same of a test
-pub test_fails : {C D : Type 0} (S : C → D → Type 0) (fault : TinFault) (r : Result (Unit {0}) TinFault) (next : Result D TinFault)
-    → Equals (Err fault) r → Gives S (Err fault) (checked r next)
-test_fails S NoMemory r next h = tt
-test_fails S fault r next h = subst (λ x. Err fault ≡ checked x next) h refl
-
-pub test_passes : {C D : Type 0} (S : C → D → Type 0) (r : Result (Unit {0}) TinFault) (next : Result D TinFault) (made : Result C TinFault)
-    → Equals (Ok tt) r → Gives S made next → Gives S made (checked r next)
-test_passes S (Ok passed) next made h on = on
-test_passes S (Err fault) next made h on = absurd h

@@ -1,15 +1,16 @@
 -- What stands in the document, by the numbers of nodes.
-use Rattle.std.proofs.Common.{◌≡◌, ℕ, zero, suc, ◌+◌, ◌<◌, List, [], ◌∷◌, length, get_or, true, false, refl, sym, ap, ◌∙◌, subst, arith}
+use Rattle.std.proofs.Common.{◌≡◌, ℕ, zero, suc, ◌+◌, ◌<◌, List, [], ◌∷◌, length, get_or, refl, sym, ap, ◌∙◌, subst, arith}
 use Rattle.std.specs.Prelude.{slice_get, Some}
 use Rattle.std.proofs.lemmas.Option.{same_Some, slice_get_within}
-use Rattle.jtext.specs.Values.{Json, Elements, Members, null, truth, numeral, quoted, array, object, no_element, element}
-use Rattle.jtext.specs.Nodes.{kind_of, node_count, first_node, element_start, next_place}
+use Rattle.jtext.specs.Values.{Json, Elements, Members, null, no_element, element}
+use Rattle.jtext.specs.Nodes.{node_count, first_node, element_start, next_place}
 use Rattle.jtext.specs.Places.{Stands, IsReadFrom, HasKind, whole_start}
 use Rattle.jtext.specs.declared.document.Doc.{Doc}
 use Rattle.jtext.specs.declared.document.Kind.TheVariants as kinds
 use Rattle.jtext.specs.declared.document.Node.{Node}
 use Rattle.tin_file.specs.Keys.{listed}
 use Rattle.tin_file.specs.Standing.{IsThere, AreThere, IsNode, AreNodes, HasMembers, element_numbers}
+use Rattle.jtext.proofs.MemberLoops.{object_of}
 use Rattle.jtext.proofs.Standing.{ElementsStand, reading_stands, first_there, element_stands, rest_stands}
 
 module _ (nodes : List Node) (bytes : List ℕ) where
@@ -51,16 +52,6 @@ module _ (nodes : List Node) (bytes : List ℕ) where
 
   pub node_at_place : (numbers : List ℕ) (i d : ℕ) → AreNodes nodes bytes numbers → i < length numbers → IsNode nodes bytes (get_or numbers i d)
   node_at_place numbers i d (values, h) within = (get_or values i null, there_at numbers values i d null h within)
-
--- the whole value is an object where its node says so
-object_of : (value : Json) → kind_of value ≡ kinds.Object → (blank : List ℕ) × (members : Members) × (value ≡ object blank members)
-object_of (object blank members) h = (blank, members, refl)
-object_of null h = cc
-object_of (truth true) h = cc
-object_of (truth false) h = cc
-object_of (numeral text) h = cc
-object_of (quoted chars) h = cc
-object_of (array blank elements) h = cc
 
 pub members_there : (doc : Doc) (bytes : List ℕ) → IsReadFrom doc bytes → HasKind doc.nodes 0 kinds.Object → (members : Members) × HasMembers doc.nodes bytes members
 members_there doc bytes (whole, reading) (node, got, kind) =

@@ -1,6 +1,6 @@
 //! Columns of the rows, by their names.
 
-ghost use Rattle.std.specs.Prelude.{◌≡◌, ◌<◌, ℕ, List, length, IfOk};
+ghost use Rattle.std.specs.Prelude.{◌≡◌, ◌<◌, List, IfOk};
 ghost use Rattle.jtext.specs.Values.{Json};
 ghost use Rattle.jtext.specs.Places.{IsReadFrom};
 ghost use Rattle.jtext.specs.Lookups.{IsAscii};

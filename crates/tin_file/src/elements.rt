@@ -2,10 +2,10 @@
 
 ghost use Rattle.std.specs.Prelude.{◌≡◌, ◌+◌, ◌<◌, ◌≤◌, ℕ, List, length, slice_get, slice_range, Some, OnOk};
 ghost use Rattle.jtext.specs.Values.{Json, Elements, Members, spelling};
-ghost use Rattle.jtext.specs.Places.{IsReadFrom, Stands, HasKind};
+ghost use Rattle.jtext.specs.Places.{IsReadFrom, HasKind};
 ghost use Rattle.jtext.specs.Lookups.{IsAscii};
 ghost use Rattle.tin_file.specs.Keys.{says, is_text, is_number, is_array, is_object};
-ghost use Rattle.tin_file.specs.Keys.{list_of, needed, needed_list};
+ghost use Rattle.tin_file.specs.Keys.{needed, needed_list};
 ghost use Rattle.tin_file.specs.Standing.{IsThere, AreThere, IsNode, IsArray, HasMembers};
 ghost use Rattle.tin_file.specs.Standing.{element_numbers, Gives};
 

@@ -47,10 +47,8 @@ fn check_file_type(doc: &Doc, bytes: &[u8]) -> Result<(), TinFault>
     ensures { (members : Members) → HasMembers doc.now.nodes bytes.now members
         → Equals result (file_type members) }
 {
-    match find(doc, bytes, Top::FileType) {
-        Ok(value) => check_file_type_value(doc, bytes, value),
-        Err(fault) => Err(fault),
-    }
+    let value = find(doc, bytes, Top::FileType)?;
+    check_file_type_value(doc, bytes, value)
 }
 
 /// Is the value of `format_version` one of both versions?
@@ -81,10 +79,8 @@ fn check_version(doc: &Doc, bytes: &[u8]) -> Result<(), TinFault>
     ensures { (members : Members) → HasMembers doc.now.nodes bytes.now members
         → Equals result (version members) }
 {
-    match find(doc, bytes, Top::FormatVersion) {
-        Ok(value) => check_version_value(doc, bytes, value),
-        Err(fault) => Err(fault),
-    }
+    let value = find(doc, bytes, Top::FormatVersion)?;
+    check_version_value(doc, bytes, value)
 }
 
 /// The fallback, which is accepted only where it is not to be applied.
@@ -187,10 +183,8 @@ fn check_components(doc: &Doc, bytes: &[u8], values: &mut Vec<u32>) -> Result<()
     ensures { (members : Members) → HasMembers doc.now.nodes bytes.now members
         → Equals result (components members) }
 {
-    match find_list(doc, bytes, Top::Components, values) {
-        Ok(()) => check_components_in(doc, bytes, values),
-        Err(fault) => Err(fault),
-    }
+    find_list(doc, bytes, Top::Components, values)?;
+    check_components_in(doc, bytes, values)
 }
 
 /// The columns of vertex rows.
@@ -205,10 +199,8 @@ fn find_vertex_columns(
         → Equals result (vertex_columns members) }
     ensures inside { IfOk result AreVertexColumns }
 {
-    match find_list(doc, bytes, Top::VerticesColumns, values) {
-        Ok(()) => read_vertex_columns(doc, bytes, values),
-        Err(fault) => Err(fault),
-    }
+    find_list(doc, bytes, Top::VerticesColumns, values)?;
+    read_vertex_columns(doc, bytes, values)
 }
 
 /// The columns of triangle rows.
@@ -223,10 +215,8 @@ fn find_triangle_columns(
         → Equals result (triangle_columns members) }
     ensures inside { IfOk result AreTriangleColumns }
 {
-    match find_list(doc, bytes, Top::TrianglesColumns, values) {
-        Ok(()) => read_triangle_columns(doc, bytes, values),
-        Err(fault) => Err(fault),
-    }
+    find_list(doc, bytes, Top::TrianglesColumns, values)?;
+    read_triangle_columns(doc, bytes, values)
 }
 
 /// The columns of both lists of rows, each list in turn.

@@ -2,7 +2,6 @@
 
 ghost use Rattle.std.specs.Prelude.{◌≡◌, ◌+◌, ◌^◌, ◌<◌, ◌≤◌, List, [], ◌∷◌, ◌++◌, length, OnOk, IfOk, IfErr};
 ghost use Rattle.jtext.specs.Values.{Json};
-ghost use Rattle.jtext.specs.Places.{IsReadFrom};
 ghost use Rattle.tin_base.specs.declared.limits.TheConstants.{MOST_CORNERS};
 ghost use Rattle.tin_file.specs.Vertices.{lost, accepted, number_in, vertex_from, vertex_in, vertex_of, vertex_rows};
 ghost use Rattle.tin_file.specs.Standing.{IsThere, AreThere, IsNode, AreNodes, Gives, Equals};

@@ -45,18 +45,12 @@ impl TinIndex {
         ensures least { IfSome result (λ triangle. (other : ℕ) → other < triangle → IsInTriangle self.now Source other (whole p) → ⊥) }
         ensures outside { IfNone result (IsInSome self.now Source (whole p) → ⊥) }
     {
-        for triangle in 0..self.triangle_count() {
+        for triangle in 0..self.tin.triangle_count() {
             if self.is_in(triangle, p) {
                 return Some(triangle);
             }
         }
         None
-    }
-
-    fn triangle_count(&self) -> u32
-        ensures { result ≡ length self.now.triangles }
-    {
-        self.tin.triangles().len() as u32
     }
 
     /// Has the source triangle the point?

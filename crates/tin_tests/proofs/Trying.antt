@@ -1,5 +1,5 @@
 -- What the test of a triangle and two of its segments needs.
-use Rattle.std.proofs.Common.{◌≡◌, ◌⊎◌, inl, inr, ℕ, ◌*◌, ◌<◌, ◌≤◌, ℤ, pos, ◌+ℤ◌, ◌*ℤ◌, ◌<ℤ◌, List, length, get_or, All, unsigned_abs, refl, sym, subst, arith}
+use Rattle.std.proofs.Common.{◌≡◌, ◌⊎◌, inl, inr, ℕ, ◌<◌, ◌≤◌, ℤ, pos, ◌+ℤ◌, ◌*ℤ◌, ◌<ℤ◌, List, length, get_or, All, unsigned_abs, refl, sym, subst, arith}
 use Rattle.std.proofs.lemmas.Int.{ints}
 use lib.Signed.{lt_z_yes}
 use Rattle.plane_base.specs.Plane.{Same, IsNear, whole}
@@ -44,12 +44,6 @@ pub all_comparable : (tin : Triangulation) (ps : List Piece) → All (λ p. IsTr
 all_comparable tin ps h i d hi j e hj = let p = h i d hi in let q = h j e hj in comparable tin (get_or ps i d) (get_or ps j e) p.0 q.0 p.1 q.1
 
 -- ---- a segment of which the triangle has both ends is its own piece
-first_level : (m : ℕ) → 0 * m ≤ m * 1
-first_level m = omega arith
-
-last_level : (m n : ℕ) → m * 0 ≤ 1 * n
-last_level m n = omega arith
-
 spot_last : (a b : Pt) → Same (spot_at a b at_b) (whole b)
 spot_last a b = (at_one a.x b.x, at_one a.y b.y)
   where

@@ -1,5 +1,4 @@
-ghost use Rattle.std.specs.Prelude.{◌<◌, length, All, IsTrue};
-ghost use Rattle.cell_grid.specs.declared.grids.TheConstants.{LIMIT};
+ghost use Rattle.std.specs.Prelude.{All, IsTrue};
 ghost use Rattle.cell_grid.specs.Boxes.{IsOrdered};
 ghost use Rattle.tin_tests.specs.SmallBoxes.{IsSmall};
 

@@ -28,3 +28,5 @@ mod nearness;
 mod slice_tests;
 #[cfg(test)]
 mod soundness_tests;
+#[cfg(test)]
+mod within;

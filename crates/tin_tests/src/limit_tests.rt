@@ -1,5 +1,6 @@
 use crate::made_tins::corner;
-use tin_base::{Corner, are_within_limits};
+use crate::within::are_within_limits;
+use tin_base::Corner;
 
 // A corner that leaves 0 on the source's first axis and the target's second alone.
 fn on_axes(sx: i64, ty: i64) -> Corner {

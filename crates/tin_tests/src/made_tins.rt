@@ -1,9 +1,10 @@
 ghost use Rattle.std.specs.Prelude.{◌≡◌, length, IfSome};
 ghost use Rattle.tin_base.specs.Triangulation.{triangulation};
 
+use crate::within::are_within_limits;
 use plane_base::{Pt, turn};
 use std::alloc::Global;
-use tin_base::{Corner, Frame, SoundTin, Tin, are_within_limits, one_triangle_is_sound};
+use tin_base::{Corner, Frame, SoundTin, Tin, one_triangle_is_sound};
 use tin_check::check_tin;
 use tin_index::TinIndex;
 

@@ -1,5 +1,5 @@
 -- How a run ends, from what its last call says.
-use Rattle.std.proofs.Common.{◌≡◌, ◌≢◌, ◌⊎◌, inl, inr, ℕ, List, [], ◌∷◌, ◌++◌, map, codes, Bool, true, false, Option, None, Some, IfSome, refl, sym, ◌∙◌, ap, ap₂, subst}
+use Rattle.std.proofs.Common.{◌≡◌, ◌≢◌, ◌⊎◌, inl, inr, ℕ, List, [], ◌∷◌, map, codes, Bool, true, false, Option, None, Some, IfSome, refl, sym, ◌∙◌, ap, subst}
 use Rattle.shelf_io.specs.Files.{Files}
 use Rattle.sheet_base.specs.declared.faults.LayerFault.{LayerFault}
 use Rattle.sheet_base.specs.declared.faults.LayerFault.TheVariants as layers
@@ -21,8 +21,8 @@ use Rattle.tinmove.specs.RunChanges.{end_of}
 use Rattle.tinmove.specs.Lines.{words_line, tin_line, check_line, layer_line}
 use Rattle.tinmove.specs.Outcome.{IsJobDone, no_job, refused, done}
 use Rattle.tinmove.specs.Refusals.{status_of, line_of, status_of_words, status_of_tin, status_of_check, status_of_layer}
-use Rattle.tinmove.specs.Prepared.{file_of, files_of, IsSaid, sound_said, report_said, HasForm}
-use Rattle.tinmove.specs.Ends.{IsFrontOf, Makes, by_outcome, after_read_fault, out_of_memory, made_whole, after_write_fault, EndsTold, Stands, all_written, sound_alone, line_alone, front_of_files, front_of_sound, front_of_line, MayRefuse, by_the_files, unread, no_room}
+use Rattle.tinmove.specs.Prepared.{file_of, files_of, HasForm}
+use Rattle.tinmove.specs.Ends.{IsFrontOf, Makes, by_outcome, after_read_fault, out_of_memory, made_whole, after_write_fault, EndsTold, IsToBeMade, by_job, by_refusal, Stands, all_made, front_made, MayRefuse, by_the_files, unread, no_room}
 use Rattle.tinmove.proofs.Faults.{of_text, of_check, of_layer, not_write, layer_not_write}
 
 -- the file that a refusal makes
@@ -193,30 +193,26 @@ pub told_always : {Q : Files → Type 0} (files : Option Files) → ((f : Files)
 told_always None f = tt
 told_always (Some files) f = f files
 
--- what stands after a refusal
-pub stands_refused : (refusal : Refusal) (result : Status) (made : Option Files) (press_rose : Type 0) → HasPrinted (line_file refusal) (status_of refusal) result made press_rose → IfSome made (Stands result)
-stands_refused refusal result None press_rose printed = tt
-stands_refused refusal result (Some made) press_rose printed =
-    elim printed.status [
-      | inl is ↦ line_alone refusal (record { status_is = is; made_is = printed.all (λ write. never-write refusal (sym is ∙ write)) })
-      | inr is ↦ front_of_line is refusal (printed.front is)
-    ]
-
--- what stands after a success
-stands_said : (layers : Files) (said : List ℕ) (changed : Bool) (result : Status) (made : Files) (press_rose : Type 0) → IsSaid layers said changed
-    → HasPrinted (layers ++ (codes "-", said) ∷ []) (end_of changed) result (Some made) press_rose → Stands result made
-stands_said layers said changed result made press_rose (sound_said tin none is_said unchanged) printed =
-    elim printed.status [
-      | inl is ↦ sound_alone (is ∙ ap end_of unchanged) tin (printed.all (λ write. never-write-end changed (sym is ∙ write)) ∙ ap₂ (λ (front : Files) (text : List ℕ). front ++ (codes "-", text) ∷ []) none is_said)
-      | inr is ↦ front_of_sound is tin (subst (λ (whole : Files). IsFrontOf made whole) (ap₂ (λ (front : Files) (text : List ℕ). front ++ (codes "-", text) ∷ []) none is_said) (printed.front is))
-    ]
-stands_said layers said changed result made press_rose (report_said report is_said by_report) printed =
+-- what a run was to make stands, or a front of it after a fault
+stands_so : (words : List (List ℕ)) (whole made : Files) (wanted result : Status) (press_rose : Type 0) → wanted ≢ Write → IsToBeMade words wanted whole → HasPrinted whole wanted result (Some made) press_rose → Stands words result made
+stands_so words whole made wanted result press_rose other is_wanted printed =
     elim printed.status [
       | inl is ↦
-          all_written layers report (is ∙ ap end_of by_report) (printed.all (λ write. never-write-end changed (sym is ∙ write)) ∙ ap (λ text. layers ++ (codes "-", text) ∷ []) is_said)
-      | inr is ↦ front_of_files is layers report (subst (λ text. IsFrontOf made (layers ++ (codes "-", text) ∷ [])) is_said (printed.front is))
+          let same : made ≡ whole = printed.all (λ write. other (sym is ∙ write)) in
+          all_made (subst (λ (m : Files). IsToBeMade words result m) (sym same) (subst (λ (s : Status). IsToBeMade words s whole) (sym is) is_wanted))
+      | inr is ↦ front_made is wanted whole is_wanted (printed.front is)
     ]
 
-pub stands_done : (written : Written) (result : Status) (made : Option Files) (press_rose : Type 0) → HasForm written → HasPrinted (files_of written) (end_of written.changed) result made press_rose → IfSome made (Stands result)
-stands_done written result None press_rose form printed = tt
-stands_done written result (Some made) press_rose form printed = stands_said (map file_of written.layers.items) written.said written.changed result made press_rose form.is_said printed
+-- what stands after a refusal
+pub stands_refused : (words : List (List ℕ)) (refusal : Refusal) (result : Status) (made : Option Files) (press_rose : Type 0) → HasPrinted (line_file refusal) (status_of refusal) result made press_rose
+    → IfSome made (Stands words result)
+stands_refused words refusal result None press_rose printed = tt
+stands_refused words refusal result (Some made) press_rose printed =
+    stands_so words (line_file refusal) made (status_of refusal) result press_rose (never-write refusal) (by_refusal refusal (record { status_is = refl; made_is = refl })) printed
+
+-- what stands after a success
+pub stands_done : (words : List (List ℕ)) (job : Job) (written : Written) (result : Status) (made : Option Files) (press_rose : Type 0) → IsJobOf words job → HasForm job written
+    → HasPrinted (files_of written) (end_of written.changed) result made press_rose → IfSome made (Stands words result)
+stands_done words job written result None press_rose given form printed = tt
+stands_done words job written result (Some made) press_rose given form printed =
+    stands_so words (files_of written) made (end_of written.changed) result press_rose (never-write-end written.changed) (by_job job given (map file_of written.layers.items) written.said form.is_of refl) printed

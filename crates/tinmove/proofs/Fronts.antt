@@ -3,7 +3,7 @@ use Rattle.std.proofs.Common.{◌≡◌, ◌≢◌, inl, inr, ℕ, zero, suc, �
 use Rattle.std.proofs.Math.Seq.{take-length}
 use Rattle.std.specs.List.{AllByRecursion}
 use Rattle.shelf_io.specs.Files.{Files, bytes_of}
-use Rattle.shelf_io.specs.Made.{Lacks, Becomes, PrintsFront, with_whole}
+use Rattle.shelf_io.specs.Made.{Lacks, PrintsFront}
 use Rattle.job_words.proofs.Deciding.{texts-differ}
 use Rattle.tinmove.specs.declared.carrying.LayerFile.{LayerFile}
 use Rattle.tinmove.specs.Names.{HasSlash}
@@ -44,11 +44,6 @@ front_printed whole more (Some before) (Some made) name text is (inr (count, add
 pub front_told : (whole more : Files) (made : Option Files) → IfSome made (λ files. IsFrontOf files whole) → IfSome made (λ files. IsFrontOf files (whole ++ more))
 front_told whole more None front = tt
 front_told whole more (Some made) front = front-more made whole more front
-
-pub whole_printed : (whole : Files) (before after : Option Files) (name text : List ℕ) → IfSome before (λ made. made ≡ whole) → Becomes (with_whole name text) before after → IfSome after (λ made. made ≡ whole ++ (name, text) ∷ [])
-whole_printed whole before None name text is adds = tt
-whole_printed whole None (Some made) name text is adds = absurd adds
-whole_printed whole (Some before) (Some made) name text is adds = adds ∙ ap (λ (m : Files). m ++ (name, text) ∷ []) is
 
 -- ---- the files of layers
 pub split_at : (files : List LayerFile) (i : ℕ) (file : LayerFile) → i < length files → file ≡ get_or files i file → (rest : Files) × (map file_of files ≡ map file_of (take i files) ++ file_of file ∷ rest)

@@ -3,6 +3,7 @@ use Rattle.std.proofs.Common.{◌≡◌, ◌≢◌, ℕ, ◌+◌, List, [], ◌�
 use Rattle.std.proofs.lemmas.List.Elements.{Contains-append_left, Contains-append_right}
 use Rattle.std.specs.List.{AllByRecursion}
 use Rattle.report_text.specs.Reports.{IsPrintable}
+use Rattle.report_text.specs.declared.rows.LayerRow.{LayerRow}
 use Rattle.shelf_io.specs.Files.{Files}
 use Rattle.sheet_base.specs.declared.flags.How.{How}
 use Rattle.tin_base.specs.declared.pieces.Piece.{Piece}
@@ -51,6 +52,15 @@ module _ (told : Option Files) (how : How) (tin : Triangulation) where
   names_done number used before (name ∷ names) pieces done total (bytes, ps, first, rest, next, is, others) =
       ap (λ (ds : List Done). map (λ (d : Done). d.name) ds) is
       ∙ (ap (λ n. n ∷ map (λ (d : Done). d.name) rest) next.named ∙ ap (λ (ns : List (List ℕ)). name ∷ ns) (names_done (number + 1) (used + length bytes) ps names pieces rest total others))
+
+-- the rows and the files of layers have their names
+pub row-names : (done : List Done) → map (λ (row : LayerRow). row.name) (map row_of done) ≡ map (λ (d : Done). d.name) done
+row-names [] = refl
+row-names (first ∷ done) = ap (λ (ns : List (List ℕ)). first.name ∷ ns) (row-names done)
+
+pub file-names : (folder : List ℕ) (done : List Done) → map (λ (file : List ℕ × List ℕ). file.0) (map (file_in folder) done) ≡ map (name_in folder) (map (λ (d : Done). d.name) done)
+file-names folder [] = refl
+file-names folder (first ∷ done) = ap (λ (ns : List (List ℕ)). name_in folder first.name ∷ ns) (file-names folder done)
 
 -- the rows of layers whose names may be taken
 printable_in : (done : List Done) → AllByRecursion IsName (map (λ (d : Done). d.name) done) → AllByRecursion (λ row. IsPrintable row.name) (map row_of done)

@@ -1,3 +1,4 @@
+pub mod HandedOn
 pub mod Faults
 pub mod OnePieces
 pub mod Keeping

@@ -1,5 +1,5 @@
 -- A line that tells of bytes is that of a file with too many: no other line has a front that does, and no report.
-use Rattle.std.proofs.Common.{◌≡◌, ◌≢◌, ◌⊎◌, inl, inr, ℕ, zero, suc, List, [], ◌∷◌, ◌++◌, map, length, take, get_or, codes, Bool, Option, None, Some, IfSome, refl, sym, ◌∙◌, ap, subst, arith}
+use Rattle.std.proofs.Common.{◌≡◌, ◌≢◌, ◌⊎◌, ◌<◌, inl, inr, ℕ, zero, suc, List, [], ◌∷◌, ◌++◌, map, length, take, get_or, codes, Bool, Option, None, Some, IfSome, refl, sym, ◌∙◌, ap, subst, arith}
 use Rattle.std.proofs.Math.Seq.{take-length}
 use Rattle.shelf_io.specs.Files.{Files}
 use Rattle.mm_decimal.specs.declared.reading.NumFault.{NumFault}
@@ -16,6 +16,8 @@ use Rattle.tin_file.specs.declared.faults.TinFault.TheVariants.{Json, Deep, Key,
 use Rattle.job_words.specs.declared.faults.Which.TheVariants.{Tin as WhichTin, Out as WhichOut, Layer as WhichLayer}
 use Rattle.job_words.specs.declared.faults.WordsFault.{WordsFault}
 use Rattle.job_words.specs.declared.faults.WordsFault.TheVariants.{NoMode, Parse, Size, Many, Name, Suffix, SameName, NoMemory as WordsMemory}
+use Rattle.job_words.specs.declared.jobs.Job.{Job}
+use Rattle.job_words.specs.declared.jobs.Job.TheVariants.{Migrate, Check as CheckJob, Make}
 use Rattle.tinmove.specs.declared.preparing.Written.{Written}
 use Rattle.tinmove.specs.declared.status.Status.{Status}
 use Rattle.tinmove.specs.declared.status.Status.TheVariants.{Write}
@@ -27,8 +29,8 @@ use Rattle.tinmove.specs.Names.{HasSlash}
 use Rattle.tinmove.specs.RunChanges.{end_of}
 use Rattle.tinmove.specs.Lines.{words_line, tin_line, check_line, number_line, layer_line, layer_number_line}
 use Rattle.tinmove.specs.Refusals.{status_of, line_of}
-use Rattle.tinmove.specs.Prepared.{file_of, files_of, AreWritable, IsSaid, sound_said, report_said, HasForm}
-use Rattle.tinmove.specs.Ends.{IsFrontOf, TellsBytes}
+use Rattle.tinmove.specs.Prepared.{file_of, files_of, AreWritable, HasForm}
+use Rattle.tinmove.specs.Ends.{IsFrontOf, IsWrittenOf, limit_front, TellsBytes}
 use Rattle.tinmove.proofs.Fronts.{whole-front, slash-dash}
 use Rattle.tinmove.proofs.Ending.{line_file, HasPrinted, never-write, never-write-end}
 
@@ -46,39 +48,44 @@ differs_at text line count k same other some =
       | inr is ↦ some (ap (λ t. get_or t k 0) same ∙ is)
     ]
 
--- at some place the line differs from both that tell of bytes
+-- at some place the line differs from one that tells of bytes
 record TellsNone (line : List ℕ) : Type 0 where
   place : ℕ
-  other_tin : get_or (line_of TinLong) place 0 ≢ get_or line place 0
-  other_layer : get_or (line_of LayersLong) place 0 ≢ get_or line place 0
-  some_tin : get_or (line_of TinLong) place 0 ≢ 0
-  some_layer : get_or (line_of LayersLong) place 0 ≢ 0
+  early : place < 15
+  other : get_or limit_front place 0 ≢ get_or line place 0
+  some : get_or limit_front place 0 ≢ 0
+
+-- a byte of a list's front
+front_byte : (front rest : List ℕ) (k : ℕ) → k < length front → get_or (front ++ rest) k 0 ≡ get_or front k 0
+front_byte [] rest k within = absurd (omega (arith, within))
+front_byte (byte ∷ front) rest zero within = refl
+front_byte (byte ∷ front) rest (suc k) within = front_byte front rest k (omega (arith, within))
+
+limit_byte : (rest : List ℕ) (k : ℕ) → k < 15 → get_or (limit_front ++ rest) k 0 ≡ get_or limit_front k 0
+limit_byte rest k within = let size : 15 ≡ length limit_front = refl in front_byte limit_front rest k (subst (λ n. k < n) size within)
 
 at-first : (line : List ℕ) (byte : ℕ) → get_or line 0 0 ≡ byte → byte ≢ 108 → TellsNone line
 at-first line byte is other = record {
   place = 0;
-  other_tin = λ e. other (sym is ∙ sym e);
-  other_layer = λ e. other (sym is ∙ sym e);
-  some_tin = λ e. omega (arith, e);
-  some_layer = λ e. omega (arith, e);
+  early = omega arith;
+  other = λ e. other (sym is ∙ sym e);
+  some = λ e. omega (arith, e);
 }
 
 at-second : (line : List ℕ) (byte : ℕ) → get_or line 1 0 ≡ byte → byte ≢ 105 → TellsNone line
 at-second line byte is other = record {
   place = 1;
-  other_tin = λ e. other (sym is ∙ sym e);
-  other_layer = λ e. other (sym is ∙ sym e);
-  some_tin = λ e. omega (arith, e);
-  some_layer = λ e. omega (arith, e);
+  early = omega arith;
+  other = λ e. other (sym is ∙ sym e);
+  some = λ e. omega (arith, e);
 }
 
 at-eighth : (line : List ℕ) (byte : ℕ) → get_or line 7 0 ≡ byte → byte ≢ 98 → TellsNone line
 at-eighth line byte is other = record {
   place = 7;
-  other_tin = λ e. other (sym is ∙ sym e);
-  other_layer = λ e. other (sym is ∙ sym e);
-  some_tin = λ e. omega (arith, e);
-  some_layer = λ e. omega (arith, e);
+  early = omega arith;
+  other = λ e. other (sym is ∙ sym e);
+  some = λ e. omega (arith, e);
 }
 
 -- the lines of a triangulation begin with a t
@@ -166,12 +173,10 @@ words-none WordsMemory = at-first _ 110 refl (λ e. omega (arith, e))
 
 -- a front of a line that does not tell of bytes does not
 front-none : (line : List ℕ) (made : Files) → TellsNone line → IsFrontOf made ((codes "-", line) ∷ []) → TellsBytes made → ⊥
-front-none line made none front (inl is) =
+front-none line made none front (rest, is) =
     let (count, same) = rw is at front in
-    differs_at (line_of TinLong) line count none.place (ap (λ (f : List ℕ × List ℕ). f.1) same) none.other_tin none.some_tin
-front-none line made none front (inr is) =
-    let (count, same) = rw is at front in
-    differs_at (line_of LayersLong) line count none.place (ap (λ (f : List ℕ × List ℕ). f.1) same) none.other_layer none.some_layer
+    let byte = limit_byte rest none.place none.early in
+    differs_at (limit_front ++ rest) line count none.place (ap (λ (f : List ℕ × List ℕ). f.1) same) (λ e. none.other (sym byte ∙ e)) (λ e. none.some (sym byte ∙ e))
 
 -- a line that tells of bytes is that of a file with too many
 tells_long : (refusal : Refusal) (passed : Type 0) (made : Files) → IsFrontOf made (line_file refusal) → TellsBytes made → (refusal ≡ TinLong → passed) → (refusal ≡ LayersLong → passed) → passed
@@ -205,9 +210,7 @@ limit_told refusal result (Some made) press_rose passed printed tin layer = λ t
     tells_long refusal passed made (front-of (line_of refusal) (status_of refusal) result made press_rose (never-write refusal) printed) tells tin layer
 
 named-file : (name bytes : List ℕ) (rest made : Files) → HasSlash name → IsFrontOf made ((name, bytes) ∷ rest) → TellsBytes made → ⊥
-named-file name bytes rest made slash front (inl is) =
-    let (count, same) = rw is at front in slash-dash (subst HasSlash (sym (ap (λ (f : List ℕ × List ℕ). f.0) same)) slash)
-named-file name bytes rest made slash front (inr is) =
+named-file name bytes rest made slash front (behind, is) =
     let (count, same) = rw is at front in slash-dash (subst HasSlash (sym (ap (λ (f : List ℕ × List ℕ). f.0) same)) slash)
 
 -- a report begins with a t
@@ -219,9 +222,10 @@ none-told : (layers : Files) (said : List ℕ) (made : Files) → AreWritable la
 none-told [] said made writable none front tells = front-none said made none front tells
 none-told (file ∷ layers) said made writable none front tells = named-file file.0 file.1 (layers ++ (codes "-", said) ∷ []) made writable.0 front tells
 
-said-none : (layers : Files) (said : List ℕ) (changed : Bool) → IsSaid layers said changed → TellsNone said
-said-none layers said changed (sound_said tin empty is_said unchanged) = rw is_said (at-first _ 115 refl (λ e. omega (arith, e)))
-said-none layers said changed (report_said report is_said by_report) = rw is_said (report-none report)
+said-none : (job : Job) (layers : Files) (said : List ℕ) (status : Status) → IsWrittenOf job layers said status → TellsNone said
+said-none (Migrate tin out how inverse names) layers said status (named, on) = rw on.said_is (report-none on.report)
+said-none (CheckJob tin how) layers said status (none, same, sound, is_said) = rw is_said (at-first _ 115 refl (λ e. omega (arith, e)))
+said-none (Make n) layers said status (none, on) = rw on.said_is (report-none on.report)
 
 front-done : (whole : Files) (changed : Bool) (result : Status) (made : Files) (press_rose : Type 0) → HasPrinted whole (end_of changed) result (Some made) press_rose → IsFrontOf made whole
 front-done whole changed result made press_rose printed =
@@ -233,10 +237,10 @@ front-done whole changed result made press_rose printed =
     ]
 
 -- what is printed of a success tells of no bytes
-pub limit_done : (written : Written) (result : Status) (made : Option Files) (press_rose passed : Type 0) → HasForm written → HasPrinted (files_of written) (end_of written.changed) result made press_rose
+pub limit_done : (job : Job) (written : Written) (result : Status) (made : Option Files) (press_rose passed : Type 0) → HasForm job written → HasPrinted (files_of written) (end_of written.changed) result made press_rose
     → IfSome made (λ files. TellsBytes files → passed)
-limit_done written result None press_rose passed form printed = tt
-limit_done written result (Some made) press_rose passed form printed = λ tells.
+limit_done job written result None press_rose passed form printed = tt
+limit_done job written result (Some made) press_rose passed form printed = λ tells.
     absurd
-    (none-told (map file_of written.layers.items) written.said made form.writable (said-none (map file_of written.layers.items) written.said written.changed form.is_said)
+    (none-told (map file_of written.layers.items) written.said made form.writable (said-none job (map file_of written.layers.items) written.said (end_of written.changed) form.is_of)
     (front-done (files_of written) written.changed result made press_rose printed) tells)

@@ -1,16 +1,12 @@
 -- What is made, from the steps of making it.
-use Rattle.std.proofs.Common.{◌≡◌, ◌≢◌, ◌≤◌, ◌+◌, ℕ, List, [], map, codes, length, Option, None, Some, IfSome, refl, sym, ◌∙◌, ap, subst, arith}
-use Rattle.std.specs.List.{AllByRecursion}
+use Rattle.std.proofs.Common.{◌≡◌, ◌≢◌, ◌≤◌, ◌+◌, ℕ, List, [], map, codes, length, Option, None, Some, IfSome, refl, sym, ◌∙◌, ap, arith}
 use Rattle.shelf_io.specs.Files.{Files}
 use Rattle.shelf_io.specs.Load.{Loads}
-use Rattle.report_text.specs.Reports.{IsPrintable}
 use Rattle.report_text.specs.ReportText.{report_text}
 use Rattle.report_text.specs.declared.rows.LayerRow.{LayerRow}
-use Rattle.sheet_base.specs.declared.flags.How.{How}
 use Rattle.tin_base.specs.Triangulation.{Triangulation}
 use Rattle.tin_base.specs.Limits.{IsWithinLimits}
 use Rattle.topo_check.specs.Changes.{AreAllComparable}
-use Rattle.job_words.specs.Kept.{IsName}
 use Rattle.tinmove.specs.declared.loading.TheConstants.{MOST_BYTES}
 use Rattle.tinmove.specs.declared.refusal.Refusal.{Refusal}
 use Rattle.tinmove.specs.declared.status.Status.TheVariants.{Read}
@@ -20,38 +16,15 @@ use Rattle.tinmove.proofs.Faults.{of_text, of_check, of_layer, not_read, layer_n
 use Rattle.tinmove.specs.declared.carrying.LayerFile.{LayerFile}
 use Rattle.tinmove.specs.declared.carrying.Run.{Run}
 use Rattle.tinmove.specs.declared.preparing.Written.{Written}
-use Rattle.tinmove.specs.Making.{tin_text, layer_text}
-use Rattle.tinmove.specs.Triangulations.{IsTin}
+use Rattle.tinmove.specs.Making.{layer_text}
 use Rattle.tinmove.specs.RunChanges.{end_of}
-use Rattle.tinmove.specs.Outcome.{HasFile, HasTurned, made_files, made_carriage, by_tin, report_of, file_in, IsMakingDone}
+use Rattle.tinmove.specs.Outcome.{HasTurned, made_files, made_carriage, report_of, file_in, IsMakingDone}
 use Rattle.job_words.specs.declared.jobs.Job.TheVariants.{Make}
 use Rattle.tinmove.specs.Ends.{MayRefuse, by_the_files, unread, no_room}
-use Rattle.tinmove.specs.Prepared.{file_of, files_of, report_said, HasForm, IsTextRefused, HasCarried, AreUncarried, IsUnlisted, IsOfMaking}
+use Rattle.tinmove.specs.Prepared.{file_of, files_of, HasForm, HasCarried, AreUncarried, IsUnlisted, IsOfMaking}
 use Rattle.tinmove.specs.Wanted.{AddsLayer, AddsNone, IsReported, MayNotBeMade}
-use Rattle.tinmove.proofs.LayerLists.{names_done, rows_printable}
-use Rattle.tinmove.proofs.Readied.{text-refused, without_file, without_read, without_room, carried_at, uncarried_at, layers_refused, changes_refused, run_comparable}
-
--- ---- the triangulation
-made_file : (n : ℕ) (text : List ℕ) → text ≡ tin_text n → length text ≤ MOST_BYTES → HasFile (made_files n) (codes "made.json") text
-made_file n text is few = record { found = ap Some (sym is); within = few }
-
-pub made_ready : (n : ℕ) (text : List ℕ) (tin : Triangulation) → text ≡ tin_text n → length text ≤ MOST_BYTES → IsTin made_carriage.how text tin
-    → HasTurned (made_files n) made_carriage.how made_carriage.tin made_carriage.inverse tin
-made_ready n text tin is few read = (tin, (text, made_file n text is few, read), refl)
-
-pub made_unready : (n : ℕ) (text : List ℕ) (refusal : Refusal) → text ≡ tin_text n → length text ≤ MOST_BYTES → IsTextRefused made_carriage.how text refusal → MayNotBeMade n refusal
-made_unready n text refusal is few why =
-    elim (text-refused (made_files n) made_carriage.how (codes "made.json") text ⊥ refusal (made_file n text is few) why) [
-      | without_file refused ↦ by_the_files (by_tin refused)
-      | without_read rose same ↦ absurd rose
-      | without_room want ↦ no_room want
-    ]
-
-pub text_of_making : (how : How) (text : List ℕ) (refusal : Refusal) → IsTextRefused how text refusal → IsOfMaking refusal
-text_of_making how text (Tin fault) why = tt
-text_of_making how text (Check fault) why = tt
-text_of_making how text NoMemory why = tt
-text_of_making how text refusal why = absurd why
+use Rattle.tinmove.proofs.LayerLists.{names_done}
+use Rattle.tinmove.proofs.Readied.{carried_at, uncarried_at, layers_refused, changes_refused, run_comparable, reports_on}
 
 -- ---- the layer
 made_found : (n : ℕ) (text : List ℕ) → text ≡ layer_text n → IfSome (Some (made_files n)) (Loads (codes "made.wkt") text)
@@ -95,25 +68,8 @@ pub made_changes_refused : (n : ℕ) (tin : Triangulation) (run : Run) (refusal 
     → HasCarried (Some (made_files n)) made_carriage.how tin [] made_carriage.layers run → IsUnlisted tin run.pieces.items refusal → MayNotBeMade n refusal
 made_changes_refused n tin run refusal ready has why = changes_refused (Some (made_files n)) made_carriage tin run ⊥ refusal ready has why
 
-pub unlisted_of_making : (tin : Triangulation) (run : Run) (refusal : Refusal) → IsUnlisted tin run.pieces.items refusal → IsOfMaking refusal
-unlisted_of_making tin run TooManyChanges why = tt
-unlisted_of_making tin run NoMemory why = tt
-unlisted_of_making tin run refusal why = absurd why
-
 pub made_comparable : (n : ℕ) (tin : Triangulation) (run : Run) → IsWithinLimits tin → HasCarried (Some (made_files n)) made_carriage.how tin [] made_carriage.layers run → AreAllComparable tin run.pieces.items
 made_comparable n tin run limits has = run_comparable (Some (made_files n)) made_carriage tin run limits has
-
-pub made_name : IsPrintable (codes "made.json")
-made_name = (omega arith, (omega arith, (omega arith, (omega arith, (omega arith, (omega arith, (omega arith, (omega arith, (omega arith, tt)))))))))
-
-layer_name : IsName (codes "made.wkt")
-layer_name = record { some = λ e. cc; printable = (omega arith, (omega arith, (omega arith, (omega arith, (omega arith, (omega arith, (omega arith, (omega arith, tt)))))))) }
-
-pub made_rows : (n : ℕ) (tin : Triangulation) (run : Run) → HasCarried (Some (made_files n)) made_carriage.how tin [] made_carriage.layers run → AllByRecursion (λ row. IsPrintable row.name) run.rows.items
-made_rows n tin run has =
-    let holds = has.holds in
-    subst (λ (rows : List LayerRow). AllByRecursion (λ row. IsPrintable row.name) rows) (sym holds.rows)
-    (rows_printable has.done made_carriage.layers (names_done (Some (made_files n)) made_carriage.how tin 0 0 [] made_carriage.layers run.pieces.items has.done run.used has.carried) (layer_name, tt))
 
 pub made_done : (n : ℕ) (tin : Triangulation) (run : Run) (written final : Written) → HasTurned (made_files n) made_carriage.how made_carriage.tin made_carriage.inverse tin
     → HasCarried (Some (made_files n)) made_carriage.how tin [] made_carriage.layers run → IsReported (codes "made.json") tin run written → final.layers.items ≡ [] → final.said ≡ written.said → final.changed ≡ written.changed
@@ -139,11 +95,15 @@ made_done n tin run written final ready has is none said changed =
       made_is = rw (none, said) refl;
     }
 
-pub made_form : (tin : Triangulation) (run : Run) (written final : Written) → IsReported (codes "made.json") tin run written → final.layers.items ≡ [] → final.said ≡ written.said → final.changed ≡ written.changed → HasForm final
-made_form tin run written final is none said changed = record {
-  writable = rw none tt;
-  is_said = report_said (report_of (codes "made.json") tin run.rows.items is.changes) (said ∙ is.said) (changed ∙ is.changed);
-}
+pub made_form : (n : ℕ) (tin : Triangulation) (run : Run) (written final : Written) → HasCarried (Some (made_files n)) made_carriage.how tin [] made_carriage.layers run → IsReported (codes "made.json") tin run written
+    → final.layers.items ≡ [] → final.said ≡ written.said → final.changed ≡ written.changed → HasForm (Make n) final
+made_form n tin run written final has is none said changed =
+    let holds = has.holds in
+    let are = names_done (Some (made_files n)) made_carriage.how tin 0 0 [] made_carriage.layers run.pieces.items has.done run.used has.carried in
+    record {
+      writable = rw none tt;
+      is_of = (ap (λ (files : List LayerFile). map file_of files) none, rw (said, changed) (reports_on (codes "made.json") made_carriage.layers tin run written has.done holds.rows are is));
+    }
 
 -- a job that makes is refused as what it makes is, whatever files there are
 pub making_refused : (told : Option Files) (n : ℕ) (rose : Type 0) (refusal : Refusal) → MayNotBeMade n refusal → IfSome told (λ files. MayRefuse files (Make n) rose refusal)

@@ -30,11 +30,12 @@ use Rattle.tinmove.specs.LayerRuns.{Done, IsLayerFile, IsLongLayer, IsNextCarrie
 use Rattle.tinmove.specs.Outcome.{HasFile, IsTinRefused, HasTurned, by_tin, by_layers, row_of, report_of, file_in, IsJobDone}
 use Rattle.job_words.specs.declared.jobs.Job.{Job}
 use Rattle.job_words.specs.declared.jobs.Job.TheVariants.{Migrate, Check as CheckJob}
-use Rattle.tinmove.specs.Ends.{LacksSome, MayRefuse, by_the_files, unread, no_room}
-use Rattle.tinmove.specs.Prepared.{file_of, files_of, AreWritable, report_said, HasForm, IsTextRefused, IsUnloaded, missing, read_failed, too_long, no_room as no_memory, IsTinUnready, not_loaded, no_tin, IsUncarriedAs, Holds, HasCarried, AreUncarried, by_layers as by_the_layers, by_fault, by_want, IsUnlisted}
+use Rattle.tinmove.specs.Names.{name_in}
+use Rattle.tinmove.specs.Ends.{IsReportOn, LacksSome, MayRefuse, by_the_files, unread, no_room}
+use Rattle.tinmove.specs.Prepared.{file_of, files_of, AreWritable, HasForm, IsTextRefused, IsUnloaded, missing, read_failed, too_long, no_room as no_memory, IsTinUnready, not_loaded, no_tin, IsUncarriedAs, Holds, HasCarried, AreUncarried, by_layers as by_the_layers, by_fault, by_want, IsUnlisted}
 use Rattle.tinmove.specs.Wanted.{AddsLayer, AddsNone, IsReported}
 use Rattle.tinmove.proofs.Faults.{want_or_fault}
-use Rattle.tinmove.proofs.LayerLists.{one_more, names_done, rows_printable, files_writable}
+use Rattle.tinmove.proofs.LayerLists.{one_more, names_done, row-names, file-names, rows_printable, files_writable}
 use Rattle.tinmove.proofs.Comparable.{run_compared}
 
 -- ---- files
@@ -252,13 +253,27 @@ migration_done (Some files) carriage tin run written ready has is =
       made_is = refl;
     }
 
+-- the report is on the triangulation and the layers of these names
+pub reports_on : (name : List ℕ) (names : List (List ℕ)) (tin : Triangulation) (run : Run) (written : Written) (done : List Done) → run.rows.items ≡ map row_of done → map (λ (d : Done). d.name) done ≡ names
+    → IsReported name tin run written → IsReportOn name names written.said (end_of written.changed)
+reports_on name names tin run written done rows are is = record {
+  report = report_of name tin run.rows.items is.changes;
+  tin_is = refl;
+  layers_are = ap (λ (rs : List LayerRow). map (λ (row : LayerRow). row.name) rs) rows ∙ (row-names done ∙ are);
+  said_is = is.said;
+  status_is = ap end_of is.changed;
+}
+
 pub migration_form : (told : Option Files) (carriage : Carriage) (tin : Triangulation) (run : Run) (written : Written) → MayBeTaken carriage → HasCarried told carriage.how tin carriage.out carriage.layers run
-    → IsReported carriage.tin tin run written → HasForm written
+    → IsReported carriage.tin tin run written → HasForm (Migrate carriage.tin carriage.out carriage.how carriage.inverse carriage.layers) written
 migration_form told carriage tin run written taken has is =
     let holds = has.holds in
+    let are = names_done told carriage.how tin 0 0 [] carriage.layers run.pieces.items has.done run.used has.carried in
+    let files = files_are run written carriage.out has.done is.layers holds in
     record {
-      writable =
-          subst (λ (fs : Files). AreWritable fs) (sym (files_are run written carriage.out has.done is.layers holds))
-          (files_writable carriage.out has.done carriage.layers (names_done told carriage.how tin 0 0 [] carriage.layers run.pieces.items has.done run.used has.carried) taken.distinct);
-      is_said = report_said (report_of carriage.tin tin run.rows.items is.changes) is.said is.changed;
+      writable = subst (λ (fs : Files). AreWritable fs) (sym files) (files_writable carriage.out has.done carriage.layers are taken.distinct);
+      is_of = (
+        ap (λ (fs : Files). map (λ (file : List ℕ × List ℕ). file.0) fs) files ∙ (file-names carriage.out has.done ∙ ap (λ (ns : List (List ℕ)). map (name_in carriage.out) ns) are),
+        reports_on carriage.tin carriage.layers tin run written has.done holds.rows are is,
+      );
     }

@@ -1,5 +1,5 @@
 -- Why a layer is not carried, from the fault of carrying it.
-use Rattle.std.proofs.Common.{ℕ, List, Result, Ok, Err, IfErr, IsErrOf, refl}
+use Rattle.std.proofs.Common.{ℕ, List, Err, IsErrOf, refl}
 use Rattle.carry_map.specs.declared.faults.CarryFault.{CarryFault}
 use Rattle.carry_map.specs.declared.faults.CarryFault.TheVariants.{Layer as Unread, Outside as CarryOutside, TooMany, NoMemory as CarryMemory}
 use Rattle.carry_map.specs.declared.layers.Carried.{Carried}
@@ -8,7 +8,6 @@ use Rattle.carry_map.specs.Layers.{IsLayerOutside, IsLayerTooMany}
 use Rattle.sheet_base.specs.declared.faults.LayerFault.{LayerFault}
 use Rattle.sheet_base.specs.Sheets.{Contents}
 use Rattle.tin_base.specs.Triangulation.{Triangulation}
-use Rattle.tinmove.specs.declared.refusal.Refusal.{Refusal}
 use Rattle.tinmove.specs.Refusals.{of_carrying}
 use Rattle.tinmove.specs.Prepared.{IsUncarriedAs}
 
@@ -24,8 +23,3 @@ module _ (reads : List ℕ → Contents → Type 0) (refuses : List ℕ → Laye
   uncarried_as (CarryOutside path segment) layer outside many = (refl, outside path segment refl)
   uncarried_as TooMany layer outside many = many refl
   uncarried_as CarryMemory layer outside many = tt
-
--- a refusal has another fact where one follows from the other
-pub if_err : {T : Type 0} {P Q : Refusal → Type 0} (result : Result T Refusal) → ((r : Refusal) → P r → Q r) → IfErr result P → IfErr result Q
-if_err (Ok x) f h = tt
-if_err (Err r) f h = f r h

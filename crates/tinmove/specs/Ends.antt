@@ -1,5 +1,5 @@
 -- How a run ends: by its outcome, after a read fault, for want of memory, or after a write fault.
-use Rattle.std.specs.Prelude.{◌≡◌, ◌≢◌, ◌⊎◌, ℕ, List, [], ◌∷◌, ◌++◌, codes, take, Contains, Option, None, Some}
+use Rattle.std.specs.Prelude.{◌≡◌, ◌≢◌, ◌⊎◌, ℕ, List, [], ◌∷◌, ◌++◌, map, codes, take, Contains, Option, None, Some}
 use Rattle.shelf_io.specs.Files.{Files}
 use Rattle.shelf_io.specs.Load.{LacksName}
 use Rattle.tin_base.specs.Triangulation.{Triangulation}
@@ -10,14 +10,16 @@ use Rattle.tinmove.specs.declared.status.Status.{Status}
 use Rattle.tinmove.specs.declared.status.Status.TheVariants.{Same, Changed, Words, Layer, Outside, Read, Write, Memory}
 use Rattle.tinmove.specs.declared.refusal.Refusal.{Refusal}
 use Rattle.tinmove.specs.declared.refusal.Refusal.TheVariants.{TinUnread, TinLong, LayerUnread, LayersLong, NoMemory}
+use Rattle.tinmove.specs.Names.{name_in}
 use Rattle.tinmove.specs.Jobs.{Carriage}
 use Rattle.tinmove.specs.LayerRuns.{IsReachedLayer}
-use Rattle.tinmove.specs.Outcome.{HasWay, carriage_with, HasOutcome, IsJobRefused, Refuses}
+use Rattle.tinmove.specs.Outcome.{HasWay, carriage_with, made_carriage, HasOutcome, IsJobRefused, Refuses}
 use Rattle.tinmove.specs.RunChanges.{end_with}
 use Rattle.report_text.specs.Reports.{Contents as Report}
+use Rattle.report_text.specs.declared.rows.LayerRow.{LayerRow}
 use Rattle.report_text.specs.ReportText.{report_text}
 use Rattle.tinmove.specs.SoundLine.{sound_text}
-use Rattle.tinmove.specs.Refusals.{status_of, line_of}
+use Rattle.tinmove.specs.Refusals.{status_of}
 
 -- nothing refuses the migration before the file of the layer of this number
 pub record IsLayerReached (files : Files) (carriage : Carriage) (number : ℕ) : Type 0 where
@@ -62,19 +64,30 @@ abbrev pub EndsTold : List (List ℕ) → Files → Type 0 → Type 0 → Status
 EndsTold words files shelf_rose press_rose status (Some made) = Ends words files shelf_rose press_rose status made
 EndsTold words files shelf_rose press_rose status None = (made : Files) × Ends words files shelf_rose press_rose status made
 
--- a report behind the files of some layers
-abbrev pub report_behind : Files → Report → Files
-report_behind layers report = layers ++ (codes "-", report_text report) ∷ []
+-- a report on the triangulation and the layers of these names; the status says whether it lists a change
+pub record IsReportOn (tin : List ℕ) (layers : List (List ℕ)) (said : List ℕ) (status : Status) : Type 0 where
+  pub report : Report
+  pub tin_is : report.name ≡ tin
+  pub layers_are : map (λ (row : LayerRow). row.name) report.layers ≡ layers
+  pub said_is : said ≡ report_text report
+  pub status_is : status ≡ end_with report.changes
 
--- after each status but `Write`: all files of a success, or `-` alone with the line of a sound triangulation or a refusal;
--- after `Write` a front of these. The status of a success says whether its report lists a change
-pub data Stands (status : Status) (made : Files) : Type 0 where
-  all_written : (layers : Files) → (report : Report) → status ≡ end_with report.changes → made ≡ report_behind layers report → Stands status made
-  sound_alone : status ≡ Same → (tin : Triangulation) → made ≡ (codes "-", sound_text tin) ∷ [] → Stands status made
-  line_alone : (refusal : Refusal) → Refuses refusal status made → Stands status made
-  front_of_files : status ≡ Write → (layers : Files) → (report : Report) → IsFrontOf made (report_behind layers report) → Stands status made
-  front_of_sound : status ≡ Write → (tin : Triangulation) → IsFrontOf made ((codes "-", sound_text tin) ∷ []) → Stands status made
-  front_of_line : status ≡ Write → (refusal : Refusal) → IsFrontOf made ((codes "-", line_of refusal) ∷ []) → Stands status made
+-- What is written of a job that is done, whatever files hold, and the status: the layers' files and what is said. A migration has a file for each layer, in their order and under
+-- their last parts in the folder, and says a report on them; what is made has the report alone; a check says that a triangulation is sound.
+abbrev pub IsWrittenOf : Job → Files → List ℕ → Status → Type 0
+IsWrittenOf (Migrate tin out how inverse names) layers said status = (map (λ (file : List ℕ × List ℕ). file.0) layers ≡ map (name_in out) names) × IsReportOn tin names said status
+IsWrittenOf (Check tin how) layers said status = (layers ≡ []) × (status ≡ Same) × (sound : Triangulation) × (said ≡ sound_text sound)
+IsWrittenOf (Make n) layers said status = (layers ≡ []) × IsReportOn made_carriage.tin made_carriage.layers said status
+
+-- the files that a run with these words may be to make, whatever files hold, and its status: what is written of the job, or `-` alone with the line of a refusal
+pub data IsToBeMade (words : List (List ℕ)) (status : Status) (made : Files) : Type 0 where
+  by_job : (job : Job) → IsJobOf words job → (layers : Files) → (said : List ℕ) → IsWrittenOf job layers said status → made ≡ layers ++ (codes "-", said) ∷ [] → IsToBeMade words status made
+  by_refusal : (refusal : Refusal) → Refuses refusal status made → IsToBeMade words status made
+
+-- after each status but `Write` all of it; after `Write` a front of it
+pub data Stands (words : List (List ℕ)) (status : Status) (made : Files) : Type 0 where
+  all_made : IsToBeMade words status made → Stands words status made
+  front_made : status ≡ Write → (wanted : Status) → (whole : Files) → IsToBeMade words wanted whole → IsFrontOf made whole → Stands words status made
 
 -- one of these names is missing from the shelf's files, which are told
 abbrev pub LacksSome : List (List ℕ) → Option Files → Type 0
@@ -121,6 +134,10 @@ pub record HasCauses (job : Job) (files : Option Files) (shelf_rose given_passed
   pub layers_long : refusal ≡ LayersLong → given_passed
   pub may_end : MayEnd job (status_of refusal)
 
--- a line that says that a limit on bytes is passed
+-- what is printed alone begins so
+abbrev pub limit_front : List ℕ
+limit_front = codes "limit: bytes of"
+
+-- what is said alone is a line that says that a limit on bytes is passed, or a front of it that says as much
 abbrev pub TellsBytes : Files → Type 0
-TellsBytes made = (made ≡ (codes "-", line_of TinLong) ∷ []) ⊎ (made ≡ (codes "-", line_of LayersLong) ∷ [])
+TellsBytes made = (rest : List ℕ) × (made ≡ (codes "-", limit_front ++ rest) ∷ [])

@@ -1,12 +1,10 @@
 -- What is ready to be written.
-use Rattle.std.specs.Prelude.{◌≡◌, ◌≢◌, ℕ, List, [], ◌∷◌, ◌++◌, map, codes, string_bytes, Bool, false, Option, IfSome, Err}
+use Rattle.std.specs.Prelude.{◌≡◌, ◌≢◌, ℕ, List, [], ◌∷◌, ◌++◌, map, codes, string_bytes, Option, IfSome, Err}
 use Rattle.std.specs.List.{AllByRecursion}
 use Rattle.shelf_io.specs.Files.{Files}
 use Rattle.shelf_io.specs.Load.{LacksName, IsLonger}
 use Rattle.carry_map.specs.Layers.{IsLayerOutside, IsLayerTooMany}
 use Rattle.carry_map.specs.declared.limits.TheConstants.{MOST_PIECES}
-use Rattle.report_text.specs.Reports.{Contents as Report}
-use Rattle.report_text.specs.ReportText.{report_text}
 use Rattle.sheet_base.specs.declared.flags.How.{How}
 use Rattle.sheet_base.specs.Sheets.{Contents}
 use Rattle.sheet_base.specs.declared.faults.LayerFault.{LayerFault}
@@ -16,6 +14,7 @@ use Rattle.tin_check.specs.Faults.{IsCause}
 use Rattle.tin_file.specs.Reading.{Answers}
 use Rattle.topo_check.specs.Changes.{HasMoreThan}
 use Rattle.job_words.specs.declared.formats.Format.{Format}
+use Rattle.job_words.specs.declared.jobs.Job.{Job}
 use Rattle.tinmove.specs.declared.loading.TheConstants.{MOST_BYTES}
 use Rattle.tinmove.specs.declared.listing.TheConstants.{MOST_CHANGES}
 use Rattle.tinmove.specs.declared.refusal.Refusal.{Refusal}
@@ -27,8 +26,8 @@ use Rattle.tinmove.specs.Names.{HasSlash}
 use Rattle.tinmove.specs.Triangulations.{IsRead}
 use Rattle.tinmove.specs.Carrying.{IsLayerText, LacksLayerText}
 use Rattle.tinmove.specs.LayerRuns.{Done, AreCarried, IsReachedLayer, AreRefused}
-use Rattle.tinmove.specs.RunChanges.{is_some_change}
-use Rattle.tinmove.specs.SoundLine.{sound_text}
+use Rattle.tinmove.specs.RunChanges.{end_of}
+use Rattle.tinmove.specs.Ends.{IsWrittenOf}
 use Rattle.tinmove.specs.Outcome.{HasFile, row_of, file_in}
 
 -- ---- files
@@ -44,14 +43,10 @@ abbrev pub AreWritable : Files → Type 0
 AreWritable [] = Unit {0}
 AreWritable (file ∷ files) = HasSlash file.0 × AllByRecursion (λ other. other.0 ≢ file.0) files × AreWritable files
 
--- what is said: that a triangulation is sound, with no layer's file, or a report that lists a change or not
-pub data IsSaid (layers : Files) (said : List ℕ) (changed : Bool) : Type 0 where
-  sound_said : (tin : Triangulation) → layers ≡ [] → said ≡ sound_text tin → changed ≡ false → IsSaid layers said changed
-  report_said : (report : Report) → said ≡ report_text report → changed ≡ is_some_change report.changes → IsSaid layers said changed
-
-pub record HasForm (written : Written) : Type 0 where
+-- what is ready of a job may be written, and is written of it
+pub record HasForm (job : Job) (written : Written) : Type 0 where
   pub writable : AreWritable (map file_of written.layers.items)
-  pub is_said : IsSaid (map file_of written.layers.items) written.said written.changed
+  pub is_of : IsWrittenOf job (map file_of written.layers.items) written.said (end_of written.changed)
 
 -- ---- the triangulation
 -- the text gives no sound triangulation, or memory ran out

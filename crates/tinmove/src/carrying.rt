@@ -129,18 +129,9 @@ fn carried_layer(
     ensures refused { IfErr result (λ refusal. IsUncarried how index.now format bytes.now number (length pieces.old.items) refusal) }
 {
     match format {
-        Format::Wkt => match carried_as::<Wkt>(alloc, index, bytes, how, number, pieces) {
-            Ok(carried) => Ok(carried),
-            Err(refusal) => Err(refusal),
-        },
-        Format::GeoJson => match carried_as::<GeoJson>(alloc, index, bytes, how, number, pieces) {
-            Ok(carried) => Ok(carried),
-            Err(refusal) => Err(refusal),
-        },
-        Format::Drawing => match carried_as::<Dxf>(alloc, index, bytes, how, number, pieces) {
-            Ok(carried) => Ok(carried),
-            Err(refusal) => Err(refusal),
-        },
+        Format::Wkt => carried_as::<Wkt>(alloc, index, bytes, how, number, pieces),
+        Format::GeoJson => carried_as::<GeoJson>(alloc, index, bytes, how, number, pieces),
+        Format::Drawing => carried_as::<Dxf>(alloc, index, bytes, how, number, pieces),
     }
 }
 
@@ -201,10 +192,7 @@ pub fn carry_next(
     ensures refused { IfErr result (λ refusal. AddsNone how index.now number name.now bytes.now (length run.old.pieces.items) refusal) }
 {
     let format = known_format(name.text());
-    let carried = match carried_layer(alloc, format, index, bytes, how, number, &mut run.pieces) {
-        Ok(carried) => carried,
-        Err(refusal) => return Err(refusal),
-    };
+    let carried = carried_layer(alloc, format, index, bytes, how, number, &mut run.pieces)?;
     let row = layer_row(alloc, name, format, &carried)?;
     let file = layer_file(alloc, folder, name, carried.text)?;
     add_layer(run, file, row)?;
@@ -233,18 +221,15 @@ pub fn carried_layers<S: Shelf>(
     let mut run = Run::new(alloc);
     for (number, name) in migration.layers.iter().enumerate() {
         let layer = number as u32;
-        let bytes = match loaded(
+        let bytes = loaded(
             alloc,
             shelf,
             name.text(),
             MOST_BYTES - run.used,
             Refusal::LayerUnread { layer },
             Refusal::LayersLong,
-        ) {
-            Ok(bytes) => bytes,
-            Err(refusal) => return Err(refusal),
-        };
-        match carry_next(
+        )?;
+        carry_next(
             alloc,
             migration.out,
             migration.how,
@@ -253,10 +238,7 @@ pub fn carried_layers<S: Shelf>(
             name,
             &bytes,
             &mut run,
-        ) {
-            Ok(()) => {}
-            Err(refusal) => return Err(refusal),
-        }
+        )?;
     }
     Ok(run)
 }

@@ -1,6 +1,6 @@
 //! What the program says of itself where the words ask for that alone.
 
-ghost use Rattle.std.specs.Prelude.{◌≡◌, ◌↔◌, ◌⊎◌, ◌∷◌, [], codes, Option, Some, IsTrue, IfSome, IfNone, map, string_bytes};
+ghost use Rattle.std.specs.Prelude.{◌≡◌, ◌↔◌, ◌⊎◌, ◌∷◌, [], codes, Option, Some, IsTrue, map, string_bytes};
 ghost use Rattle.tinmove.specs.Help.{Asks, text_of};
 ghost use Rattle.tinmove.specs.declared.help.Help.{Help};
 

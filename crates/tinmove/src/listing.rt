@@ -1,7 +1,6 @@
 //! The changes that a run lists.
 
 ghost use Rattle.std.specs.Prelude.{◌≤◌, IfOk, IfErr, length};
-ghost use Rattle.tin_base.specs.Limits.{IsWithinLimits};
 ghost use Rattle.topo_check.specs.declared.limits.TheConstants.{MOST_COMPARED};
 ghost use Rattle.topo_check.specs.Changes.{AreAllComparable};
 ghost use Rattle.tinmove.specs.RunChanges.{AreListed};
@@ -14,13 +13,6 @@ use topo_check::changes;
 
 /// The most changes of a run.
 pub const MOST_CHANGES: u32 = 1 << 20;
-
-/// What the type of a sound triangulation keeps.
-pub fn known(tin: &SoundTin)
-    ensures { IsWithinLimits tin.now }
-{
-    let _ = tin.triangles();
-}
 
 /// The changes of a run's pieces by rounding, where they are not too many.
 pub fn listed_changes(

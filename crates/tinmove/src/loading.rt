@@ -1,6 +1,6 @@
 //! The files that a job reads.
 
-ghost use Rattle.std.specs.Prelude.{◌≡◌, ◌≢◌, ◌+◌, ◌≤◌, length, vec_len, IfOk, IfErr, IfSome, OnOk};
+ghost use Rattle.std.specs.Prelude.{◌≡◌, ◌≢◌, ◌+◌, ◌≤◌, vec_len, IfOk, IfErr, IfSome, OnOk};
 ghost use Rattle.shelf_io.specs.Count.{Rose, counted};
 ghost use Rattle.shelf_io.specs.Load.{Loads};
 ghost use Rattle.tinmove.specs.declared.status.Status.TheVariants.{Read as ReadStatus, Limit as LimitStatus};
@@ -65,20 +65,15 @@ pub fn loaded_tin<S: Shelf>(
     ensures same { OnOk result (S.faults shelf.new ≡ S.faults shelf.old) }
     ensures same_err { IfErr result (λ refusal. status_of refusal ≢ ReadStatus → S.faults shelf.new ≡ S.faults shelf.old) }
 {
-    match loaded(
+    let text = loaded(
         alloc,
         shelf,
         name,
         MOST_BYTES,
         Refusal::TinUnread,
         Refusal::TinLong,
-    ) {
-        Ok(text) => match sound_tin(alloc, &text, how) {
-            Ok(tin) => Ok(tin),
-            Err(refusal) => Err(refusal),
-        },
-        Err(refusal) => Err(refusal),
-    }
+    )?;
+    sound_tin(alloc, &text, how)
 }
 
 /// The same, in which points are found; the frames are exchanged where `inverse` is set.
@@ -97,11 +92,7 @@ pub fn loaded_way<S: Shelf>(
     ensures same { OnOk result (S.faults shelf.new ≡ S.faults shelf.old) }
     ensures same_err { IfErr result (λ refusal. status_of refusal ≢ ReadStatus → S.faults shelf.new ≡ S.faults shelf.old) }
 {
-    match loaded_tin(alloc, shelf, name, how) {
-        Ok(tin) => match TinIndex::build(alloc, way(tin, inverse)) {
-            Ok(index) => Ok(index),
-            Err(_) => Err(Refusal::NoMemory),
-        },
-        Err(refusal) => Err(refusal),
-    }
+    let tin = loaded_tin(alloc, shelf, name, how)?;
+    let index = TinIndex::build(alloc, way(tin, inverse))?;
+    Ok(index)
 }

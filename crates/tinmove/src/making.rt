@@ -1,7 +1,8 @@
 //! A triangulation and a layer that are made and not read: squares of ten metres, each cut along its diagonal.
 
 ghost use Rattle.std.specs.Prelude.{◌≡◌, ◌+◌, ◌*◌, ◌<◌, ◌≤◌, ◌++◌, ◌∷◌, ◌^◌, [], decimal, length, pos, map, vec_len, OnOk, IfOk};
-ghost use Rattle.std.specs.List.{flat_map, join_with_byte};
+ghost use Rattle.std.specs.List.{flat_map};
+ghost use Rattle.job_words.specs.declared.limits.TheConstants.{MOST_SIZE};
 ghost use Rattle.tinmove.specs.declared.making.TheConstants.{VERTEX_MOST, TRIANGLE_MOST};
 ghost use Rattle.mm_decimal.specs.Writing.{written};
 ghost use Rattle.tinmove.specs.Making.{below, corner_number as number_of, target_x as x_of, target_y as y_of, vertex_row, triangle_row, cell_rows, vertex_rows, triangle_rows, tin_front, tin_between, tin_end, tin_text, layer_line, layer_text, ended_rows};
@@ -10,11 +11,8 @@ use itoa::Buffer;
 use mm_decimal::write_mm;
 use std::alloc::{AllocError, Global};
 
-/// The most cells on a side of the square.
-pub const MOST_CELLS: u32 = 512;
-
 /// The byte between two rows, and between two elements of a row.
-pub const COMMA: u8 = 44;
+pub const COMMA: u8 = b',';
 
 /// More bytes than stand before, between and behind the lists of a triangulation.
 const FRAME_ROOM: usize = 512;
@@ -69,8 +67,8 @@ fn put_metres(out: &mut Vec<u8>, mm: u32, behind: &str) -> Result<(), AllocError
 // The target of the corner in column i of line j, in millimetres.
 #[tactic(auto, unfolding(crate::specs::Making::target_x))]
 fn target_x(i: u32, j: u32) -> u32
-    requires column { i ≤ MOST_CELLS }
-    requires line { j ≤ MOST_CELLS }
+    requires column { i ≤ MOST_SIZE }
+    requires line { j ≤ MOST_SIZE }
     ensures { result ≡ x_of i j }
 {
     1_000_000 + 10_000 * i + (7 * i + 13 * j) % 41
@@ -78,8 +76,8 @@ fn target_x(i: u32, j: u32) -> u32
 
 #[tactic(auto, unfolding(crate::specs::Making::target_y))]
 fn target_y(i: u32, j: u32) -> u32
-    requires column { i ≤ MOST_CELLS }
-    requires line { j ≤ MOST_CELLS }
+    requires column { i ≤ MOST_SIZE }
+    requires line { j ≤ MOST_SIZE }
     ensures { result ≡ y_of i j }
 {
     2_000_000 + 10_000 * j + (11 * i + 5 * j) % 37
@@ -88,8 +86,8 @@ fn target_y(i: u32, j: u32) -> u32
 // Adds the row of the corner in column i of line j, with a comma behind it.
 #[tactic(auto, unfolding(crate::specs::Making::vertex_row))]
 fn put_vertex(out: &mut Vec<u8>, i: u32, j: u32) -> Result<(), AllocError>
-    requires column { i ≤ MOST_CELLS }
-    requires line { j ≤ MOST_CELLS }
+    requires column { i ≤ MOST_SIZE }
+    requires line { j ≤ MOST_SIZE }
     ensures text { OnOk result (out.new.items ≡ out.old.items ++ (vertex_row i j ++ COMMA ∷ [])) }
     ensures short { OnOk result (vec_len out.new ≤ vec_len out.old + VERTEX_MOST) }
 {
@@ -103,7 +101,7 @@ fn put_vertex(out: &mut Vec<u8>, i: u32, j: u32) -> Result<(), AllocError>
 
 // Adds the rows of a line of corners, with a comma behind each.
 fn put_vertex_line(out: &mut Vec<u8>, n: u32, j: u32) -> Result<(), AllocError>
-    requires most { n ≤ MOST_CELLS }
+    requires most { n ≤ MOST_SIZE }
     requires line { j ≤ n }
     ensures text { OnOk result (out.new.items ≡ out.old.items ++ ended_rows (map (λ i. vertex_row i j) (below (n + 1)))) }
     ensures short { OnOk result (vec_len out.new ≤ vec_len out.old + VERTEX_MOST * 513) }
@@ -116,7 +114,7 @@ fn put_vertex_line(out: &mut Vec<u8>, n: u32, j: u32) -> Result<(), AllocError>
 
 // Adds the rows of all corners, with a comma behind each.
 fn put_vertices(out: &mut Vec<u8>, n: u32) -> Result<(), AllocError>
-    requires most { n ≤ MOST_CELLS }
+    requires most { n ≤ MOST_SIZE }
     ensures text { OnOk result (out.new.items ≡ out.old.items ++ ended_rows (vertex_rows n)) }
     ensures short { OnOk result (vec_len out.new ≤ vec_len out.old + VERTEX_MOST * 513 * 513) }
 {
@@ -128,7 +126,7 @@ fn put_vertices(out: &mut Vec<u8>, n: u32) -> Result<(), AllocError>
 
 // The number of the corner in column i of line j.
 fn corner_number(n: u32, i: u32, j: u32) -> u32
-    requires most { n ≤ MOST_CELLS }
+    requires most { n ≤ MOST_SIZE }
     requires column { i ≤ n }
     requires line { j ≤ n }
     ensures { result ≡ number_of n i j }
@@ -151,7 +149,7 @@ fn put_triangle(out: &mut Vec<u8>, first: u32, second: u32, third: u32) -> Resul
 
 // Adds the rows of a cell's two triangles, with a comma behind each.
 fn put_cell(out: &mut Vec<u8>, n: u32, i: u32, j: u32) -> Result<(), AllocError>
-    requires most { n ≤ MOST_CELLS }
+    requires most { n ≤ MOST_SIZE }
     requires column { i < n }
     requires line { j < n }
     ensures text { OnOk result (out.new.items ≡ out.old.items ++ ended_rows (cell_rows n i j)) }
@@ -166,7 +164,7 @@ fn put_cell(out: &mut Vec<u8>, n: u32, i: u32, j: u32) -> Result<(), AllocError>
 
 // Adds the rows of a line of cells, with a comma behind each.
 fn put_cell_line(out: &mut Vec<u8>, n: u32, j: u32) -> Result<(), AllocError>
-    requires most { n ≤ MOST_CELLS }
+    requires most { n ≤ MOST_SIZE }
     requires line { j < n }
     ensures text { OnOk result (out.new.items ≡ out.old.items ++ ended_rows (flat_map (λ i. cell_rows n i j) (below n))) }
     ensures short { OnOk result (vec_len out.new ≤ vec_len out.old + TRIANGLE_MOST * 1024) }
@@ -179,7 +177,7 @@ fn put_cell_line(out: &mut Vec<u8>, n: u32, j: u32) -> Result<(), AllocError>
 
 // Adds the rows of all triangles, with a comma behind each.
 fn put_triangles(out: &mut Vec<u8>, n: u32) -> Result<(), AllocError>
-    requires most { n ≤ MOST_CELLS }
+    requires most { n ≤ MOST_SIZE }
     ensures text { OnOk result (out.new.items ≡ out.old.items ++ ended_rows (triangle_rows n)) }
     ensures short { OnOk result (vec_len out.new ≤ vec_len out.old + TRIANGLE_MOST * 524288) }
 {
@@ -221,7 +219,7 @@ fn put_end(out: &mut Vec<u8>) -> Result<(), AllocError>
 
 // More bytes than the triangulation of n by n cells has.
 fn tin_room(n: u32) -> usize
-    requires { n ≤ MOST_CELLS }
+    requires { n ≤ MOST_SIZE }
 {
     let cells = n as usize;
     FRAME_ROOM + VERTEX_ROOM * ((cells + 1) * (cells + 1)) + CELL_ROOM * (cells * cells)
@@ -230,7 +228,7 @@ fn tin_room(n: u32) -> usize
 /// The text of a triangulation file of n by n square cells of ten metres, of two triangles each.
 pub fn make_tin(alloc: Global, n: u32) -> Result<Vec<u8>, AllocError>
     requires some { 1 ≤ n }
-    requires most { n ≤ MOST_CELLS }
+    requires most { n ≤ MOST_SIZE }
     ensures text { IfOk result (λ text. text.items ≡ tin_text n) }
     ensures short { IfOk result (λ text. vec_len text ≤ 2 ^ 26) }
 {
@@ -248,7 +246,7 @@ pub fn make_tin(alloc: Global, n: u32) -> Result<Vec<u8>, AllocError>
 // Adds the line of this number of a layer of n.
 #[tactic(auto, unfolding(crate::specs::Making::layer_line))]
 fn put_line(out: &mut Vec<u8>, n: u32, k: u32) -> Result<(), AllocError>
-    requires most { n ≤ MOST_CELLS }
+    requires most { n ≤ MOST_SIZE }
     requires line { k < n }
     ensures text { OnOk result (out.new.items ≡ out.old.items ++ layer_line n k) }
     ensures short { OnOk result (vec_len out.new ≤ vec_len out.old + 128) }
@@ -263,7 +261,7 @@ fn put_line(out: &mut Vec<u8>, n: u32, k: u32) -> Result<(), AllocError>
 /// The text of a layer of n lines across the triangulation of n by n cells, each on a line of its own.
 pub fn make_layer(alloc: Global, n: u32) -> Result<Vec<u8>, AllocError>
     requires some { 1 ≤ n }
-    requires most { n ≤ MOST_CELLS }
+    requires most { n ≤ MOST_SIZE }
     ensures text { IfOk result (λ text. text.items ≡ layer_text n) }
     ensures short { IfOk result (λ text. vec_len text ≤ 2 ^ 26) }
 {

@@ -5,7 +5,7 @@ ghost use Rattle.shelf_io.specs.Count.{Rose, HasCause};
 ghost use Rattle.tinmove.specs.RunChanges.{end_of};
 ghost use Rattle.tinmove.specs.Refusals.{line_of, status_of};
 ghost use Rattle.tinmove.specs.Ends.{IsFrontOf};
-ghost use Rattle.tinmove.specs.Prepared.{file_of, files_of, AreWritable, HasForm};
+ghost use Rattle.tinmove.specs.Prepared.{file_of, files_of, AreWritable};
 
 use crate::carrying::LayerFile;
 use crate::preparing::Written;
@@ -61,7 +61,7 @@ fn publish_layers<P: Press>(press: &mut P, layers: &[LayerFile]) -> Result<(), P
 pub fn publish<P: Press>(press: &mut P, written: &Written) -> Status
     requires free { P.at_hand press.old ≡ false }
     requires empty { IfSome (P.made press.old) (λ made. made ≡ []) }
-    requires form { HasForm written.now }
+    requires writable { AreWritable (map file_of written.now.layers.items) }
     ensures status { (result ≡ end_of written.now.changed) ⊎ (result ≡ Status.Write) }
     ensures whole { result ≢ Status.Write → IfSome (P.made press.new) (λ made. made ≡ files_of written.now) }
     ensures front { result ≡ Status.Write → IfSome (P.made press.new) (λ made. IsFrontOf made (files_of written.now)) }

@@ -40,8 +40,8 @@ pub fn run<S: Shelf, P: Press>(
     ensures unread { WantNoFile (map string_bytes words.now) → result ≢ Status.Read }
     ensures kept_made { (n : ℕ) → AsksMaking (map string_bytes words.now) n → KeepsMadeRelations n result (P.made press.new) }
 
-    // Told or not, what stands after each status.
-    ensures stands { IfSome (P.made press.new) (Stands result) }
+    // Told or not, what stands after each status: all that the run was to make, or after `Write` a front of it.
+    ensures stands { IfSome (P.made press.new) (Stands (map string_bytes words.now) result) }
 
     // Told or not, the causes of the answers.
     ensures words { result ≡ Status.Words → LacksJob (map string_bytes words.now) }

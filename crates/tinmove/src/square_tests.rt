@@ -1,6 +1,5 @@
 //! Calls of the crates below, put together over a square of two triangles. What is expected is worked out by hand.
 
-use crate::listing::known;
 use crate::test_runs::SQUARE;
 use carry_map::{MOST_PIECES, carry};
 use plane_base::Pt;
@@ -35,7 +34,7 @@ fn changes_of(alloc: Global, most: u32) -> Option<Result<Vec<Change>, ChangesFau
     let mut pieces = Vec::new(alloc);
     match carry(alloc, &index, &sheet, 0, MOST_PIECES, &mut pieces) {
         Ok(_) => {
-            known(index.tin());
+            index.tin().known();
             Some(changes(alloc, index.tin(), &pieces, most))
         }
         Err(_) => None,

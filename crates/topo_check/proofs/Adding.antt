@@ -1,7 +1,7 @@
 -- One pair more, and the pairs of one piece more.
 use Rattle.std.proofs.Common.{◌≡◌, ℕ, Result, Err, zero, suc, ◌+◌, ◌<◌, ◌≤◌, List, [], ◌∷◌, ◌++◌, length, take, drop, get_or, Option, None, Some, refl, sym, ◌∙◌, ap, subst, append_assoc, add-one, drop-cons, length-drop, ◌-◌, arith}
 use Rattle.std.specs.Result.{IsErrAnd, IsErrOf}
-use Rattle.std.proofs.lemmas.List.{take_more, take-append-drop, drop_all, take_all, get_or-drop}
+use Rattle.std.proofs.lemmas.List.{take_more, take-append-drop, take_all, get_or-drop}
 use Rattle.tin_base.specs.declared.pieces.Piece.{Piece}
 use Rattle.tin_base.specs.declared.pieces.Change.{Change}
 use Rattle.tin_base.specs.Triangulation.{Triangulation}
@@ -86,17 +86,6 @@ pub record AreDoneBelow (tin : Triangulation) (pieces : List Piece) (first from 
   pub few : from ≤ length pieces
   pub kept : IsKept tin (piece_at pieces first) (drop (first + 1) pieces) (from - (first + 1)) most before now
 
-pub none_below : (tin : Triangulation) (pieces : List Piece) (first most : ℕ) (before : List Change) → first < length pieces → length before ≤ most → AreDoneBelow tin pieces first (first + 1) most before before
-none_below tin pieces first most before h within = record {
-  above = omega arith;
-  few = omega (arith, h);
-  kept = subst (λ (k : ℕ). IsKept tin (piece_at pieces first) (drop (first + 1) pieces) k most before before) (same first)
-      (record { added = λ done k. subst (λ (ps : List Pair). AreChangesOf tin ps before) (sym (append_nil done)) k; within = within });
-}
-  where
-    same : (first : ℕ) → 0 ≡ (first + 1) - (first + 1)
-    same first = omega arith
-
 -- the other of a number among those behind
 other_at : (pieces : List Piece) (first number : ℕ) → first + 1 ≤ number → piece_at pieces number ≡ get_or (drop (first + 1) pieces) (number - (first + 1)) no_piece
 other_at pieces first number h = ap (λ (k : ℕ). piece_at pieces k) (same first number h) ∙ sym (get_or-drop (first + 1) pieces (number - (first + 1)) no_piece)
@@ -152,9 +141,6 @@ pub record AreDone (tin : Triangulation) (pieces : List Piece) (i most : ℕ) (c
   pub are_changes : AreChangesOf tin done changes
   pub within : length changes ≤ most
 
-pub none_done : (tin : Triangulation) (pieces : List Piece) (most : ℕ) (changes : List Change) → changes ≡ [] → AreDone tin pieces 0 most changes
-none_done tin pieces most changes e = record { done = []; all = refl; are_changes = e; within = omega (arith, ap length e) }
-
 pairs_at : (pieces : List Piece) (i : ℕ) (p d : Piece) → i < length pieces → p ≡ get_or pieces i d → pairs (drop i pieces) ≡ with_each p (drop (i + 1) pieces) ++ pairs (drop (i + 1) pieces)
 pairs_at pieces i p d h e =
     ap pairs (drop-cons pieces i d h) ∙ subst (λ (k : ℕ). pairs (get_or pieces i d ∷ drop (suc i) pieces) ≡ with_each p (drop k pieces) ++ pairs (drop k pieces)) (sym (add-one i)) (ap (λ (q : Piece). with_each q (drop (suc i) pieces) ++ pairs (drop (suc i) pieces)) (sym e))
@@ -180,10 +166,6 @@ too_many tin pieces i most before p d h e a pass =
       are_changes = m.are_changes;
       more = m.more;
     }
-
-pub all_done : (tin : Triangulation) (pieces : List Piece) (i most : ℕ) (changes : List Change) → length pieces ≤ i → AreDone tin pieces i most changes → AreChangesOf tin (pairs pieces) changes
-all_done tin pieces i most changes h a =
-    subst (λ (ps : List Pair). AreChangesOf tin ps changes) (sym (append_nil a.done) ∙ ap (λ (ps : List Piece). a.done ++ pairs ps) (sym (drop_all i pieces h)) ∙ a.all) a.are_changes
 
 -- what `?` hands on is the fault that came
 pub handed_on : {T U E : Type 0} (r : Result T E) (came wanted : E) → IsErrAnd r (λ e. e ≡ came) → IsErrOf r wanted → IsErrOf {T = U} (Err came) wanted

@@ -18,8 +18,8 @@ use Rattle.tin_base.specs.Triangulation.{Triangulation, corner_at, place, places
 use Rattle.tin_base.specs.Limits.{IsWithinLimits}
 use Rattle.tin_base.specs.Segments.{Part}
 use Rattle.tin_base.specs.Relations.{IsBetween}
-use Rattle.meet_rel.proofs.Ways.{AreDifferent}
-use Rattle.meet_rel.proofs.Ending.{piece_ends, same_or_different, different_not}
+use Rattle.meet_rel.proofs.Clipping.{range_of}
+use Rattle.meet_rel.proofs.Ending.{piece_ends}
 use Rattle.meet_rel.proofs.Scale.{mix_first}
 use Rattle.topo_check.specs.Changes.{HadRelation, HasRelation}
 use Rattle.tin_base.specs.Pieces.{IsPieceOf, IsPieceInside, first_point, last_point}
@@ -179,13 +179,6 @@ among_within tin inner outer w h = record {
   top = λ m each. to_last inner.y1 outer.y1 m w.top (h.top m each);
 }
 
-in_range : (tin : Triangulation) (piece : Piece) → IsPieceInside tin piece → piece.tri < length tin.triangles
-in_range tin piece inside = go (same_or_different piece.a piece.b) inside.is_piece.0 inside.is_piece.1
-  where
-    go : (piece.a ≡ piece.b) ⊎ AreDifferent piece.a piece.b → (part : Part) → IsPieceOf tin piece part → piece.tri < length tin.triangles
-    go (inl e) part of = (of.of_point e).in_range
-    go (inr d) part of = (of.of_segment (different_not piece.a piece.b d)).in_range
-
 -- what the boxes of the segment and of the triangle have in common
 pub exact_boxed : (tin : Triangulation) (piece : Piece) (t : Tri) (segment triangle box : Rect) → IsPieceInside tin piece → IsWithinLimits tin → corners t ≡ places tin Source (numbers_of tin piece.tri)
     → AreIn segment (whole piece.a ∷ whole piece.b ∷ []) → AreIn triangle (corners t) → IsAround (t.a ∷ t.b ∷ t.c ∷ []) triangle
@@ -197,7 +190,7 @@ exact_boxed tin piece t segment triangle box inside limits is in_segment in_tria
       ordered = ordered_by box (first_point piece part) first (points part of (first_point piece part) first (mix_first (first_point piece part) (last_point piece part)));
       encloses = points;
       among = among_within tin box triangle within
-          (among_corners tin (t.a ∷ t.b ∷ t.c ∷ []) triangle (are_corners tin t (numbers_of tin piece.tri) (limits.three piece.tri (in_range tin piece inside)) (limits.in_range piece.tri (in_range tin piece inside)) is) around);
+          (among_corners tin (t.a ∷ t.b ∷ t.c ∷ []) triangle (are_corners tin t (numbers_of tin piece.tri) (limits.three piece.tri (range_of tin piece inside)) (limits.in_range piece.tri (range_of tin piece inside)) is) around);
     }
   where
     points : (part : Part) → IsPieceOf tin piece part → (r : Point) → pos 0 <ℤ r.w → IsBetween (first_point piece part) (last_point piece part) r → IsIn box r

@@ -1,4 +1,5 @@
 pub mod Adding
+pub mod ByRounding
 pub mod Cases
 pub mod InBoxes
 pub mod Nexts

@@ -1,5 +1,5 @@
 -- The least number of ascending lists from a number on, and which pieces are near one.
-use Rattle.std.proofs.Common.{◌≡◌, ℕ, ◌<◌, ◌≤◌, ◌⊎◌, inl, inr, List, length, get_or, true, false, ltb, subst, arith}
+use Rattle.std.proofs.Common.{◌≡◌, ℕ, ◌<◌, ◌≤◌, ◌⊎◌, inl, inr, List, length, get_or, min, true, false, ltb, subst, arith}
 use Rattle.std.specs.Prelude.{Contains}
 use Rattle.std.specs.List.Sorted.{IsStrictlyIncreasing, IsNonDecreasingBy, IsPartitionPoint}
 use Rattle.std.proofs.lemmas.Bool.{ltb-true, ltb-false}
@@ -62,27 +62,26 @@ none_at xs from place h past number le in_it =
     let behind = stands_behind xs from place number in_it.0 h le in_it.1 in_it.2 in let within = in_it.1 in omega (arith, behind, within, past)
 
 -- ---- both lists
-pub lesser_is_next : (c : Candidates) (from x y : ℕ) → IsNextOf c.exact.items from x → IsNextOf c.rounded.items from y → x ≤ y → IsNext c from x
-lesser_is_next c from x y h k le = record {
-  above = h.above;
-  listed = inl h.listed;
-  none_before = λ other above less either. go other above less either;
+pub lesser_is_next : (c : Candidates) (from x y least : ℕ) → IsNextOf c.exact.items from x → IsNextOf c.rounded.items from y → least ≡ min x y → IsNext c from least
+lesser_is_next c from x y least h k e = record {
+  above = omega (arith, h.above, k.above, e);
+  listed = listed (below_or_not y x);
+  none_before = λ other above less either. go other above (omega (arith, less, e)) (omega (arith, less, e)) either;
 }
   where
-    go : (other : ℕ) → from ≤ other → other < x → IsCandidate c other → ⊥
-    go other above less (inl i) = h.none_before other above less i
-    go other above less (inr j) = k.none_before other above (omega (arith, less, le)) j
+    listed : (y < x) ⊎ (x ≤ y) → IsCandidate c least
+    listed (inl less) = inr (subst (λ (n : ℕ). Contains c.rounded.items n) (of_second e less) k.listed)
+      where
+        of_second : least ≡ min x y → y < x → y ≡ least
+        of_second e less = omega (arith, e, less)
+    listed (inr le) = inl (subst (λ (n : ℕ). Contains c.exact.items n) (of_first e le) h.listed)
+      where
+        of_first : least ≡ min x y → x ≤ y → x ≡ least
+        of_first e le = omega (arith, e, le)
 
-pub second_is_next : (c : Candidates) (from x y : ℕ) → IsNextOf c.exact.items from x → IsNextOf c.rounded.items from y → y ≤ x → IsNext c from y
-second_is_next c from x y h k le = record {
-  above = k.above;
-  listed = inr k.listed;
-  none_before = λ other above less either. go other above less either;
-}
-  where
-    go : (other : ℕ) → from ≤ other → other < y → IsCandidate c other → ⊥
-    go other above less (inl i) = h.none_before other above (omega (arith, less, le)) i
-    go other above less (inr j) = k.none_before other above less j
+    go : (other : ℕ) → from ≤ other → other < x → other < y → IsCandidate c other → ⊥
+    go other above before_x before_y (inl i) = h.none_before other above before_x i
+    go other above before_x before_y (inr j) = k.none_before other above before_y j
 
 pub first_alone_is_next : (c : Candidates) (from x : ℕ) → IsNextOf c.exact.items from x → ((number : ℕ) → from ≤ number → Contains c.rounded.items number → ⊥) → IsNext c from x
 first_alone_is_next c from x h none = record { above = h.above; listed = inl h.listed; none_before = λ other above less either. go other above less either }

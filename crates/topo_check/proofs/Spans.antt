@@ -80,9 +80,6 @@ pub record AreBoxesSoFar (IsBoxOf : Piece → Rect → Type 0) (pieces : List Pi
   pub few : i ≤ length pieces
   pub each : (n : ℕ) → n < i → IsBoxOf (piece_at pieces n) (box_at boxes n)
 
-pub no_boxes : (IsBoxOf : Piece → Rect → Type 0) (pieces : List Piece) (boxes : List Rect) → boxes ≡ [] → AreBoxesSoFar IsBoxOf pieces boxes 0
-no_boxes IsBoxOf pieces boxes e = record { same = ap length e; few = omega arith; each = λ n h. absurd (omega (arith, h)) }
-
 pub more_boxes : (IsBoxOf : Piece → Rect → Type 0) (pieces : List Piece) (boxes later : List Rect) (i : ℕ) (box : Rect) → i < length pieces → AreBoxesSoFar IsBoxOf pieces boxes i → IsBoxOf (piece_at pieces i) box
     → later ≡ boxes ++ box ∷ [] → AreBoxesSoFar IsBoxOf pieces later (i + 1)
 more_boxes IsBoxOf pieces boxes later i box within h is e = record {

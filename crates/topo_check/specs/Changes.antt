@@ -33,10 +33,14 @@ HadRelation tin was p q = (s t : Part) → IsPieceOf tin p s → IsPieceOf tin q
 abbrev pub HasRelation : Rel → Piece → Piece → Type 0
 HasRelation now p q = HaveRelation now (whole p.ia) (whole p.ib) (whole q.ia) (whole q.ib)
 
--- none where the two relations are one, else both with the places of the two pieces
+-- by the relation that two pieces had: none where it is the one that they have, else both with the places of the two pieces
+abbrev pub IsChangeBy : (Rel → Piece → Piece → Type 0) → Piece → Piece → Option Change → Type 0
+IsChangeBy Had p q None = (relation : Rel) × Had relation p q × HasRelation relation p q
+IsChangeBy Had p q (Some change) = (change.first ≡ p.from) × (change.second ≡ q.from) × Had change.was p q × HasRelation change.now p q × (change.was ≢ change.now)
+
+-- the change of two pieces: by the relation that the exact pieces had
 abbrev pub IsChangeOf : Triangulation → Piece → Piece → Option Change → Type 0
-IsChangeOf tin p q None = (relation : Rel) × HadRelation tin relation p q × HasRelation relation p q
-IsChangeOf tin p q (Some change) = (change.first ≡ p.from) × (change.second ≡ q.from) × HadRelation tin change.was p q × HasRelation change.now p q × (change.was ≢ change.now)
+IsChangeOf tin p q change = IsChangeBy (HadRelation tin) p q change
 
 -- ---- pieces by their numbers, from 0
 -- what a number stands for that is no piece's
@@ -74,10 +78,14 @@ abbrev pub put : Option Change → List Change → List Change
 put None changes = changes
 put (Some change) changes = change ∷ changes
 
--- the changes of some pairs, in their order
+-- the changes of some pairs, in their order, by the relation that the two of a pair had
+abbrev pub AreChangesBy : (Rel → Piece → Piece → Type 0) → List Pair → List Change → Type 0
+AreChangesBy Had [] changes = changes ≡ []
+AreChangesBy Had (p ∷ ps) changes = (here : Option Change) × (later : List Change) × IsChangeBy Had p.first p.second here × AreChangesBy Had ps later × (changes ≡ put here later)
+
+-- the changes of some pairs
 abbrev pub AreChangesOf : Triangulation → List Pair → List Change → Type 0
-AreChangesOf tin [] changes = changes ≡ []
-AreChangesOf tin (p ∷ ps) changes = (here : Option Change) × (later : List Change) × IsChangeOf tin p.first p.second here × AreChangesOf tin ps later × (changes ≡ put here later)
+AreChangesOf tin ps changes = AreChangesBy (HadRelation tin) ps changes
 
 -- the changes of all pairs
 abbrev pub AreChanges : Triangulation → List Piece → List Change → Type 0

@@ -1,9 +1,16 @@
 -- The laws of changes.
-use Rattle.std.specs.Prelude.{◌≡◌, ℕ, ◌<◌, List, length}
+use Rattle.std.specs.Prelude.{◌≡◌, ◌↔◌, ℕ, ◌<◌, List, length}
+use Rattle.plane_base.specs.Plane.{Point}
 use Rattle.tin_base.specs.declared.pieces.Piece.{Piece}
 use Rattle.tin_base.specs.declared.pieces.Change.{Change}
+use Rattle.tin_base.specs.declared.relations.Rel.{Rel}
 use Rattle.tin_base.specs.Triangulation.{Triangulation}
-use Rattle.topo_check.specs.Changes.{AreAllInside, AreChanges, HasMoreThan}
+use Rattle.tin_base.specs.Soundness.{IsSound}
+use Rattle.tin_base.specs.Segments.{Part}
+use Rattle.tin_base.specs.Pieces.{IsPieceOf}
+use Rattle.tin_base.specs.Relations.{HaveRelation}
+use Rattle.meet_rel.specs.Laws.{AreImages}
+use Rattle.topo_check.specs.Changes.{AreAllInside, pairs, AreChangesBy, AreChanges, HasMoreThan}
 
 -- pieces have one list of changes
 abbrev pub ChangesAreOne : Type 0
@@ -12,3 +19,13 @@ ChangesAreOne = (tin : Triangulation) (pieces : List Piece) → AreAllInside tin
 -- where some first pairs have more changes than `most`, all pairs have
 abbrev pub MoreStayMore : Type 0
 MoreStayMore = (tin : Triangulation) (pieces : List Piece) (most : ℕ) → AreAllInside tin pieces → HasMoreThan tin pieces most → (changes : List Change) → AreChanges tin pieces changes → most < length changes
+
+-- the relation of the segments between the exact images of the ends of two pieces
+abbrev pub HadRelationOfImages : Triangulation → Rel → Piece → Piece → Type 0
+HadRelationOfImages tin was p q =
+    (s t : Part) → IsPieceOf tin p s → IsPieceOf tin q t → (a b c d : Point) → AreImages tin p s a b → AreImages tin q t c d → HaveRelation was a b c d
+
+-- Of each sound triangulation: pieces have the same changes where their exact images stand in their place in the source frame
+abbrev pub ChangesAreByRounding : Type 0
+ChangesAreByRounding =
+    (tin : Triangulation) → IsSound tin → (pieces : List Piece) (changes : List Change) → AreChanges tin pieces changes ↔ AreChangesBy (HadRelationOfImages tin) (pairs pieces) changes

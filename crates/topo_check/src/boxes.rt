@@ -69,7 +69,7 @@ fn lesser(a: i64, b: i64) -> i64
     ensures below { (result ≤ℤ a) × (result ≤ℤ b) }
     ensures greatest { (m : ℤ) → m ≤ℤ a → m ≤ℤ b → m ≤ℤ result }
 {
-    if b < a { b } else { a }
+    a.min(b)
 }
 
 // The greater of two.
@@ -78,7 +78,7 @@ fn greater(a: i64, b: i64) -> i64
     ensures above { (a ≤ℤ result) × (b ≤ℤ result) }
     ensures least { (m : ℤ) → a ≤ℤ m → b ≤ℤ m → result ≤ℤ m }
 {
-    if a < b { b } else { a }
+    a.max(b)
 }
 
 // What two boxes have in common.

@@ -18,7 +18,7 @@ impl Candidates {
         ensures none { IfNone result ((number : ℕ) → from ≤ number → IsCandidate self.now number → ⊥) }
     {
         match (next_of(&self.exact, from), next_of(&self.rounded, from)) {
-            (Some(first), Some(second)) => Some(if second < first { second } else { first }),
+            (Some(first), Some(second)) => Some(first.min(second)),
             (Some(first), None) => Some(first),
             (None, Some(second)) => Some(second),
             (None, None) => None,

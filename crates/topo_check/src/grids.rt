@@ -80,8 +80,7 @@ fn exact_boxes(alloc: Global, tin: &SoundTin, pieces: &[Piece]) -> Result<Vec<Re
     requires { All (λ piece. IsPieceInside tin.now piece) pieces.now }
     ensures { IfOk result (λ boxes. AreBoxesOf (IsExactBox tin.now) pieces.now boxes.items) }
 {
-    let mut boxes = Vec::new(alloc);
-    boxes.reserve(pieces.len())?;
+    let mut boxes = Vec::with_capacity(alloc, pieces.len())?;
     for piece in pieces {
         boxes.push(exact_box(tin, piece))?;
     }
@@ -92,8 +91,7 @@ fn exact_boxes(alloc: Global, tin: &SoundTin, pieces: &[Piece]) -> Result<Vec<Re
 fn rounded_boxes(alloc: Global, pieces: &[Piece]) -> Result<Vec<Rect>, AllocError>
     ensures { IfOk result (λ boxes. AreBoxesOf IsRoundedBox pieces.now boxes.items) }
 {
-    let mut boxes = Vec::new(alloc);
-    boxes.reserve(pieces.len())?;
+    let mut boxes = Vec::with_capacity(alloc, pieces.len())?;
     for piece in pieces {
         boxes.push(rounded_box(piece))?;
     }

@@ -12,6 +12,6 @@ mod limits;
 mod listing;
 
 pub use faults::ChangesFault;
-pub use laws::{changes_are_one, more_stay_more};
+pub use laws::{changes_are_by_rounding, changes_are_one, more_stay_more};
 pub use limits::MOST_COMPARED;
 pub use listing::changes;

@@ -1,21 +1,14 @@
 -- From each state that the pass reaches some tokens lead to the end of a line.
-use Rattle.std.proofs.Common.{◌≡◌, ◌≢◌, ℕ, zero, suc, ◌+◌, ◌-◌, ◌≤◌, ◌<◌, ◌⊎◌, inl, inr, Bool, true, false, List, [], ◌∷◌, ◌++◌, length, refl, sym, ap, ◌∙◌, subst, append_assoc, append-nil, arith, length-append}
-use Rattle.std.specs.Prelude.{flat_map, Option, Some, None, nat_lt, if◌then◌else◌}
-use Rattle.std.specs.List.{AllByRecursion}
-use Rattle.std.proofs.lemmas.Option.{same_Some}
+use Rattle.std.proofs.Common.{◌≡◌, ℕ, ◌+◌, Bool, true, false, List, [], ◌∷◌, ◌++◌, length, refl, sym, ap, ◌∙◌, append_assoc, arith, length-append}
 use Rattle.mm_decimal.specs.Measured.{measured}
-use Rattle.sheet_base.specs.declared.paths.PathKind.TheVariants.{Dot, Line, Loop}
-use Rattle.wkt_layer.specs.Tokens.{Number, Token, opening, closing, comma, word, number, stray}
-use Rattle.wkt_layer.specs.Numbers.{Point, IsNumber, IsPoint, does_fit, place_of}
-use Rattle.wkt_layer.specs.Geometries.{Member, dot, bare, Geometry, point, line_string, polygon, multi_point, multi_line_string, multi_polygon, collection, Geometries, no_geometry, geometry, point_tokens, behind_item, content_tokens, points_tokens, member_tokens, lists_tokens, geometry_tokens, geometries_tokens, behind_geometry, IsClosed, ArePoints, IsDot, IsRing, IsMember, IsGeometry, AreGeometries}
-use Rattle.wkt_layer.specs.Paths.{Path, path_of, member_path, geometry_paths, geometries_paths}
-use Rattle.wkt_layer.specs.States.{Spot, item, content, first, second, whole, bare_second, bare_whole, behind, State, state, innermost, pair, kind_of, step, step_at, enter_step, tag_step, number_step, item_step, whole_step, behind_step, may_end, is_closed, content_of}
-use Rattle.wkt_layer.proofs.Rests.{room, ItemOf, ItemsOf, item_tokens, more_tokens, items_tokens, IsItem, AreItems, item_paths, items_paths, no_items, one_more, GoOn, Closes, ClosesPoints, IsContentOfPoints, Enters, Rests, Follows}
-use Rattle.wkt_layer.specs.declared.limits.TheConstants.{DEEPEST}
-use Rattle.wkt_layer.specs.declared.words.Kind.{Kind}
-use Rattle.wkt_layer.specs.declared.words.Kind.TheVariants as kinds
-use Rattle.wkt_layer.specs.declared.words.Word.{Word}
-use Rattle.wkt_layer.specs.declared.words.Word.TheVariants.{Tag, Empty, Height, Other}
+use Rattle.sheet_base.specs.declared.paths.PathKind.TheVariants.{Dot}
+use Rattle.wkt_layer.specs.Tokens.{Number, Token, word, number}
+use Rattle.wkt_layer.specs.Numbers.{Point, IsNumber, IsPoint, place_of}
+use Rattle.wkt_layer.specs.Geometries.{dot, point, point_tokens, behind_item, ArePoints}
+use Rattle.wkt_layer.specs.Paths.{Path, path_of}
+use Rattle.wkt_layer.specs.States.{Spot, item, content, first, second, whole, bare_second, bare_whole, behind, innermost, pair, kind_of}
+use Rattle.wkt_layer.proofs.Rests.{room, ItemOf, item_tokens, more_tokens, items_tokens, IsItem, item_paths, items_paths, no_items, GoOn, Closes, ClosesPoints, Enters, Rests}
+use Rattle.wkt_layer.specs.declared.words.Word.TheVariants.{Empty}
 use Rattle.wkt_layer.specs.declared.places.Content.{Content}
 use Rattle.wkt_layer.specs.declared.places.Content.TheVariants.{Points, Items}
 use Rattle.wkt_layer.specs.declared.places.Listing.{Listing}
@@ -23,8 +16,7 @@ use Rattle.wkt_layer.specs.declared.places.Listing.TheVariants as listings
 use Rattle.wkt_layer.specs.declared.places.Group.{Group}
 use Rattle.wkt_layer.specs.declared.places.Group.TheVariants as groups
 use Rattle.wkt_layer.specs.Geometries.{last_behind}
-use Rattle.wkt_layer.proofs.Items.{more_none, paths_none, are_none, no_points}
-use Rattle.wkt_layer.proofs.Taken.{number_taken}
+use Rattle.wkt_layer.proofs.Items.{are_none, no_points}
 
 -- the points and the number that were read fit
 abbrev pub AreRead : Bool → Spot → Type 0
@@ -68,10 +60,6 @@ last_at p (next ∷ points) q = last_at next points q
 -- points that close a path
 abbrev CanGoOn : Bool → Listing → List Point → Type 0
 CanGoOn exact listing read = (more : List Point) × ArePoints exact more × GoOn listing read more
-
--- the ring's first point again, four times
-four : Point → List Point
-four p = p ∷ p ∷ p ∷ p ∷ []
 
 length_four : (p : Point) (points : List Point) → length (points ++ (p ∷ p ∷ p ∷ p ∷ [])) ≡ length points + 4
 length_four p points = simp length-append refl

@@ -1,7 +1,7 @@
 -- The numbers of a text stand one behind the other, and so the edits of its paths are in order and apart from each other.
-use Rattle.std.proofs.Common.{◌≡◌, ◌==◌, ℕ, zero, suc, ◌+◌, ◌-◌, ◌<◌, ◌≤◌, Bool, true, false, List, [], ◌∷◌, ◌++◌, length, take, refl, sym, ap, ◌∙◌, subst, append_assoc, append-nil, arith}
-use Rattle.std.specs.Prelude.{flat_map, map, cond, if◌then◌else◌}
-use Rattle.std.specs.List.{prefix_len, slice_split, onto_first}
+use Rattle.std.proofs.Common.{◌≡◌, ◌==◌, ℕ, zero, suc, ◌+◌, ◌-◌, ◌≤◌, Bool, true, false, List, [], ◌∷◌, ◌++◌, length, take, refl, sym, ap, ◌∙◌, subst, append-nil, arith}
+use Rattle.std.specs.Prelude.{flat_map, if◌then◌else◌}
+use Rattle.std.specs.List.{slice_split, onto_first}
 use Rattle.std.specs.Char.{is_ascii_alphabetic}
 use Rattle.std.proofs.lemmas.Grind.{flat_map-append}
 use Rattle.std.proofs.lemmas.List.{length-take-le}
@@ -14,8 +14,8 @@ use Rattle.sheet_base.specs.declared.paths.PathKind.{PathKind}
 use Rattle.sheet_base.specs.declared.paths.PathKind.TheVariants.{Dot, Line, Loop}
 use Rattle.wkt_layer.specs.Tokens.{Number, Token, opening, closing, comma, word, number, stray, Placed, is_blank, is_numeric, token_length, word_of, token_of, token_at, bytes_behind, tokens_behind, tokens_of}
 use Rattle.wkt_layer.specs.Numbers.{Point}
-use Rattle.wkt_layer.specs.Geometries.{Member, dot, bare, Geometry, point, line_string, polygon, multi_point, multi_line_string, multi_polygon, collection, Geometries, no_geometry, geometry, point_tokens, behind_item, content_tokens, points_tokens, member_tokens, lists_tokens, geometry_tokens, geometries_tokens, behind_geometry, last_behind}
-use Rattle.wkt_layer.specs.Paths.{Path, path_of, member_path, geometry_paths, geometries_paths, edit_of, edits_from}
+use Rattle.wkt_layer.specs.Geometries.{Member, dot, bare, Geometry, point, line_string, polygon, multi_point, multi_line_string, multi_polygon, collection, Geometries, no_geometry, geometry, point_tokens, behind_item, content_tokens, points_tokens, member_tokens, lists_tokens, geometry_tokens, behind_geometry, last_behind}
+use Rattle.wkt_layer.specs.Paths.{Path, path_of, member_path, geometry_paths, geometries_paths, edits_from}
 use Rattle.wkt_layer.specs.Lines.{IsLineOf, tokens_in}
 use Rattle.wkt_layer.specs.Passes.{Ascend, point_numbers, path_numbers}
 

@@ -1,16 +1,16 @@
 -- The code goes where the pass goes.
-use Rattle.std.proofs.Common.{◌≡◌, ℕ, suc, ◌-◌, Bool, true, false, List, [], ◌∷◌, ◌++◌, length, drop, get_or, refl, sym, ap, ◌∙◌, subst, append_assoc, arith}
-use Rattle.std.specs.Prelude.{Option, Some, None, Ok, if◌then◌else◌, map}
+use Rattle.std.proofs.Common.{◌≡◌, ℕ, suc, ◌-◌, Bool, true, List, [], ◌∷◌, ◌++◌, length, get_or, refl, ap, ◌∙◌, subst, arith}
+use Rattle.std.specs.Prelude.{Some, None, Ok, if◌then◌else◌, map}
 use Rattle.plane_base.specs.declared.shapes.Pt.{Pt}
 use Rattle.mm_decimal.specs.Measured.{measured}
 use Rattle.mm_decimal.specs.declared.reading.MmRead.{MmRead}
 use Rattle.wkt_layer.specs.Tokens.{Number, Token, opening, closing, comma, word, number, stray}
-use Rattle.wkt_layer.specs.Numbers.{Point, does_fit, place_of}
+use Rattle.wkt_layer.specs.Numbers.{Point, place_of}
 use Rattle.wkt_layer.specs.Geometries.{last_behind}
 use Rattle.wkt_layer.specs.Paths.{Path, path_of}
 use Rattle.wkt_layer.specs.States.{Spot, item, content, first, second, whole, bare_second, bare_whole, behind, State, state, enter_step, tag_step, item_step, number_step, whole_step, behind_step, may_end, kind_of, opened_by, IsLast}
-use Rattle.wkt_layer.specs.Passes.{token_for, Shows, AreSome, Held, SameSheet, IsFit, IsUnfit, points_at}
-use Rattle.wkt_layer.specs.declared.pass.Pass.{Pass}
+use Rattle.wkt_layer.specs.Passes.{token_for, Shows, AreSome, IsFit, IsUnfit, points_at}
+use Rattle.wkt_layer.proofs.Holding.{length_places}
 use Rattle.wkt_layer.specs.declared.places.Content.{Content}
 use Rattle.wkt_layer.specs.declared.places.Content.TheVariants.{Points, Items}
 use Rattle.wkt_layer.specs.declared.places.Listing.{Listing}
@@ -19,7 +19,7 @@ use Rattle.wkt_layer.specs.declared.places.Group.{Group}
 use Rattle.wkt_layer.specs.declared.places.Group.TheVariants as groups
 use Rattle.wkt_layer.specs.declared.places.Place.TheVariants as places
 use Rattle.wkt_layer.specs.declared.words.Word.{Word}
-use Rattle.wkt_layer.specs.declared.words.Word.TheVariants.{Tag, Empty, Height, Other}
+use Rattle.wkt_layer.specs.declared.words.Word.TheVariants.{Empty}
 use Rattle.wkt_layer.specs.declared.tokens.Sign.{Sign}
 use Rattle.wkt_layer.specs.declared.tokens.Sign.TheVariants as signs
 
@@ -45,36 +45,6 @@ enter_group inner group stack paths at text sign is items = rw (is, items) refl
 pub opened_here : (at before : ℕ) (text : List ℕ) (sign : Sign) → sign ≡ signs.Opening → at ≡ opened_by (token_for at text sign) at before
 opened_here at before text sign is = rw is refl
 
-pub at_item : (spot : Spot) → Shows places.Item spot → (P : Spot → Type 0) → P item → P spot
-at_item item shows P there = there
-at_item (content other) shows P there = absurd shows
-at_item (first other points) shows P there = absurd shows
-at_item (second other points x) shows P there = absurd shows
-at_item (whole other points) shows P there = absurd shows
-at_item (bare_second x) shows P there = absurd shows
-at_item bare_whole shows P there = absurd shows
-at_item behind shows P there = absurd shows
-
-pub at_content : (inner : Content) (spot : Spot) → Shows (places.Content inner) spot → (P : Spot → Type 0) → P (content inner) → P spot
-at_content inner item shows P there = absurd shows
-at_content inner (content other) shows P there = subst (λ x. P (content x)) shows there
-at_content inner (first other points) shows P there = absurd shows
-at_content inner (second other points x) shows P there = absurd shows
-at_content inner (whole other points) shows P there = absurd shows
-at_content inner (bare_second x) shows P there = absurd shows
-at_content inner bare_whole shows P there = absurd shows
-at_content inner behind shows P there = absurd shows
-
-pub at_first : (listing : Listing) (spot : Spot) → Shows (places.First listing) spot → (P : Spot → Type 0) → ((points : List Point) → P (first listing points)) → P spot
-at_first listing item shows P there = absurd shows
-at_first listing (content other) shows P there = absurd shows
-at_first listing (first other points) shows P there = subst (λ x. P (first x points)) shows (there points)
-at_first listing (second other points x) shows P there = absurd shows
-at_first listing (whole other points) shows P there = absurd shows
-at_first listing (bare_second x) shows P there = absurd shows
-at_first listing bare_whole shows P there = absurd shows
-at_first listing behind shows P there = absurd shows
-
 pub at_second : (listing : Listing) (read : MmRead) (start : ℕ) (spot : Spot) → Shows (places.Second listing read start) spot → (P : Spot → Type 0) → ((points : List Point) (x : Number) → measured x.text ≡ Ok read → start ≡ x.start → P (second listing points x)) → P spot
 at_second listing read start item shows P there = absurd shows
 at_second listing read start (content other) shows P there = absurd shows
@@ -85,17 +55,6 @@ at_second listing read start (bare_second x) shows P there = absurd shows
 at_second listing read start bare_whole shows P there = absurd shows
 at_second listing read start behind shows P there = absurd shows
 
-pub at_whole : (listing : Listing) (spot : Spot) → Shows (places.Whole listing) spot → (P : Spot → Type 0) → ((one : Point) (more : List Point) → P (whole listing (one ∷ more))) → P spot
-at_whole listing item shows P there = absurd shows
-at_whole listing (content other) shows P there = absurd shows
-at_whole listing (first other points) shows P there = absurd shows
-at_whole listing (second other points x) shows P there = absurd shows
-at_whole listing (whole other []) shows P there = absurd shows.1
-at_whole listing (whole other (one ∷ more)) shows P there = subst (λ y. P (whole y (one ∷ more))) shows.0 (there one more)
-at_whole listing (bare_second x) shows P there = absurd shows
-at_whole listing bare_whole shows P there = absurd shows
-at_whole listing behind shows P there = absurd shows
-
 pub at_bare_second : (read : MmRead) (start : ℕ) (spot : Spot) → Shows (places.BareSecond read start) spot → (P : Spot → Type 0) → ((x : Number) → measured x.text ≡ Ok read → start ≡ x.start → P (bare_second x)) → P spot
 at_bare_second read start item shows P there = absurd shows
 at_bare_second read start (content other) shows P there = absurd shows
@@ -105,26 +64,6 @@ at_bare_second read start (whole other points) shows P there = absurd shows
 at_bare_second read start (bare_second x) shows P there = there x shows.0 shows.1
 at_bare_second read start bare_whole shows P there = absurd shows
 at_bare_second read start behind shows P there = absurd shows
-
-pub at_bare_whole : (spot : Spot) → Shows places.BareWhole spot → (P : Spot → Type 0) → P bare_whole → P spot
-at_bare_whole item shows P there = absurd shows
-at_bare_whole (content other) shows P there = absurd shows
-at_bare_whole (first other points) shows P there = absurd shows
-at_bare_whole (second other points x) shows P there = absurd shows
-at_bare_whole (whole other points) shows P there = absurd shows
-at_bare_whole (bare_second x) shows P there = absurd shows
-at_bare_whole bare_whole shows P there = there
-at_bare_whole behind shows P there = absurd shows
-
-pub at_behind : (spot : Spot) → Shows places.Behind spot → (P : Spot → Type 0) → P behind → P spot
-at_behind item shows P there = absurd shows
-at_behind (content other) shows P there = absurd shows
-at_behind (first other points) shows P there = absurd shows
-at_behind (second other points x) shows P there = absurd shows
-at_behind (whole other points) shows P there = absurd shows
-at_behind (bare_second x) shows P there = absurd shows
-at_behind bare_whole shows P there = absurd shows
-at_behind behind shows P there = there
 
 -- a tag is no bracket
 pub opened_tag : (stack : List Group) (paths : List Path) (t : Token) (s : State) (at before : ℕ) → tag_step stack paths t ≡ Some s → before ≡ opened_by t at before
@@ -149,14 +88,6 @@ dots_enter exact stack paths at text signs.Stray unfit = refl
 pub number_goes : (exact : Bool) (make : Number → State) (at : ℕ) (text : List ℕ) (sign : Sign) (read : MmRead) → IsFit exact sign text read
     → number_step exact make (token_for at text sign) ≡ Some (make (record { start = at; text = text }))
 number_goes exact make at text sign read fit = rw (fit.is, fit.fits) refl
-
-pub number_stays : (exact : Bool) (make : Number → State) (at : ℕ) (text : List ℕ) (sign : Sign) → IsUnfit exact sign text → number_step exact make (token_for at text sign) ≡ None
-number_stays exact make at text signs.Number unfit = rw (unfit refl) refl
-number_stays exact make at text signs.Opening unfit = refl
-number_stays exact make at text signs.Closing unfit = refl
-number_stays exact make at text signs.Comma unfit = refl
-number_stays exact make at text (signs.Word w) unfit = refl
-number_stays exact make at text signs.Stray unfit = refl
 
 pub opened_number : (exact : Bool) (at before : ℕ) (text : List ℕ) (sign : Sign) (read : MmRead) → IsFit exact sign text read → before ≡ opened_by (token_for at text sign) at before
 opened_number exact at before text sign read fit = rw (fit.is) refl
@@ -188,10 +119,6 @@ pub closing_goes : (listing : Listing) (points : List Point) (stack : List Group
     → may_end listing points ≡ true → whole_step listing points stack paths (token_for at text sign) ≡ Some (state behind stack (paths ++ path_of (kind_of listing) points))
 closing_goes listing points stack paths at text sign is may = rw (is) (whole_closes listing points stack paths ∙ (rw may refl))
 
-pub closing_stays : (listing : Listing) (points : List Point) (stack : List Group) (paths : List Path) (at : ℕ) (text : List ℕ) (sign : Sign) → sign ≡ signs.Closing
-    → may_end listing points ≡ false → whole_step listing points stack paths (token_for at text sign) ≡ None
-closing_stays listing points stack paths at text sign is may = rw (is) (whole_closes listing points stack paths ∙ (rw may refl))
-
 pub item_goes : (group : Group) (outer stack : List Group) (paths : List Path) (at : ℕ) (text : List ℕ) (sign : Sign) → sign ≡ signs.Comma → stack ≡ group ∷ outer
     → behind_step stack paths (token_for at text sign) ≡ Some (state item stack paths)
 item_goes group outer stack paths at text sign is some = rw (is, some) refl
@@ -208,10 +135,6 @@ last_of : (one : Point) (more : List Point) (d : Pt) → get_or (map place_of (o
 last_of one [] d = refl
 last_of one (next ∷ more) d = last_of next more d
 
-length_places : (points : List Point) → length (map place_of points) ≡ length points
-length_places [] = refl
-length_places (one ∷ more) = let e = length_places more in ap suc e
-
 pub last_place : (points : List Pt) (one : Point) (more : List Point) (d : Pt) → points ≡ map place_of (one ∷ more) → get_or points (length points - 1) d ≡ place_of (last_behind one more)
 last_place points one more d is =
     let size : length points - 1 ≡ length more = let e = length_places more in let s : length points ≡ suc (length (map place_of more)) = ap length is in omega (arith, e, s) in
@@ -219,14 +142,6 @@ last_place points one more d is =
 
 pub closed_size : (points : List Pt) (one : Point) (more : List Point) → points ≡ map place_of (one ∷ more) → length points ≡ length (one ∷ more)
 closed_size points one more is = ap length is ∙ length_places (one ∷ more)
-
--- points behind others
-pub drop_points : (front back : List Pt) (n : ℕ) → n ≡ length front → drop n (front ++ back) ≡ back
-drop_points front back n is = ap (λ k. drop k (front ++ back)) is ∙ drop-length front back
-  where
-    drop-length : (front back : List Pt) → drop (length front) (front ++ back) ≡ back
-    drop-length [] back = refl
-    drop-length (p ∷ front) back = drop-length front back
 
 pub some_push : (points : List Point) (p : Point) → AreSome (points ++ p ∷ [])
 some_push [] p = tt

@@ -1,5 +1,5 @@
 -- The sheet so far, one point or one path further on.
-use Rattle.std.proofs.Common.{◌≡◌, ℕ, suc, ◌+◌, ◌-◌, ◌==◌, Bool, true, false, List, [], ◌∷◌, ◌++◌, length, refl, sym, ap, ◌∙◌, subst, append_assoc, append-nil, arith, length-append}
+use Rattle.std.proofs.Common.{◌≡◌, ℕ, suc, ◌+◌, ◌==◌, Bool, true, false, List, [], ◌∷◌, ◌++◌, length, refl, sym, ap, ◌∙◌, subst, append_assoc, append-nil, arith, length-append}
 use Rattle.std.specs.Prelude.{flat_map, map, sum_by, if◌then◌else◌, Ok}
 use Rattle.std.proofs.lemmas.Grind.{flat_map-append}
 use Rattle.std.proofs.lemmas.List.{map-append}
@@ -65,7 +65,7 @@ some_first : (size first : ℕ) (now : List Point) → size ≡ first + length n
 some_first size first [] sum some = absurd (some refl)
 some_first size first (one ∷ now) sum some = ne_eqb size first (λ e. absurd (omega (arith, sum, e)))
 
-length_places : (points : List Point) → length (map place_of points) ≡ length points
+pub length_places : (points : List Point) → length (map place_of points) ≡ length points
 length_places [] = refl
 length_places (one ∷ more) = let e = length_places more in ap suc e
 

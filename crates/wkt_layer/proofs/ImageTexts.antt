@@ -1,8 +1,8 @@
 -- The texts of images are points, and are read as these images.
-use Rattle.std.proofs.Common.{◌≡◌, ℕ, zero, suc, ◌+◌, ◌*◌, ◌/◌, ◌%◌, ◌^◌, ◌<◌, ◌≤◌, ◌==◌, Bool, true, false, List, [], ◌∷◌, ◌++◌, length, refl, sym, ap, ◌∙◌, subst, append_assoc, append-nil, arith, length-append, decimal, ℤ, pos, negsuc}
-use Rattle.std.specs.Prelude.{◌&&◌, ◌||◌, map, sum_by, unsigned_abs, codes, Ok}
-use Rattle.std.specs.List.{list_all, prefix_len, AllByRecursion}
-use Rattle.std.specs.Char.{is_ascii_alphabetic, is_ascii_digit}
+use Rattle.std.proofs.Common.{◌≡◌, ℕ, zero, suc, ◌+◌, ◌/◌, ◌%◌, ◌^◌, ◌<◌, ◌≤◌, Bool, true, false, List, [], ◌∷◌, ◌++◌, length, refl, sym, ap, ◌∙◌, subst, append_assoc, append-nil, arith, length-append, decimal, ℤ, pos, negsuc}
+use Rattle.std.specs.Prelude.{map, sum_by, unsigned_abs, Ok}
+use Rattle.std.specs.List.{list_all, AllByRecursion}
+use Rattle.std.specs.Char.{is_ascii_alphabetic}
 use Rattle.std.proofs.lemmas.Fmt.{decimal_by_steps}
 use Rattle.std.proofs.lemmas.Bool.{and_parts}
 use Rattle.std.proofs.lemmas.List.Sums.{sum_by-cons}
@@ -14,11 +14,11 @@ use Rattle.mm_decimal.proofs.RoundTrip.{written_reads}
 use Rattle.mm_decimal.proofs.MeasuredAnswers.{answer_is_measured}
 use Rattle.plane_base.specs.declared.shapes.Pt.{Pt}
 use Rattle.sheet_base.specs.Fitting.{IsWithinReach}
-use Rattle.wkt_layer.specs.Tokens.{Number, Token, comma, number, is_blank, is_numeric, token_length}
-use Rattle.wkt_layer.specs.Numbers.{Point, does_fit, IsNumber, IsPoint, place_of, mm_in, lost_of, lost_in}
+use Rattle.wkt_layer.specs.Tokens.{Number, comma, number, is_blank, is_numeric}
+use Rattle.wkt_layer.specs.Numbers.{Point, does_fit, IsPoint, place_of, mm_in, lost_of, lost_in}
 use Rattle.wkt_layer.specs.Faults.{joined_points}
-use Rattle.wkt_layer.specs.Texts.{image_text, texts_behind, list_text, ring_text}
-use Rattle.wkt_layer.proofs.TokenCuts.{lexed, Stops, Clear, passes_front, number_case, number_length, gap_lexed, token_lexed}
+use Rattle.wkt_layer.specs.Texts.{image_text, list_text}
+use Rattle.wkt_layer.proofs.TokenCuts.{lexed, Stops, passes_front, number_case, number_length, gap_lexed, token_lexed}
 
 -- ---- a written number has a number's bytes alone, and begins as a number does
 record IsDigitByte (byte : ℕ) : Type 0 where

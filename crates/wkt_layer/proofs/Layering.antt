@@ -1,13 +1,11 @@
 -- A layer is read line by line.
-use Rattle.std.proofs.Common.{◌≡◌, ℕ, ◌+◌, ◌<◌, ◌^◌, ◌⊎◌, inl, inr, Bool, List, [], ◌∷◌, ◌++◌, length, refl, sym, ap, ◌∙◌, subst, append_assoc, append-nil, arith, ◌≤◌}
-use Rattle.std.specs.Prelude.{Option, Some, None, map, flat_map, sum_by, ⊤}
+use Rattle.std.proofs.Common.{◌≡◌, ℕ, ◌+◌, ◌<◌, ◌^◌, inr, Bool, List, [], ◌∷◌, ◌++◌, length, refl, sym, ap, ◌∙◌, subst, append_assoc, append-nil, arith, ◌≤◌}
+use Rattle.std.specs.Prelude.{Option, Some, None, flat_map, sum_by}
 use Rattle.std.specs.Borrow.{Bor}
-use Rattle.sheet_base.specs.declared.faults.LayerFault.{LayerFault}
 use Rattle.sheet_base.specs.Sheets.{Contents, IsSheet}
 use Rattle.wkt_layer.specs.Tokens.{tokens_of}
-use Rattle.wkt_layer.specs.Numbers.{place_of, lost_of}
+use Rattle.wkt_layer.specs.Numbers.{lost_of}
 use Rattle.wkt_layer.specs.Lines.{IsLineOf}
-use Rattle.wkt_layer.specs.Faults.{IsLineFault}
 use Rattle.wkt_layer.specs.Layers.{AreLinesOf, IsFirstLineFault}
 use Rattle.wkt_layer.specs.Paths.{Path, kept_points, rows_from, edits_from, lost_on, sheet_of}
 use Rattle.wkt_layer.specs.Passes.{GoesOn, Held, HasRoom, RestsAt, Ascend, path_numbers}
@@ -16,9 +14,6 @@ use Rattle.sheet_base.specs.Splices.{AreInOrder}
 use Rattle.std.proofs.lemmas.Grind.{flat_map-append}
 use Rattle.wkt_layer.specs.declared.pass.Pass.{Pass}
 use Rattle.wkt_layer.proofs.Sheets.{whole_append, line_paths_whole, is_sheet}
-
-pub goes_start : (exact : Bool) (all : List (List ℕ)) → GoesOn exact all 0 all []
-goes_start exact all = record { onward = λ others are. are; faults = λ fault is. is; whole = tt }
 
 pub goes_next : (exact : Bool) (all : List (List ℕ)) (base next : ℕ) (line : List ℕ) (rest : List (List ℕ)) (done here : List Path) → next ≡ base + length line + 1
     → GoesOn exact all base (line ∷ rest) done → IsLineOf exact (tokens_of base line) here → GoesOn exact all next rest (done ++ here)
@@ -29,10 +24,6 @@ goes_next exact all base next line rest done here place on is = record {
   faults = λ fault later. on.faults fault (inr (here, is, subst (λ n. IsFirstLineFault exact n rest fault) place later));
   whole = whole_append done here on.whole (line_paths_whole exact (tokens_of base line) here is);
 }
-
-pub goes_fault : (exact : Bool) (all : List (List ℕ)) (base : ℕ) (line : List ℕ) (rest : List (List ℕ)) (done : List Path) (fault : LayerFault)
-    → GoesOn exact all base (line ∷ rest) done → IsLineFault exact (tokens_of base line) (base + length line) fault → IsFirstLineFault exact 0 all fault
-goes_fault exact all base line rest done fault on is = on.faults fault (inl is)
 
 pub goes_end : (exact : Bool) (all : List (List ℕ)) (base : ℕ) (done : List Path) → GoesOn exact all base [] done → AreLinesOf exact 0 all done
 goes_end exact all base done on = subst (AreLinesOf exact 0 all) (append-nil done) (on.onward [] refl)

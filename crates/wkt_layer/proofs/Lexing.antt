@@ -1,7 +1,7 @@
 -- Reading the tokens of a line, and the lines of a text.
 use Rattle.std.proofs.Common.{◌≡◌, ◌≢◌, ℕ, zero, suc, ◌+◌, ◌-◌, ◌<◌, ◌≤◌, Bool, true, false, List, [], ◌∷◌, ◌++◌, length, take, drop, get_or, refl, sym, ap, ◌∙◌, subst, append_assoc, append-nil, arith, add-one, length-append}
 use Rattle.std.proofs.lemmas.Bool.{and_parts}
-use Rattle.std.specs.Prelude.{◌&&◌, Some, None, Ok, Err, map}
+use Rattle.std.specs.Prelude.{◌&&◌, Some, None, Ok, Err}
 use Rattle.std.specs.List.{list_all}
 use Rattle.std.proofs.lemmas.List.{map-append, drop_all}
 use Rattle.std.proofs.Math.Seq.{drop-cons}
@@ -62,11 +62,6 @@ token_first at bytes byte more sign size split black some first =
 left_at : (line : List ℕ) (at : ℕ) → at < length line → drop at line ≡ get_or line at 0 ∷ drop (at + 1) line
 left_at line at within = rw add-one (drop-cons line at 0 within)
 
-pub at_blank : (base at : ℕ) (line : List ℕ) → at < length line → is_blank (get_or line at 0) ≡ true → tokens_of (base + at) (drop at line) ≡ tokens_of (base + (at + 1)) (drop (at + 1) line)
-at_blank base at line within is =
-    let e : base + at + 1 ≡ base + (at + 1) = omega arith in
-    ap (tokens_of (base + at)) (left_at line at within) ∙ blank_first (base + at) (get_or line at 0) (drop (at + 1) line) is ∙ ap (λ n. tokens_of n (drop (at + 1) line)) e
-
 pub at_token : (base at : ℕ) (line : List ℕ) (sign : Sign) (size : ℕ) → at < length line → is_blank (get_or line at 0) ≡ false → 0 < size → IsFirstToken (drop at line) sign size
     → tokens_of (base + at) (drop at line) ≡ record { start = base + at; token = token_for (base + at) (take size (drop at line)) sign } ∷ tokens_of (base + (at + size)) (drop (at + size) line)
 at_token base at line sign size within black some first =
@@ -77,10 +72,6 @@ at_token base at line sign size within black some first =
 
 pub reached_start : (exact : Bool) (base : ℕ) (line : List ℕ) (opened : ℕ) → Reached exact base line 0 [] start opened
 reached_start exact base line opened = record { lexed = let e : base ≡ base + 0 = omega arith in ap (λ n. tokens_of n line) e; ran = refl; inside = tt }
-
-pub reached_blank : (exact : Bool) (base : ℕ) (line : List ℕ) (at : ℕ) (front : List Placed) (s : State) (opened : ℕ) → at < length line → is_blank (get_or line at 0) ≡ true
-    → Reached exact base line at front s opened → Reached exact base line (at + 1) front s opened
-reached_blank exact base line at front s opened within is r = record { lexed = r.lexed ∙ ap (λ ts. front ++ ts) (at_blank base at line within is); ran = r.ran; inside = r.inside }
 
 pub reached_token : (exact : Bool) (base : ℕ) (line : List ℕ) (at : ℕ) (front : List Placed) (s next : State) (opened : ℕ) (sign : Sign) (size : ℕ)
     → at < length line → is_blank (get_or line at 0) ≡ false → 0 < size → IsFirstToken (drop at line) sign size

@@ -15,7 +15,7 @@ use Rattle.wkt_layer.specs.Lines.{IsLineOf, tokens_in}
 use Rattle.wkt_layer.specs.Layers.{lines_of, AreLinesOf}
 use Rattle.wkt_layer.specs.declared.limits.TheConstants.{DEEPEST, LINE_FEED}
 use Rattle.sheet_base.specs.Splices.{AreInOrder, spliced}
-use Rattle.sheet_base.proofs.Swaps.{Swapped, spliced_on, on_from, kept_swapped, both_swapped}
+use Rattle.sheet_base.proofs.Swaps.{Swapped, spliced_on, on_from, swapped_all, kept_swapped, both_swapped}
 use Rattle.sheet_base.proofs.Redrawn.{suit_parts, redrawn_append}
 use Rattle.wkt_layer.proofs.EditOrder.{split_some}
 use Rattle.wkt_layer.proofs.Lexing.{blank_tokens, black_tokens}
@@ -132,11 +132,6 @@ spliced_plain text plain at bytes (edit ∷ edits) a =
     let back = plain_parts (edit.end - at) bytes a in
     plain_append (take (edit.start - at) bytes) (text edit ++ spliced_on text edit.end (drop (edit.end - at) bytes) edits) front.0
     (plain_append (text edit) (spliced_on text edit.end (drop (edit.end - at) bytes) edits) (plain edit) (spliced_plain text plain edit.end (drop (edit.end - at) bytes) edits back.1))
-
-swapped_all : (text : Edit → List ℕ) (at : ℕ) (taken : List ℕ) (edits : List Edit) (now : List ℕ) → Swapped text at taken edits now → spliced_on text at taken edits ≡ now
-swapped_all text at taken edits now swap =
-    let e = swap.splice [] [] tt in
-    ap (λ xs. spliced_on text at xs edits) (sym (append-nil taken)) ∙ ap (spliced_on text at (taken ++ [])) (sym (append-nil edits)) ∙ e ∙ append-nil now
 
 swapped_plain : (text : Edit → List ℕ) → ((edit : Edit) → IsPlain (text edit)) → (at : ℕ) (taken : List ℕ) (edits : List Edit) (now : List ℕ) → Swapped text at taken edits now → IsPlain taken → IsPlain now
 swapped_plain text plain at taken edits now swap a = subst IsPlain (swapped_all text at taken edits now swap) (spliced_plain text plain at taken edits a)

@@ -1,17 +1,13 @@
 -- The fault of a token that the pass refuses is the one of the table.
-use Rattle.std.proofs.Common.{◌≡◌, ◌≢◌, ℕ, zero, suc, ◌+◌, ◌-◌, ◌≤◌, ◌<◌, ◌⊎◌, inl, inr, Bool, true, false, List, [], ◌∷◌, ◌++◌, length, refl, sym, ap, ◌∙◌, subst, append_assoc, append-nil, arith}
-use Rattle.std.specs.Prelude.{flat_map, Option, Some, None, nat_lt, if◌then◌else◌}
-use Rattle.std.specs.List.{AllByRecursion}
+use Rattle.std.proofs.Common.{◌≡◌, ℕ, ◌<◌, ◌⊎◌, inl, inr, Bool, true, false, List, [], ◌∷◌, ◌++◌, refl, sym, ap, ◌∙◌, subst, append_assoc, arith}
+use Rattle.std.specs.Prelude.{Option, Some, None, if◌then◌else◌}
 use Rattle.std.proofs.lemmas.Option.{same_Some}
 use Rattle.mm_decimal.specs.Measured.{measured}
-use Rattle.sheet_base.specs.declared.paths.PathKind.TheVariants.{Dot, Line, Loop}
 use Rattle.wkt_layer.specs.Tokens.{Number, Token, opening, closing, comma, word, number, stray}
-use Rattle.wkt_layer.specs.Numbers.{Point, IsNumber, IsPoint, does_fit}
-use Rattle.wkt_layer.specs.Geometries.{Member, dot, bare, Geometry, point, line_string, polygon, multi_point, multi_line_string, multi_polygon, collection, Geometries, no_geometry, geometry, point_tokens, behind_item, content_tokens, points_tokens, member_tokens, lists_tokens, geometry_tokens, geometries_tokens, behind_geometry, IsClosed, ArePoints, IsDot, IsRing, IsMember, IsGeometry, AreGeometries}
-use Rattle.wkt_layer.specs.Paths.{Path, path_of, member_path, geometry_paths, geometries_paths}
-use Rattle.wkt_layer.specs.States.{Spot, item, content, first, second, whole, bare_second, bare_whole, behind, State, state, innermost, pair, kind_of, step, step_at, enter_step, tag_step, number_step, item_step, whole_step, behind_step, may_end, is_closed, content_of}
-use Rattle.wkt_layer.proofs.Rests.{room, ItemOf, ItemsOf, item_tokens, more_tokens, items_tokens, IsItem, AreItems, item_paths, items_paths, no_items, one_more, GoOn, Closes, ClosesPoints, IsContentOfPoints, Enters, Rests, Follows}
-use Rattle.wkt_layer.specs.declared.limits.TheConstants.{DEEPEST}
+use Rattle.wkt_layer.specs.Numbers.{Point}
+use Rattle.wkt_layer.specs.Geometries.{point_tokens}
+use Rattle.wkt_layer.specs.Paths.{Path}
+use Rattle.wkt_layer.specs.States.{Spot, item, content, first, second, whole, bare_second, bare_whole, behind, State, state, innermost, pair, step, step_at, item_step, behind_step}
 use Rattle.wkt_layer.specs.declared.words.Kind.{Kind}
 use Rattle.wkt_layer.specs.declared.words.Kind.TheVariants as kinds
 use Rattle.wkt_layer.specs.declared.words.Word.{Word}
@@ -22,18 +18,17 @@ use Rattle.wkt_layer.specs.declared.places.Listing.{Listing}
 use Rattle.wkt_layer.specs.declared.places.Listing.TheVariants as listings
 use Rattle.wkt_layer.specs.declared.places.Group.{Group}
 use Rattle.wkt_layer.specs.declared.places.Group.TheVariants as groups
-use Rattle.std.specs.Prelude.{map, option_and_then, Result, Ok, Err, not, ◌&&◌}
+use Rattle.std.specs.Prelude.{option_and_then, Result, Ok, Err, not, ◌&&◌}
 use Rattle.std.proofs.lemmas.Bool.{and_parts}
 use Rattle.std.proofs.lemmas.List.{map-append}
 use Rattle.text_places.specs.Machine.{run}
 use Rattle.text_places.proofs.Runs.{run-append, run_next}
 use Rattle.mm_decimal.specs.declared.reading.MmRead.{MmRead}
 use Rattle.mm_decimal.specs.declared.reading.NumFault.{NumFault}
-use Rattle.sheet_base.specs.declared.faults.LayerFault.{LayerFault}
 use Rattle.sheet_base.specs.declared.faults.LayerFault.TheVariants as faults
 use Rattle.wkt_layer.specs.Tokens.{Placed}
-use Rattle.wkt_layer.specs.Lines.{IsViable, tokens_in}
-use Rattle.wkt_layer.specs.Faults.{IsGeometryPlace, EndsInTag, EndsInPoint, joined_points, EndsInPoints, Row, kind, height, deep, unread, inexact, ring, rank, SpeaksKind, SpeaksHeight, SpeaksDeep, SpeaksUnread, SpeaksInexact, SpeaksRing, Speaks, Decides, IsUnread, IsInexact, IsTokenFault}
+use Rattle.wkt_layer.specs.Lines.{tokens_in}
+use Rattle.wkt_layer.specs.Faults.{IsGeometryPlace, EndsInTag, EndsInPoint, joined_points, EndsInPoints, Row, kind, height, deep, unread, inexact, ring, rank, SpeaksKind, SpeaksRing, Speaks, IsUnread, IsInexact, IsTokenFault}
 use Rattle.wkt_layer.specs.States.{start, is_geometries, is_geometry_spot, word_fault, other_fault, answer_fault, number_fault, closing_fault, fault_of}
 use Rattle.wkt_layer.proofs.Passing.{viable, not_viable}
 use Rattle.wkt_layer.proofs.Comings.{ComesFrom, step_from, IsBehindTag, tag_content, NumberLeads, number_leads_to}

@@ -7,7 +7,7 @@ use Rattle.sheet_base.specs.declared.faults.LayerFault.{LayerFault}
 use Rattle.sheet_base.specs.declared.faults.LayerFault.TheVariants as faults
 use Rattle.wkt_layer.specs.Tokens.{Token, opening, closing, comma, word, number, stray, Placed, tokens_of}
 use Rattle.wkt_layer.specs.Numbers.{Point}
-use Rattle.wkt_layer.specs.Lines.{IsLine, IsLineOf, tokens_in}
+use Rattle.wkt_layer.specs.Lines.{IsLine, tokens_in}
 use Rattle.wkt_layer.specs.Faults.{joined_points, EndsInPoints, Row, kind, height, deep, unread, inexact, ring, rank, Speaks, Decides, IsAnswer, IsTokenFault, IsFaultBehind, IsLineFault}
 use Rattle.wkt_layer.specs.Layers.{lines_of, IsFirstLineFault, IsRefusedBy}
 use Rattle.wkt_layer.proofs.OneSheet.{line_apart}

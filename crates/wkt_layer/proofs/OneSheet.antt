@@ -1,6 +1,5 @@
 -- A layer has one sheet, and none where it is refused.
-use Rattle.std.proofs.Common.{◌≡◌, ℕ, ◌+◌, ◌⊎◌, inl, inr, Bool, List, [], ◌∷◌, ◌++◌, length, refl, sym, ap, ◌∙◌, subst}
-use Rattle.std.specs.Prelude.{Some}
+use Rattle.std.proofs.Common.{◌≡◌, ℕ, ◌+◌, inl, inr, Bool, List, [], ◌∷◌, ◌++◌, length, sym, ap, ◌∙◌}
 use Rattle.std.proofs.lemmas.Option.{same_Some}
 use Rattle.text_places.specs.Machine.{run}
 use Rattle.sheet_base.specs.declared.faults.LayerFault.{LayerFault}
@@ -8,7 +7,7 @@ use Rattle.sheet_base.specs.Sheets.{Contents}
 use Rattle.wkt_layer.specs.Tokens.{Placed, tokens_of}
 use Rattle.wkt_layer.specs.Geometries.{Geometry, IsGeometry, geometry_tokens}
 use Rattle.wkt_layer.specs.Paths.{Path, geometry_paths, sheet_of}
-use Rattle.wkt_layer.specs.Lines.{IsLineOf, tokens_in}
+use Rattle.wkt_layer.specs.Lines.{IsLineOf}
 use Rattle.wkt_layer.specs.Faults.{IsLineFault}
 use Rattle.wkt_layer.specs.Layers.{lines_of, AreLinesOf, IsFirstLineFault, IsReadAs, IsRefusedBy}
 use Rattle.wkt_layer.specs.States.{State, start, step}

@@ -1,20 +1,17 @@
 -- The pass over the tokens of a line reads the line's geometry, and refuses each other line at its first fault.
-use Rattle.std.proofs.Common.{◌≡◌, ◌≢◌, ℕ, zero, suc, ◌+◌, ◌-◌, ◌≤◌, ◌<◌, ◌⊎◌, inl, inr, Bool, true, false, List, [], ◌∷◌, ◌++◌, length, refl, sym, ap, ◌∙◌, subst, append_assoc, append-nil, arith, take}
-use Rattle.std.specs.Prelude.{flat_map, Option, Some, None, nat_lt, if◌then◌else◌}
-use Rattle.std.specs.List.{AllByRecursion}
+use Rattle.std.proofs.Common.{◌≡◌, ℕ, ◌+◌, ◌<◌, Bool, true, false, List, [], ◌∷◌, ◌++◌, length, refl, sym, ap, ◌∙◌, subst, append-nil, take}
+use Rattle.std.specs.Prelude.{Option, Some, None, nat_lt, if◌then◌else◌}
 use Rattle.std.proofs.lemmas.Option.{same_Some}
 use Rattle.mm_decimal.specs.Measured.{measured}
-use Rattle.sheet_base.specs.declared.paths.PathKind.TheVariants.{Dot, Line, Loop}
-use Rattle.wkt_layer.specs.Tokens.{Number, Token, opening, closing, comma, word, number, stray}
-use Rattle.wkt_layer.specs.Numbers.{Point, IsNumber, IsPoint, does_fit}
-use Rattle.wkt_layer.specs.Geometries.{Member, dot, bare, Geometry, point, line_string, polygon, multi_point, multi_line_string, multi_polygon, collection, Geometries, no_geometry, geometry, point_tokens, behind_item, content_tokens, points_tokens, member_tokens, lists_tokens, geometry_tokens, geometries_tokens, behind_geometry, IsClosed, ArePoints, IsDot, IsRing, IsMember, IsGeometry, AreGeometries}
-use Rattle.wkt_layer.specs.Paths.{Path, path_of, member_path, geometry_paths, geometries_paths}
-use Rattle.wkt_layer.specs.States.{Spot, item, content, first, second, whole, bare_second, bare_whole, behind, State, state, innermost, pair, kind_of, step, step_at, enter_step, tag_step, number_step, item_step, whole_step, behind_step, may_end, is_closed, content_of}
-use Rattle.wkt_layer.proofs.Rests.{room, ItemOf, ItemsOf, item_tokens, more_tokens, items_tokens, IsItem, AreItems, item_paths, items_paths, no_items, one_more, GoOn, Closes, ClosesPoints, IsContentOfPoints, Enters, Rests, Follows}
+use Rattle.sheet_base.specs.declared.paths.PathKind.TheVariants.{Dot}
+use Rattle.wkt_layer.specs.Tokens.{Token, opening, closing, comma, word, number, stray}
+use Rattle.wkt_layer.specs.Numbers.{Point, does_fit}
+use Rattle.wkt_layer.specs.Geometries.{Member, dot, bare, Geometry, point, line_string, polygon, multi_point, multi_line_string, multi_polygon, collection, Geometries, no_geometry, geometry, content_tokens, points_tokens, member_tokens, lists_tokens, geometry_tokens, geometries_tokens, ArePoints, IsGeometry}
+use Rattle.wkt_layer.specs.Paths.{Path, path_of, geometry_paths}
+use Rattle.wkt_layer.specs.States.{Spot, item, content, first, second, whole, bare_second, bare_whole, behind, State, state, innermost, pair, kind_of, step, step_at, enter_step, tag_step, item_step, whole_step, behind_step, may_end, content_of}
+use Rattle.wkt_layer.proofs.Rests.{ItemOf, ItemsOf, item_tokens, more_tokens, items_tokens, Closes, ClosesPoints, Rests, Follows}
 use Rattle.wkt_layer.specs.declared.limits.TheConstants.{DEEPEST}
-use Rattle.wkt_layer.specs.declared.words.Kind.{Kind}
 use Rattle.wkt_layer.specs.declared.words.Kind.TheVariants as kinds
-use Rattle.wkt_layer.specs.declared.words.Word.{Word}
 use Rattle.wkt_layer.specs.declared.words.Word.TheVariants.{Tag, Empty, Height, Other}
 use Rattle.wkt_layer.specs.declared.places.Content.{Content}
 use Rattle.wkt_layer.specs.declared.places.Content.TheVariants.{Points, Items}
@@ -23,13 +20,12 @@ use Rattle.wkt_layer.specs.declared.places.Listing.TheVariants as listings
 use Rattle.wkt_layer.specs.declared.places.Group.{Group}
 use Rattle.wkt_layer.specs.declared.places.Group.TheVariants as groups
 use Rattle.std.specs.Prelude.{option_and_then}
-use Rattle.text_places.specs.Places.{Begins, IsFirstFault}
+use Rattle.text_places.specs.Places.{IsFirstFault}
 use Rattle.text_places.specs.Machine.{run}
-use Rattle.text_places.proofs.Runs.{run_next}
 use Rattle.text_places.proofs.Reading.{refused_at, unfinished, begins_none}
 use Rattle.wkt_layer.specs.Lines.{IsLine, IsViable}
 use Rattle.wkt_layer.specs.States.{start, IsLast, IsEnd}
-use Rattle.wkt_layer.proofs.Taking.{Leads, token_leads}
+use Rattle.wkt_layer.proofs.Taking.{token_leads}
 use Rattle.wkt_layer.proofs.Taken.{number_taken, token_before}
 use Rattle.wkt_layer.proofs.Completions.{AreRead, are_push, can_follow}
 

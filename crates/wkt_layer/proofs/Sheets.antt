@@ -1,16 +1,16 @@
 -- The sheet of the paths of well-formed lines is one.
-use Rattle.std.proofs.Common.{◌≡◌, ℕ, zero, suc, ◌+◌, ◌<◌, ◌≤◌, Bool, List, [], ◌∷◌, ◌++◌, length, refl, sym, ap, ◌∙◌, subst, append_assoc, append-nil, arith, length-append, ◌^◌}
-use Rattle.std.specs.Prelude.{flat_map, map, sum_by}
+use Rattle.std.proofs.Common.{◌≡◌, ℕ, zero, suc, ◌+◌, ◌<◌, Bool, List, [], ◌∷◌, ◌++◌, length, refl, sym, ap, subst, arith, length-append, ◌^◌}
+use Rattle.std.specs.Prelude.{flat_map, map}
 use Rattle.std.specs.List.{AllByRecursion}
 use Rattle.sheet_base.specs.declared.paths.PathKind.{PathKind}
 use Rattle.sheet_base.specs.declared.paths.PathKind.TheVariants.{Dot, Line, Loop}
-use Rattle.sheet_base.specs.Sheets.{Contents, IsPathFrom, AreTiled, IsSheet}
-use Rattle.wkt_layer.specs.Tokens.{Placed, tokens_of}
-use Rattle.wkt_layer.specs.Numbers.{Point, place_of, lost_of}
-use Rattle.wkt_layer.specs.Geometries.{Member, dot, bare, Geometry, point, line_string, polygon, multi_point, multi_line_string, multi_polygon, collection, Geometries, no_geometry, geometry, IsClosed, ArePoints, IsDot, IsRing, IsMember, IsGeometry, AreGeometries}
-use Rattle.wkt_layer.specs.Paths.{Path, path_of, member_path, geometry_paths, geometries_paths, kept_of, kept_points, points_before_last, rows_from, edits_from, lost_on, sheet_of}
+use Rattle.sheet_base.specs.Sheets.{AreTiled, IsSheet}
+use Rattle.wkt_layer.specs.Tokens.{Placed}
+use Rattle.wkt_layer.specs.Numbers.{Point, place_of}
+use Rattle.wkt_layer.specs.Geometries.{Member, dot, bare, Geometry, point, line_string, polygon, multi_point, multi_line_string, multi_polygon, collection, Geometries, no_geometry, geometry, IsDot, IsRing, IsMember, IsGeometry, AreGeometries}
+use Rattle.wkt_layer.specs.Paths.{Path, path_of, member_path, geometry_paths, geometries_paths, kept_of, kept_points, rows_from, sheet_of}
 use Rattle.wkt_layer.specs.Lines.{IsLineOf}
-use Rattle.wkt_layer.specs.Passes.{IsWhole, AreWhole, AreSome}
+use Rattle.wkt_layer.specs.Passes.{IsWhole, AreWhole}
 
 pub whole_append : (xs ys : List Path) → AreWhole xs → AreWhole ys → AreWhole (xs ++ ys)
 whole_append [] ys are more = more

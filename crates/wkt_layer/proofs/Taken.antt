@@ -1,20 +1,18 @@
 -- A token that the pass takes is one that the grammar allows: what follows the state behind it follows the state before, behind the token.
-use Rattle.std.proofs.Common.{◌≡◌, ◌≢◌, ℕ, zero, suc, ◌+◌, ◌-◌, ◌≤◌, ◌<◌, ◌⊎◌, inl, inr, Bool, true, false, List, [], ◌∷◌, ◌++◌, length, refl, sym, ap, ◌∙◌, subst, append_assoc, append-nil, arith}
-use Rattle.std.specs.Prelude.{flat_map, Option, Some, None, nat_lt, if◌then◌else◌}
-use Rattle.std.specs.List.{AllByRecursion}
+use Rattle.std.proofs.Common.{◌≡◌, suc, ◌<◌, Bool, true, false, List, [], ◌∷◌, ◌++◌, length, refl, sym, ap, ◌∙◌, subst, append_assoc, append-nil, arith}
+use Rattle.std.specs.Prelude.{Some, None, nat_lt, if◌then◌else◌}
 use Rattle.std.proofs.lemmas.Option.{same_Some}
 use Rattle.mm_decimal.specs.Measured.{measured}
-use Rattle.sheet_base.specs.declared.paths.PathKind.TheVariants.{Dot, Line, Loop}
+use Rattle.sheet_base.specs.declared.paths.PathKind.TheVariants.{Dot}
 use Rattle.wkt_layer.specs.Tokens.{Number, Token, opening, closing, comma, word, number, stray}
-use Rattle.wkt_layer.specs.Numbers.{Point, IsNumber, IsPoint, does_fit}
-use Rattle.wkt_layer.specs.Geometries.{Member, dot, bare, Geometry, point, line_string, polygon, multi_point, multi_line_string, multi_polygon, collection, Geometries, no_geometry, geometry, point_tokens, behind_item, content_tokens, points_tokens, member_tokens, lists_tokens, geometry_tokens, geometries_tokens, behind_geometry, IsClosed, ArePoints, IsDot, IsRing, IsMember, IsGeometry, AreGeometries}
-use Rattle.wkt_layer.specs.Paths.{Path, path_of, member_path, geometry_paths, geometries_paths}
-use Rattle.wkt_layer.specs.States.{Spot, item, content, first, second, whole, bare_second, bare_whole, behind, State, state, innermost, pair, kind_of, step, step_at, enter_step, tag_step, number_step, item_step, whole_step, behind_step, may_end, is_closed, content_of}
-use Rattle.wkt_layer.proofs.Rests.{room, ItemOf, ItemsOf, item_tokens, more_tokens, items_tokens, IsItem, AreItems, item_paths, items_paths, no_items, one_more, GoOn, Closes, ClosesPoints, IsContentOfPoints, Enters, Rests, Follows}
+use Rattle.wkt_layer.specs.Numbers.{Point, IsNumber, does_fit}
+use Rattle.wkt_layer.specs.Geometries.{dot, bare, point, line_string, polygon, multi_point, multi_line_string, multi_polygon, collection, point_tokens, IsClosed, IsGeometry}
+use Rattle.wkt_layer.specs.Paths.{Path, path_of}
+use Rattle.wkt_layer.specs.States.{Spot, item, content, first, second, whole, bare_second, bare_whole, behind, State, state, innermost, pair, kind_of, step_at, enter_step, tag_step, number_step, item_step, whole_step, behind_step, may_end}
+use Rattle.wkt_layer.proofs.Rests.{room, ItemOf, item_tokens, more_tokens, IsItem, item_paths, items_paths, no_items, one_more, GoOn, Closes, ClosesPoints, Enters, Follows}
 use Rattle.wkt_layer.specs.declared.limits.TheConstants.{DEEPEST}
 use Rattle.wkt_layer.specs.declared.words.Kind.{Kind}
 use Rattle.wkt_layer.specs.declared.words.Kind.TheVariants as kinds
-use Rattle.wkt_layer.specs.declared.words.Word.{Word}
 use Rattle.wkt_layer.specs.declared.words.Word.TheVariants.{Tag, Empty, Height, Other}
 use Rattle.wkt_layer.specs.declared.places.Content.{Content}
 use Rattle.wkt_layer.specs.declared.places.Content.TheVariants.{Points, Items}

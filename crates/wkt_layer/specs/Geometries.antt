@@ -1,5 +1,5 @@
 -- The grammar of well-known text (OGC 06-103r4, section 7.2.2), in this project's profile: seven plane kinds, and in a multipoint points without brackets.
-use Rattle.std.specs.Prelude.{◌≡◌, ℕ, zero, suc, ◌+◌, ◌≤◌, Bool, List, [], ◌∷◌, ◌++◌, length}
+use Rattle.std.specs.Prelude.{◌≡◌, ℕ, zero, suc, ◌≤◌, Bool, List, [], ◌∷◌, ◌++◌, length}
 use Rattle.std.specs.List.{AllByRecursion}
 use Rattle.wkt_layer.specs.Tokens.{Token, opening, closing, comma, word, number}
 use Rattle.wkt_layer.specs.Numbers.{Point, IsPoint, place_of}

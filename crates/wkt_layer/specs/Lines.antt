@@ -1,5 +1,5 @@
 -- What a line is read as: well-formed lines, and what begins them.
-use Rattle.std.specs.Prelude.{◌≡◌, ℕ, ◌⊎◌, Bool, List, [], ◌∷◌, ◌++◌, map}
+use Rattle.std.specs.Prelude.{◌≡◌, Bool, List, [], ◌∷◌, map}
 use Rattle.text_places.specs.Places.{Begins}
 use Rattle.wkt_layer.specs.Tokens.{Token, Placed}
 use Rattle.wkt_layer.specs.Geometries.{Geometry, IsGeometry, geometry_tokens}

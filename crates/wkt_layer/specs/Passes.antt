@@ -1,5 +1,5 @@
 -- What the code has read, as a state of the pass. Only private functions speak of it.
-use Rattle.std.specs.Prelude.{◌≡◌, ℕ, ◌+◌, ◌*◌, ◌<◌, ◌≤◌, Bool, true, false, List, [], ◌∷◌, ◌++◌, length, take, map, flat_map, sum_by, Option, Some, None, Result, Ok, Err, ⊤}
+use Rattle.std.specs.Prelude.{◌≡◌, ℕ, ◌+◌, ◌*◌, ◌≤◌, Bool, true, false, List, [], ◌∷◌, ◌++◌, length, take, map, flat_map, sum_by, Option, Some, None, Result, Ok, Err, ⊤}
 use Rattle.std.specs.Borrow.{Bor}
 use Rattle.std.specs.declared.alloc.AllocError.{AllocError}
 use Rattle.mm_decimal.specs.Measured.{measured}
@@ -23,7 +23,6 @@ use Rattle.wkt_layer.specs.declared.places.Place.{Place}
 use Rattle.wkt_layer.specs.declared.places.Place.TheVariants as places
 use Rattle.wkt_layer.specs.declared.tokens.Sign.{Sign}
 use Rattle.wkt_layer.specs.declared.tokens.Sign.TheVariants as signs
-use Rattle.wkt_layer.specs.declared.tokens.Token.{Token as Read}
 
 -- the token of this kind that begins here with this text
 abbrev pub token_for : ℕ → List ℕ → Sign → Token

@@ -1,5 +1,5 @@
 -- What the tokens of a line lead to that were read so far. Only private functions speak of it.
-use Rattle.std.specs.Prelude.{◌≡◌, ℕ, ◌+◌, Bool, List, [], ◌∷◌, ◌++◌, drop, Option, Some}
+use Rattle.std.specs.Prelude.{◌≡◌, ℕ, ◌+◌, Bool, List, [], ◌∷◌, ◌++◌, drop, Some}
 use Rattle.text_places.specs.Machine.{run}
 use Rattle.wkt_layer.specs.Tokens.{Token, opening, comma, number, Placed, tokens_of}
 use Rattle.wkt_layer.specs.Numbers.{Point}

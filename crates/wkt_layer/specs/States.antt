@@ -9,7 +9,7 @@ use Rattle.sheet_base.specs.declared.faults.LayerFault.{LayerFault}
 use Rattle.sheet_base.specs.declared.faults.LayerFault.TheVariants as faults
 use Rattle.sheet_base.specs.declared.paths.PathKind.{PathKind}
 use Rattle.sheet_base.specs.declared.paths.PathKind.TheVariants.{Dot, Line, Loop}
-use Rattle.wkt_layer.specs.Tokens.{Number, Token, opening, closing, comma, word, number, stray}
+use Rattle.wkt_layer.specs.Tokens.{Number, Token, opening, closing, comma, word, number}
 use Rattle.wkt_layer.specs.Numbers.{Point, does_fit, place_of}
 use Rattle.wkt_layer.specs.Geometries.{last_behind}
 use Rattle.wkt_layer.specs.Paths.{Path, path_of}
@@ -17,7 +17,7 @@ use Rattle.wkt_layer.specs.declared.limits.TheConstants.{DEEPEST}
 use Rattle.wkt_layer.specs.declared.words.Kind.{Kind}
 use Rattle.wkt_layer.specs.declared.words.Kind.TheVariants as kinds
 use Rattle.wkt_layer.specs.declared.words.Word.{Word}
-use Rattle.wkt_layer.specs.declared.words.Word.TheVariants.{Tag, Empty, Height, Other}
+use Rattle.wkt_layer.specs.declared.words.Word.TheVariants.{Tag, Empty, Height}
 use Rattle.wkt_layer.specs.declared.places.Content.{Content}
 use Rattle.wkt_layer.specs.declared.places.Content.TheVariants.{Points, Items}
 use Rattle.wkt_layer.specs.declared.places.Listing.{Listing}

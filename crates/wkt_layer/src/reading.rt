@@ -1,13 +1,13 @@
 //! Reading a layer line by line.
 
-ghost use Rattle.std.specs.Prelude.{◌≡◌, ◌≢◌, ◌+◌, ◌*◌, ◌^◌, ◌<◌, ◌≤◌, ◌++◌, ◌∷◌, [], ℕ, List, length, OnOk, IfOk, IsErrOf, IsTrue, true, false, slice_index};
+ghost use Rattle.std.specs.Prelude.{◌≡◌, ◌≢◌, ◌+◌, ◌*◌, ◌^◌, ◌<◌, ◌≤◌, ◌∷◌, [], List, length, OnOk, IfOk, IsErrOf, false, slice_index};
 ghost use Rattle.std.specs.List.{list_all};
 ghost use Rattle.sheet_base.specs.Splices.{AreInOrder};
 ghost use Rattle.sheet_base.specs.declared.faults.LayerFault.{LayerFault};
 ghost use Rattle.sheet_base.specs.declared.faults.LayerFault.TheVariants.{NoMemory};
-ghost use Rattle.wkt_layer.specs.Tokens.{is_blank, tokens_of, Placed};
+ghost use Rattle.wkt_layer.specs.Tokens.{is_blank, Placed};
 ghost use Rattle.wkt_layer.specs.States.{State};
-ghost use Rattle.wkt_layer.specs.Paths.{Path, sheet_of};
+ghost use Rattle.wkt_layer.specs.Paths.{Path};
 ghost use Rattle.wkt_layer.specs.Layers.{lines_of, IsReadAs, IsRefusedBy};
 ghost use Rattle.wkt_layer.specs.Passes.{Held, HasRoom, BeginsBefore, Stands, Reads, ReadsLine, lines_behind, RestsAt};
 ghost use Rattle.wkt_layer.specs.Reached.{Reached};
@@ -66,10 +66,8 @@ fn read_token(
         start: base + at,
         end: base + at + size,
     };
-    match step(pass, place, token, &line[at..at + size], exact) {
-        Ok(next) => Ok((next, at + size)),
-        Err(fault) => Err(fault),
-    }
+    let next = step(pass, place, token, &line[at..at + size], exact)?;
+    Ok((next, at + size))
 }
 
 /// Reads the geometry of a line that begins at this place of the text.
@@ -110,10 +108,7 @@ fn read_line(pass: &mut Pass, line: &[u8], base: usize, exact: bool) -> Result<(
     if are_blank(line) {
         return Ok(());
     }
-    match read_geometry(pass, line, base, exact) {
-        Ok(()) => Ok(()),
-        Err(fault) => Err(fault),
-    }
+    read_geometry(pass, line, base, exact)
 }
 
 /// The sheet of a layer of well-known text: each line is one geometry, or blanks alone. Places of
@@ -129,10 +124,7 @@ pub fn read(alloc: Global, bytes: &[u8], exact: bool) -> Result<Sheet, LayerFaul
     let mut rest = Some(bytes);
     while let Some(text) = rest {
         let (line, behind) = first_line(text);
-        match read_line(&mut pass, line, base, exact) {
-            Ok(()) => (),
-            Err(fault) => return Err(fault),
-        }
+        read_line(&mut pass, line, base, exact)?;
         base += line.len() + 1;
         rest = behind;
     }

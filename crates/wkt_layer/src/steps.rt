@@ -15,7 +15,7 @@ use crate::places::{Content, Group, Listing, Place};
 use crate::stack::Stack;
 use crate::tokens::{Sign, Token};
 use crate::words::{Kind, Word};
-use mm_decimal::{MmRead, NumFault, read_mm};
+use mm_decimal::{MmRead, read_mm};
 use plane_base::Pt;
 use sheet_base::{LayerFault, PathKind};
 use std::alloc::AllocError;
@@ -169,7 +169,7 @@ fn path_kind(listing: Listing) -> PathKind
 fn are_same(p: Pt, q: Pt) -> bool
     ensures { result ≡ is_same p q }
 {
-    p.x == q.x && p.y == q.y
+    p == q
 }
 
 /// A ring has at least four points, of which the last is the first again.

@@ -4,11 +4,11 @@ use Rattle.carry_map.proofs.Leaving.{near_one}
 use Rattle.carry_map.proofs.crossings.side_param.Goals as goal
 
 pub edge_param-requires-clause-near_p : goal.edge_param-requires-clause-near_p
-edge_param-requires-clause-near_p c = near_one c.args.tin.now c.args.a c.args.b c.source_place.result c.args.side.from c.source_place.ensures.limits c.requires.from_in_range c.requires.has_a c.requires.has_b c.source_place.ensures.place
+edge_param-requires-clause-near_p c = near_one c.args.tin.now c.args.a c.args.b c.place.result c.args.side.from c.place.ensures.limits c.requires.from_in_range c.requires.has_a c.requires.has_b c.place.ensures.place
 
 pub edge_param-requires-clause-near_q : goal.edge_param-requires-clause-near_q
-edge_param-requires-clause-near_q c = near_one c.args.tin.now c.args.a c.args.b c.source_place-2.result c.args.side.to c.source_place.ensures.limits c.requires.to_in_range c.requires.has_a c.requires.has_b c.source_place-2.ensures.place
+edge_param-requires-clause-near_q c = near_one c.args.tin.now c.args.a c.args.b c.place-2.result c.args.side.to c.place.ensures.limits c.requires.to_in_range c.requires.has_a c.requires.has_b c.place-2.ensures.place
 
 pub edge_param-requires-clause-near_pq : goal.edge_param-requires-clause-near_pq
 edge_param-requires-clause-near_pq c =
-    near_points c.args.tin.now Source c.args.side.from c.args.side.to c.source_place.result c.source_place-2.result c.source_place.ensures.limits c.requires.from_in_range c.requires.to_in_range c.source_place.ensures.place c.source_place-2.ensures.place
+    near_points c.args.tin.now Source c.args.side.from c.args.side.to c.place.result c.place-2.result c.place.ensures.limits c.requires.from_in_range c.requires.to_in_range c.place.ensures.place c.place-2.ensures.place

@@ -1,11 +1,13 @@
-use Rattle.std.proofs.Common.{sym, subst, arith, ◌^◌, ◌*◌, ◌+◌, get_or, drop}
+use Rattle.std.proofs.Common.{◌≡◌, sym, subst, arith, ◌^◌, ◌*◌, ◌+◌, get_or, drop, Err}
 use Rattle.std.proofs.lemmas.List.{drop_more}
+use Rattle.dxf_layer.specs.Entities.{entities_of}
 use Rattle.dxf_layer.specs.Shapes.{with_shapes}
-use Rattle.dxf_layer.specs.Walks.{visited}
+use Rattle.dxf_layer.specs.Walks.{free, visited, walked}
 use Rattle.dxf_layer.specs.Held.{seen, room_before, GoesTo, GrowsAlong}
 use Rattle.dxf_layer.proofs.Growing.{holds_more}
+use Rattle.dxf_layer.proofs.Stepping.{handed_on}
 use Rattle.dxf_layer.proofs.Vertices.{rest_is}
-use Rattle.dxf_layer.proofs.Visits.{IsWalkedTo, nothing_walked, pair_walked, no_pair, room_short}
+use Rattle.dxf_layer.proofs.Visits.{IsWalkedTo, nothing_walked, pair_walked, walk_refused, no_pair, room_short}
 use Rattle.dxf_layer.proofs.reading.read_entities.Goals as goal
 
 pub loop-number-init : goal.loop-number-init
@@ -24,11 +26,26 @@ loop-number-preserved c =
     let how = c.args.source.now.how in
     let seed = c.args.source.now.seed in
     let so_far = c.loop-number.invariant in
-    let goes : GoesTo (visited bytes how seed c.loop-number.section so_far.spot (drop number pairs)) (with_shapes (seen c.args.drawing.now) so_far.shapes) c.in-Ok.next (seen c.visit.new.drawing) =
-    subst (λ left. GoesTo (visited bytes how seed c.loop-number.section so_far.spot left) (with_shapes (seen c.args.drawing.now) so_far.shapes) c.in-Ok.next (seen c.visit.new.drawing)) (rest_is pairs number)
-    (c.in-Ok.ensures.goes (with_shapes (seen c.args.drawing.now) so_far.shapes) so_far.spot so_far.stands) in
+    let goes : GoesTo (visited bytes how seed c.loop-number.section so_far.spot (drop number pairs)) (with_shapes (seen c.args.drawing.now) so_far.shapes) c.in_ok-place.place (seen c.visit.new.drawing) =
+    subst (λ left. GoesTo (visited bytes how seed c.loop-number.section so_far.spot left) (with_shapes (seen c.args.drawing.now) so_far.shapes) c.in_ok-place.place (seen c.visit.new.drawing)) (rest_is pairs number)
+    (c.in_ok-place.ensures.goes (with_shapes (seen c.args.drawing.now) so_far.shapes) so_far.spot so_far.stands) in
     let grown : GrowsAlong (drop number pairs) (seen c.loop-number.drawing) (seen c.visit.new.drawing) =
-    subst (λ left. GrowsAlong left (seen c.loop-number.drawing) (seen c.visit.new.drawing)) (rest_is pairs number) c.in-Ok.ensures.grown in
-    subst (λ section. IsWalkedTo bytes how seed pairs section c.in-Ok.next (number + 1) (seen c.args.drawing.now) (seen c.visit.new.drawing)) (sym c.behind-section.ensures)
-    (pair_walked bytes how seed pairs c.loop-number.section c.loop-number.place c.in-Ok.next number (seen c.args.drawing.now) (seen c.loop-number.drawing) (seen c.visit.new.drawing) (get_or pairs number no_pair)
+    subst (λ left. GrowsAlong left (seen c.loop-number.drawing) (seen c.visit.new.drawing)) (rest_is pairs number) c.in_ok-place.ensures.grown in
+    subst (λ section. IsWalkedTo bytes how seed pairs section c.in_ok-place.place (number + 1) (seen c.args.drawing.now) (seen c.visit.new.drawing)) (sym c.behind-section.ensures)
+    (pair_walked bytes how seed pairs c.loop-number.section c.loop-number.place c.in_ok-place.place number (seen c.args.drawing.now) (seen c.loop-number.drawing) (seen c.visit.new.drawing) (get_or pairs number no_pair)
     so_far (drop_more pairs number no_pair c.loop-number-test.true) goes grown)
+
+pub returns-in_err-place-clause-reads : goal.returns-in_err-place-clause-reads
+returns-in_err-place-clause-reads c =
+    let pairs = c.args.pairs.now in
+    let number = c.loop-number.number in
+    let bytes = c.args.source.now.bytes.now in
+    let how = c.args.source.now.how in
+    let seed = c.args.source.now.seed in
+    let so_far = c.loop-number.invariant in
+    let fault = c.in_err-place.field-0.0 in
+    handed_on (walked bytes how seed free (entities_of bytes pairs)) (seen c.args.drawing.now) (seen c.visit.new.drawing) fault c.from_residual.result c.from_residual.ensures.1
+    (λ memory. walk_refused bytes how seed pairs c.loop-number.section c.loop-number.place number (seen c.args.drawing.now) (seen c.loop-number.drawing) (get_or pairs number no_pair) fault
+    so_far (drop_more pairs number no_pair c.loop-number-test.true)
+    (subst (λ left. visited bytes how seed c.loop-number.section so_far.spot left ≡ Err fault) (rest_is pairs number)
+    (c.in_err-place.ensures.goes (with_shapes (seen c.args.drawing.now) so_far.shapes) so_far.spot so_far.stands memory)))

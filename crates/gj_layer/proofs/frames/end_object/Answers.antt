@@ -1,4 +1,4 @@
-use Rattle.std.proofs.Common.{◌≡◌, ◌++◌, length, vec_len, refl, sym, ap, ◌∙◌, arith}
+use Rattle.std.proofs.Common.{◌≡◌, ◌++◌, length, vec_len, refl, ◌∙◌, arith}
 use Rattle.gj_layer.specs.Opening.{fronts, behinds, listed}
 use Rattle.gj_layer.proofs.Endings.{end_holds}
 use Rattle.gj_layer.proofs.frames.end_object.Goals as goal

@@ -1,5 +1,4 @@
-use Rattle.std.proofs.Common.{◌≡◌, ◌+◌, refl, sym, ap, subst, ◌∙◌}
-use Rattle.std.specs.Prelude.{Ok, Err}
+use Rattle.std.proofs.Common.{◌+◌, sym, ap, ◌∙◌}
 use Rattle.jtext.specs.Values.{object}
 use Rattle.jtext.specs.Nodes.{node_count, inner_place}
 use Rattle.jtext.specs.declared.document.Kind.TheVariants as kinds
@@ -8,7 +7,7 @@ use Rattle.gj_layer.specs.Faults.{and_then}
 use Rattle.gj_layer.specs.Members.{members_at, find_member}
 use Rattle.gj_layer.specs.Objects.{content_key, with_content, object_type}
 use Rattle.gj_layer.proofs.There.{kind_within, object_there, first_is}
-use Rattle.gj_layer.proofs.Giving.{passed_on}
+use Rattle.sheet_base.proofs.HandedOn.{passed_on}
 use Rattle.gj_layer.proofs.Looking.{kept_type, type_so, looks_fault}
 use Rattle.gj_layer.proofs.objects.look.Goals as goal
 

@@ -1,4 +1,4 @@
-use Rattle.std.proofs.Common.{◌≡◌, ◌+◌, ◌-◌, ◌<◌, length, vec_len, refl, sym, ap, subst, ◌∙◌, arith}
+use Rattle.std.proofs.Common.{◌≡◌, ◌+◌, length, vec_len, sym, ap, subst, ◌∙◌, arith}
 use Rattle.std.specs.Prelude.{Err}
 use Rattle.jtext.specs.Values.{object}
 use Rattle.jtext.specs.Nodes.{node_count}
@@ -8,8 +8,9 @@ use Rattle.jtext.specs.declared.document.Node.{Node}
 use Rattle.sheet_base.specs.declared.faults.LayerFault.TheVariants.{Shape}
 use Rattle.gj_layer.specs.declared.forms.Form.TheVariants as forms
 use Rattle.gj_layer.specs.Reading.{reading}
-use Rattle.gj_layer.proofs.There.{first_is, object_there, object_of, kind_there, kind_not_there}
-use Rattle.gj_layer.proofs.Giving.{passed_on}
+use Rattle.gj_layer.proofs.There.{first_is, object_there, kind_there, kind_not_there}
+use Rattle.jtext.proofs.MemberLoops.{object_of}
+use Rattle.sheet_base.proofs.HandedOn.{passed_on}
 use Rattle.gj_layer.proofs.Opened.{no_object, object_refused, object_opens, opens_fault, opens_same, content_inside, held_counts}
 use Rattle.gj_layer.proofs.objects.open_object.Goals as goal
 

@@ -1,4 +1,4 @@
-use Rattle.std.proofs.Common.{◌≡◌, refl, sym, ◌∙◌}
+use Rattle.std.proofs.Common.{refl, sym, ◌∙◌}
 use Rattle.gj_layer.proofs.objects.type_named.Goals as goal
 
 pub returns-then-tells : goal.returns-then-tells

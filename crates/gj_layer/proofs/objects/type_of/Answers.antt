@@ -1,12 +1,12 @@
-use Rattle.std.proofs.Common.{◌≡◌, sym, ap, subst, ◌∙◌}
+use Rattle.std.proofs.Common.{sym, ap, subst, ◌∙◌}
 use Rattle.std.specs.Prelude.{Err}
-use Rattle.jtext.specs.Characters.{units_of}
 use Rattle.jtext.specs.Places.{Stands}
 use Rattle.jtext.specs.declared.document.Kind.TheVariants as kinds
 use Rattle.jtext.specs.declared.document.Node.{Node}
 use Rattle.sheet_base.specs.declared.faults.LayerFault.TheVariants.{Shape}
-use Rattle.gj_layer.specs.Objects.{allowed, type_named, type_of}
-use Rattle.gj_layer.proofs.There.{first_is, quoted_of, kind_there, kind_not_there}
+use Rattle.gj_layer.specs.Objects.{allowed, type_of}
+use Rattle.gj_layer.proofs.There.{first_is, kind_there, kind_not_there}
+use Rattle.jtext.proofs.TextNodes.{quoted_of}
 use Rattle.gj_layer.proofs.Saying.{no_text}
 use Rattle.gj_layer.proofs.objects.type_of.Goals as goal
 

@@ -1,9 +1,8 @@
-use Rattle.std.proofs.Common.{◌≡◌, ◌+◌, ◌∷◌, [], length, vec_len, refl, sym, ap, ◌∙◌, arith, length-append}
+use Rattle.std.proofs.Common.{◌≡◌, ◌∷◌, [], length, vec_len, refl, sym, ap, ◌∙◌, arith, length-append}
 use Rattle.std.specs.Prelude.{Ok}
 use Rattle.gj_layer.proofs.There.{node_there, seen}
-use Rattle.gj_layer.proofs.Giving.{passed_on, give_fault}
 use Rattle.gj_layer.proofs.Holding.{held_more, held_first}
-use Rattle.gj_layer.proofs.Tracing.{run_path, dot_traced, dot_refused}
+use Rattle.gj_layer.proofs.Tracing.{run_path, dot_traced}
 use Rattle.sheet_base.specs.declared.paths.PathKind.TheVariants.{Dot}
 use Rattle.gj_layer.specs.Standing.{path_part}
 use Rattle.gj_layer.proofs.paths.read_dot.Goals as goal

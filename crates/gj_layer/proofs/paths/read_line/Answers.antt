@@ -1,18 +1,17 @@
-use Rattle.std.proofs.Common.{◌≡◌, ℕ, ◌+◌, ◌<◌, ◌≤◌, ◌∷◌, [], length, vec_len, map, refl, sym, ap, ◌∙◌, subst, arith, length-append}
+use Rattle.std.proofs.Common.{◌≡◌, ◌<◌, [], length, vec_len, map, refl, sym, ap, ◌∙◌, subst, arith, length-append}
 use Rattle.std.specs.Prelude.{Ok, Err}
 use Rattle.std.proofs.lemmas.List.{length-map}
-use Rattle.jtext.specs.Values.{Json, array}
 use Rattle.jtext.specs.Places.{Stands}
-use Rattle.jtext.specs.Nodes.{inner_place}
 use Rattle.jtext.specs.declared.document.Kind.TheVariants as kinds
 use Rattle.sheet_base.specs.declared.paths.PathKind.TheVariants.{Line}
 use Rattle.gj_layer.specs.declared.forms.Trace.TheVariants as traces
 use Rattle.gj_layer.specs.Faults.{and_then}
-use Rattle.gj_layer.specs.Positions.{positions, point_of}
-use Rattle.gj_layer.specs.Paths.{Part, nothing, joined, traced, part_of}
+use Rattle.gj_layer.specs.Positions.{point_of}
+use Rattle.gj_layer.specs.Paths.{nothing, joined, traced, part_of}
 use Rattle.gj_layer.specs.Standing.{Holds, path_part}
-use Rattle.gj_layer.proofs.There.{node_there, seen, kind_within, array_here}
-use Rattle.gj_layer.proofs.Giving.{passed_on, give_fault}
+use Rattle.gj_layer.proofs.There.{node_there, kind_within, array_here}
+use Rattle.sheet_base.proofs.HandedOn.{passed_on}
+use Rattle.gj_layer.proofs.Giving.{give_fault}
 use Rattle.gj_layer.proofs.Holding.{held_more, held_empty, held_first}
 use Rattle.gj_layer.proofs.Tracing.{run_path, line_refused, line_traced, line_empty, none_of}
 use Rattle.gj_layer.proofs.paths.read_line.Goals as goal

@@ -1,5 +1,5 @@
-use Rattle.std.proofs.Common.{◌≡◌, ◌+◌, ◌<◌, ◌≤◌, length, refl, sym, ap, ◌∙◌, subst, arith}
-use Rattle.std.specs.Prelude.{Ok, Err}
+use Rattle.std.proofs.Common.{◌≡◌, ◌<◌, ◌≤◌, length, sym, ap, ◌∙◌, subst, arith}
+use Rattle.std.specs.Prelude.{Err}
 use Rattle.jtext.specs.Nodes.{node_count}
 use Rattle.jtext.specs.declared.document.Kind.TheVariants as kinds
 use Rattle.jtext.specs.declared.document.Node.{Node}

@@ -1,4 +1,4 @@
-use Rattle.std.proofs.Common.{◌≡◌, ◌∷◌, subst, List, arith}
+use Rattle.std.proofs.Common.{◌∷◌, subst, List, arith}
 use Rattle.gj_layer.specs.declared.frames.Frame.{Frame}
 use Rattle.gj_layer.specs.Standing.{HasRoom}
 use Rattle.gj_layer.specs.Opening.{Going, left_in}

@@ -1,11 +1,10 @@
-use Rattle.std.proofs.Common.{◌≡◌, ◌<◌, ◌+◌, [], length, refl, sym, ap, subst, ◌∙◌, arith}
-use Rattle.std.specs.Prelude.{Ok}
+use Rattle.std.proofs.Common.{◌≡◌, ◌∙◌, arith}
 use Rattle.jtext.specs.Places.{whole_start}
 use Rattle.jtext.proofs.Standing.{reading_stands}
-use Rattle.sheet_base.specs.Sheets.{Contents}
 use Rattle.gj_layer.specs.Paths.{sheet_of}
 use Rattle.gj_layer.specs.Layers.{layer_reading}
-use Rattle.gj_layer.proofs.Giving.{passed_on, give_fault}
+use Rattle.sheet_base.proofs.HandedOn.{passed_on}
+use Rattle.gj_layer.proofs.Giving.{give_fault}
 use Rattle.gj_layer.proofs.Walking.{within_nodes}
 use Rattle.gj_layer.proofs.Documents.{begins, held_sheet, held_is_sheet}
 use Rattle.gj_layer.proofs.reading.read_document.Goals as goal

@@ -1,9 +1,7 @@
-use Rattle.std.proofs.Common.{◌≡◌, ◌+◌, ◌-◌, ◌<◌, length, refl, sym, ap, subst, ◌∙◌, arith}
-use Rattle.std.specs.Prelude.{Ok, Err}
-use Rattle.gj_layer.specs.declared.forms.Form.TheVariants as forms
+use Rattle.std.proofs.Common.{length, ap, ◌∙◌, arith}
 use Rattle.gj_layer.specs.Reading.{reading}
 use Rattle.gj_layer.proofs.There.{node_there}
-use Rattle.gj_layer.proofs.Giving.{passed_on}
+use Rattle.sheet_base.proofs.HandedOn.{passed_on}
 use Rattle.gj_layer.proofs.Opened.{path_read, takes_fault}
 use Rattle.gj_layer.proofs.reading.read_item.Goals as goal
 

@@ -1,10 +1,10 @@
-use Rattle.std.proofs.Common.{◌≡◌, length, refl, sym, ap, subst, ◌∙◌}
+use Rattle.std.proofs.Common.{length, ◌∙◌}
 use Rattle.jtext.specs.declared.document.Kind.TheVariants as kinds
 use Rattle.gj_layer.specs.declared.forms.Form.TheVariants as forms
 use Rattle.gj_layer.specs.Paths.{nothing}
 use Rattle.gj_layer.specs.Reading.{reading}
 use Rattle.gj_layer.proofs.There.{kind_there, kind_not_there}
-use Rattle.gj_layer.proofs.Giving.{passed_on}
+use Rattle.sheet_base.proofs.HandedOn.{passed_on}
 use Rattle.gj_layer.proofs.Holding.{held_nothing}
 use Rattle.gj_layer.proofs.Opened.{optional_read, null_read, takes_fault}
 use Rattle.gj_layer.proofs.reading.read_optional.Goals as goal

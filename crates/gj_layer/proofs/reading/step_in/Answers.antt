@@ -1,8 +1,7 @@
-use Rattle.std.proofs.Common.{◌≡◌, ◌+◌, ◌-◌, ◌*◌, ◌<◌, ◌≤◌, ◌∷◌, length, refl, sym, ap, subst, ◌∙◌, arith}
-use Rattle.std.specs.Prelude.{Ok, Err}
+use Rattle.std.proofs.Common.{◌-◌, ◌∷◌, length, arith}
 use Rattle.gj_layer.specs.Reading.{reading}
 use Rattle.gj_layer.specs.Opening.{left_in}
-use Rattle.gj_layer.proofs.Giving.{passed_on}
+use Rattle.sheet_base.proofs.HandedOn.{passed_on}
 use Rattle.gj_layer.proofs.Walking.{next_there, room_less, room_grows, goes_fault, within_nodes, node_behind, taken_none, taken_some, grows_some, grows_none, within_some}
 use Rattle.jtext.proofs.Standing.{node_count_positive}
 use Rattle.gj_layer.proofs.reading.step_in.Goals as goal

@@ -1,6 +1,5 @@
-use Rattle.std.proofs.Common.{◌≡◌, ◌∷◌, ◌≤◌, ◌++◌, length, refl, sym, ap, subst, ◌∙◌, arith}
-use Rattle.std.specs.Prelude.{Some, None}
-use Rattle.gj_layer.specs.Paths.{Part, nothing, joined}
+use Rattle.std.proofs.Common.{length, sym, ap, subst, arith}
+use Rattle.gj_layer.specs.Paths.{Part, joined}
 use Rattle.gj_layer.specs.Standing.{Holds}
 use Rattle.gj_layer.specs.Opening.{IsBare, ended}
 use Rattle.gj_layer.proofs.Walking.{end_there, ending_some, ending_none, edits_within}

@@ -5,6 +5,7 @@ use Rattle.tin_file.specs.declared.faults.Top.TheVariants as tops
 use Rattle.std.proofs.Common.{◌≡◌}
 use Rattle.tin_file.proofs.There.{node_within, members_there}
 use Rattle.tin_file.proofs.Found.{value_found}
+use Rattle.tin_file.proofs.RowLists.{passed_on}
 use Rattle.tin_file.proofs.Sequels.{equals_is, fault_stays, then_made}
 use Rattle.tin_file.proofs.headings.check_file_type.Goals as goal
 
@@ -12,15 +13,17 @@ pub check_file_type_value-requires-clause-node : goal.check_file_type_value-requ
 check_file_type_value-requires-clause-node c =
     let nodes = c.args.doc.now.nodes in let bytes = c.args.bytes.now in
     let (members, h) = members_there c.args.doc.now bytes c.requires.read c.requires.object in
-    node_within nodes bytes c.in-Ok.value (value_found nodes bytes c.in-Ok.value (needed tops.FileType members) (c.in-Ok.ensures members h))
+    node_within nodes bytes c.in_ok-value.value (value_found nodes bytes c.in_ok-value.value (needed tops.FileType members) (c.in_ok-value.ensures members h))
 
-pub returns-in-Ok : goal.returns-in-Ok
+pub returns : goal.returns
 unfolding file_type
-returns-in-Ok c members h =
-    then_made (IsThere c.args.doc.now.nodes c.args.bytes.now) (λ one other. one ≡ other) file_type_of c.in-Ok.value (needed tops.FileType members) c.check_file_type_value.result
-    (c.in-Ok.ensures members h) (λ is there. equals_is c.check_file_type_value.result (file_type_of is) (c.check_file_type_value.ensures is there))
+returns c members h =
+    then_made (IsThere c.args.doc.now.nodes c.args.bytes.now) (λ one other. one ≡ other) file_type_of c.in_ok-value.value (needed tops.FileType members) c.check_file_type_value.result
+    (c.in_ok-value.ensures members h) (λ is there. equals_is c.check_file_type_value.result (file_type_of is) (c.check_file_type_value.ensures is there))
 
-pub returns-in-Err : goal.returns-in-Err
+pub returns-in_err-value : goal.returns-in_err-value
 unfolding file_type
-returns-in-Err c members h =
-    fault_stays (IsThere c.args.doc.now.nodes c.args.bytes.now) (λ one other. one ≡ other) file_type_of c.in-Err.fault (needed tops.FileType members) (c.in-Err.ensures members h)
+returns-in_err-value c members h =
+    let fault = c.in_err-value.field-0.0 in
+    rw (passed_on fault c.from_residual.result c.from_residual.ensures.1)
+    (fault_stays (IsThere c.args.doc.now.nodes c.args.bytes.now) (λ one other. one ≡ other) file_type_of fault (needed tops.FileType members) (c.in_err-value.ensures members h))

@@ -16,13 +16,13 @@ one_more_file before now file folder done is same =
 pub returns-clause-ok : goal.returns-clause-ok
 returns-clause-ok c =
     let added = c.in_ok-add_layer.ensures in
-    let done : Done = record { name = c.args.name.now; format = c.known_format-format.result; carried = c.in-Ok.carried } in
+    let done : Done = record { name = c.args.name.now; format = c.known_format-format.result; carried = c.in_ok-carried.carried } in
     record {
       done = done;
       named = refl;
       suffix = subst (λ (name : List ℕ). format_of name ≡ Some c.known_format-format.result) c.text.ensures c.known_format-format.ensures;
       carried =
-          rw added.pieces c.in-Ok.ensures.ok;
+          rw added.pieces c.in_ok-carried.ensures.ok;
       files = one_more_file c.args.run.now.files.items c.add_layer.new.run.files.items c.in_ok-file.file c.args.folder.now done added.files c.in_ok-file.ensures;
       rows = added.rows ∙ ap (λ (row : LayerRow). c.args.run.now.rows.items ++ row ∷ []) c.in_ok-row.ensures;
       used = ap (λ u. u + length c.args.bytes.now) added.used;

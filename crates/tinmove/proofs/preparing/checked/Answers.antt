@@ -1,18 +1,20 @@
 use Rattle.std.proofs.Common.{◌≡◌, List, map, rules, refl, ap}
 use Rattle.tinmove.specs.declared.carrying.LayerFile.{LayerFile}
-use Rattle.tinmove.specs.Prepared.{file_of, sound_said}
+use Rattle.tinmove.specs.Prepared.{file_of}
 use Rattle.tinmove.specs.SoundLine.{sound_text}
+use Rattle.tinmove.proofs.HandedOn.{handed_on}
 use Rattle.tinmove.proofs.Readied.{check_refused}
 use Rattle.tinmove.proofs.preparing.checked.Goals as goal
 
-pub returns-in-Ok-sound_line-clause-form : goal.returns-in-Ok-sound_line-clause-form
-returns-in-Ok-sound_line-clause-form g c =
-    let said : c.of.result ≡ sound_text c.in-Ok.tin = search rules in
+pub returns-clause-form : goal.returns-clause-form
+returns-clause-form g c =
+    let said : c.of.result ≡ sound_text c.in_ok-tin.tin = search rules in
     record {
       writable = rw c.new.ensures.items tt;
-      is_said = sound_said c.in-Ok.tin (ap (λ (files : List LayerFile). map file_of files) c.new.ensures.items) said refl;
+      is_of = (ap (λ (files : List LayerFile). map file_of files) c.new.ensures.items, refl, c.in_ok-tin.tin, said);
     }
 
-pub returns-clause-refused : goal.returns-clause-refused
-returns-clause-refused g c =
-    check_refused (g.S.Shelf.files c.args.shelf.now) c.args.how c.args.name.now _ _ c.in-Err.refusal (rw c.text.ensures at c.in-Err.ensures.refused)
+pub returns-in_err-tin-clause-refused : goal.returns-in_err-tin-clause-refused
+returns-in_err-tin-clause-refused g c =
+    handed_on _ c.in_err-tin.field-0.0 c.from_residual.result c.from_residual.ensures.1
+    (check_refused (g.S.Shelf.files c.args.shelf.now) c.args.how c.args.name.now _ _ c.in_err-tin.field-0.0 (rw c.text.ensures at c.in_err-tin.ensures.refused))

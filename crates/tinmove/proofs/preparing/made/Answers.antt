@@ -2,26 +2,30 @@ use Rattle.std.proofs.Common.{refl, sym, subst}
 use Rattle.tin_base.specs.Limits.{IsWithinLimits}
 use Rattle.tin_base.specs.Triangulation.{Triangulation}
 use Rattle.topo_check.specs.Changes.{AreAllComparable}
+use Rattle.tinmove.proofs.HandedOn.{handed_on}
 use Rattle.tinmove.proofs.Made.{made_run_refused, made_changes_refused, made_comparable, made_done, made_form}
 use Rattle.tinmove.proofs.preparing.made.Goals as goal
 
-pub returns-in-Err-made_run-clause-refused : goal.returns-in-Err-made_run-clause-refused
-returns-in-Err-made_run-clause-refused c = made_run_refused c.args.n c.in-Ok.index c.in-Err-made_run.refusal c.in-Ok.ensures.ok c.in-Err-made_run.ensures.refused
+pub returns-in_err-run-clause-refused : goal.returns-in_err-run-clause-refused
+returns-in_err-run-clause-refused c =
+    handed_on _ c.in_err-run.field-0.0 c.from_residual-in_err-run.result c.from_residual-in_err-run.ensures.1
+    (made_run_refused c.args.n c.in_ok-index.index c.in_err-run.field-0.0 c.in_ok-index.ensures.ok c.in_err-run.ensures.refused)
 
 pub reported-requires-clause-comparable : goal.reported-requires-clause-comparable
 reported-requires-clause-comparable c =
-    let limits : IsWithinLimits c.in-Ok.index = subst (λ (t : Triangulation). IsWithinLimits t) c.tin-tin.ensures c.known.ensures in
-    subst (λ (t : Triangulation). AreAllComparable t c.in-Ok-made_run.run'.pieces.items) (sym c.tin-tin.ensures) (made_comparable c.args.n c.in-Ok.index c.in-Ok-made_run.run' limits c.in-Ok-made_run.ensures.ok)
+    let limits : IsWithinLimits c.in_ok-index.index = subst (λ (t : Triangulation). IsWithinLimits t) c.tin-tin.ensures c.known.ensures.limits in
+    subst (λ (t : Triangulation). AreAllComparable t c.in_ok-run.run'.pieces.items) (sym c.tin-tin.ensures) (made_comparable c.args.n c.in_ok-index.index c.in_ok-run.run' limits c.in_ok-run.ensures.ok)
 
-pub returns-in-Ok-reported-clause-ok : goal.returns-in-Ok-reported-clause-ok
-returns-in-Ok-reported-clause-ok c =
-    made_done c.args.n c.in-Ok.index c.in-Ok-made_run.run' c.in-Ok-reported.written (record { layers = c.new.result; said = c.in-Ok-reported.written.said; changed = c.in-Ok-reported.written.changed }) c.in-Ok.ensures.ok c.in-Ok-made_run.ensures.ok (rw (c.in_ok-name.ensures, c.tin-tin.ensures) at c.in-Ok-reported.ensures.ok)
+pub returns-clause-ok : goal.returns-clause-ok
+returns-clause-ok c =
+    made_done c.args.n c.in_ok-index.index c.in_ok-run.run' c.in_ok-written.written (record { layers = c.new.result; said = c.in_ok-written.written.said; changed = c.in_ok-written.written.changed }) c.in_ok-index.ensures.ok c.in_ok-run.ensures.ok (rw (c.in_ok-name.ensures, c.tin-tin.ensures) at c.in_ok-written.ensures.ok)
     c.new.ensures.items refl refl
 
-pub returns-in-Ok-reported-clause-form : goal.returns-in-Ok-reported-clause-form
-returns-in-Ok-reported-clause-form c =
-    made_form c.in-Ok.index c.in-Ok-made_run.run' c.in-Ok-reported.written (record { layers = c.new.result; said = c.in-Ok-reported.written.said; changed = c.in-Ok-reported.written.changed }) (rw (c.in_ok-name.ensures, c.tin-tin.ensures) at c.in-Ok-reported.ensures.ok) c.new.ensures.items refl refl
+pub returns-clause-form : goal.returns-clause-form
+returns-clause-form c =
+    made_form c.args.n c.in_ok-index.index c.in_ok-run.run' c.in_ok-written.written (record { layers = c.new.result; said = c.in_ok-written.written.said; changed = c.in_ok-written.written.changed }) c.in_ok-run.ensures.ok (rw (c.in_ok-name.ensures, c.tin-tin.ensures) at c.in_ok-written.ensures.ok) c.new.ensures.items refl refl
 
-pub returns-clause-refused : goal.returns-clause-refused
-returns-clause-refused c =
-    made_changes_refused c.args.n c.in-Ok.index c.in-Ok-made_run.run' c.in-Err-reported.refusal c.in-Ok.ensures.ok c.in-Ok-made_run.ensures.ok (rw c.tin-tin.ensures at c.in-Err-reported.ensures.refused)
+pub returns-in_err-written-clause-refused : goal.returns-in_err-written-clause-refused
+returns-in_err-written-clause-refused c =
+    handed_on _ c.in_err-written.field-0.0 c.from_residual-in_err-written.result c.from_residual-in_err-written.ensures.1
+    (made_changes_refused c.args.n c.in_ok-index.index c.in_ok-run.run' c.in_err-written.field-0.0 c.in_ok-index.ensures.ok c.in_ok-run.ensures.ok (rw c.tin-tin.ensures at c.in_err-written.ensures.refused))

@@ -8,4 +8,4 @@ pub listed_changes-requires-clause-comparable : goal.listed_changes-requires-cla
 listed_changes-requires-clause-comparable c = subst (λ (ps : List Piece). AreAllComparable c.args.tin.now ps) (sym c.deref.ensures.value) c.requires.comparable
 
 pub run_report-requires-clause-changes : goal.run_report-requires-clause-changes
-run_report-requires-clause-changes c = let listed = c.in-Ok.ensures.ok in all_changed c.args.tin.now c.deref.result.now c.in-Ok.changes.items listed.are_changes
+run_report-requires-clause-changes c = let listed = c.in_ok-changes.ensures.ok in all_changed c.args.tin.now c.deref.result.now c.in_ok-changes.changes.items listed.are_changes

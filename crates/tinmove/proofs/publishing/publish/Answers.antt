@@ -9,8 +9,7 @@ returns-in-Err-clause-front g c = λ write.
 
 pub print-requires-clause-new : goal.print-requires-clause-new
 print-requires-clause-new g c =
-    let form = c.requires.form in
-    lacks_dash (map file_of c.args.written.now.layers.items) (g.P.Press.made c.publish_layers.new.press) form.writable (rw c.deref.ensures.value at c.in-Ok.ensures.whole)
+    lacks_dash (map file_of c.args.written.now.layers.items) (g.P.Press.made c.publish_layers.new.press) c.requires.writable (rw c.deref.ensures.value at c.in-Ok.ensures.whole)
 
 pub returns-in-Err-print-clause-front : goal.returns-in-Err-print-clause-front
 returns-in-Err-print-clause-front g c = λ write.

@@ -37,7 +37,7 @@ returns-in-Err-clause-kept_made g c = λ n asks.
 pub returns-in-Err-clause-stands : goal.returns-in-Err-clause-stands
 returns-in-Err-clause-stands g c =
     let e = c.refuse.ensures in
-    stands_refused (Words c.in-Err.fault) c.refuse.result (g.P.Press.made c.refuse.new.press) _ (record { status = e.status; all = e.whole; front = e.front; rose = e.rose })
+    stands_refused (map string_bytes c.args.words.now) (Words c.in-Err.fault) c.refuse.result (g.P.Press.made c.refuse.new.press) _ (record { status = e.status; all = e.whole; front = e.front; rose = e.rose })
 
 pub returns-in-Err-clause-words : goal.returns-in-Err-clause-words
 returns-in-Err-clause-words g c = λ is. words_end (map string_bytes c.args.words.now) c.in-Err.fault c.refuse.result (c.in-Err.ensures.refused c.in-Err.fault refl) c.refuse.ensures.status is
@@ -49,6 +49,9 @@ pub returns-in-Err-clause-limit : goal.returns-in-Err-clause-limit
 returns-in-Err-clause-limit g c =
     let e = c.refuse.ensures in
     limit_told (Words c.in-Err.fault) c.refuse.result (g.P.Press.made c.refuse.new.press) _ _ (record { status = e.status; all = e.whole; front = e.front; rose = e.rose }) (λ no. cc) (λ no. cc)
+
+pub publish-requires-clause-writable : goal.publish-requires-clause-writable
+publish-requires-clause-writable g c = let form = c.in-Ok-prepared.ensures.form in form.writable
 
 pub returns-in-Ok-prepared-clause-ends : goal.returns-in-Ok-prepared-clause-ends
 returns-in-Ok-prepared-clause-ends g c =
@@ -82,7 +85,7 @@ returns-in-Ok-prepared-clause-kept_made g c = λ n asks.
 pub returns-in-Ok-prepared-clause-stands : goal.returns-in-Ok-prepared-clause-stands
 returns-in-Ok-prepared-clause-stands g c =
     let e = c.publish.ensures in
-    stands_done c.in-Ok-prepared.written c.publish.result (g.P.Press.made c.publish.new.press) _ c.in-Ok-prepared.ensures.form (record { status = e.status; all = e.whole; front = e.front; rose = e.rose })
+    stands_done (map string_bytes c.args.words.now) c.in-Ok.job c.in-Ok-prepared.written c.publish.result (g.P.Press.made c.publish.new.press) _ c.in-Ok.ensures.job c.in-Ok-prepared.ensures.form (record { status = e.status; all = e.whole; front = e.front; rose = e.rose })
 
 pub returns-in-Ok-prepared-clause-no_job : goal.returns-in-Ok-prepared-clause-no_job
 returns-in-Ok-prepared-clause-no_job g c = λ lacks. absurd (job_or_fault (map string_bytes c.args.words.now) c.in-Ok.job lacks.0 c.in-Ok.ensures.job lacks.1)
@@ -90,7 +93,7 @@ returns-in-Ok-prepared-clause-no_job g c = λ lacks. absurd (job_or_fault (map s
 pub returns-in-Ok-prepared-clause-limit : goal.returns-in-Ok-prepared-clause-limit
 returns-in-Ok-prepared-clause-limit g c =
     let e = c.publish.ensures in
-    limit_done c.in-Ok-prepared.written c.publish.result (g.P.Press.made c.publish.new.press) _ _ c.in-Ok-prepared.ensures.form (record { status = e.status; all = e.whole; front = e.front; rose = e.rose })
+    limit_done c.in-Ok.job c.in-Ok-prepared.written c.publish.result (g.P.Press.made c.publish.new.press) _ _ c.in-Ok-prepared.ensures.form (record { status = e.status; all = e.whole; front = e.front; rose = e.rose })
 
 pub returns-in-Ok-prepared-clause-check : goal.returns-in-Ok-prepared-clause-check
 returns-in-Ok-prepared-clause-check g c = λ name check.
@@ -129,7 +132,7 @@ returns-clause-kept_made g c = λ n asks.
 pub returns-clause-stands : goal.returns-clause-stands
 returns-clause-stands g c =
     let e = c.refuse-in-Err-prepared.ensures in
-    stands_refused c.in-Err-prepared.refusal c.refuse-in-Err-prepared.result (g.P.Press.made c.refuse-in-Err-prepared.new.press) _ (record { status = e.status; all = e.whole; front = e.front; rose = e.rose })
+    stands_refused (map string_bytes c.args.words.now) c.in-Err-prepared.refusal c.refuse-in-Err-prepared.result (g.P.Press.made c.refuse-in-Err-prepared.new.press) _ (record { status = e.status; all = e.whole; front = e.front; rose = e.rose })
 
 pub returns-clause-no_job : goal.returns-clause-no_job
 returns-clause-no_job g c = λ lacks. absurd (job_or_fault (map string_bytes c.args.words.now) c.in-Ok.job lacks.0 c.in-Ok.ensures.job lacks.1)

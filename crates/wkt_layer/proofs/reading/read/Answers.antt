@@ -1,6 +1,5 @@
-use Rattle.std.proofs.Common.{◌≡◌, ◌+◌, ◌<◌, ◌≤◌, ◌^◌, ◌++◌, ℕ, List, [], length, refl, sym, ap, ◌∙◌, subst, arith}
-use Rattle.std.specs.Prelude.{Some, None}
-use Rattle.sheet_base.specs.Sheets.{Contents, IsSheet}
+use Rattle.std.proofs.Common.{◌≡◌, ◌+◌, ◌<◌, ◌^◌, ◌++◌, length, ap, ◌∙◌, subst, arith}
+use Rattle.std.specs.Prelude.{Some}
 use Rattle.wkt_layer.specs.Layers.{lines_of}
 use Rattle.wkt_layer.specs.Paths.{sheet_of}
 use Rattle.wkt_layer.specs.Passes.{GoesOn, RestsAt, lines_behind}
@@ -12,13 +11,13 @@ loop-rest-preserved c =
     let (done, held, none, on, order) = c.loop-rest.invariant.read in
     let at : RestsAt (Some c.in-Some.text) c.loop-rest.base (length c.args.bytes.now) = subst (λ r. RestsAt r c.loop-rest.base (length c.args.bytes.now)) c.in-Some.is c.loop-rest.invariant.size in
     let here = subst (λ ls. GoesOn c.args.exact (lines_of c.args.bytes.now) c.loop-rest.base ls done) (ap lines_behind c.in-Some.is ∙ c.first_line.ensures.lines) on in
-    let (paths, is, now, empty) = c.in-Ok.ensures.reads done held none in
+    let (paths, is, now, empty) = c.in_ok-read_line.ensures.reads done held none in
     let place : c.loop-rest.base + (length c.first_line.result.0.now + 1) ≡ c.loop-rest.base + length c.first_line.result.0.now + 1 = omega arith in
     let within = c.first_line.ensures.within in
     record {
       size = rests_next c.first_line.result.1 c.loop-rest.base (length c.first_line.result.0.now + 1) (length c.in-Some.text.now) (length c.args.bytes.now) at c.first_line.ensures.size;
       few = omega (arith, at, within);
-      room = room_more c.read_line.new.pass (c.loop-rest.base + length c.first_line.result.0.now) (c.loop-rest.base + (length c.first_line.result.0.now + 1)) c.in-Ok.ensures.room (omega arith);
+      room = room_more c.read_line.new.pass (c.loop-rest.base + length c.first_line.result.0.now) (c.loop-rest.base + (length c.first_line.result.0.now + 1)) c.in_ok-read_line.ensures.room (omega arith);
       read = (
         done ++ paths,
         now,

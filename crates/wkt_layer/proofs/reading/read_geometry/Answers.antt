@@ -1,5 +1,4 @@
-use Rattle.std.proofs.Common.{◌≡◌, ◌≤◌, ◌<◌, ◌+◌, ◌++◌, List, [], length, refl, sym, ap, ◌∙◌, subst, append-nil, arith, true, false}
-use Rattle.wkt_layer.specs.Paths.{Path}
+use Rattle.std.proofs.Common.{◌≡◌, ◌≤◌, ◌+◌, ◌++◌, [], length, sym, ◌∙◌, subst, append-nil, arith, true, false}
 use Rattle.wkt_layer.specs.States.{start}
 use Rattle.wkt_layer.specs.Passes.{Held, HasRoom}
 use Rattle.wkt_layer.proofs.Lexing.{reached_start, reached_end, reached_open, black_tokens}

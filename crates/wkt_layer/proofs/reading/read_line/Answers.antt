@@ -1,4 +1,4 @@
-use Rattle.std.proofs.Common.{◌++◌, [], sym, ◌∙◌, subst, append-nil}
+use Rattle.std.proofs.Common.{[], sym, ◌∙◌, subst, append-nil}
 use Rattle.wkt_layer.specs.Passes.{Held}
 use Rattle.wkt_layer.proofs.Lexing.{blank_line}
 use Rattle.wkt_layer.proofs.reading.read_line.Goals as goal

@@ -1,4 +1,4 @@
-use Rattle.std.proofs.Common.{refl, ◌∙◌, sym, subst, ◌++◌, ◌∷◌, [], append_assoc}
+use Rattle.std.proofs.Common.{◌∙◌, subst, ◌++◌, ◌∷◌, [], append_assoc}
 use Rattle.sheet_base.specs.declared.paths.PathKind.TheVariants.{Dot}
 use Rattle.wkt_layer.specs.Paths.{path_of}
 use Rattle.wkt_layer.specs.Passes.{Held}

@@ -1,9 +1,9 @@
-use Rattle.std.proofs.Common.{refl, sym, ap, ◌∙◌, subst, [], ◌∷◌, ◌++◌, append_assoc}
+use Rattle.std.proofs.Common.{refl, sym, ◌∙◌, subst, [], ◌∷◌, ◌++◌, append_assoc}
 use Rattle.wkt_layer.specs.States.{state, first, behind, kind_of}
-use Rattle.wkt_layer.specs.Paths.{path_of, Path}
+use Rattle.wkt_layer.specs.Paths.{path_of}
 use Rattle.wkt_layer.specs.Passes.{Held}
 use Rattle.wkt_layer.specs.declared.places.Listing.TheVariants as listings
-use Rattle.wkt_layer.proofs.Going.{comma_goes, opened_comma, closing_goes, closing_stays, opened_closing}
+use Rattle.wkt_layer.proofs.Going.{comma_goes, opened_comma, closing_goes, opened_closing}
 use Rattle.wkt_layer.proofs.steps.behind_point.Goals as goal
 
 pub returns-in-List-clause-goes : goal.returns-in-List-clause-goes

@@ -1,5 +1,5 @@
-use Rattle.std.proofs.Common.{◌≡◌, ◌≤◌, ◌-◌, ℕ, suc, length, get_or, ◌∷◌, refl, sym, ap, ◌∙◌, arith, pos, true}
-use Rattle.std.specs.Prelude.{◌&&◌, nat_le}
+use Rattle.std.proofs.Common.{◌≤◌, ◌-◌, length, get_or, ◌∷◌, sym, ap, ◌∙◌, arith, pos}
+use Rattle.std.specs.Prelude.{◌&&◌}
 use Rattle.std.proofs.lemmas.Bool.{le-leb}
 use Rattle.plane_base.specs.declared.shapes.Pt.{Pt}
 use Rattle.wkt_layer.specs.Numbers.{place_of}

@@ -1,4 +1,4 @@
-use Rattle.std.proofs.Common.{List, ◌++◌, subst}
+use Rattle.std.proofs.Common.{◌++◌, subst}
 use Rattle.wkt_layer.specs.States.{Spot, second, bare_second, step_at}
 use Rattle.wkt_layer.specs.Passes.{Goes, Held, Shows, points_at, token_for}
 use Rattle.wkt_layer.proofs.Going.{at_second, at_bare_second}

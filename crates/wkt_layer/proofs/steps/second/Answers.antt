@@ -1,4 +1,4 @@
-use Rattle.std.proofs.Common.{refl, ◌∙◌, sym, ◌++◌, ◌∷◌, []}
+use Rattle.std.proofs.Common.{refl, ◌∙◌, ◌++◌, ◌∷◌, []}
 use Rattle.wkt_layer.specs.Tokens.{Number}
 use Rattle.wkt_layer.specs.States.{state, whole, pair}
 use Rattle.wkt_layer.proofs.Going.{number_goes, opened_number, some_push}

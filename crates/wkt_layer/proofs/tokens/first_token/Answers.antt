@@ -1,4 +1,3 @@
-use Rattle.std.proofs.Common.{◌≤◌}
 use Rattle.std.proofs.lemmas.List.Sums.{prefix_len-le-length}
 use Rattle.wkt_layer.specs.Tokens.{is_numeric}
 use Rattle.wkt_layer.proofs.tokens.first_token.Goals as goal

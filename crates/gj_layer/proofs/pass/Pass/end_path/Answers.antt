@@ -1,7 +1,5 @@
 use Rattle.std.proofs.Common.{◌≡◌, ◌++◌, ◌∷◌, [], refl, ap, ◌∙◌, arith, length, vec_len}
-use Rattle.sheet_base.specs.declared.paths.PathRow.{PathRow}
 use Rattle.sheet_base.specs.declared.edits.Edit.{Edit}
-use Rattle.gj_layer.specs.Paths.{text_for}
 use Rattle.gj_layer.proofs.Holding.{held_end}
 use Rattle.gj_layer.proofs.pass.Pass.end_path.Goals as goal
 

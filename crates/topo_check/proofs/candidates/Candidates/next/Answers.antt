@@ -1,16 +1,10 @@
-use Rattle.std.proofs.Common.{arith}
-use Rattle.topo_check.proofs.Nexts.{lesser_is_next, second_is_next, first_alone_is_next, second_alone_is_next, none_of_both}
+use Rattle.topo_check.proofs.Nexts.{lesser_is_next, first_alone_is_next, second_alone_is_next, none_of_both}
 use Rattle.topo_check.proofs.candidates.Candidates.next.Goals as goal
 
-pub returns-then-second-first-clause-some : goal.returns-then-second-first-clause-some
-returns-then-second-first-clause-some c =
+pub returns-in-Some-Some-clause-some : goal.returns-in-Some-Some-clause-some
+returns-in-Some-Some-clause-some c =
     let w = c.in-Some-Some in
-    second_is_next c.args.self.now c.args.from w.first w.second (rw c.deref.ensures.value at w.ensures.some) (rw c.deref-2.ensures.value at w.ensures'.some) (omega (arith, c.if-second-first.true))
-
-pub returns-else-second-first-clause-some : goal.returns-else-second-first-clause-some
-returns-else-second-first-clause-some c =
-    let w = c.in-Some-Some in
-    lesser_is_next c.args.self.now c.args.from w.first w.second (rw c.deref.ensures.value at w.ensures.some) (rw c.deref-2.ensures.value at w.ensures'.some) (omega (arith, c.if-second-first.false))
+    lesser_is_next c.args.self.now c.args.from w.first w.second c.min.result (rw c.deref.ensures.value at w.ensures.some) (rw c.deref-2.ensures.value at w.ensures'.some) c.min.ensures
 
 pub returns-in-Some-None-clause-some : goal.returns-in-Some-None-clause-some
 returns-in-Some-None-clause-some c =

@@ -1,4 +1,4 @@
-use Rattle.std.proofs.Common.{◌≡◌, ℕ, refl, ap, sym, ◌∙◌, ◌+◌, ◌++◌, ◌∷◌, [], ◌==◌, arith, length, vec_len}
+use Rattle.std.proofs.Common.{◌≡◌, refl, ap, ◌∙◌, ◌+◌, ◌++◌, ◌∷◌, [], ◌==◌, arith, length, vec_len}
 use Rattle.std.specs.Prelude.{if◌then◌else◌, Ok}
 use Rattle.wkt_layer.specs.Numbers.{lost_in}
 use Rattle.wkt_layer.proofs.Holding.{held_add}

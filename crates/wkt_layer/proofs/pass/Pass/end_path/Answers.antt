@@ -1,4 +1,4 @@
-use Rattle.std.proofs.Common.{◌≡◌, ℕ, refl, ap, ◌∙◌, ◌+◌, arith, length, vec_len}
+use Rattle.std.proofs.Common.{◌≡◌, refl, ap, ◌∙◌, arith, length, vec_len}
 use Rattle.sheet_base.specs.declared.paths.PathRow.{PathRow}
 use Rattle.sheet_base.specs.declared.edits.Edit.{Edit}
 use Rattle.wkt_layer.specs.Paths.{text_for}

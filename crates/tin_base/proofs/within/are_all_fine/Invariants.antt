@@ -1,5 +1,0 @@
-use Rattle.tin_base.specs.Limits.{AreFirstFine}
-use Rattle.tin_base.proofs.within.are_all_fine.Given as goal
-
-abbrev pub invariant-loop-n : goal.invariant-loop-n
-invariant-loop-n l = AreFirstFine l.corners l.n

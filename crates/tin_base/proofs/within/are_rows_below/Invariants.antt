@@ -1,5 +1,0 @@
-use Rattle.tin_base.specs.Limits.{AreRowsBelow}
-use Rattle.tin_base.proofs.within.are_rows_below.Given as goal
-
-abbrev pub invariant-loop-row : goal.invariant-loop-row
-invariant-loop-row l = AreRowsBelow l.rows l.count l.row-index

@@ -1,0 +1,5 @@
+use Rattle.tin_tests.specs.Within.{AreFirstFine}
+use Rattle.tin_tests.proofs.within.are_all_fine.Given as goal
+
+abbrev pub invariant-loop-n : goal.invariant-loop-n
+invariant-loop-n l = AreFirstFine l.corners l.n

@@ -1,0 +1,5 @@
+use Rattle.topo_check.proofs.ByRounding.{changes_are_by_rounding}
+use Rattle.topo_check.proofs.laws.changes_are_by_rounding.Goals as goal
+
+pub returns : goal.returns
+returns c = changes_are_by_rounding
