@@ -26,8 +26,10 @@ fn has_pairs(alloc: Global, text: &[u8], want: &[Pair]) -> bool {
     }
 }
 
-/// The pair of a code, its place, the places of its value, its end and its line.
-fn pair(code: i32, start: u32, value: u32, value_end: u32, end: u32, line: u32) -> Pair {
+/// A code, its place, the places of its value, its end and its line.
+type Row = (i32, u32, u32, u32, u32, u32);
+
+fn pair((code, start, value, value_end, end, line): Row) -> Pair {
     Pair {
         code,
         start,
@@ -38,83 +40,80 @@ fn pair(code: i32, start: u32, value: u32, value_end: u32, end: u32, line: u32) 
     }
 }
 
+/// Texts, and the pair that each of them is.
+const LAST_PAIRS: &[(&[u8], Row)] = &[
+    (b"0\nEOF\n", (0, 0, 2, 5, 6, 1)),
+    (b"0\nEOF", (0, 0, 2, 5, 5, 1)),
+    (b"0\r\nEOF\r\n", (0, 0, 3, 6, 8, 1)),
+    (b"  0 \t\n\t EOF \r\nrest", (0, 0, 8, 11, 14, 1)),
+    (b"+0\nEOF\n", (0, 0, 3, 6, 7, 1)),
+    (b"-0\nEOF\n", (0, 0, 3, 6, 7, 1)),
+    (b"00\nEOF", (0, 0, 3, 6, 6, 1)),
+    (b"0\nEOF\nx\ny\n", (0, 0, 2, 5, 6, 1)),
+    (b"0\nEOF\n\n", (0, 0, 2, 5, 6, 1)),
+];
+
 #[test]
 fn reads_the_last_pair(rt: HostRuntime) {
-    for (text, want) in [
-        (b"0\nEOF\n".as_slice(), pair(0, 0, 2, 5, 6, 1)),
-        (b"0\nEOF", pair(0, 0, 2, 5, 5, 1)),
-        (b"0\r\nEOF\r\n", pair(0, 0, 3, 6, 8, 1)),
-        (b"  0 \t\n\t EOF \r\nrest", pair(0, 0, 8, 11, 14, 1)),
-        (b"+0\nEOF\n", pair(0, 0, 3, 6, 7, 1)),
-        (b"-0\nEOF\n", pair(0, 0, 3, 6, 7, 1)),
-        (b"00\nEOF", pair(0, 0, 3, 6, 6, 1)),
-        (b"0\nEOF\nx\ny\n", pair(0, 0, 2, 5, 6, 1)),
-        (b"0\nEOF\n\n", pair(0, 0, 2, 5, 6, 1)),
-    ] {
-        assert!(rt; has_pairs(rt.alloc(), text, &[want]), "{text:?}");
+    for &(text, want) in LAST_PAIRS {
+        assert!(rt; has_pairs(rt.alloc(), text, &[pair(want)]), "{text:?}");
     }
 }
 
+/// Texts, and the two pairs that each of them has.
+const PAIRS: &[(&[u8], Row, Row)] = &[
+    (b"10\n\n0\nEOF", (10, 0, 3, 3, 4, 1), (0, 4, 6, 9, 9, 3)),
+    (
+        b"10\n \t\r\n0\nEOF\n",
+        (10, 0, 6, 6, 7, 1),
+        (0, 7, 9, 12, 13, 3),
+    ),
+    (
+        b"-9999\nx\n+0\nEOF",
+        (-9999, 0, 6, 7, 8, 1),
+        (0, 8, 11, 14, 14, 3),
+    ),
+    (
+        b"9999\n a b \n00\nEOF\n",
+        (9999, 0, 6, 9, 11, 1),
+        (0, 11, 14, 17, 18, 3),
+    ),
+    (
+        b"1\nEOF\n0\nEOF\n",
+        (1, 0, 2, 5, 6, 1),
+        (0, 6, 8, 11, 12, 3),
+    ),
+    (
+        b"0\neof\n0\nEOF\n",
+        (0, 0, 2, 5, 6, 1),
+        (0, 6, 8, 11, 12, 3),
+    ),
+    (
+        b"0\n EOF x\n0\nEOF",
+        (0, 0, 3, 8, 9, 1),
+        (0, 9, 11, 14, 14, 3),
+    ),
+    (b"0\nEOFF\n0\nEOF", (0, 0, 2, 6, 7, 1), (0, 7, 9, 12, 12, 3)),
+    (b"+5\n7\n0\nEOF", (5, 0, 3, 4, 5, 1), (0, 5, 7, 10, 10, 3)),
+    (
+        b"000000000000000000009999\nz\n0\nEOF",
+        (9999, 0, 25, 26, 27, 1),
+        (0, 27, 29, 32, 32, 3),
+    ),
+    (
+        b"8\n\xFF\x0C\n0\nEOF",
+        (8, 0, 2, 4, 5, 1),
+        (0, 5, 7, 10, 10, 3),
+    ),
+];
+
 #[test]
 fn reads_pairs(rt: HostRuntime) {
-    for (text, first, last) in [
-        (
-            b"10\n\n0\nEOF".as_slice(),
-            pair(10, 0, 3, 3, 4, 1),
-            pair(0, 4, 6, 9, 9, 3),
-        ),
-        (
-            b"10\n \t\r\n0\nEOF\n",
-            pair(10, 0, 6, 6, 7, 1),
-            pair(0, 7, 9, 12, 13, 3),
-        ),
-        (
-            b"-9999\nx\n+0\nEOF",
-            pair(-9999, 0, 6, 7, 8, 1),
-            pair(0, 8, 11, 14, 14, 3),
-        ),
-        (
-            b"9999\n a b \n00\nEOF\n",
-            pair(9999, 0, 6, 9, 11, 1),
-            pair(0, 11, 14, 17, 18, 3),
-        ),
-        (
-            b"1\nEOF\n0\nEOF\n",
-            pair(1, 0, 2, 5, 6, 1),
-            pair(0, 6, 8, 11, 12, 3),
-        ),
-        (
-            b"0\neof\n0\nEOF\n",
-            pair(0, 0, 2, 5, 6, 1),
-            pair(0, 6, 8, 11, 12, 3),
-        ),
-        (
-            b"0\n EOF x\n0\nEOF",
-            pair(0, 0, 3, 8, 9, 1),
-            pair(0, 9, 11, 14, 14, 3),
-        ),
-        (
-            b"0\nEOFF\n0\nEOF",
-            pair(0, 0, 2, 6, 7, 1),
-            pair(0, 7, 9, 12, 12, 3),
-        ),
-        (
-            b"+5\n7\n0\nEOF",
-            pair(5, 0, 3, 4, 5, 1),
-            pair(0, 5, 7, 10, 10, 3),
-        ),
-        (
-            b"000000000000000000009999\nz\n0\nEOF",
-            pair(9999, 0, 25, 26, 27, 1),
-            pair(0, 27, 29, 32, 32, 3),
-        ),
-        (
-            b"8\n\xFF\x0C\n0\nEOF",
-            pair(8, 0, 2, 4, 5, 1),
-            pair(0, 5, 7, 10, 10, 3),
-        ),
-    ] {
-        assert!(rt; has_pairs(rt.alloc(), text, &[first, last]), "{text:?}");
+    for &(text, first, last) in PAIRS {
+        assert!(rt;
+            has_pairs(rt.alloc(), text, &[pair(first), pair(last)]),
+            "{text:?}"
+        );
     }
 }
 
@@ -122,9 +121,9 @@ fn reads_pairs(rt: HostRuntime) {
 fn reads_sections(rt: HostRuntime) -> Result<(), Fail> {
     let pairs = read_pairs(rt.alloc(), b"  0\nSECTION\n  2\nHEADER\n0\nEOF\n")?;
     let want = [
-        pair(0, 0, 4, 11, 12, 1),
-        pair(2, 12, 16, 22, 23, 3),
-        pair(0, 23, 25, 28, 29, 5),
+        pair((0, 0, 4, 11, 12, 1)),
+        pair((2, 12, 16, 22, 23, 3)),
+        pair((0, 23, 25, 28, 29, 5)),
     ];
     assert_eq!(rt; pairs.as_slice(), want.as_slice());
     codes_are_whole_numbers();

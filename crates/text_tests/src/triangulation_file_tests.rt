@@ -14,15 +14,52 @@ const PLAIN: How = How {
 
 const EXACT: How = How {
     exact: true,
-    drop_other: false,
-    inside_only: false,
+    ..PLAIN
 };
 
 const INSIDE: How = How {
-    exact: false,
-    drop_other: false,
     inside_only: true,
+    ..PLAIN
 };
+
+/// A file of one triangle. Most other files are this one with a stretch of it replaced.
+const FILE: &str =
+    r#"{"file_type":"triangulation_file","format_version":"1.1","transformed_components":["horizontal"],"vertices_columns":["source_x","source_y","target_x","target_y"],"triangles_columns":["idx_vertex1","idx_vertex2","idx_vertex3"],"vertices":[[0,0,100,100],[10,0,110.002,100],[0,10,100,110]],"triangles":[[0,1,2]]}"#;
+
+/// The same triangle in a file of version 1.0, with names and columns in another order.
+const NAMED: &str =
+    r#"{"name":"n","license":"l","input_crs":"EPSG:1","output_crs":"EPSG:2","file_type":"triangulation_file","format_version":"1.0","transformed_components":["horizontal"],"vertices_columns":["name","target_x","target_y","source_x","source_y"],"triangles_columns":["idx_vertex1","idx_vertex2","idx_vertex3"],"vertices":[["A",100,100,0,0],["B",110.002,100,10,0],["C",100,110,0,10]],"triangles":[[0,1,2]]}"#;
+
+/// The same triangle under columns in another order, with a note.
+const NOTED: &str =
+    r#"{"file_type":"triangulation_file","format_version":"1.1","transformed_components":["vertical","horizontal","horizontal"],"vertices_columns":["source_x","source_y","target_x","target_y"],"triangles_columns":["idx_vertex3","note","idx_vertex1","idx_vertex2"],"vertices":[[0,0,100,100],[10,0,110.002,100],[0,10,100,110]],"triangles":[[2,{"a":[1,2]},0,1]]}"#;
+
+/// The same triangle with a column that is not read.
+const WEIGHTED: &str =
+    r#"{"file_type":"triangulation_file","format_version":"1.1","transformed_components":["horizontal"],"vertices_columns":["source_x","source_y","target_x","target_y","weight"],"triangles_columns":["idx_vertex1","idx_vertex2","idx_vertex3"],"vertices":[[0,0,100,100,0.00001],[10,0,110.002,100,1e999],[0,10,100,110,null]],"triangles":[[0,1,2]]}"#;
+
+/// The same triangle with all that PROJ's manual writes in front of it.
+const DESCRIBED: &str = r#"{
+  "file_type": "triangulation_file",
+  "format_version": "1.0",
+  "name": "Name",
+  "version": "Version",
+  "publication_date": "2018-07-01T00:00:00Z",
+  "license": "Creative Commons Attribution 4.0 International",
+  "description": "Test triangulation",
+  "authority": { "name": "Authority name", "url": "http://example.com", "address": "Adress", "email": "test@example.com" },
+  "links": [ { "href": "https://example.com/about.html", "rel": "about", "type": "text/html", "title": "About" } ],
+  "input_crs": "EPSG:2393",
+  "target_crs": "EPSG:3067",
+  "output_crs": "EPSG:3067",
+  "extent": { "type": "bbox", "name": "Extent", "parameters": { "bbox": [ 20, 59, 32, 71 ] } },
+  "transformed_components": [ "horizontal" ],
+  "vertices_columns": [ "source_x", "source_y", "target_x", "target_y" ],
+  "triangles_columns": [ "idx_vertex1", "idx_vertex2", "idx_vertex3" ],
+  "vertices": [ [ 0, 0, 100, 100 ], [ 10, 0, 110.002, 100 ], [ 0, 10, 100, 110 ] ],
+  "triangles": [ [ 0, 1, 2 ] ]
+}
+"#;
 
 /// What is read of a short text.
 fn read(alloc: Global, text: &str, how: How) -> Result<Tin, TinFault> {
@@ -33,714 +70,536 @@ fn read(alloc: Global, text: &str, how: How) -> Result<Tin, TinFault> {
     read_tin(alloc, bytes, how)
 }
 
+/// The file with the first such stretch replaced, or none where it has none.
+fn replaced(alloc: Global, part: &str, by: &str) -> Option<String> {
+    let (front, behind) = FILE.split_once(part)?;
+    let mut text = String::new(alloc);
+    text.push_str(front).ok()?;
+    text.push_str(by).ok()?;
+    text.push_str(behind).ok()?;
+    Some(text)
+}
+
 /// The numbers of a corner, in millimetres.
 fn corner(sx: i64, sy: i64, tx: i64, ty: i64) -> Corner {
     Corner { sx, sy, tx, ty }
 }
 
-#[test]
-fn reads_files(rt: HostRuntime) {
-    for (text, how, corners, triangles, inexact) in [
-        (
-            "{\"file_type\":\"triangulation_file\",\"format_version\":\"1.1\",\"transformed_components\":[\"horizontal\"],\"vertices_columns\":[\"source_x\",\"source_y\",\"target_x\",\"target_y\"],\"triangles_columns\":[\"idx_vertex1\",\"idx_vertex2\",\"idx_vertex3\"],\"vertices\":[[0,0,100,100],[10,0,110.002,100],[0,10,100,110]],\"triangles\":[[0,1,2]]}",
-            PLAIN,
-            [
-                corner(0, 0, 100000, 100000),
-                corner(10000, 0, 110002, 100000),
-                corner(0, 10000, 100000, 110000),
-            ]
-            .as_slice(),
-            [[0, 1, 2]].as_slice(),
-            0,
-        ),
-        (
-            "{\"name\":\"n\",\"license\":\"l\",\"input_crs\":\"EPSG:1\",\"output_crs\":\"EPSG:2\",\"file_type\":\"triangulation_file\",\"format_version\":\"1.0\",\"transformed_components\":[\"horizontal\"],\"vertices_columns\":[\"name\",\"target_x\",\"target_y\",\"source_x\",\"source_y\"],\"triangles_columns\":[\"idx_vertex1\",\"idx_vertex2\",\"idx_vertex3\"],\"vertices\":[[\"A\",100,100,0,0],[\"B\",110.002,100,10,0],[\"C\",100,110,0,10]],\"triangles\":[[0,1,2]]}",
-            PLAIN,
-            [
-                corner(0, 0, 100000, 100000),
-                corner(10000, 0, 110002, 100000),
-                corner(0, 10000, 100000, 110000),
-            ]
-            .as_slice(),
-            [[0, 1, 2]].as_slice(),
-            0,
-        ),
-        (
-            "{\"file_type\":\"triangulation_file\",\"format_version\":\"1.1\",\"transformed_components\":[\"horizontal\"],\"vertices_columns\":[\"source_x\",\"source_y\",\"target_x\",\"target_y\"],\"triangles_columns\":[\"idx_vertex1\",\"idx_vertex2\",\"idx_vertex3\"],\"vertices\":[[0,0,100,100],[10,0,110.002,100],[0,10,100,110],[0,0,100,100]],\"triangles\":[[3,1,2]]}",
-            PLAIN,
-            [
-                corner(0, 0, 100000, 100000),
-                corner(10000, 0, 110002, 100000),
-                corner(0, 10000, 100000, 110000),
-            ]
-            .as_slice(),
-            [[0, 1, 2]].as_slice(),
-            0,
-        ),
-        (
-            "{\"file_type\":\"triangulation_file\",\"format_version\":\"1.1\",\"transformed_components\":[\"horizontal\"],\"vertices_columns\":[\"source_x\",\"source_y\",\"target_x\",\"target_y\"],\"triangles_columns\":[\"idx_vertex1\",\"idx_vertex2\",\"idx_vertex3\"],\"vertices\":[[0,0,100,100],[10,0,110.002,100],[0,10,100,110]],\"triangles\":[[0,2,1]]}",
-            PLAIN,
-            [
-                corner(0, 0, 100000, 100000),
-                corner(10000, 0, 110002, 100000),
-                corner(0, 10000, 100000, 110000),
-            ]
-            .as_slice(),
-            [[0, 1, 2]].as_slice(),
-            0,
-        ),
-        (
-            "{\"file_type\":\"triangulation_file\",\"format_version\":\"1.1\",\"transformed_components\":[\"horizontal\"],\"vertices_columns\":[\"source_x\",\"source_y\",\"target_x\",\"target_y\"],\"triangles_columns\":[\"idx_vertex1\",\"idx_vertex2\",\"idx_vertex3\"],\"vertices\":[[0,0,100,100],[10,0,110.002,100],[0,10,100,110]],\"triangles\":[[2,1,0],[0,1,2]]}",
-            PLAIN,
-            [
-                corner(0, 0, 100000, 100000),
-                corner(10000, 0, 110002, 100000),
-                corner(0, 10000, 100000, 110000),
-            ]
-            .as_slice(),
-            [[2, 0, 1], [0, 1, 2]].as_slice(),
-            0,
-        ),
-        (
-            "{\"file_type\":\"triangulation_file\",\"format_version\":\"1.1\",\"fallback_strategy\":\"nearest_side\",\"transformed_components\":[\"horizontal\"],\"vertices_columns\":[\"source_x\",\"source_y\",\"target_x\",\"target_y\"],\"triangles_columns\":[\"idx_vertex1\",\"idx_vertex2\",\"idx_vertex3\"],\"vertices\":[[0,0,100,100],[10,0,110.002,100],[0,10,100,110]],\"triangles\":[[0,1,2]]}",
-            INSIDE,
-            [
-                corner(0, 0, 100000, 100000),
-                corner(10000, 0, 110002, 100000),
-                corner(0, 10000, 100000, 110000),
-            ]
-            .as_slice(),
-            [[0, 1, 2]].as_slice(),
-            0,
-        ),
-        (
-            "{\"file_type\":\"triangulation_file\",\"format_version\":\"1.1\",\"fallback_strategy\":\"none\",\"transformed_components\":[\"horizontal\"],\"vertices_columns\":[\"source_x\",\"source_y\",\"target_x\",\"target_y\"],\"triangles_columns\":[\"idx_vertex1\",\"idx_vertex2\",\"idx_vertex3\"],\"vertices\":[[0,0,100,100],[10,0,110.002,100],[0,10,100,110]],\"triangles\":[[0,1,2]]}",
-            PLAIN,
-            [
-                corner(0, 0, 100000, 100000),
-                corner(10000, 0, 110002, 100000),
-                corner(0, 10000, 100000, 110000),
-            ]
-            .as_slice(),
-            [[0, 1, 2]].as_slice(),
-            0,
-        ),
-        (
-            "{\"file_type\":\"triangulation_file\",\"format_version\":\"1.1\",\"transformed_components\":[\"horizontal\"],\"vertices_columns\":[\"source_x\",\"source_y\",\"target_x\",\"target_y\"],\"triangles_columns\":[\"idx_vertex1\",\"idx_vertex2\",\"idx_vertex3\"],\"vertices\":[[0.0004,0,100,100],[10,0,110.002,100],[0,10,100,110],[0.0001,0,1e2,100]],\"triangles\":[[3,1,2]]}",
-            PLAIN,
-            [
-                corner(0, 0, 100000, 100000),
-                corner(10000, 0, 110002, 100000),
-                corner(0, 10000, 100000, 110000),
-            ]
-            .as_slice(),
-            [[0, 1, 2]].as_slice(),
-            2,
-        ),
-        (
-            "{\"file_type\":\"triangulation_file\",\"format_version\":\"1.1\",\"transformed_components\":[\"horizontal\"],\"vertices_columns\":[\"source_x\",\"source_y\",\"target_x\",\"target_y\"],\"triangles_columns\":[\"idx_vertex1\",\"idx_vertex2\",\"idx_vertex3\"],\"vertices\":[],\"triangles\":[]}",
-            PLAIN,
-            [].as_slice(),
-            [].as_slice(),
-            0,
-        ),
-        (
-            "{\"file_type\":\"triangulation_file\",\"format_version\":\"1.1\",\"transformed_components\":[\"vertical\",\"horizontal\",\"horizontal\"],\"vertices_columns\":[\"source_x\",\"source_y\",\"target_x\",\"target_y\"],\"triangles_columns\":[\"idx_vertex3\",\"note\",\"idx_vertex1\",\"idx_vertex2\"],\"vertices\":[[0,0,100,100],[10,0,110.002,100],[0,10,100,110]],\"triangles\":[[2,{\"a\":[1,2]},0,1]]}",
-            PLAIN,
-            [
-                corner(0, 0, 100000, 100000),
-                corner(10000, 0, 110002, 100000),
-                corner(0, 10000, 100000, 110000),
-            ]
-            .as_slice(),
-            [[0, 1, 2]].as_slice(),
-            0,
-        ),
-        (
-            "{\"\\u0066ile_type\":\"triangulation\\u005ffile\",\"format_version\":\"1.1\",\"transformed_components\":[\"horizontal\"],\"vertices_columns\":[\"source_x\",\"source_y\",\"target_x\",\"target_y\"],\"triangles_columns\":[\"idx_vertex1\",\"idx_vertex2\",\"idx_vertex3\"],\"vertices\":[[0,0,100,100],[10,0,110.002,100],[0,10,100,110]],\"triangles\":[[0,1,2]]}",
-            PLAIN,
-            [
-                corner(0, 0, 100000, 100000),
-                corner(10000, 0, 110002, 100000),
-                corner(0, 10000, 100000, 110000),
-            ]
-            .as_slice(),
-            [[0, 1, 2]].as_slice(),
-            0,
-        ),
-        (
-            "{\"file_type\":\"triangulation_file\",\"format_version\":\"1.1\",\"transformed_components\":[\"horizontal\"],\"vertices_columns\":[\"source_x\",\"source_y\",\"target_x\",\"target_y\",\"weight\"],\"triangles_columns\":[\"idx_vertex1\",\"idx_vertex2\",\"idx_vertex3\"],\"vertices\":[[0,0,100,100,0.00001],[10,0,110.002,100,1e999],[0,10,100,110,null]],\"triangles\":[[0,1,2]]}",
-            EXACT,
-            [
-                corner(0, 0, 100000, 100000),
-                corner(10000, 0, 110002, 100000),
-                corner(0, 10000, 100000, 110000),
-            ]
-            .as_slice(),
-            [[0, 1, 2]].as_slice(),
-            0,
-        ),
-        (
-            "{\"file_type\":\"triangulation_file\",\"format_version\":\"1.1\",\"transformed_components\":[\"horizontal\"],\"vertices_columns\":[\"source_x\",\"source_y\",\"target_x\",\"target_y\"],\"triangles_columns\":[\"idx_vertex1\",\"idx_vertex2\",\"idx_vertex3\"],\"vertices\":[[0,0,0,0],[1073741.823,0,10,0],[0,10,0,10]],\"triangles\":[[0,1,2]]}",
-            PLAIN,
-            [
-                corner(0, 0, 0, 0),
-                corner(1073741823, 0, 10000, 0),
-                corner(0, 10000, 0, 10000),
-            ]
-            .as_slice(),
-            [[0, 1, 2]].as_slice(),
-            0,
-        ),
-        (
-            "{\n  \"file_type\": \"triangulation_file\",\n  \"format_version\": \"1.0\",\n  \"name\": \"Name\",\n  \"version\": \"Version\",\n  \"publication_date\": \"2018-07-01T00:00:00Z\",\n  \"license\": \"Creative Commons Attribution 4.0 International\",\n  \"description\": \"Test triangulation\",\n  \"authority\": { \"name\": \"Authority name\", \"url\": \"http://example.com\", \"address\": \"Adress\", \"email\": \"test@example.com\" },\n  \"links\": [ { \"href\": \"https://example.com/about.html\", \"rel\": \"about\", \"type\": \"text/html\", \"title\": \"About\" } ],\n  \"input_crs\": \"EPSG:2393\",\n  \"target_crs\": \"EPSG:3067\",\n  \"output_crs\": \"EPSG:3067\",\n  \"extent\": { \"type\": \"bbox\", \"name\": \"Extent\", \"parameters\": { \"bbox\": [ 20, 59, 32, 71 ] } },\n  \"transformed_components\": [ \"horizontal\" ],\n  \"vertices_columns\": [ \"source_x\", \"source_y\", \"target_x\", \"target_y\" ],\n  \"triangles_columns\": [ \"idx_vertex1\", \"idx_vertex2\", \"idx_vertex3\" ],\n  \"vertices\": [ [ 0, 0, 100, 100 ], [ 10, 0, 110.002, 100 ], [ 0, 10, 100, 110 ] ],\n  \"triangles\": [ [ 0, 1, 2 ] ]\n}\n",
-            PLAIN,
-            [
-                corner(0, 0, 100000, 100000),
-                corner(10000, 0, 110002, 100000),
-                corner(0, 10000, 100000, 110000),
-            ]
-            .as_slice(),
-            [[0, 1, 2]].as_slice(),
-            0,
-        ),
-    ] {
-        let answer = read(rt.alloc(), text, how);
-        assert!(rt; answer.is_ok(), "at {text}");
-        if let Ok(tin) = answer {
-            assert_eq!(rt; tin.corners(), corners, "at {text}");
-            assert_eq!(rt; tin.triangles(), triangles, "at {text}");
-            assert_eq!(rt; tin.inexact(), inexact, "at {text}");
+/// The corners of the file's triangle.
+fn corners() -> [Corner; 3] {
+    [
+        corner(0, 0, 100_000, 100_000),
+        corner(10_000, 0, 110_002, 100_000),
+        corner(0, 10_000, 100_000, 110_000),
+    ]
+}
+
+/// Is the text read as these corners and triangles, with so many numbers that lose digits?
+fn is_read(
+    alloc: Global,
+    text: &str,
+    how: How,
+    corners: &[Corner],
+    triangles: &[[u32; 3]],
+    inexact: u64,
+) -> bool {
+    match read(alloc, text, how) {
+        Ok(tin) => {
+            tin.corners() == corners && tin.triangles() == triangles && tin.inexact() == inexact
         }
+        Err(_) => false,
+    }
+}
+
+/// Is the file, with a stretch replaced, read as these corners and triangles, with so many numbers that lose digits?
+fn is_changed_to(
+    alloc: Global,
+    (part, by): (&str, &str),
+    how: How,
+    corners: &[Corner],
+    triangles: &[[u32; 3]],
+    inexact: u64,
+) -> bool {
+    match replaced(alloc, part, by) {
+        Some(text) => is_read(alloc, text.as_str(), how, corners, triangles, inexact),
+        None => false,
     }
 }
 
 #[test]
-fn refuses_files(rt: HostRuntime) {
-    for (text, how, fault) in [
-        ("{\"file_type\":", PLAIN, TinFault::Json { at: 13 }),
-        (
-            "[[[[[[[[[[[[[[[[[[[[[[[[[[[[[[[[[[[[[[[[[[[[[[[[[[[[[[[[[[[[[[[[[",
-            PLAIN,
-            TinFault::Deep { at: 64 },
-        ),
-        ("[1,]", PLAIN, TinFault::Json { at: 3 }),
-        ("[]", PLAIN, TinFault::Key { which: Top::Whole }),
-        (
-            "\"triangulation_file\"",
-            PLAIN,
-            TinFault::Key { which: Top::Whole },
-        ),
-        (
-            "{\"format_version\":\"1.1\",\"transformed_components\":[\"horizontal\"],\"vertices_columns\":[\"source_x\",\"source_y\",\"target_x\",\"target_y\"],\"triangles_columns\":[\"idx_vertex1\",\"idx_vertex2\",\"idx_vertex3\"],\"vertices\":[[0,0,100,100],[10,0,110.002,100],[0,10,100,110]],\"triangles\":[[0,1,2]]}",
-            PLAIN,
-            TinFault::Key {
-                which: Top::FileType,
-            },
-        ),
-        (
-            "{\"file_type\":\"triangulation\",\"format_version\":\"1.1\",\"transformed_components\":[\"horizontal\"],\"vertices_columns\":[\"source_x\",\"source_y\",\"target_x\",\"target_y\"],\"triangles_columns\":[\"idx_vertex1\",\"idx_vertex2\",\"idx_vertex3\"],\"vertices\":[[0,0,100,100],[10,0,110.002,100],[0,10,100,110]],\"triangles\":[[0,1,2]]}",
-            PLAIN,
-            TinFault::Key {
-                which: Top::FileType,
-            },
-        ),
-        (
-            "{\"file_type\":1,\"format_version\":\"1.1\",\"transformed_components\":[\"horizontal\"],\"vertices_columns\":[\"source_x\",\"source_y\",\"target_x\",\"target_y\"],\"triangles_columns\":[\"idx_vertex1\",\"idx_vertex2\",\"idx_vertex3\"],\"vertices\":[[0,0,100,100],[10,0,110.002,100],[0,10,100,110]],\"triangles\":[[0,1,2]]}",
-            PLAIN,
-            TinFault::Key {
-                which: Top::FileType,
-            },
-        ),
-        (
-            "{\"file_type\":\"triangulation_file\",\"file_type\":\"triangulation_file\",\"format_version\":\"1.1\",\"transformed_components\":[\"horizontal\"],\"vertices_columns\":[\"source_x\",\"source_y\",\"target_x\",\"target_y\"],\"triangles_columns\":[\"idx_vertex1\",\"idx_vertex2\",\"idx_vertex3\"],\"vertices\":[[0,0,100,100],[10,0,110.002,100],[0,10,100,110]],\"triangles\":[[0,1,2]]}",
-            PLAIN,
-            TinFault::Key {
-                which: Top::FileType,
-            },
-        ),
-        (
-            "{\"file_type\":\"other\",\"format_version\":\"2\",\"transformed_components\":[\"horizontal\"],\"vertices_columns\":[\"source_x\",\"source_y\",\"target_x\",\"target_y\"],\"triangles_columns\":[\"idx_vertex1\",\"idx_vertex2\",\"idx_vertex3\"],\"vertices\":[[0,0,100,100],[10,0,110.002,100],[0,10,100,110]],\"triangles\":[[0,1,2]]}",
-            PLAIN,
-            TinFault::Key {
-                which: Top::FileType,
-            },
-        ),
-        (
-            "{\"file_type\":\"triangulation_file\",\"transformed_components\":[\"horizontal\"],\"vertices_columns\":[\"source_x\",\"source_y\",\"target_x\",\"target_y\"],\"triangles_columns\":[\"idx_vertex1\",\"idx_vertex2\",\"idx_vertex3\"],\"vertices\":[[0,0,100,100],[10,0,110.002,100],[0,10,100,110]],\"triangles\":[[0,1,2]]}",
-            PLAIN,
-            TinFault::Key {
-                which: Top::FormatVersion,
-            },
-        ),
-        (
-            "{\"file_type\":\"triangulation_file\",\"format_version\":1.1,\"transformed_components\":[\"horizontal\"],\"vertices_columns\":[\"source_x\",\"source_y\",\"target_x\",\"target_y\"],\"triangles_columns\":[\"idx_vertex1\",\"idx_vertex2\",\"idx_vertex3\"],\"vertices\":[[0,0,100,100],[10,0,110.002,100],[0,10,100,110]],\"triangles\":[[0,1,2]]}",
-            PLAIN,
-            TinFault::Key {
-                which: Top::FormatVersion,
-            },
-        ),
-        (
-            "{\"file_type\":\"triangulation_file\",\"format_version\":\"1.1\",\"format_version\":\"1.1\",\"transformed_components\":[\"horizontal\"],\"vertices_columns\":[\"source_x\",\"source_y\",\"target_x\",\"target_y\"],\"triangles_columns\":[\"idx_vertex1\",\"idx_vertex2\",\"idx_vertex3\"],\"vertices\":[[0,0,100,100],[10,0,110.002,100],[0,10,100,110]],\"triangles\":[[0,1,2]]}",
-            PLAIN,
-            TinFault::Key {
-                which: Top::FormatVersion,
-            },
-        ),
-        (
-            "{\"file_type\":\"triangulation_file\",\"format_version\":\"1.2\",\"transformed_components\":[\"horizontal\"],\"vertices_columns\":[\"source_x\",\"source_y\",\"target_x\",\"target_y\"],\"triangles_columns\":[\"idx_vertex1\",\"idx_vertex2\",\"idx_vertex3\"],\"vertices\":[[0,0,100,100],[10,0,110.002,100],[0,10,100,110]],\"triangles\":[[0,1,2]]}",
-            PLAIN,
-            TinFault::Version,
-        ),
-        (
-            "{\"file_type\":\"triangulation_file\",\"format_version\":\"1.2\",\"fallback_strategy\":\"nearest_side\",\"transformed_components\":[\"horizontal\"],\"vertices_columns\":[\"source_x\",\"source_y\",\"target_x\",\"target_y\"],\"triangles_columns\":[\"idx_vertex1\",\"idx_vertex2\",\"idx_vertex3\"],\"vertices\":[[0,0,100,100],[10,0,110.002,100],[0,10,100,110]],\"triangles\":[[0,1,2]]}",
-            PLAIN,
-            TinFault::Version,
-        ),
-        (
-            "{\"file_type\":\"triangulation_file\",\"format_version\":\"1.1\",\"fallback_strategy\":null,\"transformed_components\":[\"horizontal\"],\"vertices_columns\":[\"source_x\",\"source_y\",\"target_x\",\"target_y\"],\"triangles_columns\":[\"idx_vertex1\",\"idx_vertex2\",\"idx_vertex3\"],\"vertices\":[[0,0,100,100],[10,0,110.002,100],[0,10,100,110]],\"triangles\":[[0,1,2]]}",
-            PLAIN,
-            TinFault::Key {
-                which: Top::Strategy,
-            },
-        ),
-        (
-            "{\"file_type\":\"triangulation_file\",\"format_version\":\"1.1\",\"fallback_strategy\":\"nearest\",\"transformed_components\":[\"horizontal\"],\"vertices_columns\":[\"source_x\",\"source_y\",\"target_x\",\"target_y\"],\"triangles_columns\":[\"idx_vertex1\",\"idx_vertex2\",\"idx_vertex3\"],\"vertices\":[[0,0,100,100],[10,0,110.002,100],[0,10,100,110]],\"triangles\":[[0,1,2]]}",
-            PLAIN,
-            TinFault::Key {
-                which: Top::Strategy,
-            },
-        ),
-        (
-            "{\"file_type\":\"triangulation_file\",\"format_version\":\"1.1\",\"fallback_strategy\":\"none\",\"fallback_strategy\":\"none\",\"transformed_components\":[\"horizontal\"],\"vertices_columns\":[\"source_x\",\"source_y\",\"target_x\",\"target_y\"],\"triangles_columns\":[\"idx_vertex1\",\"idx_vertex2\",\"idx_vertex3\"],\"vertices\":[[0,0,100,100],[10,0,110.002,100],[0,10,100,110]],\"triangles\":[[0,1,2]]}",
-            PLAIN,
-            TinFault::Key {
-                which: Top::Strategy,
-            },
-        ),
-        (
-            "{\"file_type\":\"triangulation_file\",\"format_version\":\"1.1\",\"fallback_strategy\":\"nearest_side\",\"transformed_components\":[\"horizontal\"],\"vertices_columns\":[\"source_x\",\"source_y\",\"target_x\",\"target_y\"],\"triangles_columns\":[\"idx_vertex1\",\"idx_vertex2\",\"idx_vertex3\"],\"vertices\":[[0,0,100,100],[10,0,110.002,100],[0,10,100,110]],\"triangles\":[[0,1,2]]}",
-            PLAIN,
-            TinFault::Fallback {
-                which: Nearest::Side,
-            },
-        ),
-        (
-            "{\"file_type\":\"triangulation_file\",\"format_version\":\"1.1\",\"fallback_strategy\":\"nearest_centroid\",\"transformed_components\":[\"horizontal\"],\"vertices_columns\":[\"source_x\",\"source_y\",\"target_x\",\"target_y\"],\"triangles_columns\":[\"idx_vertex1\",\"idx_vertex2\",\"idx_vertex3\"],\"vertices\":[[0,0,100,100],[10,0,110.002,100],[0,10,100,110]],\"triangles\":[[0,1,2]]}",
-            PLAIN,
-            TinFault::Fallback {
-                which: Nearest::Centroid,
-            },
-        ),
-        (
-            "{\"file_type\":\"triangulation_file\",\"format_version\":\"1.1\",\"fallback_strategy\":\"nearest_centroid\",\"vertices_columns\":[\"source_x\",\"source_y\",\"target_x\",\"target_y\"],\"triangles_columns\":[\"idx_vertex1\",\"idx_vertex2\",\"idx_vertex3\"],\"vertices\":[[0,0,100,100],[10,0,110.002,100],[0,10,100,110]],\"triangles\":[[0,1,2]]}",
-            PLAIN,
-            TinFault::Fallback {
-                which: Nearest::Centroid,
-            },
-        ),
-        (
-            "{\"file_type\":\"triangulation_file\",\"format_version\":\"1.1\",\"fallback_strategy\":\"nearest_centroid\",\"vertices_columns\":[\"source_x\",\"source_y\",\"target_x\",\"target_y\"],\"triangles_columns\":[\"idx_vertex1\",\"idx_vertex2\",\"idx_vertex3\"],\"vertices\":[[0,0,100,100],[10,0,110.002,100],[0,10,100,110]],\"triangles\":[[0,1,2]]}",
-            INSIDE,
-            TinFault::Key {
-                which: Top::Components,
-            },
-        ),
-        (
-            "{\"file_type\":\"triangulation_file\",\"format_version\":\"1.1\",\"transformed_components\":\"horizontal\",\"vertices_columns\":[\"source_x\",\"source_y\",\"target_x\",\"target_y\"],\"triangles_columns\":[\"idx_vertex1\",\"idx_vertex2\",\"idx_vertex3\"],\"vertices\":[[0,0,100,100],[10,0,110.002,100],[0,10,100,110]],\"triangles\":[[0,1,2]]}",
-            PLAIN,
-            TinFault::Key {
-                which: Top::Components,
-            },
-        ),
-        (
-            "{\"file_type\":\"triangulation_file\",\"format_version\":\"1.1\",\"transformed_components\":[\"horizontal\",\"depth\"],\"vertices_columns\":[\"source_x\",\"source_y\",\"target_x\",\"target_y\"],\"triangles_columns\":[\"idx_vertex1\",\"idx_vertex2\",\"idx_vertex3\"],\"vertices\":[[0,0,100,100],[10,0,110.002,100],[0,10,100,110]],\"triangles\":[[0,1,2]]}",
-            PLAIN,
-            TinFault::Key {
-                which: Top::Components,
-            },
-        ),
-        (
-            "{\"file_type\":\"triangulation_file\",\"format_version\":\"1.1\",\"transformed_components\":[\"horizontal\",1],\"vertices_columns\":[\"source_x\",\"source_y\",\"target_x\",\"target_y\"],\"triangles_columns\":[\"idx_vertex1\",\"idx_vertex2\",\"idx_vertex3\"],\"vertices\":[[0,0,100,100],[10,0,110.002,100],[0,10,100,110]],\"triangles\":[[0,1,2]]}",
-            PLAIN,
-            TinFault::Key {
-                which: Top::Components,
-            },
-        ),
-        (
-            "{\"file_type\":\"triangulation_file\",\"format_version\":\"1.1\",\"transformed_components\":[\"horizontal\"],\"transformed_components\":[\"horizontal\"],\"vertices_columns\":[\"source_x\",\"source_y\",\"target_x\",\"target_y\"],\"triangles_columns\":[\"idx_vertex1\",\"idx_vertex2\",\"idx_vertex3\"],\"vertices\":[[0,0,100,100],[10,0,110.002,100],[0,10,100,110]],\"triangles\":[[0,1,2]]}",
-            PLAIN,
-            TinFault::Key {
-                which: Top::Components,
-            },
-        ),
-        (
-            "{\"file_type\":\"triangulation_file\",\"format_version\":\"1.1\",\"transformed_components\":[\"vertical\"],\"vertices_columns\":[\"source_x\",\"source_y\",\"target_x\",\"target_y\"],\"triangles_columns\":[\"idx_vertex1\",\"idx_vertex2\",\"idx_vertex3\"],\"vertices\":[[0,0,100,100],[10,0,110.002,100],[0,10,100,110]],\"triangles\":[[0,1,2]]}",
-            PLAIN,
-            TinFault::NoHorizontal,
-        ),
-        (
-            "{\"file_type\":\"triangulation_file\",\"format_version\":\"1.1\",\"transformed_components\":[],\"vertices_columns\":[\"source_x\",\"source_y\",\"target_x\",\"target_y\"],\"triangles_columns\":[\"idx_vertex1\",\"idx_vertex2\",\"idx_vertex3\"],\"vertices\":[[0,0,100,100],[10,0,110.002,100],[0,10,100,110]],\"triangles\":[[0,1,2]]}",
-            PLAIN,
-            TinFault::NoHorizontal,
-        ),
-        (
-            "{\"file_type\":\"triangulation_file\",\"format_version\":\"1.1\",\"transformed_components\":[\"vertical\"],\"triangles_columns\":[\"idx_vertex1\",\"idx_vertex2\",\"idx_vertex3\"],\"vertices\":[[0,0,100,100],[10,0,110.002,100],[0,10,100,110]],\"triangles\":[[0,1,2]]}",
-            PLAIN,
-            TinFault::NoHorizontal,
-        ),
-        (
-            "{\"file_type\":\"triangulation_file\",\"format_version\":\"1.1\",\"transformed_components\":[\"vertical\",\"x\"],\"triangles_columns\":[\"idx_vertex1\",\"idx_vertex2\",\"idx_vertex3\"],\"vertices\":[[0,0,100,100],[10,0,110.002,100],[0,10,100,110]],\"triangles\":[[0,1,2]]}",
-            PLAIN,
-            TinFault::Key {
-                which: Top::Components,
-            },
-        ),
-        (
-            "{\"file_type\":\"triangulation_file\",\"format_version\":\"1.1\",\"transformed_components\":[\"horizontal\"],\"triangles_columns\":[\"idx_vertex1\",\"idx_vertex2\",\"idx_vertex3\"],\"vertices\":[[0,0,100,100],[10,0,110.002,100],[0,10,100,110]],\"triangles\":[[0,1,2]]}",
-            PLAIN,
-            TinFault::Key {
-                which: Top::VerticesColumns,
-            },
-        ),
-        (
-            "{\"file_type\":\"triangulation_file\",\"format_version\":\"1.1\",\"transformed_components\":[\"horizontal\"],\"vertices_columns\":{},\"triangles_columns\":[\"idx_vertex1\",\"idx_vertex2\",\"idx_vertex3\"],\"vertices\":[[0,0,100,100],[10,0,110.002,100],[0,10,100,110]],\"triangles\":[[0,1,2]]}",
-            PLAIN,
-            TinFault::Key {
-                which: Top::VerticesColumns,
-            },
-        ),
-        (
-            "{\"file_type\":\"triangulation_file\",\"format_version\":\"1.1\",\"transformed_components\":[\"horizontal\"],\"vertices_columns\":[\"source_x\",\"source_y\",\"target_x\"],\"triangles_columns\":[\"idx_vertex1\",\"idx_vertex2\",\"idx_vertex3\"],\"vertices\":[[0,0,100,100],[10,0,110.002,100],[0,10,100,110]],\"triangles\":[[0,1,2]]}",
-            PLAIN,
-            TinFault::Key {
-                which: Top::VerticesColumns,
-            },
-        ),
-        (
-            "{\"file_type\":\"triangulation_file\",\"format_version\":\"1.1\",\"transformed_components\":[\"horizontal\"],\"vertices_columns\":[\"source_x\",\"source_y\",\"target_x\",\"target_y\",\"source_x\"],\"triangles_columns\":[\"idx_vertex1\",\"idx_vertex2\",\"idx_vertex3\"],\"vertices\":[[0,0,100,100],[10,0,110.002,100],[0,10,100,110]],\"triangles\":[[0,1,2]]}",
-            PLAIN,
-            TinFault::Key {
-                which: Top::VerticesColumns,
-            },
-        ),
-        (
-            "{\"file_type\":\"triangulation_file\",\"format_version\":\"1.1\",\"transformed_components\":[\"horizontal\"],\"vertices_columns\":[\"source_x\",\"source_y\",\"target_x\",\"target_y\",null],\"triangles_columns\":[\"idx_vertex1\",\"idx_vertex2\",\"idx_vertex3\"],\"vertices\":[[0,0,100,100],[10,0,110.002,100],[0,10,100,110]],\"triangles\":[[0,1,2]]}",
-            PLAIN,
-            TinFault::Key {
-                which: Top::VerticesColumns,
-            },
-        ),
-        (
-            "{\"file_type\":\"triangulation_file\",\"format_version\":\"1.1\",\"transformed_components\":[\"horizontal\"],\"vertices\":[[0,0,100,100],[10,0,110.002,100],[0,10,100,110]],\"triangles\":[[0,1,2]]}",
-            PLAIN,
-            TinFault::Key {
-                which: Top::VerticesColumns,
-            },
-        ),
-        (
-            "{\"file_type\":\"triangulation_file\",\"format_version\":\"1.1\",\"transformed_components\":[\"horizontal\"],\"vertices_columns\":[\"source_x\",\"source_y\",\"target_x\",\"target_y\"],\"vertices\":[[0,0,100,100],[10,0,110.002,100],[0,10,100,110]],\"triangles\":[[0,1,2]]}",
-            PLAIN,
-            TinFault::Key {
-                which: Top::TrianglesColumns,
-            },
-        ),
-        (
-            "{\"file_type\":\"triangulation_file\",\"format_version\":\"1.1\",\"transformed_components\":[\"horizontal\"],\"vertices_columns\":[\"source_x\",\"source_y\",\"target_x\",\"target_y\"],\"triangles_columns\":[\"idx_vertex1\",\"idx_vertex2\",\"idx_vertex2\"],\"vertices\":[[0,0,100,100],[10,0,110.002,100],[0,10,100,110]],\"triangles\":[[0,1,2]]}",
-            PLAIN,
-            TinFault::Key {
-                which: Top::TrianglesColumns,
-            },
-        ),
-        (
-            "{\"file_type\":\"triangulation_file\",\"format_version\":\"1.1\",\"transformed_components\":[\"horizontal\"],\"vertices_columns\":[\"source_x\",\"source_y\",\"target_x\",\"target_y\"],\"triangles_columns\":[\"idx_vertex1\",\"idx_vertex2\",\"idx_vertex3\",3],\"vertices\":[[0,0,100,100],[10,0,110.002,100],[0,10,100,110]],\"triangles\":[[0,1,2]]}",
-            PLAIN,
-            TinFault::Key {
-                which: Top::TrianglesColumns,
-            },
-        ),
-        (
-            "{\"file_type\":\"triangulation_file\",\"format_version\":\"1.1\",\"transformed_components\":[\"horizontal\"],\"vertices_columns\":[\"source_x\",\"source_y\",\"target_x\",\"target_y\"],\"triangles\":[[0,1,2]]}",
-            PLAIN,
-            TinFault::Key {
-                which: Top::TrianglesColumns,
-            },
-        ),
-        (
-            "{\"file_type\":\"triangulation_file\",\"format_version\":\"1.1\",\"transformed_components\":[\"horizontal\"],\"vertices_columns\":[\"source_x\",\"source_y\",\"target_x\",\"target_y\"],\"triangles_columns\":[\"idx_vertex1\",\"idx_vertex2\",\"idx_vertex3\"],\"triangles\":[[0,1,2]]}",
-            PLAIN,
-            TinFault::Key {
-                which: Top::Vertices,
-            },
-        ),
-        (
-            "{\"file_type\":\"triangulation_file\",\"format_version\":\"1.1\",\"transformed_components\":[\"horizontal\"],\"vertices_columns\":[\"source_x\",\"source_y\",\"target_x\",\"target_y\"],\"triangles_columns\":[\"idx_vertex1\",\"idx_vertex2\",\"idx_vertex3\"],\"vertices\":{},\"triangles\":[[0,1,2]]}",
-            PLAIN,
-            TinFault::Key {
-                which: Top::Vertices,
-            },
-        ),
-        (
-            "{\"file_type\":\"triangulation_file\",\"format_version\":\"1.1\",\"transformed_components\":[\"horizontal\"],\"vertices_columns\":[\"source_x\",\"source_y\",\"target_x\",\"target_y\"],\"triangles_columns\":[\"idx_vertex1\",\"idx_vertex2\",\"idx_vertex3\"],\"vertices\":[],\"vertices\":[],\"triangles\":[[0,1,2]]}",
-            PLAIN,
-            TinFault::Key {
-                which: Top::Vertices,
-            },
-        ),
-        (
-            "{\"file_type\":\"triangulation_file\",\"format_version\":\"1.1\",\"transformed_components\":[\"horizontal\"],\"vertices_columns\":[\"source_x\",\"source_y\",\"target_x\",\"target_y\"],\"triangles_columns\":[\"idx_vertex1\",\"idx_vertex2\",\"idx_vertex3\"]}",
-            PLAIN,
-            TinFault::Key {
-                which: Top::Vertices,
-            },
-        ),
-        (
-            "{\"file_type\":\"triangulation_file\",\"format_version\":\"1.1\",\"transformed_components\":[\"horizontal\"],\"vertices_columns\":[\"source_x\",\"source_y\",\"target_x\",\"target_y\"],\"triangles_columns\":[\"idx_vertex1\",\"idx_vertex2\",\"idx_vertex3\"],\"vertices\":[[0,0,100,100],1,[0,10,100,110]],\"triangles\":[[0,1,2]]}",
-            PLAIN,
-            TinFault::Row {
-                list: Rows::Vertices,
-                row: 1,
-            },
-        ),
-        (
-            "{\"file_type\":\"triangulation_file\",\"format_version\":\"1.1\",\"transformed_components\":[\"horizontal\"],\"vertices_columns\":[\"source_x\",\"source_y\",\"target_x\",\"target_y\"],\"triangles_columns\":[\"idx_vertex1\",\"idx_vertex2\",\"idx_vertex3\"],\"vertices\":[[0,0,100,100],[10,0,110],[0,10,100,110]],\"triangles\":[[0,1,2]]}",
-            PLAIN,
-            TinFault::Row {
-                list: Rows::Vertices,
-                row: 1,
-            },
-        ),
-        (
-            "{\"file_type\":\"triangulation_file\",\"format_version\":\"1.1\",\"transformed_components\":[\"horizontal\"],\"vertices_columns\":[\"source_x\",\"source_y\",\"target_x\",\"target_y\"],\"triangles_columns\":[\"idx_vertex1\",\"idx_vertex2\",\"idx_vertex3\"],\"vertices\":[[0,0,100,100],[10,0,110,100,1],[0,10,100,110]],\"triangles\":[[0,1,2]]}",
-            PLAIN,
-            TinFault::Row {
-                list: Rows::Vertices,
-                row: 1,
-            },
-        ),
-        (
-            "{\"file_type\":\"triangulation_file\",\"format_version\":\"1.1\",\"transformed_components\":[\"horizontal\"],\"vertices_columns\":[\"source_x\",\"source_y\",\"target_x\",\"target_y\"],\"triangles_columns\":[\"idx_vertex1\",\"idx_vertex2\",\"idx_vertex3\"],\"vertices\":[[0,0,100,100],[10,\"0\",110,100],[0,10,100,110]],\"triangles\":[[0,1,2]]}",
-            PLAIN,
-            TinFault::Row {
-                list: Rows::Vertices,
-                row: 1,
-            },
-        ),
-        (
-            "{\"file_type\":\"triangulation_file\",\"format_version\":\"1.1\",\"transformed_components\":[\"horizontal\"],\"vertices_columns\":[\"source_x\",\"source_y\",\"target_x\",\"target_y\"],\"triangles_columns\":[\"idx_vertex1\",\"idx_vertex2\",\"idx_vertex3\"],\"vertices\":[[0,0,100,100],[10,null,1e13,100],[0,10,100,110]],\"triangles\":[[0,1,2]]}",
-            PLAIN,
-            TinFault::Row {
-                list: Rows::Vertices,
-                row: 1,
-            },
-        ),
-        (
-            "{\"file_type\":\"triangulation_file\",\"format_version\":\"1.1\",\"transformed_components\":[\"horizontal\"],\"vertices_columns\":[\"source_x\",\"source_y\",\"target_x\",\"target_y\"],\"triangles_columns\":[\"idx_vertex1\",\"idx_vertex2\",\"idx_vertex3\"],\"vertices\":[[0,0,100,100],[1e13,null,110,100],[0,10,100,110]],\"triangles\":[[0,1,2]]}",
-            PLAIN,
-            TinFault::Number {
-                row: 1,
-                fault: NumFault::Range,
-            },
-        ),
-        (
-            "{\"file_type\":\"triangulation_file\",\"format_version\":\"1.1\",\"transformed_components\":[\"horizontal\"],\"vertices_columns\":[\"source_x\",\"source_y\",\"target_x\",\"target_y\"],\"triangles_columns\":[\"idx_vertex1\",\"idx_vertex2\",\"idx_vertex3\"],\"vertices\":[[0,0,100,100],[10,0,1e13,\"100\"],[0,10,100,110]],\"triangles\":[[0,1,2]]}",
-            PLAIN,
-            TinFault::Number {
-                row: 1,
-                fault: NumFault::Range,
-            },
-        ),
-        (
-            "{\"file_type\":\"triangulation_file\",\"format_version\":\"1.1\",\"transformed_components\":[\"horizontal\"],\"vertices_columns\":[\"source_x\",\"source_y\",\"target_x\",\"target_y\"],\"triangles_columns\":[\"idx_vertex1\",\"idx_vertex2\",\"idx_vertex3\"],\"vertices\":[[0,0,100,100],[10,0,110,11111111111111111111111111111111111111111111111111111111111111111],[0,10,100,110]],\"triangles\":[[0,1,2]]}",
-            PLAIN,
-            TinFault::Number {
-                row: 1,
-                fault: NumFault::Long,
-            },
-        ),
-        (
-            "{\"file_type\":\"triangulation_file\",\"format_version\":\"1.1\",\"transformed_components\":[\"horizontal\"],\"vertices_columns\":[\"source_x\",\"source_y\",\"target_x\",\"target_y\"],\"triangles_columns\":[\"idx_vertex1\",\"idx_vertex2\",\"idx_vertex3\"],\"vertices\":[[0,0,100,100],[10,0.0001,1e13,100],[0,10,100,110]],\"triangles\":[[0,1,2]]}",
-            PLAIN,
-            TinFault::Number {
-                row: 1,
-                fault: NumFault::Range,
-            },
-        ),
-        (
-            "{\"file_type\":\"triangulation_file\",\"format_version\":\"1.1\",\"transformed_components\":[\"horizontal\"],\"vertices_columns\":[\"source_x\",\"source_y\",\"target_x\",\"target_y\"],\"triangles_columns\":[\"idx_vertex1\",\"idx_vertex2\",\"idx_vertex3\"],\"vertices\":[[0,0,100,100],[10,0.0001,1e13,100],[0,10,100,110]],\"triangles\":[[0,1,2]]}",
-            EXACT,
-            TinFault::Inexact { row: 1 },
-        ),
-        (
-            "{\"file_type\":\"triangulation_file\",\"format_version\":\"1.1\",\"transformed_components\":[\"horizontal\"],\"vertices_columns\":[\"source_x\",\"source_y\",\"target_x\",\"target_y\"],\"triangles_columns\":[\"idx_vertex1\",\"idx_vertex2\",\"idx_vertex3\"],\"vertices\":[[0,0,100,100.0001],1],\"triangles\":[[0,1,2]]}",
-            EXACT,
-            TinFault::Inexact { row: 0 },
-        ),
-        (
-            "{\"file_type\":\"triangulation_file\",\"format_version\":\"1.1\",\"transformed_components\":[\"horizontal\"],\"vertices_columns\":[\"source_x\",\"source_y\",\"target_x\",\"target_y\"],\"triangles_columns\":[\"idx_vertex1\",\"idx_vertex2\",\"idx_vertex3\"],\"vertices\":[[0,0,100,100.0001],1],\"triangles\":[[0,1,2]]}",
-            PLAIN,
-            TinFault::Row {
-                list: Rows::Vertices,
-                row: 1,
-            },
-        ),
-        (
-            "{\"file_type\":\"triangulation_file\",\"format_version\":\"1.1\",\"transformed_components\":[\"horizontal\"],\"vertices_columns\":[\"source_x\",\"source_y\",\"target_x\",\"target_y\"],\"triangles_columns\":[\"idx_vertex1\",\"idx_vertex2\",\"idx_vertex3\"],\"vertices\":[[0,0,100,100],1,[0,10,100,110]]}",
-            PLAIN,
-            TinFault::Row {
-                list: Rows::Vertices,
-                row: 1,
-            },
-        ),
-        (
-            "{\"file_type\":\"triangulation_file\",\"format_version\":\"1.1\",\"transformed_components\":[\"horizontal\"],\"vertices_columns\":[\"source_x\",\"source_y\",\"target_x\",\"target_y\"],\"triangles_columns\":[\"idx_vertex1\",\"idx_vertex2\",\"idx_vertex3\"],\"vertices\":[[0,0,100,100],[10,0,110.002,100],[0,10,100,110]]}",
-            PLAIN,
-            TinFault::Key {
-                which: Top::Triangles,
-            },
-        ),
-        (
-            "{\"file_type\":\"triangulation_file\",\"format_version\":\"1.1\",\"transformed_components\":[\"horizontal\"],\"vertices_columns\":[\"source_x\",\"source_y\",\"target_x\",\"target_y\"],\"triangles_columns\":[\"idx_vertex1\",\"idx_vertex2\",\"idx_vertex3\"],\"vertices\":[[0,0,100,100],[10,0,110.002,100],[0,10,100,110]],\"triangles\":3}",
-            PLAIN,
-            TinFault::Key {
-                which: Top::Triangles,
-            },
-        ),
-        (
-            "{\"file_type\":\"triangulation_file\",\"format_version\":\"1.1\",\"transformed_components\":[\"horizontal\"],\"vertices_columns\":[\"source_x\",\"source_y\",\"target_x\",\"target_y\"],\"triangles_columns\":[\"idx_vertex1\",\"idx_vertex2\",\"idx_vertex3\"],\"vertices\":[[0,0,100,100],[10,0,110.002,100],[0,10,100,110]],\"triangles\":[],\"triangles\":[]}",
-            PLAIN,
-            TinFault::Key {
-                which: Top::Triangles,
-            },
-        ),
-        (
-            "{\"file_type\":\"triangulation_file\",\"format_version\":\"1.1\",\"transformed_components\":[\"horizontal\"],\"vertices_columns\":[\"source_x\",\"source_y\",\"target_x\",\"target_y\"],\"triangles_columns\":[\"idx_vertex1\",\"idx_vertex2\",\"idx_vertex3\"],\"vertices\":[[0,0,100,100],[10,0,110.002,100],[0,10,100,110]],\"triangles\":[[0,1,2],1]}",
-            PLAIN,
-            TinFault::Row {
-                list: Rows::Triangles,
-                row: 1,
-            },
-        ),
-        (
-            "{\"file_type\":\"triangulation_file\",\"format_version\":\"1.1\",\"transformed_components\":[\"horizontal\"],\"vertices_columns\":[\"source_x\",\"source_y\",\"target_x\",\"target_y\"],\"triangles_columns\":[\"idx_vertex1\",\"idx_vertex2\",\"idx_vertex3\"],\"vertices\":[[0,0,100,100],[10,0,110.002,100],[0,10,100,110]],\"triangles\":[[0,1,2],[0,1]]}",
-            PLAIN,
-            TinFault::Row {
-                list: Rows::Triangles,
-                row: 1,
-            },
-        ),
-        (
-            "{\"file_type\":\"triangulation_file\",\"format_version\":\"1.1\",\"transformed_components\":[\"horizontal\"],\"vertices_columns\":[\"source_x\",\"source_y\",\"target_x\",\"target_y\"],\"triangles_columns\":[\"idx_vertex1\",\"idx_vertex2\",\"idx_vertex3\"],\"vertices\":[[0,0,100,100],[10,0,110.002,100],[0,10,100,110]],\"triangles\":[[0,1,2],[0,1,2,0]]}",
-            PLAIN,
-            TinFault::Row {
-                list: Rows::Triangles,
-                row: 1,
-            },
-        ),
-        (
-            "{\"file_type\":\"triangulation_file\",\"format_version\":\"1.1\",\"transformed_components\":[\"horizontal\"],\"vertices_columns\":[\"source_x\",\"source_y\",\"target_x\",\"target_y\"],\"triangles_columns\":[\"idx_vertex1\",\"idx_vertex2\",\"idx_vertex3\"],\"vertices\":[[0,0,100,100],[10,0,110.002,100],[0,10,100,110]],\"triangles\":[[0,1,2],[0,1,\"2\"]]}",
-            PLAIN,
-            TinFault::Row {
-                list: Rows::Triangles,
-                row: 1,
-            },
-        ),
-        (
-            "{\"file_type\":\"triangulation_file\",\"format_version\":\"1.1\",\"transformed_components\":[\"horizontal\"],\"vertices_columns\":[\"source_x\",\"source_y\",\"target_x\",\"target_y\"],\"triangles_columns\":[\"idx_vertex1\",\"idx_vertex2\",\"idx_vertex3\"],\"vertices\":[[0,0,100,100],[10,0,110.002,100],[0,10,100,110]],\"triangles\":[[0,1,2],[0,1,-0]]}",
-            PLAIN,
-            TinFault::Row {
-                list: Rows::Triangles,
-                row: 1,
-            },
-        ),
-        (
-            "{\"file_type\":\"triangulation_file\",\"format_version\":\"1.1\",\"transformed_components\":[\"horizontal\"],\"vertices_columns\":[\"source_x\",\"source_y\",\"target_x\",\"target_y\"],\"triangles_columns\":[\"idx_vertex1\",\"idx_vertex2\",\"idx_vertex3\"],\"vertices\":[[0,0,100,100],[10,0,110.002,100],[0,10,100,110]],\"triangles\":[[0,1,2],[0,1,1.0]]}",
-            PLAIN,
-            TinFault::Row {
-                list: Rows::Triangles,
-                row: 1,
-            },
-        ),
-        (
-            "{\"file_type\":\"triangulation_file\",\"format_version\":\"1.1\",\"transformed_components\":[\"horizontal\"],\"vertices_columns\":[\"source_x\",\"source_y\",\"target_x\",\"target_y\"],\"triangles_columns\":[\"idx_vertex1\",\"idx_vertex2\",\"idx_vertex3\"],\"vertices\":[[0,0,100,100],[10,0,110.002,100],[0,10,100,110]],\"triangles\":[[0,1,2],[0,1,1e0]]}",
-            PLAIN,
-            TinFault::Row {
-                list: Rows::Triangles,
-                row: 1,
-            },
-        ),
-        (
-            "{\"file_type\":\"triangulation_file\",\"format_version\":\"1.1\",\"transformed_components\":[\"horizontal\"],\"vertices_columns\":[\"source_x\",\"source_y\",\"target_x\",\"target_y\"],\"triangles_columns\":[\"idx_vertex1\",\"idx_vertex2\",\"idx_vertex3\"],\"vertices\":[[0,0,100,100],[10,0,110.002,100],[0,10,100,110]],\"triangles\":[[0,1,2],[9,1,1.0]]}",
-            PLAIN,
-            TinFault::Row {
-                list: Rows::Triangles,
-                row: 1,
-            },
-        ),
-        (
-            "{\"file_type\":\"triangulation_file\",\"format_version\":\"1.1\",\"transformed_components\":[\"horizontal\"],\"vertices_columns\":[\"source_x\",\"source_y\",\"target_x\",\"target_y\"],\"triangles_columns\":[\"idx_vertex1\",\"idx_vertex2\",\"idx_vertex3\"],\"vertices\":[[0,0,100,100],[10,0,110.002,100],[0,10,100,110]],\"triangles\":[[0,1,2],[0,1,3]]}",
-            PLAIN,
-            TinFault::Index { triangle: 1 },
-        ),
-        (
-            "{\"file_type\":\"triangulation_file\",\"format_version\":\"1.1\",\"transformed_components\":[\"horizontal\"],\"vertices_columns\":[\"source_x\",\"source_y\",\"target_x\",\"target_y\"],\"triangles_columns\":[\"idx_vertex1\",\"idx_vertex2\",\"idx_vertex3\"],\"vertices\":[[0,0,100,100],[10,0,110.002,100],[0,10,100,110]],\"triangles\":[[0,1,2],[3,1,2],7]}",
-            PLAIN,
-            TinFault::Index { triangle: 1 },
-        ),
-        (
-            "{\"file_type\":\"triangulation_file\",\"format_version\":\"1.1\",\"transformed_components\":[\"horizontal\"],\"vertices_columns\":[\"source_x\",\"source_y\",\"target_x\",\"target_y\"],\"triangles_columns\":[\"idx_vertex1\",\"idx_vertex2\",\"idx_vertex3\"],\"vertices\":[[0,0,100,100],[10,0,110.002,100],[0,10,100,110]],\"triangles\":[[0,1,2],7,[3,1,2]]}",
-            PLAIN,
-            TinFault::Row {
-                list: Rows::Triangles,
-                row: 1,
-            },
-        ),
-        (
-            "{\"file_type\":\"triangulation_file\",\"format_version\":\"1.1\",\"transformed_components\":[\"horizontal\"],\"vertices_columns\":[\"source_x\",\"source_y\",\"target_x\",\"target_y\"],\"triangles_columns\":[\"idx_vertex1\",\"idx_vertex2\",\"idx_vertex3\"],\"vertices\":[[0,0,100,100],[10,0,110.002,100],[0,10,100,110]],\"triangles\":[[0,1,2],[0,1,18446744073709551616]]}",
-            PLAIN,
-            TinFault::Index { triangle: 1 },
-        ),
-        (
-            "{\"file_type\":\"triangulation_file\",\"format_version\":\"1.1\",\"transformed_components\":[\"horizontal\"],\"vertices_columns\":[\"source_x\",\"source_y\",\"target_x\",\"target_y\"],\"triangles_columns\":[\"idx_vertex1\",\"idx_vertex2\",\"idx_vertex3\"],\"vertices\":[[0,0,100,100],[1073741.824,0,110,100],[0,1073741.824,1073841.824,1073841.824]],\"triangles\":[[0,1,3]]}",
-            PLAIN,
-            TinFault::Index { triangle: 0 },
-        ),
-        (
-            "{\"file_type\":\"triangulation_file\",\"format_version\":\"1.1\",\"transformed_components\":[\"horizontal\"],\"vertices_columns\":[\"source_x\",\"source_y\",\"target_x\",\"target_y\"],\"triangles_columns\":[\"idx_vertex1\",\"idx_vertex2\",\"idx_vertex3\"],\"vertices\":[[0,0,100,100],[1073741.824,0,110,100],[0,1073741.824,1073841.824,1073841.824]],\"triangles\":[[0,1,2]]}",
-            PLAIN,
-            TinFault::Span {
-                frame: Frame::Source,
-                axis: Axis::X,
-            },
-        ),
-        (
-            "{\"file_type\":\"triangulation_file\",\"format_version\":\"1.1\",\"transformed_components\":[\"horizontal\"],\"vertices_columns\":[\"source_x\",\"source_y\",\"target_x\",\"target_y\"],\"triangles_columns\":[\"idx_vertex1\",\"idx_vertex2\",\"idx_vertex3\"],\"vertices\":[[0,0,100,100],[10,0,1073841.824,100],[0,1073741.824,100,1073841.824]],\"triangles\":[[0,1,2]]}",
-            PLAIN,
-            TinFault::Span {
-                frame: Frame::Source,
-                axis: Axis::Y,
-            },
-        ),
-        (
-            "{\"file_type\":\"triangulation_file\",\"format_version\":\"1.1\",\"transformed_components\":[\"horizontal\"],\"vertices_columns\":[\"source_x\",\"source_y\",\"target_x\",\"target_y\"],\"triangles_columns\":[\"idx_vertex1\",\"idx_vertex2\",\"idx_vertex3\"],\"vertices\":[[0,0,100,100],[10,0,110,100],[0,10,-1073641.824,1073841.824]],\"triangles\":[[0,1,2]]}",
-            PLAIN,
-            TinFault::Span {
-                frame: Frame::Target,
-                axis: Axis::X,
-            },
-        ),
-        (
-            "{\"file_type\":\"triangulation_file\",\"format_version\":\"1.1\",\"transformed_components\":[\"horizontal\"],\"vertices_columns\":[\"source_x\",\"source_y\",\"target_x\",\"target_y\"],\"triangles_columns\":[\"idx_vertex1\",\"idx_vertex2\",\"idx_vertex3\"],\"vertices\":[[0,0,100,100],[10,0,110,100],[0,10,100,1073841.824]],\"triangles\":[[0,1,2]]}",
-            PLAIN,
-            TinFault::Span {
-                frame: Frame::Target,
-                axis: Axis::Y,
-            },
-        ),
+fn reads_files(rt: HostRuntime) {
+    for (text, how) in [
+        (FILE, PLAIN),
+        (NAMED, PLAIN),
+        (NOTED, PLAIN),
+        (WEIGHTED, EXACT),
+        (DESCRIBED, PLAIN),
     ] {
-        match read(rt.alloc(), text, how) {
-            Ok(_) => assert!(rt; false, "read: {text}"),
-            Err(answer) => assert_eq!(rt; answer, fault, "at {text}"),
+        let is_read = is_read(rt.alloc(), text, how, &corners(), &[[0, 1, 2]], 0);
+        assert!(rt; is_read, "at {text}");
+    }
+}
+
+/// Stretches and what stands in their place in files of the same triangle: equal rows, a clockwise triangle, a strategy
+/// that asks for nothing, and escapes.
+const SAME: &[(&str, &str)] = &[
+    (
+        r#"[0,10,100,110]],"triangles":[[0,1,2]]"#,
+        r#"[0,10,100,110],[0,0,100,100]],"triangles":[[3,1,2]]"#,
+    ),
+    ("[0,1,2]", "[0,2,1]"),
+    (r#""1.1""#, r#""1.1","fallback_strategy":"none""#),
+    (
+        r#""file_type":"triangulation_file""#,
+        r#""\u0066ile_type":"triangulation\u005ffile""#,
+    ),
+];
+
+#[test]
+fn reads_the_same_triangle(rt: HostRuntime) {
+    for &(part, by) in SAME {
+        let is_read = is_changed_to(rt.alloc(), (part, by), PLAIN, &corners(), &[[0, 1, 2]], 0);
+        assert!(rt; is_read, "with {by}");
+    }
+    let side = (r#""1.1""#, r#""1.1","fallback_strategy":"nearest_side""#);
+    assert!(rt; is_changed_to(rt.alloc(), side, INSIDE, &corners(), &[[0, 1, 2]], 0));
+}
+
+#[test]
+fn reads_other_triangles(rt: HostRuntime) {
+    let two = ("[0,1,2]", "[2,1,0],[0,1,2]");
+    let triangles = [[2, 0, 1], [0, 1, 2]];
+    assert!(rt; is_changed_to(rt.alloc(), two, PLAIN, &corners(), &triangles, 0));
+    let none = (
+        r#"[[0,0,100,100],[10,0,110.002,100],[0,10,100,110]],"triangles":[[0,1,2]]"#,
+        r#"[],"triangles":[]"#,
+    );
+    assert!(rt; is_changed_to(rt.alloc(), none, PLAIN, &[], &[], 0));
+}
+
+#[test]
+fn reads_other_corners(rt: HostRuntime) {
+    // Digits are lost, and the fourth row is the first again.
+    let lost = (
+        r#"[0,0,100,100],[10,0,110.002,100],[0,10,100,110]],"triangles":[[0,1,2]]"#,
+        r#"[0.0004,0,100,100],[10,0,110.002,100],[0,10,100,110],[0.0001,0,1e2,100]],"triangles":[[3,1,2]]"#,
+    );
+    assert!(rt; is_changed_to(rt.alloc(), lost, PLAIN, &corners(), &[[0, 1, 2]], 2));
+    // The corners are as far apart as they may be.
+    let far = (
+        "[0,0,100,100],[10,0,110.002,100],[0,10,100,110]",
+        "[0,0,0,0],[1073741.823,0,10,0],[0,10,0,10]",
+    );
+    let corners = [
+        corner(0, 0, 0, 0),
+        corner(1_073_741_823, 0, 10_000, 0),
+        corner(0, 10_000, 0, 10_000),
+    ];
+    assert!(rt; is_changed_to(rt.alloc(), far, PLAIN, &corners, &[[0, 1, 2]], 0));
+}
+
+/// Texts that are no object of JSON.
+const TEXTS: &[(&str, TinFault)] = &[
+    (r#"{"file_type":"#, TinFault::Json { at: 13 }),
+    (
+        "[[[[[[[[[[[[[[[[[[[[[[[[[[[[[[[[[[[[[[[[[[[[[[[[[[[[[[[[[[[[[[[[[",
+        TinFault::Deep { at: 64 },
+    ),
+    ("[1,]", TinFault::Json { at: 3 }),
+    ("[]", TinFault::Key { which: Top::Whole }),
+    (
+        r#""triangulation_file""#,
+        TinFault::Key { which: Top::Whole },
+    ),
+];
+
+#[test]
+fn refuses_other_texts(rt: HostRuntime) {
+    for &(text, fault) in TEXTS {
+        assert_eq!(rt;
+            read(rt.alloc(), text, PLAIN).err(),
+            Some(fault),
+            "at {text}"
+        );
+    }
+}
+
+/// A fault, and changes of the file that have it: stretches, and what stands in their place.
+type Changes = (TinFault, &'static [(&'static str, &'static str)]);
+
+/// What stands in place of a stretch in the first of the files that has another fault than its own, or none.
+fn first_other(alloc: Global, faults: &[Changes], how: How) -> Option<&'static str> {
+    for &(fault, changes) in faults {
+        for &(part, by) in changes {
+            let Some(text) = replaced(alloc, part, by) else {
+                return Some(by);
+            };
+            if read(alloc, text.as_str(), how).err() != Some(fault) {
+                return Some(by);
+            }
         }
     }
+    None
+}
+
+/// Faults of what stands in front of the columns.
+const HEADINGS: &[Changes] = &[
+    (
+        TinFault::Key {
+            which: Top::FileType,
+        },
+        &[
+            (r#""file_type":"triangulation_file","#, ""),
+            (r#""triangulation_file""#, r#""triangulation""#),
+            (r#""triangulation_file""#, "1"),
+            (
+                r#""file_type""#,
+                r#""file_type":"triangulation_file","file_type""#,
+            ),
+            (
+                r#""triangulation_file","format_version":"1.1""#,
+                r#""other","format_version":"2""#,
+            ),
+        ],
+    ),
+    (
+        TinFault::Key {
+            which: Top::FormatVersion,
+        },
+        &[
+            (r#""format_version":"1.1","#, ""),
+            (r#""1.1""#, "1.1"),
+            (
+                r#""format_version""#,
+                r#""format_version":"1.1","format_version""#,
+            ),
+        ],
+    ),
+    (
+        TinFault::Version,
+        &[
+            (r#""1.1""#, r#""1.2""#),
+            (r#""1.1""#, r#""1.2","fallback_strategy":"nearest_side""#),
+        ],
+    ),
+    (
+        TinFault::Key {
+            which: Top::Strategy,
+        },
+        &[
+            (r#""1.1""#, r#""1.1","fallback_strategy":null"#),
+            (r#""1.1""#, r#""1.1","fallback_strategy":"nearest""#),
+            (
+                r#""1.1""#,
+                r#""1.1","fallback_strategy":"none","fallback_strategy":"none""#,
+            ),
+        ],
+    ),
+    (
+        TinFault::Fallback {
+            which: Nearest::Side,
+        },
+        &[(r#""1.1""#, r#""1.1","fallback_strategy":"nearest_side""#)],
+    ),
+    (
+        TinFault::Fallback {
+            which: Nearest::Centroid,
+        },
+        &[
+            (
+                r#""1.1""#,
+                r#""1.1","fallback_strategy":"nearest_centroid""#,
+            ),
+            (
+                r#""transformed_components":["horizontal"]"#,
+                r#""fallback_strategy":"nearest_centroid""#,
+            ),
+        ],
+    ),
+    (
+        TinFault::Key {
+            which: Top::Components,
+        },
+        &[
+            (r#"["horizontal"]"#, r#""horizontal""#),
+            (r#""horizontal""#, r#""horizontal","depth""#),
+            (r#""horizontal""#, r#""horizontal",1"#),
+            (
+                r#""transformed_components""#,
+                r#""transformed_components":["horizontal"],"transformed_components""#,
+            ),
+            (
+                r#"["horizontal"],"vertices_columns":["source_x","source_y","target_x","target_y"]"#,
+                r#"["vertical","x"]"#,
+            ),
+        ],
+    ),
+    (
+        TinFault::NoHorizontal,
+        &[
+            (r#""horizontal""#, r#""vertical""#),
+            (r#""horizontal""#, ""),
+            (
+                r#"["horizontal"],"vertices_columns":["source_x","source_y","target_x","target_y"]"#,
+                r#"["vertical"]"#,
+            ),
+        ],
+    ),
+];
+
+#[test]
+fn refuses_headings(rt: HostRuntime) {
+    assert_eq!(rt; first_other(rt.alloc(), HEADINGS, PLAIN), None);
+}
+
+/// Faults of the columns, and of members that are missing behind them, too.
+const COLUMNS: &[Changes] = &[
+    (
+        TinFault::Key {
+            which: Top::VerticesColumns,
+        },
+        &[
+            (
+                r#""vertices_columns":["source_x","source_y","target_x","target_y"],"#,
+                "",
+            ),
+            (r#"["source_x","source_y","target_x","target_y"]"#, "{}"),
+            (r#","target_y""#, ""),
+            (r#""target_y""#, r#""target_y","source_x""#),
+            (r#""target_y""#, r#""target_y",null"#),
+            (
+                r#""vertices_columns":["source_x","source_y","target_x","target_y"],"triangles_columns":["idx_vertex1","idx_vertex2","idx_vertex3"],"#,
+                "",
+            ),
+        ],
+    ),
+    (
+        TinFault::Key {
+            which: Top::TrianglesColumns,
+        },
+        &[
+            (
+                r#""triangles_columns":["idx_vertex1","idx_vertex2","idx_vertex3"],"#,
+                "",
+            ),
+            (r#""idx_vertex3""#, r#""idx_vertex2""#),
+            (r#""idx_vertex3""#, r#""idx_vertex3",3"#),
+            (
+                r#""triangles_columns":["idx_vertex1","idx_vertex2","idx_vertex3"],"vertices":[[0,0,100,100],[10,0,110.002,100],[0,10,100,110]],"#,
+                "",
+            ),
+        ],
+    ),
+];
+
+#[test]
+fn refuses_columns(rt: HostRuntime) {
+    assert_eq!(rt; first_other(rt.alloc(), COLUMNS, PLAIN), None);
+}
+
+/// Faults of the vertices.
+const VERTEX_ROWS: &[Changes] = &[
+    (
+        TinFault::Key {
+            which: Top::Vertices,
+        },
+        &[
+            (
+                r#""vertices":[[0,0,100,100],[10,0,110.002,100],[0,10,100,110]],"#,
+                "",
+            ),
+            ("[[0,0,100,100],[10,0,110.002,100],[0,10,100,110]]", "{}"),
+            (
+                "[[0,0,100,100],[10,0,110.002,100],[0,10,100,110]]",
+                r#"[],"vertices":[]"#,
+            ),
+            (
+                r#","vertices":[[0,0,100,100],[10,0,110.002,100],[0,10,100,110]],"triangles":[[0,1,2]]"#,
+                "",
+            ),
+        ],
+    ),
+    (
+        TinFault::Row {
+            list: Rows::Vertices,
+            row: 1,
+        },
+        &[
+            ("[10,0,110.002,100]", "1"),
+            ("[10,0,110.002,100]", "[10,0,110]"),
+            ("[10,0,110.002,100]", "[10,0,110,100,1]"),
+            ("[10,0,110.002,100]", r#"[10,"0",110,100]"#),
+            ("[10,0,110.002,100]", "[10,null,1e13,100]"),
+            (
+                "[0,0,100,100],[10,0,110.002,100],[0,10,100,110]",
+                "[0,0,100,100.0001],1",
+            ),
+            (
+                r#"[10,0,110.002,100],[0,10,100,110]],"triangles":[[0,1,2]]"#,
+                "1,[0,10,100,110]]",
+            ),
+        ],
+    ),
+    (
+        TinFault::Number {
+            row: 1,
+            fault: NumFault::Range,
+        },
+        &[
+            ("[10,0,110.002,100]", "[1e13,null,110,100]"),
+            ("[10,0,110.002,100]", r#"[10,0,1e13,"100"]"#),
+            ("[10,0,110.002,100]", "[10,0.0001,1e13,100]"),
+        ],
+    ),
+    (
+        TinFault::Number {
+            row: 1,
+            fault: NumFault::Long,
+        },
+        &[(
+            "[10,0,110.002,100]",
+            "[10,0,110,11111111111111111111111111111111111111111111111111111111111111111]",
+        )],
+    ),
+];
+
+#[test]
+fn refuses_vertices(rt: HostRuntime) {
+    assert_eq!(rt; first_other(rt.alloc(), VERTEX_ROWS, PLAIN), None);
+}
+
+/// Faults of the triangles; the last is also one of corners too far apart.
+const TRIANGLE_ROWS: &[Changes] = &[
+    (
+        TinFault::Key {
+            which: Top::Triangles,
+        },
+        &[
+            (r#","triangles":[[0,1,2]]"#, ""),
+            ("[[0,1,2]]", "3"),
+            ("[[0,1,2]]", r#"[],"triangles":[]"#),
+        ],
+    ),
+    (
+        TinFault::Row {
+            list: Rows::Triangles,
+            row: 1,
+        },
+        &[
+            ("[0,1,2]", "[0,1,2],1"),
+            ("[0,1,2]", "[0,1,2],[0,1]"),
+            ("[0,1,2]", "[0,1,2],[0,1,2,0]"),
+            ("[0,1,2]", r#"[0,1,2],[0,1,"2"]"#),
+            ("[0,1,2]", "[0,1,2],[0,1,-0]"),
+            ("[0,1,2]", "[0,1,2],[0,1,1.0]"),
+            ("[0,1,2]", "[0,1,2],[0,1,1e0]"),
+            ("[0,1,2]", "[0,1,2],[9,1,1.0]"),
+            ("[0,1,2]", "[0,1,2],7,[3,1,2]"),
+        ],
+    ),
+    (
+        TinFault::Index { triangle: 1 },
+        &[
+            ("[0,1,2]", "[0,1,2],[0,1,3]"),
+            ("[0,1,2]", "[0,1,2],[3,1,2],7"),
+            ("[0,1,2]", "[0,1,2],[0,1,18446744073709551616]"),
+        ],
+    ),
+    (
+        TinFault::Index { triangle: 0 },
+        &[(
+            r#"[10,0,110.002,100],[0,10,100,110]],"triangles":[[0,1,2]]"#,
+            r#"[1073741.824,0,110,100],[0,1073741.824,1073841.824,1073841.824]],"triangles":[[0,1,3]]"#,
+        )],
+    ),
+];
+
+#[test]
+fn refuses_triangles(rt: HostRuntime) {
+    assert_eq!(rt; first_other(rt.alloc(), TRIANGLE_ROWS, PLAIN), None);
+}
+
+/// Faults of corners that are too far apart.
+const SPANS: &[Changes] = &[
+    (
+        TinFault::Span {
+            frame: Frame::Source,
+            axis: Axis::X,
+        },
+        &[(
+            "[10,0,110.002,100],[0,10,100,110]",
+            "[1073741.824,0,110,100],[0,1073741.824,1073841.824,1073841.824]",
+        )],
+    ),
+    (
+        TinFault::Span {
+            frame: Frame::Source,
+            axis: Axis::Y,
+        },
+        &[(
+            "[10,0,110.002,100],[0,10,100,110]",
+            "[10,0,1073841.824,100],[0,1073741.824,100,1073841.824]",
+        )],
+    ),
+    (
+        TinFault::Span {
+            frame: Frame::Target,
+            axis: Axis::X,
+        },
+        &[(
+            "[10,0,110.002,100],[0,10,100,110]",
+            "[10,0,110,100],[0,10,-1073641.824,1073841.824]",
+        )],
+    ),
+    (
+        TinFault::Span {
+            frame: Frame::Target,
+            axis: Axis::Y,
+        },
+        &[(
+            "[10,0,110.002,100],[0,10,100,110]",
+            "[10,0,110,100],[0,10,100,1073841.824]",
+        )],
+    ),
+];
+
+#[test]
+fn refuses_corners_far_apart(rt: HostRuntime) {
+    assert_eq!(rt; first_other(rt.alloc(), SPANS, PLAIN), None);
+}
+
+/// Faults of a file whose numbers must be exact.
+const LOST_DIGITS: &[Changes] = &[
+    (
+        TinFault::Inexact { row: 1 },
+        &[("[10,0,110.002,100]", "[10,0.0001,1e13,100]")],
+    ),
+    (
+        TinFault::Inexact { row: 0 },
+        &[(
+            "[0,0,100,100],[10,0,110.002,100],[0,10,100,110]",
+            "[0,0,100,100.0001],1",
+        )],
+    ),
+];
+
+#[test]
+fn refuses_lost_digits(rt: HostRuntime) {
+    assert_eq!(rt; first_other(rt.alloc(), LOST_DIGITS, EXACT), None);
+}
+
+/// Of a file that is read for what is inside the strategy for points outside is no fault.
+const INSIDE_ONLY: &[Changes] = &[(
+    TinFault::Key {
+        which: Top::Components,
+    },
+    &[(
+        r#""transformed_components":["horizontal"]"#,
+        r#""fallback_strategy":"nearest_centroid""#,
+    )],
+)];
+
+#[test]
+fn refuses_what_lacks_components(rt: HostRuntime) {
+    assert_eq!(rt; first_other(rt.alloc(), INSIDE_ONLY, INSIDE), None);
 }
