@@ -1,0 +1,4 @@
+pub mod Groups
+pub mod Sorting
+pub mod Listed
+pub mod Kept

@@ -1,0 +1,9 @@
+//! Numbers in groups: the numbers of many entries, each under a key, so that the numbers of one key stand together.
+//! They are kept in one list, with the place where each group begins in another.
+#![tactic(auto)]
+
+mod grouping;
+mod groups;
+
+pub use grouping::group;
+pub use groups::{Entry, Groups};
