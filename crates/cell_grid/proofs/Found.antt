@@ -1,62 +1,75 @@
 -- What is found while the cells of a level, and the levels of a grid, are looked at.
-use Rattle.std.proofs.Common.{◌≡◌, ◌⊎◌, ◌↔◌, ℕ, ◌+◌, ◌<◌, ◌≤◌, List, [], length, set, get_or, All, Contains, inl, inr, ⊎_elim, refl, sym, ap, ◌∙◌, subst, arith}
-use Rattle.std.proofs.lemmas.Bool.{cases_lt, cases_eq}
-use Rattle.std.proofs.lemmas.List.{length-set, get_or-set_same, get_or-set_other}
-use Rattle.std.proofs.lemmas.List.Elements.{Contains-get_or}
+use Rattle.std.proofs.Common.{◌≡◌, ◌↔◌, ℕ, ◌+◌, ◌-◌, ◌*◌, ◌≤◌, List, [], Contains, inl, inr, ⊎_elim, refl, sym, ap, ◌∙◌, subst, arith}
+use Rattle.std.proofs.lemmas.Bool.{cases_lt}
 use Rattle.std.specs.List.Sorted.{IsStrictlyIncreasing}
-use Rattle.plane_base.specs.declared.shapes.Pt.{Pt}
 use Rattle.plane_base.specs.declared.shapes.Rect.{Rect}
-use Rattle.cell_grid.specs.Boxes.{box_at, no_box, IsHolder, IsNearList}
+use Rattle.cell_grid.specs.Boxes.{box_at, no_box, IsNearList}
 use Rattle.cell_grid.specs.Sizes.{level_of, AreOfLevels}
-use Rattle.cell_grid.specs.Levels.{numbers_at, place_of, stripe_of, IsInRow, IsUnder, IsLevelOf}
-use Rattle.cell_grid.specs.Adding.{AddsTo, IsInRowBefore, IsUnderBefore}
-use Rattle.cell_grid.specs.Finding.{DoesFind, StandsIn, IsOnLevelBefore}
-use Rattle.cell_grid.specs.Kept.{AreLevelsOf}
+use Rattle.cell_grid.specs.Stripes.{IsPastCorner}
+use Rattle.cell_grid.specs.Cells.{numbers_at, cell_of, IsOnLevel, IsLevelOf}
+use Rattle.cell_grid.specs.Blocks.{IsBlockOf, place_at, index_of}
+use Rattle.cell_grid.specs.Around.{IsAround, cut_of}
+use Rattle.cell_grid.specs.Finding.{DoesFind, StandsIn, StandsBefore, IsOnLevelBefore}
 use Rattle.cell_grid.specs.declared.levels.Level.{Level}
-use Rattle.cell_grid.proofs.Stripes.{under}
-use Rattle.cell_grid.proofs.Steps.{level_more, level_other}
+use Rattle.cell_grid.specs.declared.blocks.Block.{Block}
+use Rattle.cell_grid.proofs.Finds.{find_as, find_more}
+use Rattle.cell_grid.proofs.Indices.{place_there, index_within}
+use Rattle.cell_grid.proofs.Places.{cell_within}
+use Rattle.cell_grid.proofs.Spans.{point_in, cut_has}
 
 -- ---- cells one after another
-pub column_found : (level : Level) (r : Rect) (row column place : ℕ) (cell : List ℕ) → place ≡ place_of level.columns column row → cell ≡ numbers_at level.cells place
-    → (n : ℕ) → StandsIn level (IsInRowBefore level.columns r row (column + 1)) n → StandsIn level (IsInRowBefore level.columns r row column) n ⊎ Contains cell n
-column_found level r row column place cell at is n s =
-    ⊎_elim
-    (λ earlier. inl (s.0, (s.1.0, s.1.1, earlier, s.1.3), s.2))
-    (λ late.
-    let e : s.1.0 ≡ column = omega (arith, s.1.2) in
-    let here : s.0 ≡ place = subst (λ (x : ℕ). s.0 ≡ place_of level.columns x row) e s.1.3 ∙ sym at in
-    inr (subst (λ (l : List ℕ). Contains l n) (sym is) (subst (λ (x : ℕ). Contains (numbers_at level.cells x) n) here s.2)))
-    (cases_lt s.1.0 column)
+pub stands_more : (boxes : List Rect) (r : Rect) (cells : List (List ℕ)) (place : ℕ → ℕ) (index : ℕ) (cell : List ℕ) (xs ys zs : List ℕ) → cell ≡ numbers_at cells (place index)
+    → DoesFind boxes r (StandsBefore cells place index) xs ys → DoesFind boxes r (Contains cell) ys zs → DoesFind boxes r (StandsBefore cells place (index + 1)) xs zs
+stands_more boxes r cells place index cell xs ys zs at before here =
+    find_more boxes r (StandsBefore cells place index) (Contains cell) (StandsBefore cells place (index + 1)) xs ys zs before here
+    (λ n s _. ⊎_elim
+    (λ earlier. inl (s.0, earlier, s.2))
+    (λ late. let e : s.0 ≡ index = omega (arith, s.1) in
+    inr (subst (λ (l : List ℕ). Contains l n) (ap (λ (k : ℕ). numbers_at cells (place k)) e ∙ sym at) s.2))
+    (cases_lt s.0 index))
 
-pub row_found : (level : Level) (r : Rect) (row column : ℕ) → stripe_of level.columns r.x1 < column → (n : ℕ) → StandsIn level (IsInRow level.columns r row) n → StandsIn level (IsInRowBefore level.columns r row column) n
-row_found level r row column past n s = (s.0, (s.1.0, s.1.1.from, omega (arith, s.1.1.to), s.1.2), s.2)
+pub stands_all : (boxes : List Rect) (r : Rect) (cells : List (List ℕ)) (place : ℕ → ℕ) (index count : ℕ) (xs ys : List ℕ) → count ≤ index
+    → DoesFind boxes r (StandsBefore cells place index) xs ys → DoesFind boxes r (StandsBefore cells place count) xs ys
+stands_all boxes r cells place index count xs ys all finds =
+    find_as boxes r (StandsBefore cells place index) (StandsBefore cells place count) xs ys finds (λ n s _. (s.0, omega (arith, s.1), s.2))
 
--- ---- rows one after another
-pub rows_found : (level : Level) (r : Rect) (row : ℕ) (n : ℕ) → StandsIn level (IsUnderBefore level.columns level.rows r (row + 1)) n
-    → StandsIn level (IsUnderBefore level.columns level.rows r row) n ⊎ StandsIn level (IsInRow level.columns r row) n
-rows_found level r row n s =
-    ⊎_elim
-    (λ earlier. inl (s.0, (s.1.0, s.1.1, earlier, s.1.3), s.2))
-    (λ late. let e : s.1.0 ≡ row = omega (arith, s.1.2) in inr (s.0, subst (λ (x : ℕ). IsInRow level.columns r x s.0) e s.1.3, s.2))
-    (cases_lt s.1.0 row)
+-- ---- a level
+pub everywhere_found : (boxes : List Rect) (r cut : Rect) (level : Level) (cells : List (List ℕ)) (xs ys : List ℕ)
+    → DoesFind boxes r (StandsBefore cells (λ k. level.base + k) (level.mask + 1)) xs ys → DoesFind boxes r (StandsIn level cells cut) xs ys
+everywhere_found boxes r cut level cells xs ys finds =
+    find_as boxes r (StandsBefore cells (λ k. level.base + k) (level.mask + 1)) (StandsIn level cells cut) xs ys finds
+    (λ n s _.
+    let place = cell_of level s.0 in
+    let within = cell_within level s.0 in
+    let same : level.base + (place - level.base) ≡ place = omega (arith, within.0) in
+    (place - level.base, omega (arith, within.0, within.1), subst (λ (k : ℕ). Contains (numbers_at cells k) n) (sym same) s.2))
 
-pub under_found : (level : Level) (r : Rect) (row : ℕ) → stripe_of level.rows r.y1 < row → (n : ℕ) → StandsIn level (IsUnder level.columns level.rows r) n → StandsIn level (IsUnderBefore level.columns level.rows r row) n
-under_found level r row past n s = (s.0, (s.1.0, s.1.1.from, omega (arith, s.1.1.to), s.1.2), s.2)
+pub block_found : (boxes : List Rect) (r cut : Rect) (level : Level) (block : Block) (cells : List (List ℕ)) (xs ys : List ℕ) → IsPastCorner level.low cut → IsBlockOf level cut block
+    → DoesFind boxes r (StandsBefore cells (place_at level block) (block.columns * block.rows)) xs ys → DoesFind boxes r (StandsIn level cells cut) xs ys
+block_found boxes r cut level block cells xs ys past is finds =
+    find_as boxes r (StandsBefore cells (place_at level block) (block.columns * block.rows)) (StandsIn level cells cut) xs ys finds
+    (λ n s _.
+    (index_of level block s.0, index_within level cut block s.0 past is s.1, subst (λ (k : ℕ). Contains (numbers_at cells k) n) (sym (place_there level cut block s.0 past is s.1)) s.2))
 
--- ---- the cell of a point
-pub cell_below : (boxes : List Rect) (number place : ℕ) (level : Level) (cell : List ℕ) → IsLevelOf boxes number (length boxes) level → cell ≡ numbers_at level.cells place → All (λ n. n < length boxes) cell
-cell_below boxes number place level cell is at k d within =
-    is.earlier place (get_or cell k d) (subst (λ (l : List ℕ). Contains l (get_or cell k d)) at (Contains-get_or cell k d within))
-
-pub cell_exact : (boxes : List Rect) (number : ℕ) (level : Level) (p : Pt) (cell : List ℕ) → IsLevelOf boxes number (length boxes) level
-    → cell ≡ numbers_at level.cells (place_of level.columns (stripe_of level.columns p.x) (stripe_of level.rows p.y)) → (n : ℕ) → IsHolder boxes p n → Contains cell n ↔ (level_of (box_at boxes n) ≡ number)
-cell_exact boxes number level p cell is at n holder =
-    let place = place_of level.columns (stripe_of level.columns p.x) (stripe_of level.rows p.y) in (
-      λ h. is.of_level place n (subst (λ (l : List ℕ). Contains l n) at h),
-      λ h. subst (λ (l : List ℕ). Contains l n) (sym at) (is.held place n holder.0 h (under level.columns level.rows (box_at boxes n) p holder.1)),
-    )
+-- what a level has of the boxes near r
+pub level_found : (boxes : List Rect) (r around : Rect) (level : Level) (cells : List (List ℕ)) (xs ys : List ℕ) → IsLevelOf boxes cells level → IsAround around boxes
+    → DoesFind boxes r (StandsIn level cells (cut_of around r)) xs ys → DoesFind boxes r (IsOnLevel boxes level.shift) xs ys
+level_found boxes r around level cells xs ys is round finds =
+    find_as boxes r (StandsIn level cells (cut_of around r)) (IsOnLevel boxes level.shift) xs ys finds
+    (λ n on near.
+    let shared = near.1 in
+    (shared.0, cut_has around r shared.0 (point_in around (box_at boxes n) shared.0 (round.all n no_box near.0) shared.1) shared.2, is.held n shared.0 on shared.1))
 
 -- ---- all levels
+pub levels_more : (boxes : List Rect) (r : Rect) (level : ℕ) (xs ys zs : List ℕ) → DoesFind boxes r (IsOnLevelBefore boxes level) xs ys → DoesFind boxes r (IsOnLevel boxes level) ys zs
+    → DoesFind boxes r (IsOnLevelBefore boxes (level + 1)) xs zs
+levels_more boxes r level xs ys zs before here =
+    find_more boxes r (IsOnLevelBefore boxes level) (IsOnLevel boxes level) (IsOnLevelBefore boxes (level + 1)) xs ys zs before here
+    (λ n on near. ⊎_elim
+    (λ earlier. inl (on.0, earlier, on.2))
+    (λ late. let e : on.0 ≡ level = omega (arith, on.1) in inr (subst (λ (l : ℕ). IsOnLevel boxes l n) e on.2))
+    (cases_lt on.0 level))
+
 pub near_list : (boxes : List Rect) (r : Rect) (levels : ℕ) (xs ys : List ℕ) → AreOfLevels levels boxes → DoesFind boxes r (IsOnLevelBefore boxes levels) [] xs
     → IsStrictlyIncreasing ys → ((n : ℕ) → Contains ys n ↔ Contains xs n) → IsNearList boxes r ys
 near_list boxes r levels xs ys of_levels finds up same =
@@ -67,30 +80,3 @@ near_list boxes r levels xs ys of_levels finds up same =
         λ near. (same n).1 (finds.found n (level_of (box_at boxes n), of_levels n no_box near.0, (near.0, refl)) near),
       );
     }
-
--- ---- a box more
-pub levels_with : (boxes : List Rect) (done l : ℕ) (levels : List Level) (old new : Level) → AreLevelsOf boxes done levels → l ≡ level_of (box_at boxes done) → l < length levels → old ≡ get_or levels l old
-    → AddsTo done (box_at boxes done) old new → AreLevelsOf boxes (done + 1) (set levels l new)
-levels_with boxes done l levels old new are of_it within is adds k d inside =
-    let long = length-set levels l new in
-    let there : k < length levels = omega arith in
-    ⊎_elim
-    (λ same.
-    let old_is : IsLevelOf boxes k done old = subst (λ (v : Level). IsLevelOf boxes k done v) (ap (λ (i : ℕ). get_or levels i old) same ∙ sym is) (are k old there) in
-    let read : get_or (set levels l new) k d ≡ new = ap (λ (i : ℕ). get_or (set levels l new) i d) same ∙ get_or-set_same levels l new d within in
-    subst (λ (v : Level). IsLevelOf boxes k (done + 1) v) (sym read) (level_more boxes k done old new old_is adds (sym of_it ∙ sym same)))
-    (λ other.
-    subst (λ (v : Level). IsLevelOf boxes k (done + 1) v) (sym (get_or-set_other levels l k new d other))
-    (level_other boxes k done (get_or levels k d) (are k d there) (λ e. other (sym (of_it ∙ e)))))
-    (cases_eq k l)
-
--- the same boxes are of more levels too
-pub of_more : (few many : ℕ) (boxes : List Rect) → few ≤ many → AreOfLevels few boxes → AreOfLevels many boxes
-of_more few many boxes h of_few k d within = let low = of_few k d within in omega arith
-
--- a level that is read
-pub level_read : (boxes : List Rect) (levels items : List Level) (k : ℕ) (level : Level) → AreLevelsOf boxes (length boxes) levels → items ≡ levels → k < length items → level ≡ get_or items k level → IsLevelOf boxes k (length boxes) level
-level_read boxes levels items k level are same within is =
-    let read : level ≡ get_or levels k level = subst (λ (l : List Level). level ≡ get_or l k level) same is in
-    let inside : k < length levels = subst (λ (l : List Level). k < length l) same within in
-    subst (λ (v : Level). IsLevelOf boxes k (length boxes) v) (sym read) (are k level inside)

@@ -1,9 +1,9 @@
 -- How a list of numbers grows while boxes are looked at. Only private functions speak of it.
-use Rattle.std.specs.Prelude.{◌≡◌, ◌⊎◌, ℕ, ◌<◌, List, length, slice_index, Contains}
+use Rattle.std.specs.Prelude.{◌≡◌, ◌⊎◌, ℕ, ◌<◌, List, slice_index, Contains}
+use Rattle.plane_base.specs.declared.shapes.Pt.{Pt}
 use Rattle.plane_base.specs.declared.shapes.Rect.{Rect}
-use Rattle.cell_grid.specs.Boxes.{IsNear, box_at}
-use Rattle.cell_grid.specs.Sizes.{level_of}
-use Rattle.cell_grid.specs.Levels.{numbers_at}
+use Rattle.cell_grid.specs.Boxes.{HasPoint, IsNear}
+use Rattle.cell_grid.specs.Cells.{numbers_at, cell_of, IsOnLevel}
 use Rattle.cell_grid.specs.declared.levels.Level.{Level}
 
 -- what was found before, and, of the numbers that are looked at, those whose boxes share a point with r
@@ -12,13 +12,13 @@ pub record DoesFind (boxes : List Rect) (r : Rect) (IsLookedAt : ℕ → Type 0)
   pub found : (number : ℕ) → IsLookedAt number → IsNear boxes r number → Contains now number
   pub near : (number : ℕ) → Contains now number → Contains before number ⊎ IsNear boxes r number
 
--- a number in one of some cells
-abbrev pub StandsIn : Level → (ℕ → Type 0) → ℕ → Type 0
-StandsIn level IsPlace number = (place : ℕ) × IsPlace place × Contains (numbers_at level.cells place) number
+-- a number in the cell of a point of the box
+abbrev pub StandsIn : Level → List (List ℕ) → Rect → ℕ → Type 0
+StandsIn level cells cut number = (p : Pt) × HasPoint cut p × Contains (numbers_at cells (cell_of level p)) number
 
--- the number of a box on this level
-abbrev pub IsOnLevel : List Rect → ℕ → ℕ → Type 0
-IsOnLevel boxes level number = (number < length boxes) × (level_of (box_at boxes number) ≡ level)
+-- a number in one of the first cells of some places
+abbrev pub StandsBefore : List (List ℕ) → (ℕ → ℕ) → ℕ → ℕ → Type 0
+StandsBefore cells place count number = (k : ℕ) × (k < count) × Contains (numbers_at cells (place k)) number
 
 -- the number of a box on a level before this one
 abbrev pub IsOnLevelBefore : List Rect → ℕ → ℕ → Type 0

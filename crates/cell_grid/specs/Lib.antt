@@ -1,7 +1,14 @@
+pub use Rattle.number_groups.specs.Groups
 pub mod Boxes
 pub mod Sizes
+pub mod Partners
 pub mod Grids
-pub mod Levels
-pub mod Adding
+pub mod Around
+pub mod Stripes
+pub mod Cells
+pub mod Blocks
+pub mod Laying
+pub mod Entering
 pub mod Finding
+pub mod Telling
 pub mod Kept

@@ -1,12 +1,16 @@
-ghost use Rattle.std.specs.Prelude.{◌≡◌, ◌↔◌, ℕ, ◌<◌, ◌≤◌, length, All, Contains, IfOk};
+ghost use Rattle.std.specs.Prelude.{◌≡◌, ◌↔◌, ℕ, ◌<◌, length, All, Contains, IfOk, OnOk};
 ghost use Rattle.std.specs.List.Sorted.{IsStrictlyIncreasing};
 ghost use Rattle.cell_grid.specs.Boxes.{IsOrdered, AreOrdered, AreWithinSpan, IsNearList, IsHolder, box_at};
 ghost use Rattle.cell_grid.specs.Sizes.{level_of, AreOfLevels};
-ghost use Rattle.cell_grid.specs.Levels.{IsFresh};
+ghost use Rattle.cell_grid.specs.Partners.{ArePartners};
 
+use crate::entering::cells_of;
+use crate::finding::find;
+use crate::laying::levels_for;
 use crate::levels::Level;
-use crate::rects::level_of;
-use crate::spreads::Spread;
+use crate::rects::{around_all, cut_to, level_of, put_into};
+use crate::telling::tell;
+use number_groups::Groups;
 use plane_base::{Pt, Rect};
 use std::alloc::{AllocError, Global};
 use std::marker::Model;
@@ -18,7 +22,11 @@ pub const LIMIT: usize = 1 << 23;
 #[derive(Debug, Drop)]
 pub struct Grid {
     boxes: Vec<Rect>,
+    // round all boxes
+    around: Rect,
     levels: Vec<Level>,
+    // the numbers in each cell, the cells by their places
+    cells: Groups,
 }
 
 impl Model for Grid {
@@ -34,20 +42,23 @@ impl Model for Grid {
 }
 
 impl Grid {
-    /// The grid of these boxes, in millimetres. It takes memory for the boxes, for their numbers in at most four cells each, and for about as many cells as boxes.
+    /// The grid of these boxes, in millimetres. It takes memory for the boxes, for their numbers in at most four cells each, twice while it sorts them, and for about as many cells as boxes.
     pub fn build(alloc: Global, boxes: &[Rect]) -> Result<Self, AllocError>
         requires ordered { AreOrdered boxes.now }
         requires span { AreWithinSpan boxes.now }
         requires count { length boxes.now < LIMIT }
         ensures { IfOk result (λ grid. grid.boxes ≡ boxes.now) }
     {
-        let mut levels = levels_for(alloc, boxes)?;
-        for number in 0..boxes.len() {
-            let rect = &boxes[number];
-            levels[level_of(rect) as usize].add(number as u32, rect)?;
-        }
+        let around = around_all(boxes);
+        let low = Pt {
+            x: around.x0,
+            y: around.y0,
+        };
+        let levels = levels_for(alloc, boxes, low)?;
         Ok(Grid {
+            cells: cells_of(alloc, boxes, &levels)?,
             boxes: Vec::from_slice(alloc, boxes)?,
+            around,
             levels,
         })
     }
@@ -57,9 +68,10 @@ impl Grid {
         requires { IsOrdered r }
         ensures { IfOk result (λ numbers. IsNearList self.now.boxes r numbers.items) }
     {
+        let cut = cut_to(&self.around, &r);
         let mut numbers = Vec::new(alloc);
         for level in &self.levels {
-            level.find(&self.boxes, &r, &mut numbers)?;
+            find(level, &self.cells, &self.boxes, &cut, &r, &mut numbers)?;
         }
         sort_once(&mut numbers);
         Ok(numbers)
@@ -80,47 +92,24 @@ impl Grid {
         ensures numbers { All (λ number. number < length self.now.boxes) result.now }
         ensures level { (number : ℕ) → IsHolder self.now.boxes p number → Contains result.now number ↔ (level_of (box_at self.now.boxes number) ≡ level) }
     {
-        self.levels[level as usize].cell(p)
+        let level = &self.levels[level as usize];
+        let inside = put_into(&self.around, p);
+        self.cells
+            .at(level.place(level.column(inside.x), level.row(inside.y)))
     }
-}
 
-// The levels of these boxes, with no boxes in them yet.
-fn levels_for(alloc: Global, boxes: &[Rect]) -> Result<Vec<Level>, AllocError>
-    ensures fresh { IfOk result (λ levels. All (λ level. IsFresh level) levels.items) }
-    ensures of_levels { IfOk result (λ levels. AreOfLevels (length levels.items) boxes.now) }
-    ensures few { IfOk result (λ levels. length levels.items ≤ 65) }
-{
-    let spreads = spreads_of(alloc, boxes)?;
-    let mut levels = Vec::with_capacity(alloc, spreads.len())?;
-    for level in 0..spreads.len() {
-        levels.push(Level::new(alloc, level as u32, &spreads[level])?)?;
+    /// Tells the partners of a box: the boxes that share a point with it and stand behind it, in the order by level and on one level by number.
+    /// `found` is cleared first, and then has the number of each once. Whatever the sizes, the box is looked for in at most four cells a level.
+    pub fn partners(&self, number: u32, found: &mut Vec<u32>) -> Result<(), AllocError>
+        requires { number < length self.now.boxes }
+        ensures { OnOk result (ArePartners self.now.boxes number found.new.items) }
+    {
+        found.clear();
+        for level in level_of(&self.boxes[number as usize]) as usize..self.levels.len() {
+            tell(&self.levels[level], &self.cells, &self.boxes, number, found)?;
+        }
+        Ok(())
     }
-    Ok(levels)
-}
-
-// How the boxes of each level are spread.
-fn spreads_of(alloc: Global, boxes: &[Rect]) -> Result<Vec<Spread>, AllocError>
-    ensures of_levels { IfOk result (λ spreads. AreOfLevels (length spreads.items) boxes.now) }
-    ensures few { IfOk result (λ spreads. length spreads.items ≤ 65) }
-{
-    let mut spreads = vec![in alloc; Spread::none(); level_count(boxes)]?;
-    for rect in boxes {
-        let level = level_of(rect) as usize;
-        spreads[level] = spreads[level].with(rect);
-    }
-    Ok(spreads)
-}
-
-// One more than the greatest level of these boxes, 0 where there are none.
-fn level_count(boxes: &[Rect]) -> usize
-    ensures of_levels { AreOfLevels result boxes.now }
-    ensures few { result ≤ 65 }
-{
-    let mut count = 0;
-    for rect in boxes {
-        count = count.max(level_of(rect) as usize + 1);
-    }
-    count
 }
 
 // Sorts numbers, and leaves each once.

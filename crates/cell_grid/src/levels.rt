@@ -1,156 +1,88 @@
-ghost use Rattle.std.specs.Prelude.{◌≡◌, ℕ, ◌<◌, ◌≤◌, length, Contains, IfOk, OnOk};
-ghost use Rattle.cell_grid.specs.Boxes.{IsOrdered, AreOrdered};
-ghost use Rattle.cell_grid.specs.Levels.{stripe_of, place_of, numbers_at, IsInRow, IsUnder, IsWhole, IsFresh, HasNumbersBelow};
-ghost use Rattle.cell_grid.specs.Adding.{AddsTo, AddsToRow};
-ghost use Rattle.cell_grid.specs.Finding.{DoesFind, StandsIn};
+ghost use Rattle.std.specs.Prelude.{◌≡◌, ◌+◌, ◌*◌, ◌^◌, ◌<◌, ◌≤◌};
+ghost use Rattle.cell_grid.specs.Stripes.{IsPast, stripe_of};
 
-use crate::axes::Axis;
-use crate::cells::Cells;
-use crate::rects::share_a_point;
-use crate::spreads::Spread;
-use plane_base::{Pt, Rect};
-use std::alloc::{AllocError, Global};
+use crate::LIMIT;
+use plane_base::Pt;
 
-/// Boxes of one size, by their numbers, in the cells that columns and rows make.
-#[derive(Debug, Drop)]
+/// A level for boxes of one size: its cells, of two to the power of `shift` millimetres from a low corner on, and their places in the list of all cells.
+/// There are about as many places as boxes of the level, so that some cells have one in common.
+#[derive(Clone, Copy, Debug)]
 pub(crate) struct Level {
-    columns: Axis,
-    rows: Axis,
-    // row after row
-    cells: Cells,
+    pub(crate) low: Pt,
+    pub(crate) shift: u32,
+    /// the first place of the level
+    pub(crate) base: u32,
+    /// how many places there are behind the first, all digits of it being 1
+    pub(crate) mask: u32,
+    // by how many places a row is behind the one below it
+    skew: u32,
+    ghost short: { shift < 32 },
+    ghost few: { base + mask < 2 ^ 31 },
 }
 
 impl Level {
-    /// A level for boxes of this spread, with no boxes yet.
-    pub(crate) fn new(alloc: Global, level: u32, spread: &Spread) -> Result<Self, AllocError>
-        ensures { IfOk result (λ level. IsFresh level) }
-    {
-        let columns = spread.columns(level);
-        let rows = spread.rows(level);
-        Ok(Level {
-            columns,
-            rows,
-            cells: Cells::new(alloc, (rows.last + 1) * (columns.last + 1))?,
-        })
-    }
+    ghost use Rattle.cell_grid.specs.Cells.{column_of, row_of, place_of};
 
-    // Where the cell stands in the list.
-    fn place(&self, column: usize, row: usize) -> usize
-        requires column { column ≤ self.now.columns.last }
-        requires row { row ≤ self.now.rows.last }
-        ensures { result ≡ place_of self.now.columns column row }
+    /// A level with room for so many boxes.
+    pub(crate) fn new(low: Pt, shift: u32, base: u32, count: u32) -> Self
+        requires shift { shift < 32 }
+        requires base { base ≤ shift * 2 ^ 24 }
+        ensures low { result.low ≡ low }
+        ensures shift { result.shift ≡ shift }
+        ensures base { result.base ≡ base }
+        ensures few { result.base + result.mask + 1 ≤ (shift + 1) * 2 ^ 24 }
     {
-        row * (self.columns.last + 1) + column
-    }
-
-    /// Puts the number of a box into each cell that has a point of the box.
-    pub(crate) fn add(&mut self, number: u32, rect: &Rect) -> Result<(), AllocError>
-        requires whole { IsWhole self.old }
-        requires ordered { IsOrdered rect.now }
-        ensures { OnOk result (AddsTo number rect.now self.old self.new) }
-    {
-        let last = self.rows.stripe(rect.y1);
-        for row in self.rows.stripe(rect.y0)..last + 1 {
-            self.add_to_row(row, number, rect)?;
+        let size = count.min(LIMIT as u32).next_power_of_two();
+        Level {
+            low,
+            shift,
+            base,
+            mask: size - 1,
+            skew: skew_of(size),
         }
-        Ok(())
     }
 
-    fn add_to_row(&mut self, row: usize, number: u32, rect: &Rect) -> Result<(), AllocError>
-        requires whole { IsWhole self.old }
-        requires row { row ≤ self.old.rows.last }
-        requires ordered { IsOrdered rect.now }
-        ensures { OnOk result (AddsToRow number row rect.now self.old self.new) }
+    /// The column that has `x`, from the low corner on.
+    pub(crate) fn column(&self, x: i64) -> u32
+        requires { IsPast self.now.low.x x }
+        ensures column { result ≡ column_of self.now x }
+        ensures within { result < 2 ^ 30 }
     {
-        let last = self.columns.stripe(rect.x1);
-        for column in self.columns.stripe(rect.x0)..last + 1 {
-            let place = self.place(column, row);
-            self.cells.put(place, number)?;
-        }
-        Ok(())
+        stripe(self.low.x, self.shift, x)
     }
 
-    /// The numbers in the cell of a point.
-    pub(crate) fn cell(&self, p: Pt) -> &[u32]
-        requires { IsWhole self.now }
-        ensures { result.now ≡ numbers_at self.now.cells (place_of self.now.columns (stripe_of self.now.columns p.x) (stripe_of self.now.rows p.y)) }
+    /// The row that has `y`, from the low corner on.
+    pub(crate) fn row(&self, y: i64) -> u32
+        requires { IsPast self.now.low.y y }
+        ensures row { result ≡ row_of self.now y }
+        ensures within { result < 2 ^ 30 }
     {
-        let column = self.columns.stripe(p.x);
-        let row = self.rows.stripe(p.y);
-        self.cells.at(self.place(column, row))
+        stripe(self.low.y, self.shift, y)
     }
 
-    /// Finds the boxes that share a point with `r`, a box in several cells in each of them.
-    pub(crate) fn find(
-        &self,
-        boxes: &[Rect],
-        r: &Rect,
-        found: &mut Vec<u32>,
-    ) -> Result<(), AllocError>
-        requires whole { IsWhole self.now }
-        requires numbers { HasNumbersBelow (length boxes.now) self.now }
-        requires ordered { AreOrdered boxes.now }
-        requires r { IsOrdered r.now }
-        ensures { OnOk result (DoesFind boxes.now r.now (StandsIn self.now (IsUnder self.now.columns self.now.rows r.now)) found.old.items found.new.items) }
+    /// The place of a cell. Neighbours have places of their own where there are eight places or more.
+    pub(crate) fn place(&self, column: u32, row: u32) -> u32
+        ensures place { result ≡ place_of self.now column row }
+        ensures from { self.now.base ≤ result }
+        ensures to { result ≤ self.now.base + self.now.mask }
     {
-        let last = self.rows.stripe(r.y1);
-        for row in self.rows.stripe(r.y0)..last + 1 {
-            self.find_in_row(row, boxes, r, found)?;
-        }
-        Ok(())
-    }
-
-    fn find_in_row(
-        &self,
-        row: usize,
-        boxes: &[Rect],
-        r: &Rect,
-        found: &mut Vec<u32>,
-    ) -> Result<(), AllocError>
-        requires whole { IsWhole self.now }
-        requires row { row ≤ self.now.rows.last }
-        requires numbers { HasNumbersBelow (length boxes.now) self.now }
-        requires ordered { AreOrdered boxes.now }
-        requires r { IsOrdered r.now }
-        ensures { OnOk result (DoesFind boxes.now r.now (StandsIn self.now (IsInRow self.now.columns r.now row)) found.old.items found.new.items) }
-    {
-        let last = self.columns.stripe(r.x1);
-        for column in self.columns.stripe(r.x0)..last + 1 {
-            let place = self.place(column, row);
-            find_among(self.cells.at(place), boxes, r, found)?;
-        }
-        Ok(())
+        self.base + (self.skew.wrapping_mul(row).wrapping_add(column) & self.mask)
     }
 }
 
-// Finds those of some boxes that share a point with `r`.
-fn find_among(
-    numbers: &[u32],
-    boxes: &[Rect],
-    r: &Rect,
-    found: &mut Vec<u32>,
-) -> Result<(), AllocError>
-    requires numbers { (k : ℕ) → Contains numbers.now k → k < length boxes.now }
-    requires ordered { AreOrdered boxes.now }
-    requires r { IsOrdered r.now }
-    ensures { OnOk result (DoesFind boxes.now r.now (Contains numbers.now) found.old.items found.new.items) }
+// The number of the stripe that has `x`, where stripes of two to the power of `shift` millimetres begin at `low`.
+fn stripe(low: i64, shift: u32, x: i64) -> u32
+    requires past { IsPast low x }
+    requires short { shift < 32 }
+    ensures stripe { result ≡ stripe_of low shift x }
+    ensures within { result < 2 ^ 30 }
 {
-    for number in numbers {
-        find_one(*number, boxes, r, found)?;
-    }
-    Ok(())
+    (x.abs_diff(low) as u32) >> shift
 }
 
-// Finds a box if it shares a point with `r`.
-fn find_one(number: u32, boxes: &[Rect], r: &Rect, found: &mut Vec<u32>) -> Result<(), AllocError>
-    requires number { number < length boxes.now }
-    requires ordered { AreOrdered boxes.now }
-    requires r { IsOrdered r.now }
-    ensures { OnOk result (DoesFind boxes.now r.now (λ n. n ≡ number) found.old.items found.new.items) }
+// By how many places a row is behind the one below it: near to the golden section of `size`, so that rows far apart seldom meet, and five more than a multiple of eight.
+fn skew_of(size: u32) -> u32
+    requires { size < 2 ^ 25 }
 {
-    if !share_a_point(&boxes[number as usize], r) {
-        return Ok(());
-    }
-    found.push(number)?;
-    Ok(())
+    (size as u64 * 2_654_435_769 / 4_294_967_296) as u32 / 8 * 8 + 5
 }

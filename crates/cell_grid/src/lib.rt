@@ -2,13 +2,15 @@
 //! They are kept on levels by size, in cells that are larger than they are, so that each stands in at most four.
 #![tactic(auto)]
 
-mod axes;
-mod cells;
+mod blocks;
+mod entering;
+mod finding;
 mod grids;
 mod laws;
+mod laying;
 mod levels;
 mod rects;
-mod spreads;
+mod telling;
 
 pub use grids::{Grid, LIMIT};
-pub use laws::boxes_share_a_point_or_are_apart;
+pub use laws::{boxes_share_a_point_or_are_apart, each_pair_is_told_once};

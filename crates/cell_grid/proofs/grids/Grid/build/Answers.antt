@@ -1,34 +1,43 @@
-use Rattle.std.proofs.Common.{◌≡◌, ◌<◌, ℕ, List, length, set, sym, subst, arith}
-use Rattle.std.proofs.lemmas.List.{length-set}
+use Rattle.std.proofs.Common.{◌≡◌, ◌<◌, List, length, get_or, All, sym, subst, rules}
+use Rattle.std.specs.Prelude.{FitsSigned}
+use Rattle.std.proofs.lemmas.Int.{to_z-of_z}
+use mir.Syntax.{w64}
 use Rattle.plane_base.specs.declared.shapes.Rect.{Rect}
-use Rattle.cell_grid.specs.Boxes.{AreOrdered, no_box}
+use Rattle.cell_grid.specs.Boxes.{AreOrdered}
 use Rattle.cell_grid.specs.Sizes.{AreOfLevels}
-use Rattle.cell_grid.specs.Kept.{AreLevelsOf}
-use Rattle.cell_grid.proofs.Found.{levels_with}
+use Rattle.cell_grid.specs.Around.{IsAround, corner_of}
+use Rattle.cell_grid.specs.Cells.{IsLevelOf, HasNumbersBelow}
+use Rattle.cell_grid.specs.declared.levels.Level.{Level}
+use Rattle.cell_grid.specs.declared.grids.TheConstants.{LIMIT}
+use Rattle.cell_grid.proofs.Sizes.{levels_small}
+use Rattle.cell_grid.proofs.Kept.{boxes_past}
 use Rattle.cell_grid.proofs.grids.Grid.build.Goals as goal
 
-pub loop-number-preserved : goal.loop-number-preserved
-loop-number-preserved c =
-    let inv = c.loop-number.invariant in
-    let long : length (set c.loop-number.levels.items c.level_of.result c.add.new.self) ≡ length c.loop-number.levels.items = length-set c.loop-number.levels.items c.level_of.result c.add.new.self in
-    let within : c.level_of.result < length c.loop-number.levels.items = rw c.level_of.ensures.level (inv.of_levels c.loop-number.number no_box c.loop-number-test.true) in
-    record {
-      of_levels = subst (λ (n : ℕ). AreOfLevels n c.args.boxes.now) (sym long) inv.of_levels;
-      few = omega (arith, long, inv.few);
-      levels = levels_with c.args.boxes.now c.loop-number.number c.level_of.result c.loop-number.levels.items c.index_mut.result.now c.add.new.self inv.levels c.level_of.ensures.level within
-          c.index_mut.ensures.value c.in_ok-add.ensures;
-    }
+pub levels_for-requires-clause-sizes : goal.levels_for-requires-clause-sizes
+levels_for-requires-clause-sizes c = levels_small c.args.boxes.now c.requires.ordered c.requires.span
+
+pub cells_of-requires-clause-past : goal.cells_of-requires-clause-past
+cells_of-requires-clause-past c =
+    let x : FitsSigned w64 c.around_all-around.result.x0 = search rules in
+    let y : FitsSigned w64 c.around_all-around.result.y0 = search rules in
+    let low : All (λ (v : Level). v.low ≡ corner_of c.around_all-around.result) c.in_ok-levels.levels.items = simp to_z-of_z at c.in_ok-levels.ensures.low in
+    rw c.deref.ensures.value (λ k d h. boxes_past c.args.boxes.now c.around_all-around.result (get_or c.in_ok-levels.levels.items k d).low c.requires.ordered c.around_all-around.ensures (low k d h))
 
 pub invariant_of-result : goal.invariant_of-result
 invariant_of-result c =
-    let inv = c.loop-number.invariant in
+    let x : FitsSigned w64 c.around_all-around.result.x0 = search rules in
+    let y : FitsSigned w64 c.around_all-around.result.y0 = search rules in
+    let low : All (λ (v : Level). v.low ≡ corner_of c.around_all-around.result) c.in_ok-levels.levels.items = simp to_z-of_z at c.in_ok-levels.ensures.low in
     let same = sym c.in_ok-from_slice.ensures.items in
-    let all : c.loop-number.number ≡ length c.args.boxes.now = omega (arith, c.loop-number-test.false, c.loop-number.auto.number-end) in
-    let levels = subst (λ (n : ℕ). AreLevelsOf c.args.boxes.now n c.loop-number.levels.items) all inv.levels in
     record {
       ordered = subst (λ (bs : List Rect). AreOrdered bs) same c.requires.ordered;
-      count = rw c.in_ok-from_slice.ensures.items c.requires.count;
-      of_levels = subst (λ (bs : List Rect). AreOfLevels (length c.loop-number.levels.items) bs) same inv.of_levels;
-      levels = subst (λ (bs : List Rect). AreLevelsOf bs (length bs) c.loop-number.levels.items) same levels;
-      few = omega (arith, inv.few);
+      count = subst (λ (bs : List Rect). length bs < LIMIT) same c.requires.count;
+      around = subst (λ (bs : List Rect). IsAround c.around_all-around.result bs) same c.around_all-around.ensures;
+      of_levels = subst (λ (bs : List Rect). AreOfLevels (length c.in_ok-levels.levels.items) bs) same c.in_ok-levels.ensures.of_levels;
+      laid = c.in_ok-levels.ensures.laid;
+      low = low;
+      levels = subst (λ (bs : List Rect). All (λ (v : Level). IsLevelOf bs c.in_ok-cells_of.field-0 v) c.in_ok-levels.levels.items) same
+          (subst (λ (vs : List Level). All (λ (v : Level). IsLevelOf c.args.boxes.now c.in_ok-cells_of.field-0 v) vs) c.deref.ensures.value c.in_ok-cells_of.ensures.levels);
+      ascending = c.in_ok-cells_of.ensures.ascending;
+      numbers = subst (λ (bs : List Rect). HasNumbersBelow (length bs) c.in_ok-cells_of.field-0) same c.in_ok-cells_of.ensures.numbers;
     }

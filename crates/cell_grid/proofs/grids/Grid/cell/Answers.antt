@@ -1,24 +1,42 @@
-use Rattle.std.proofs.Common.{◌≡◌, ◌<◌, List, length, sym, ap, subst, arith}
-use Rattle.plane_base.specs.declared.shapes.Rect.{Rect}
+use Rattle.std.proofs.Common.{◌≡◌, ◌<◌, length, refl, ap, ◌∙◌, rules, arith}
+use Rattle.std.specs.Prelude.{FitsSigned}
+use Rattle.std.proofs.lemmas.Int.{to_z-of_z}
+use mir.Syntax.{w64}
 use Rattle.cell_grid.specs.Grids.{Boxes}
-use Rattle.cell_grid.specs.Levels.{stripe_of, place_of, IsLevelOf}
-use Rattle.cell_grid.specs.declared.levels.Level.{Level}
-use Rattle.cell_grid.proofs.Found.{cell_below, cell_exact}
+use Rattle.cell_grid.specs.Cells.{numbers_at, cell_of}
+use Rattle.cell_grid.specs.Around.{put_of}
+use Rattle.cell_grid.proofs.Kept.{level_kept, put_past, cell_below, cell_exact}
 use Rattle.cell_grid.proofs.grids.Grid.cell.Goals as goal
 
--- what the level keeps, said of the boxes that contracts see
-kept : (c : goal.After-cell) → IsLevelOf c.args.self.now.boxes c.args.level (length c.args.self.now.boxes) c.index.result.now
-kept c =
-    let boxes : c.self.inside.boxes.items ≡ c.args.self.now.boxes = ap (λ (v : Boxes). v.boxes) c.self.view_is in
-    let count : length c.self.inside.levels.items ≡ c.args.self.now.levels = ap (λ (v : Boxes). v.levels) c.self.view_is in
-    let within : c.args.level < length c.self.inside.levels.items = omega (arith, count, c.requires) in
-    let inside = subst (λ (v : Level). IsLevelOf c.self.inside.boxes.items c.args.level (length c.self.inside.boxes.items) v) (sym c.index.ensures) (c.self.invariant.levels c.args.level c.index.result.now within) in
-    subst (λ (bs : List Rect). IsLevelOf bs c.args.level (length bs) c.index.result.now) boxes inside
+pub column-requires : goal.column-requires
+column-requires c =
+    let within : c.args.level < length c.self.inside.levels.items = omega (arith, ap (λ (v : Boxes). v.levels) c.self.view_is, c.requires) in
+    let kept = level_kept c.self.inside.boxes.items c.self.inside.around c.self.inside.cells c.self.inside.levels.items c.args.level c.index-level.result.now c.self.invariant.laid c.self.invariant.low c.self.invariant.levels within c.index-level.ensures in
+    let x : FitsSigned w64 c.put_into-inside.result.x = search rules in
+    simp to_z-of_z (put_past c.self.inside.boxes.items c.self.inside.around c.index-level.result.now.low c.args.p c.put_into-inside.result c.self.invariant.around kept.low c.put_into-inside.ensures).0
+
+pub row-requires : goal.row-requires
+row-requires c =
+    let within : c.args.level < length c.self.inside.levels.items = omega (arith, ap (λ (v : Boxes). v.levels) c.self.view_is, c.requires) in
+    let kept = level_kept c.self.inside.boxes.items c.self.inside.around c.self.inside.cells c.self.inside.levels.items c.args.level c.index-level.result.now c.self.invariant.laid c.self.invariant.low c.self.invariant.levels within c.index-level.ensures in
+    let y : FitsSigned w64 c.put_into-inside.result.y = search rules in
+    simp to_z-of_z (put_past c.self.inside.boxes.items c.self.inside.around c.index-level.result.now.low c.args.p c.put_into-inside.result c.self.invariant.around kept.low c.put_into-inside.ensures).1
 
 pub returns-clause-numbers : goal.returns-clause-numbers
 returns-clause-numbers c =
-    cell_below c.args.self.now.boxes c.args.level (place_of c.index.result.now.columns (stripe_of c.index.result.now.columns c.args.p.x) (stripe_of c.index.result.now.rows c.args.p.y)) c.index.result.now
-    c.cell.result.now (kept c) c.cell.ensures
+    let boxes : c.self.inside.boxes.items ≡ c.args.self.now.boxes = ap (λ (v : Boxes). v.boxes) c.self.view_is in
+    rw (← boxes) (cell_below c.self.inside.boxes.items c.self.inside.cells c.place.result c.at.result.now c.self.invariant.numbers c.at.ensures)
 
 pub returns-clause-level : goal.returns-clause-level
-returns-clause-level c = λ number holder. cell_exact c.args.self.now.boxes c.args.level c.index.result.now c.args.p c.cell.result.now (kept c) c.cell.ensures number holder
+returns-clause-level c =
+    let boxes : c.self.inside.boxes.items ≡ c.args.self.now.boxes = ap (λ (v : Boxes). v.boxes) c.self.view_is in
+    let within : c.args.level < length c.self.inside.levels.items = omega (arith, ap (λ (v : Boxes). v.levels) c.self.view_is, c.requires) in
+    let kept = level_kept c.self.inside.boxes.items c.self.inside.around c.self.inside.cells c.self.inside.levels.items c.args.level c.index-level.result.now c.self.invariant.laid c.self.invariant.low c.self.invariant.levels within c.index-level.ensures in
+    let x : FitsSigned w64 c.put_into-inside.result.x = search rules in
+    let y : FitsSigned w64 c.put_into-inside.result.y = search rules in
+    let column = simp to_z-of_z at c.column.ensures.column in
+    let row = simp to_z-of_z at c.row.ensures.row in
+    let place : c.place.result ≡ cell_of c.index-level.result.now (put_of c.self.inside.around c.args.p) = rw (c.place.ensures.place, column, row, c.put_into-inside.ensures) refl in
+    let exact = cell_exact c.self.inside.boxes.items c.self.inside.around c.self.inside.cells c.args.level c.index-level.result.now c.args.p c.at.result.now c.self.invariant.around kept
+    (c.at.ensures ∙ ap (numbers_at c.self.inside.cells) place) in
+    rw (← boxes) exact

@@ -1,0 +1,65 @@
+ghost use Rattle.std.specs.Prelude.{◌≡◌, ◌+◌, ◌-◌, ◌*◌, ◌^◌, ◌<◌, ◌≤◌};
+
+use crate::levels::Level;
+use plane_base::{Pt, Rect};
+
+/// The cells of a level that a box meets, row after row.
+#[derive(Clone, Copy, Debug)]
+pub(crate) struct Block {
+    column: u32,
+    row: u32,
+    columns: u32,
+    rows: u32,
+    ghost some: { 0 < columns },
+    ghost across: { column + columns ≤ 2 ^ 30 },
+    ghost up: { row + rows ≤ 2 ^ 30 },
+}
+
+impl Block {
+    ghost use Rattle.cell_grid.specs.Blocks.{IsBlockOf, place_at, index_of};
+    ghost use Rattle.cell_grid.specs.Stripes.{IsPastCorner};
+
+    /// The cells that the box meets.
+    pub(crate) fn of(level: &Level, rect: &Rect) -> Self
+        requires { IsPastCorner level.now.low rect.now }
+        ensures { IsBlockOf level.now rect.now result }
+    {
+        let column = level.column(rect.x0);
+        let row = level.row(rect.y0);
+        Block {
+            column,
+            row,
+            columns: level.column(rect.x1) - column + 1,
+            rows: level.row(rect.y1) - row + 1,
+        }
+    }
+
+    /// How many they are.
+    pub(crate) fn count(&self) -> u64
+        ensures { result ≡ self.now.columns * self.now.rows }
+    {
+        self.columns as u64 * self.rows as u64
+    }
+
+    /// The place of one of them, from 0.
+    pub(crate) fn place_at(&self, level: &Level, index: u32) -> u32
+        requires { index < self.now.columns * self.now.rows }
+        ensures place { result ≡ place_at level.now self.now index }
+        ensures from { level.now.base ≤ result }
+        ensures to { result ≤ level.now.base + level.now.mask }
+    {
+        level.place(
+            self.column + index % self.columns,
+            self.row + index / self.columns,
+        )
+    }
+
+    /// Which of them is in this column and row, from 0.
+    pub(crate) fn index_of(&self, column: u32, row: u32) -> u64
+        requires column { self.now.column ≤ column }
+        requires row { self.now.row ≤ row }
+        ensures { result ≡ (row - self.now.row) * self.now.columns + (column - self.now.column) }
+    {
+        (row - self.row) as u64 * self.columns as u64 + (column - self.column) as u64
+    }
+}
