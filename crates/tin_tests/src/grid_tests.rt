@@ -1,5 +1,6 @@
-ghost use Rattle.std.specs.Prelude.{All, IsTrue};
+ghost use Rattle.std.specs.Prelude.{◌≡◌, ◌≤◌, ◌<◌, length, All, IfOk, IsTrue};
 ghost use Rattle.cell_grid.specs.Boxes.{IsOrdered};
+ghost use Rattle.cell_grid.specs.declared.grids.TheConstants.{LIMIT};
 ghost use Rattle.tin_tests.specs.SmallBoxes.{IsSmall};
 
 use cell_grid::{Grid, LIMIT};
@@ -55,10 +56,46 @@ fn grid_of(alloc: Global, rows: &[[i64; 4]]) -> Result<Grid, AllocError> {
     for row in rows {
         boxes.push(rect(*row))?;
     }
-    if boxes.len() >= LIMIT || !are_small(boxes.as_slice()) {
+    let grid = grid_over(alloc, &boxes)?;
+    Ok(grid)
+}
+
+fn grid_over(alloc: Global, boxes: &[Rect]) -> Result<Grid, AllocError>
+    ensures boxes { IfOk result (λ grid. grid.boxes ≡ boxes.now) }
+    ensures few { IfOk result (λ grid. length boxes.now < LIMIT) }
+{
+    if boxes.len() >= LIMIT {
         return Err(AllocError);
     }
-    Grid::build(alloc, boxes.as_slice())
+    if !are_small(boxes) {
+        return Err(AllocError);
+    }
+    let grid = Grid::build(alloc, boxes)?;
+    Ok(grid)
+}
+
+// How many partners the first boxes have together.
+fn pairs(alloc: Global, grid: &Grid, count: u32) -> Result<u64, AllocError>
+    requires { count ≤ length grid.now.boxes }
+{
+    let mut found = Vec::new(alloc);
+    let mut pairs: u64 = 0;
+    for number in 0..count {
+        grid.partners(number, &mut found)?;
+        pairs = pairs.saturating_add(found.len() as u64);
+    }
+    Ok(pairs)
+}
+
+// How many boxes share a point with each of the boxes, together.
+fn all_near(alloc: Global, grid: &Grid, boxes: &[Rect]) -> Result<u64, AllocError> {
+    let mut all: u64 = 0;
+    for rect in boxes {
+        if is_ordered(rect) {
+            all = all.saturating_add(grid.near(alloc, *rect)?.len() as u64);
+        }
+    }
+    Ok(all)
 }
 
 fn near(alloc: Global, grid: &Grid, row: [i64; 4]) -> Result<Vec<u32>, AllocError> {
@@ -141,5 +178,74 @@ fn finds_nothing_in_no_boxes(rt: HostRuntime) -> Result<(), Fail> {
     let grid = grid_of(rt.alloc(), &[])?;
     assert_eq!(rt; near(rt.alloc(), &grid, ALL)?.len(), 0);
     assert_eq!(rt; grid.levels(), 0);
+    Ok(())
+}
+
+// Two villages at the ends of the country, each of ten rows of ten boxes that touch. In each are 9 times 10 pairs along rows, as many along columns,
+// and twice 9 times 9 at corners.
+#[test]
+fn tells_the_pairs_of_two_villages(rt: HostRuntime) -> Result<(), Fail> {
+    let alloc = rt.alloc();
+    let mut boxes = Vec::new(alloc);
+    for village in 0..2u16 {
+        let end = i64::from(village) * 90_000_000;
+        for row in 0..10u16 {
+            let y = i64::from(row) * 10_000;
+            for column in 0..10u16 {
+                let x = i64::from(column) * 10_000;
+                boxes.push(rect([end + x, end + y, end + x + 10_000, end + y + 10_000]))?;
+            }
+        }
+    }
+    let grid = grid_over(alloc, &boxes)?;
+    assert_eq!(rt; pairs(alloc, &grid, boxes.len() as u32)?, 684);
+    assert_eq!(rt; all_near(alloc, &grid, &boxes)?, 200 + 2 * 684);
+    Ok(())
+}
+
+// A hundred boxes along a diagonal, each of which touches the next at a corner.
+#[test]
+fn tells_the_pairs_of_a_chain(rt: HostRuntime) -> Result<(), Fail> {
+    let alloc = rt.alloc();
+    let mut boxes = Vec::new(alloc);
+    for number in 0..100u16 {
+        let at = i64::from(number) * 400;
+        boxes.push(rect([at, at, at + 400, at + 400]))?;
+    }
+    let grid = grid_over(alloc, &boxes)?;
+    assert_eq!(rt; pairs(alloc, &grid, boxes.len() as u32)?, 99);
+    assert_eq!(rt; all_near(alloc, &grid, &boxes)?, 100 + 2 * 99);
+    Ok(())
+}
+
+// A large box is told for the small ones, whatever its number, and of boxes of one level that with the greater number.
+#[test]
+fn tells_a_pair_for_the_smaller_box(rt: HostRuntime) -> Result<(), Fail> {
+    let alloc = rt.alloc();
+    let mut boxes = Vec::new(alloc);
+    for row in [
+        [-50_000_000, -50_000_000, 50_000_000, 50_000_000],
+        [5, 5, 5, 5],
+        [0, 0, 900, 1000],
+        [5, 5, 1000, 1001],
+        [60_000_000, 0, 60_000_005, 5],
+    ] {
+        boxes.push(rect(row))?;
+    }
+    let grid = grid_over(alloc, &boxes)?;
+    let mut found = Vec::new(alloc);
+    for (number, want) in [
+        (0u32, [].as_slice()),
+        (1, [0u32, 2, 3].as_slice()),
+        (2, [0, 3].as_slice()),
+        (3, [0].as_slice()),
+        (4, [].as_slice()),
+    ] {
+        if (number as usize) < boxes.len() {
+            grid.partners(number, &mut found)?;
+            found.sort_unstable();
+            assert_eq!(rt; found.as_slice(), want, "partners of {number}");
+        }
+    }
     Ok(())
 }
