@@ -83,7 +83,7 @@ corner_mix p a s = (1 ∷ [], refl, omega arith, (alone p.x p.w a.x a.w s.0, alo
 both_zero : (l m : ℤ) → pos 0 ≤ℤ l → pos 0 ≤ℤ m → (l +ℤ m) ≤ℤ pos 0 → (l ≡ pos 0) × (m ≡ pos 0)
 both_zero l m h k j = (omega (arith, ints), omega (arith, ints))
 
-corner_of : (a b c p : Point) → pos 0 <ℤ turn_of a b c → pos 0 ≤ℤ turn_of c a p → pos 0 ≤ℤ turn_of a b p → (turn_of c a p +ℤ turn_of a b p) ≤ℤ pos 0 → IsMix p (a ∷ [])
+pub corner_of : (a b c p : Point) → pos 0 <ℤ turn_of a b c → pos 0 ≤ℤ turn_of c a p → pos 0 ≤ℤ turn_of a b p → (turn_of c a p +ℤ turn_of a b p) ≤ℤ pos 0 → IsMix p (a ∷ [])
 corner_of a b c p d tl tm h =
     let z = both_zero (turn_of c a p) (turn_of a b p) tl tm h in corner_mix p a (at_corner a b c p d z.0 z.1)
 

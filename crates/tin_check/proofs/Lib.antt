@@ -8,3 +8,6 @@ pub mod Counting
 pub mod Marking
 pub mod FirstFault
 pub mod Progress
+pub mod AroundCorner
+pub mod Beyond
+pub mod Parted

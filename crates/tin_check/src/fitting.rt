@@ -5,6 +5,7 @@ ghost use Rattle.tin_check.specs.Marks.{points_of, marked_of, IsAmong, HaveSameP
 
 use crate::Common;
 use crate::marked_corners::{Marked, counted_from, is_same, read_marks};
+use crate::parting::{are_parted, is_beyond};
 use plane_base::{Pt, Tri, holds, slice};
 
 /// Does the triangle have a point of the segment from `p` to `q`?
@@ -26,6 +27,12 @@ fn meet(t: &Tri, u: &Tri) -> bool
     requires u_positive { pos 0 <ℤ turn_of (whole u.now.a) (whole u.now.b) (whole u.now.c) }
     ensures { IsTrue result ↔ HaveCommonPoint (corners t.now) (corners u.now) }
 {
+    if is_beyond(t, u) {
+        return false;
+    }
+    if is_beyond(u, t) {
+        return false;
+    }
     if holds(t, u.a) {
         return true;
     }
@@ -46,6 +53,9 @@ fn meet_at_corner(t: &Tri, u: &Tri) -> bool
     requires same { t.now.a ≡ u.now.a }
     ensures { IsTrue result ↔ MeetOnlyIn (corners t.now) (corners u.now) (whole t.now.a ∷ []) }
 {
+    if are_parted(t, u) {
+        return true;
+    }
     if meets_side(t.b, t.c, u) {
         return false;
     }

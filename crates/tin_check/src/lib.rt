@@ -8,6 +8,7 @@ mod fitting;
 mod laws;
 mod marked_corners;
 mod pairs;
+mod parting;
 
 pub use checking::check_tin;
 pub use faults::CheckFault;
