@@ -1,5 +1,5 @@
 -- The slice of a segment by a triangle tells whether they have a common point.
-use Rattle.std.proofs.Common.{◌≡◌, ◌↔◌, ℤ, pos, ◌+ℤ◌, Bool, IsTrue, [], ◌∷◌, Option, Some, None, is_some, refl, sym, subst}
+use Rattle.std.proofs.Common.{◌≡◌, ◌↔◌, pos, ◌+ℤ◌, Bool, IsTrue, [], ◌∷◌, Option, Some, None, is_some, refl, sym, subst}
 use Rattle.plane_base.specs.Plane.{whole, corners, along}
 use Rattle.plane_base.specs.declared.shapes.Pt.{Pt}
 use Rattle.plane_base.specs.declared.shapes.Tri.{Tri}

@@ -8,7 +8,7 @@ use Rattle.tin_base.specs.Soundness.{turn_in, DoFit, IsSound}
 use Rattle.tin_check.specs.declared.faults.CheckFault.{CheckFault}
 use Rattle.tin_check.specs.declared.faults.CheckFault.TheVariants.{Flat, TurnsOver, Meets, NoMemory}
 use Rattle.tin_check.specs.Faults.{IsFault, frame_rank, rank, IsBefore, IsFirstFault, IsCause, FirstFaultIsOne, FaultsAreUnsound}
-use Rattle.tin_check.specs.Progress.{ArePositive, DoFirstsFit, DoSecondsFit}
+use Rattle.tin_check.specs.Progress.{ArePositive, IsBeforePair, DoFitBefore, DoAllFit, IsFirstPair}
 
 not_zero : (z : ℤ) → pos 0 <ℤ z → z ≡ pos 0 → ⊥
 not_zero z h e = absurd (omega (arith, ints))
@@ -63,29 +63,85 @@ one_more_positive tin t positive source target frame u h = go (last_or_not u t h
 abbrev HasEarlierOf : Triangulation → ℕ → ℕ → ℕ → Type 0
 HasEarlierOf tin a b k = (frame : Frame) × (DoFit tin frame a b → ⊥) × (frame_rank frame < k)
 
-earlier_of : (tin : Triangulation) (a b k : ℕ) (other : CheckFault) → ArePositive tin (length tin.triangles) → DoFirstsFit tin a → DoSecondsFit tin a b → IsBefore (rank other) (1 ∷ a ∷ b ∷ k ∷ []) → IsFault tin other → HasEarlierOf tin a b k
-earlier_of tin a b k (Flat u frame) positive firsts seconds before fault = absurd (not_zero (turn_in tin frame u) (positive frame u fault.0) fault.1)
-earlier_of tin a b k (TurnsOver u) positive firsts seconds before (within, inl f) = absurd (not_negative (turn_in tin Source u) (positive Source u within) f)
-earlier_of tin a b k (TurnsOver u) positive firsts seconds before (within, inr f) = absurd (not_negative (turn_in tin Target u) (positive Target u within) f)
-earlier_of tin a b k (Meets t u frame) positive firsts seconds (inl h) fault = absurd (omega arith)
-earlier_of tin a b k (Meets t u frame) positive firsts seconds (inr (e, inl h)) fault = absurd (fault.2 (firsts frame t u h fault.0 fault.1))
-earlier_of tin a b k (Meets t u frame) positive firsts seconds (inr (e, inr (f, inl h))) fault =
-    absurd (fault.2 (subst (λ (n : ℕ). DoFit tin frame n u) (sym f) (seconds frame u (subst (λ (n : ℕ). n < u) f fault.0) h)))
-earlier_of tin a b k (Meets t u frame) positive firsts seconds (inr (e, inr (f, inr (g, h)))) fault =
+earlier_of : (tin : Triangulation) (a b k : ℕ) (other : CheckFault) → ArePositive tin (length tin.triangles) → ((frame : Frame) → DoFitBefore tin frame a b) → IsBefore (rank other) (1 ∷ a ∷ b ∷ k ∷ []) → IsFault tin other → HasEarlierOf tin a b k
+earlier_of tin a b k (Flat u frame) positive fit before fault = absurd (not_zero (turn_in tin frame u) (positive frame u fault.0) fault.1)
+earlier_of tin a b k (TurnsOver u) positive fit before (within, inl f) = absurd (not_negative (turn_in tin Source u) (positive Source u within) f)
+earlier_of tin a b k (TurnsOver u) positive fit before (within, inr f) = absurd (not_negative (turn_in tin Target u) (positive Target u within) f)
+earlier_of tin a b k (Meets t u frame) positive fit (inl h) fault = absurd (omega arith)
+earlier_of tin a b k (Meets t u frame) positive fit (inr (e, inl h)) fault = absurd (fault.2 (fit frame t u fault.0 fault.1 (inl h)))
+earlier_of tin a b k (Meets t u frame) positive fit (inr (e, inr (f, inl h))) fault = absurd (fault.2 (fit frame t u fault.0 fault.1 (inr (f, h))))
+earlier_of tin a b k (Meets t u frame) positive fit (inr (e, inr (f, inr (g, h)))) fault =
     (frame, λ fit. fault.2 (subst (λ (n : ℕ). DoFit tin frame n u) (sym f) (subst (λ (n : ℕ). DoFit tin frame a n) (sym g) fit)), below (frame_rank frame) k k h)
-earlier_of tin a b k NoMemory positive firsts seconds before fault = absurd fault
+earlier_of tin a b k NoMemory positive fit before fault = absurd fault
 
-pub meets : (tin : Triangulation) (a b : ℕ) (frame : Frame) → a < b → b < length tin.triangles → ArePositive tin (length tin.triangles) → DoFirstsFit tin a → DoSecondsFit tin a b → (frame ≡ Target → DoFit tin Source a b) → (DoFit tin frame a b → ⊥)
-    → IsFirstFault tin (Meets a b frame)
-meets tin a b Source order within positive firsts seconds source not = record { is_one = (order, within, not); none_before = λ other before fault. go (earlier_of tin a b 0 other positive firsts seconds before fault) }
+-- what a frame has before a pair, it has before an earlier one
+still_before : (tin : Triangulation) (frame : Frame) (a b c d : ℕ) → (IsBeforePair c d a b → ⊥) → DoFitBefore tin frame c d → DoFitBefore tin frame a b
+still_before tin frame a b c d not fit t u order within before = fit t u order within (still t u a b c d not before)
   where
+    ways : (m n : ℕ) → (m < n) ⊎ ((m ≡ n) ⊎ (n < m))
+    ways m n = grind arith
+
+    still : (t u a b c d : ℕ) → (IsBeforePair c d a b → ⊥) → IsBeforePair t u a b → IsBeforePair t u c d
+    still t u a b c d not before = go (ways t c) (ways u d) before
+      where
+        first : t < a → c < t → ⊥
+        first h k = not (inl (omega arith))
+
+        go : (t < c) ⊎ ((t ≡ c) ⊎ (c < t)) → (u < d) ⊎ ((u ≡ d) ⊎ (d < u)) → IsBeforePair t u a b → IsBeforePair t u c d
+        go (inl h) w before = inl h
+        go (inr (inl h)) (inl k) before = inr (h, k)
+        go (inr (inl h)) (inr w) (inl less) = absurd (not (inl (omega arith)))
+        go (inr (inl h)) (inr (inl k)) (inr (e, less)) = absurd (not (inr (omega arith, omega arith)))
+        go (inr (inl h)) (inr (inr k)) (inr (e, less)) = absurd (not (inr (omega arith, omega arith)))
+        go (inr (inr h)) w (inl less) = absurd (first less h)
+        go (inr (inr h)) w (inr (e, less)) = absurd (not (inl (omega arith)))
+
+pub first_in_source : (tin : Triangulation) (a b : ℕ) → ArePositive tin (length tin.triangles) → IsFirstPair tin Source a b → DoFitBefore tin Target a b → IsFirstFault tin (Meets a b Source)
+first_in_source tin a b positive source target = record { is_one = (source.in_order, source.in_range, source.not_fit); none_before = λ other before fault. go (earlier_of tin a b 0 other positive both before fault) }
+  where
+    both : (frame : Frame) → DoFitBefore tin frame a b
+    both Source = source.before
+    both Target = target
+
     go : HasEarlierOf tin a b 0 → ⊥
     go h = absurd (omega (arith, h.2))
-meets tin a b Target order within positive firsts seconds source not = record { is_one = (order, within, not); none_before = λ other before fault. go (earlier_of tin a b 1 other positive firsts seconds before fault) }
+
+pub first_in_target : (tin : Triangulation) (a b : ℕ) → ArePositive tin (length tin.triangles) → IsFirstPair tin Target a b → DoFitBefore tin Source a b → DoFit tin Source a b → IsFirstFault tin (Meets a b Target)
+first_in_target tin a b positive target source here = record { is_one = (target.in_order, target.in_range, target.not_fit); none_before = λ other before fault. go (earlier_of tin a b 1 other positive both before fault) }
   where
+    both : (frame : Frame) → DoFitBefore tin frame a b
+    both Source = source
+    both Target = target.before
+
     go : HasEarlierOf tin a b 1 → ⊥
-    go (Source, h, k) = h (source refl)
+    go (Source, h, k) = h here
     go (Target, h, k) = absurd (omega arith)
+
+-- where all pairs fit in the other frame
+all_before : (tin : Triangulation) (frame : Frame) (a b : ℕ) → DoAllFit tin frame → DoFitBefore tin frame a b
+all_before tin frame a b all t u order within before = all t u order within
+
+pub source_alone : (tin : Triangulation) (a b : ℕ) → ArePositive tin (length tin.triangles) → IsFirstPair tin Source a b → DoAllFit tin Target → IsFirstFault tin (Meets a b Source)
+source_alone tin a b positive source target = first_in_source tin a b positive source (all_before tin Target a b target)
+
+pub target_alone : (tin : Triangulation) (a b : ℕ) → ArePositive tin (length tin.triangles) → IsFirstPair tin Target a b → DoAllFit tin Source → IsFirstFault tin (Meets a b Target)
+target_alone tin a b positive target source = first_in_target tin a b positive target (all_before tin Source a b source) (source a b target.in_order target.in_range)
+
+-- where each frame has a first pair, the earlier one is named, and the source's where it is one pair
+pub source_first : (tin : Triangulation) (a b c d : ℕ) → ArePositive tin (length tin.triangles) → IsFirstPair tin Source a b → IsFirstPair tin Target c d → (IsBeforePair c d a b → ⊥) → IsFirstFault tin (Meets a b Source)
+source_first tin a b c d positive source target not = first_in_source tin a b positive source (still_before tin Target a b c d not target.before)
+
+pub target_first : (tin : Triangulation) (a b c d : ℕ) → ArePositive tin (length tin.triangles) → IsFirstPair tin Source a b → IsFirstPair tin Target c d → IsBeforePair c d a b → IsFirstFault tin (Meets c d Target)
+target_first tin a b c d positive source target before = first_in_target tin c d positive target (still_before tin Source c d a b not source.before) (source.before c d target.in_order target.in_range before)
+  where
+    not : IsBeforePair a b c d → ⊥
+    not h = both a b c d h before
+      where
+        both : (a b c d : ℕ) → IsBeforePair a b c d → IsBeforePair c d a b → ⊥
+        both a b c d (inl h) (inl k) = absurd (omega arith)
+        both a b c d (inl h) (inr (e, k)) = absurd (omega arith)
+        both a b c d (inr (e, h)) (inl k) = absurd (omega arith)
+        both a b c d (inr (e, h)) (inr (f, k)) = absurd (omega arith)
 
 -- ---- a fault is one, and says that the triangulation is not sound
 pub unsound : FaultsAreUnsound

@@ -11,3 +11,5 @@ pub mod Progress
 pub mod AroundCorner
 pub mod Beyond
 pub mod Parted
+pub mod InBoxes
+pub mod Apart

@@ -1,16 +1,16 @@
-ghost use Rattle.std.specs.Prelude.{◌≡◌, ◌<◌, ◌+◌, length, All, IfOk, IfErr, OnOk};
-ghost use Rattle.std.specs.List.Sorted.{IsStrictlyIncreasing};
-ghost use Rattle.tin_base.specs.Soundness.{turn_in, IsSound, DoFit};
+ghost use Rattle.std.specs.Prelude.{◌≡◌, ◌↔◌, ◌<◌, ◌+◌, length, IsTrue, IfOk, IfErr, OnOk};
+ghost use Rattle.tin_base.specs.Soundness.{turn_in, IsSound};
 ghost use Rattle.tin_base.specs.declared.frames.Frame.TheVariants.{Source, Target};
 ghost use Rattle.tin_base.specs.Laws.{IsOneToOne};
 ghost use Rattle.tin_check.specs.Faults.{IsFirstFault, IsCause};
-ghost use Rattle.tin_check.specs.Progress.{ArePositive, DoFirstsFit, DoSecondsFit, DoOthersFit, IsCounting};
-ghost use Rattle.tin_check.specs.declared.faults.CheckFault.TheVariants.{NoMemory};
+ghost use Rattle.tin_check.specs.Progress.{ArePositive, IsBeforePair, DoAllFit};
+ghost use Rattle.tin_check.specs.declared.faults.CheckFault.TheVariants.{Meets, NoMemory};
 
 use crate::CheckFault;
-use crate::pairs::pair_fits;
+use crate::pairs::Pair;
+use crate::searching::first_unfit_pair;
 use plane_base::turn;
-use std::alloc::{AllocError, Global};
+use std::alloc::Global;
 use tin_base::{Frame, SoundTin, Tin};
 
 /// The triangulation, where it is sound. Else its first fault: of the triangles in order, flat in the source, flat in the target, turned over;
@@ -66,82 +66,45 @@ fn check_turns(tin: &Tin, triangle: u32) -> Result<(), CheckFault>
     Ok(())
 }
 
-/// Looks at each pair.
+/// Looks at each pair, in one frame after the other.
 fn check_pairs(alloc: Global, tin: &Tin) -> Result<(), CheckFault>
     requires positive { ArePositive tin.now (length tin.now.triangles) }
-    ensures on { OnOk result (DoFirstsFit tin.now (length tin.now.triangles)) }
+    ensures source { OnOk result (DoAllFit tin.now Source) }
+    ensures target { OnOk result (DoAllFit tin.now Target) }
     ensures first { IfErr result (λ fault. IsCause tin.now fault) }
 {
-    let numbers = numbers_below(alloc, tin.triangle_count())?;
-    for first in 0..tin.triangle_count() {
-        check_seconds(tin, first, &numbers[first as usize + 1..])?;
+    let source = first_unfit_pair(alloc, tin, Frame::Source)?;
+    let target = first_unfit_pair(alloc, tin, Frame::Target)?;
+    match (source, target) {
+        (None, None) => Ok(()),
+        (Some(pair), None) => Err(meets(pair, Frame::Source)),
+        (None, Some(pair)) => Err(meets(pair, Frame::Target)),
+        (Some(source), Some(target)) => {
+            if is_before(target, source) {
+                Err(meets(target, Frame::Target))
+            } else {
+                Err(meets(source, Frame::Source))
+            }
+        }
     }
-    Ok(())
 }
 
-/// The numbers from 0 up to the count, without it.
-fn numbers_below(alloc: Global, count: u32) -> Result<Vec<u32>, AllocError>
-    ensures { IfOk result (λ numbers. (length numbers.items ≡ count) × IsCounting numbers.items) }
+/// The fault of a pair.
+fn meets(pair: Pair, frame: Frame) -> CheckFault
+    ensures { result ≡ Meets pair.first pair.second frame }
 {
-    let mut numbers = Vec::with_capacity(alloc, count as usize)?;
-    for number in 0..count {
-        numbers.push(number)?;
+    CheckFault::Meets {
+        first: pair.first,
+        second: pair.second,
+        frame,
     }
-    Ok(numbers)
 }
 
-/// Looks at the pairs of one first triangle with those of a list, in order. The later ones that it leaves out are known to fit.
-fn check_seconds(tin: &Tin, first: u32, seconds: &[u32]) -> Result<(), CheckFault>
-    requires positive { ArePositive tin.now (length tin.now.triangles) }
-    requires before { DoFirstsFit tin.now first }
-    requires in_range { All (λ second. (first < second) × (second < length tin.now.triangles)) seconds.now }
-    requires in_order { IsStrictlyIncreasing seconds.now }
-    requires others { DoOthersFit tin.now first seconds.now }
-    ensures on { OnOk result (DoFirstsFit tin.now (first + 1)) }
-    ensures first { IfErr result (λ fault. IsFirstFault tin.now fault) }
+/// Does the one pair stand before the other?
+fn is_before(pair: Pair, other: Pair) -> bool
+    ensures { IsTrue result ↔ IsBeforePair pair.first pair.second other.first other.second }
 {
-    for second in seconds {
-        check_pair(tin, first, *second)?;
-    }
-    Ok(())
-}
-
-/// Looks at one pair, after those before it.
-fn check_pair(tin: &Tin, first: u32, second: u32) -> Result<(), CheckFault>
-    requires in_order { first < second }
-    requires in_range { second < length tin.now.triangles }
-    requires positive { ArePositive tin.now (length tin.now.triangles) }
-    requires firsts { DoFirstsFit tin.now first }
-    requires seconds { DoSecondsFit tin.now first second }
-    ensures source { OnOk result (DoFit tin.now Source first second) }
-    ensures target { OnOk result (DoFit tin.now Target first second) }
-    ensures first { IfErr result (λ fault. IsFirstFault tin.now fault) }
-{
-    check_pair_in(tin, first, second, Frame::Source)?;
-    check_pair_in(tin, first, second, Frame::Target)?;
-    Ok(())
-}
-
-/// Looks at one pair in a frame, after those before it; in the target after the source.
-fn check_pair_in(tin: &Tin, first: u32, second: u32, frame: Frame) -> Result<(), CheckFault>
-    requires in_order { first < second }
-    requires in_range { second < length tin.now.triangles }
-    requires positive { ArePositive tin.now (length tin.now.triangles) }
-    requires firsts { DoFirstsFit tin.now first }
-    requires seconds { DoSecondsFit tin.now first second }
-    requires source { frame ≡ Target → DoFit tin.now Source first second }
-    ensures on { OnOk result (DoFit tin.now frame first second) }
-    ensures first { IfErr result (λ fault. IsFirstFault tin.now fault) }
-{
-    if pair_fits(tin, first, second, frame) {
-        Ok(())
-    } else {
-        Err(CheckFault::Meets {
-            first,
-            second,
-            frame,
-        })
-    }
+    pair.first < other.first || (pair.first == other.first && pair.second < other.second)
 }
 
 /// Twice the signed area of a triangle in a frame.

@@ -2,6 +2,7 @@
 //! What was found sound is handed on as a type that keeps it.
 #![tactic(auto)]
 
+mod boxes;
 mod checking;
 mod faults;
 mod fitting;
@@ -9,6 +10,7 @@ mod laws;
 mod marked_corners;
 mod pairs;
 mod parting;
+mod searching;
 
 pub use checking::check_tin;
 pub use faults::CheckFault;

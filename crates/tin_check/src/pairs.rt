@@ -4,6 +4,13 @@ ghost use Rattle.tin_base.specs.Soundness.{turn_in, has, DoFit};
 use crate::{Common, fits};
 use tin_base::{Frame, Tin};
 
+/// Two triangles by their numbers, the lower one first.
+#[derive(Clone, Copy)]
+pub(crate) struct Pair {
+    pub(crate) first: u32,
+    pub(crate) second: u32,
+}
+
 /// Is the number one of three?
 fn is_among(numbers: &[u32; 3], number: u32) -> bool
     ensures { result ≡ has numbers.now number }

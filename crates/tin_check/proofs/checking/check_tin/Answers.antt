@@ -17,7 +17,7 @@ returns-in_err-check_pairs-clause-accepted c = let p = err_from_is_err_and c.fro
     rw (p.1, p.2) (λ sound. refused c.args.tin c.in_err-check_pairs.field-0.0 c.in_err-check_pairs.ensures.first sound)
 
 pub of-requires : goal.of-requires
-of-requires c = checked c.args.tin c.in_ok-check_triangles.ensures.on c.in_ok-check_pairs.ensures.on
+of-requires c = checked c.args.tin c.in_ok-check_triangles.ensures.on c.in_ok-check_pairs.ensures.source c.in_ok-check_pairs.ensures.target
 
 pub returns-clause-images : goal.returns-clause-images
-returns-clause-images c = subst (λ (tin : Triangulation). IsOneToOne tin) (sym c.of.ensures) (one_to_one c.args.tin (checked c.args.tin c.in_ok-check_triangles.ensures.on c.in_ok-check_pairs.ensures.on))
+returns-clause-images c = subst (λ (tin : Triangulation). IsOneToOne tin) (sym c.of.ensures) (one_to_one c.args.tin (checked c.args.tin c.in_ok-check_triangles.ensures.on c.in_ok-check_pairs.ensures.source c.in_ok-check_pairs.ensures.target))

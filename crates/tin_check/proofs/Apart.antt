@@ -1,0 +1,160 @@
+-- Triangles whose boxes are apart fit together; and the boxes of all triangles are near each other.
+use Rattle.std.proofs.Common.{◌≡◌, ◌⊎◌, inl, inr, ℕ, ◌<◌, ◌≤◌, ℤ, pos, ◌-ℤ◌, ◌<ℤ◌, true, List, [], ◌∷◌, ◌++◌, ◌+◌, length, get_or, map, refl, sym, ap, ◌∙◌, subst, arith}
+use Rattle.std.proofs.lemmas.List.{get_or_default, get_or_append_left, get_or_push, length_push}
+use Rattle.std.specs.Prelude.{Contains, All}
+use Rattle.std.proofs.lemmas.List.Elements.{Contains-get_or}
+use lib.Signed.{lt_z_yes}
+use Rattle.plane_base.specs.declared.shapes.Pt.{Pt}
+use Rattle.plane_base.specs.declared.shapes.Tri.{Tri}
+use Rattle.plane_base.specs.declared.shapes.Rect.{Rect}
+use Rattle.plane_base.specs.declared.shapes.TheConstants.{SPAN}
+use Rattle.plane_base.specs.Plane.{whole, corners}
+use Rattle.cell_grid.specs.Boxes.{IsOrdered, AreOrdered, IsWithinSpan, AreWithinSpan, AreApart, ShareAPoint, ShareAPointOrAreApart, IsNearList, box_at, no_box}
+use Rattle.tin_base.specs.declared.frames.Frame.{Frame}
+use Rattle.tin_base.specs.Triangulation.{Triangulation, numbers_of}
+use Rattle.tin_base.specs.Soundness.{has, DoFit}
+use Rattle.tin_base.specs.Limits.{IsWithinLimits}
+use Rattle.tin_base.proofs.Telling.{yes}
+use Rattle.tin_check.specs.Meeting.{MeetOnlyIn}
+use Rattle.tin_check.specs.Marks.{points_of, marked_of, IsAmong, AreNearTris}
+use Rattle.tin_check.specs.Boxes.{IsOneOf, IsBoxOf, IsBoxIn, AreBoxesIn}
+use Rattle.tin_check.specs.Progress.{DoOthersFit}
+use Rattle.tin_check.proofs.Counting.{marked_among}
+use Rattle.tin_check.proofs.Marking.{same_marked, told, all_near}
+use Rattle.tin_check.proofs.InBoxes.{triangle_in, corner_in, none_in_both, apart_or_not, box_ordered}
+
+one : pos 0 <ℤ pos 1
+one = lt_z_yes tt
+
+-- ---- triangles whose boxes are apart
+-- no corner is common to both
+none_marked : (ms : List Pt) (r s : Tri) (p q : Rect) → IsBoxOf r p → IsBoxOf s q → AreApart p q → ((c : Pt) → IsAmong ms c → IsAmong (points_of r) c × IsAmong (points_of s) c) → length ms ≤ 2
+none_marked [] r s p q hp hq apart both = omega arith
+none_marked (c ∷ ms) r s p q hp hq apart both =
+    let h = both c (inl refl) in
+    absurd (none_in_both p q apart (whole c) one (corner_in r p hp c h.0) (corner_in s q hq c h.1))
+
+pub apart_fit : (tin : Triangulation) (frame : Frame) (t u : ℕ) (p q : Rect) → IsBoxIn tin frame t p → IsBoxIn tin frame u q → AreApart p q → DoFit tin frame t u
+apart_fit tin frame t u p q hp hq apart =
+    (told tin frame t u r s true hp.is hq.is (yes (none_marked ms r s p q hp.of hq.of apart both, none_met))).0 refl
+  where
+    r : Tri
+    r = hp.tri
+
+    s : Tri
+    s = hq.tri
+
+    ms : List Pt
+    ms = marked_of (map (has (numbers_of tin u)) (numbers_of tin t)) (points_of r)
+
+    both : (c : Pt) → IsAmong ms c → IsAmong (points_of r) c × IsAmong (points_of s) c
+    both c h = (
+      marked_among (map (has (numbers_of tin u)) (numbers_of tin t)) (points_of r) c h,
+      marked_among (map (has (numbers_of tin t)) (numbers_of tin u)) (points_of s) c ((same_marked tin frame (numbers_of tin t) (numbers_of tin u) (points_of r) (points_of s) hp.is hq.is c).0 h),
+    )
+
+    none_met : MeetOnlyIn (corners r) (corners s) (map whole ms)
+    none_met x hx in_r in_s = absurd (none_in_both p q apart x hx (triangle_in r p hp.of x hx in_r) (triangle_in s q hq.of x hx in_s))
+
+-- ---- the boxes of all triangles are near each other
+pick : (z a b c : ℤ) (P : ℤ → Type 0) → IsOneOf z a b c → P a → P b → P c → P z
+pick z a b c P (inl e) ha hb hc = subst P (sym e) ha
+pick z a b c P (inr (inl e)) ha hb hc = subst P (sym e) hb
+pick z a b c P (inr (inr e)) ha hb hc = subst P (sym e) hc
+
+-- a corner of one of the two
+abbrev IsOfBoth : Tri → Tri → Pt → Type 0
+IsOfBoth r s c = IsAmong (r.a ∷ r.b ∷ r.c ∷ s.a ∷ s.b ∷ s.c ∷ []) c
+
+span_of : (r s : Tri) (p q : Rect) → AreNearTris r s → IsBoxOf r p → IsBoxOf s q → IsWithinSpan p q
+span_of r s p q near hp hq = (
+  pick q.x1 s.a.x s.b.x s.c.x (λ z. (z -ℤ p.x0) <ℤ SPAN) hq.right (from_x s.a in_a) (from_x s.b in_b) (from_x s.c in_c),
+  pick q.y1 s.a.y s.b.y s.c.y (λ z. (z -ℤ p.y0) <ℤ SPAN) hq.top (from_y s.a in_a) (from_y s.b in_b) (from_y s.c in_c),
+)
+  where
+    in_a : IsOfBoth r s s.a
+    in_a = inr (inr (inr (inl refl)))
+
+    in_b : IsOfBoth r s s.b
+    in_b = inr (inr (inr (inr (inl refl))))
+
+    in_c : IsOfBoth r s s.c
+    in_c = inr (inr (inr (inr (inr (inl refl)))))
+
+    from_x : (c : Pt) → IsOfBoth r s c → (c.x -ℤ p.x0) <ℤ SPAN
+    from_x c h =
+        let a = near r.a c (inl refl) h in let b = near r.b c (inr (inl refl)) h in let d = near r.c c (inr (inr (inl refl))) h in
+        pick p.x0 r.a.x r.b.x r.c.x (λ z. (c.x -ℤ z) <ℤ SPAN) hp.left a.1 b.1 d.1
+
+    from_y : (c : Pt) → IsOfBoth r s c → (c.y -ℤ p.y0) <ℤ SPAN
+    from_y c h =
+        let a = near r.a c (inl refl) h in let b = near r.b c (inr (inl refl)) h in let d = near r.c c (inr (inr (inl refl))) h in
+        pick p.y0 r.a.y r.b.y r.c.y (λ z. (c.y -ℤ z) <ℤ SPAN) hp.bottom a.3 b.3 d.3
+
+box_of : (boxes : List Rect) (i : ℕ) (d : Rect) (P : Rect → Type 0) → i < length boxes → P (box_at boxes i) → P (get_or boxes i d)
+box_of boxes i d P h is = subst P (get_or_default boxes i no_box d h) is
+
+pub boxes_ordered : (tin : Triangulation) (frame : Frame) (boxes : List Rect) → AreBoxesIn tin frame (length tin.triangles) boxes → AreOrdered boxes
+boxes_ordered tin frame boxes are i d within = box_of boxes i d IsOrdered within (let is = are.each i (omega (arith, are.count)) in box_ordered is.tri (box_at boxes i) is.of)
+
+pub boxes_span : (tin : Triangulation) (frame : Frame) (boxes : List Rect) → IsWithinLimits tin → AreBoxesIn tin frame (length tin.triangles) boxes → AreWithinSpan boxes
+boxes_span tin frame boxes limits are i d hi j e hj =
+    box_of boxes i d (λ p. IsWithinSpan p (get_or boxes j e)) hi
+    (box_of boxes j e (λ q. IsWithinSpan (box_at boxes i) q) hj
+    (let p = are.each i (omega (arith, are.count)) in
+    let q = are.each j (omega (arith, are.count)) in
+    span_of p.tri q.tri (box_at boxes i) (box_at boxes j) (all_near tin frame i j p.tri q.tri limits (omega (arith, are.count)) (omega (arith, are.count)) p.is q.is) p.of q.of))
+
+-- ---- while boxes are put behind each other
+pub more_boxes : (tin : Triangulation) (frame : Frame) (n : ℕ) (boxes later : List Rect) (box : Rect) → AreBoxesIn tin frame n boxes → IsBoxIn tin frame n box → later ≡ boxes ++ box ∷ [] → AreBoxesIn tin frame (n + 1) later
+more_boxes tin frame n boxes later box are is e = record {
+  count = ap length e ∙ length_push boxes box ∙ ap (λ n. n + 1) are.count;
+  each = λ t ht. subst (λ (bs : List Rect). IsBoxIn tin frame t (box_at bs t)) (sym e) (at_t t (last_or_not t n ht));
+}
+  where
+    last_or_not : (t n : ℕ) → t < n + 1 → (t < n) ⊎ (n ≡ t)
+    last_or_not t n h = grind arith
+
+    at_t : (t : ℕ) → (t < n) ⊎ (n ≡ t) → IsBoxIn tin frame t (box_at (boxes ++ box ∷ []) t)
+    at_t t (inl ht) = subst (λ (b : Rect). IsBoxIn tin frame t b) (sym (get_or_append_left boxes (box ∷ []) no_box t (omega (arith, are.count)))) (are.each t ht)
+    at_t t (inr same) = subst (λ (k : ℕ). IsBoxIn tin frame k (box_at (boxes ++ box ∷ []) k)) same (subst (λ (b : Rect). IsBoxIn tin frame n b) (sym (get_or_push boxes box no_box n are.count)) is)
+
+pub all_boxes : (tin : Triangulation) (frame : Frame) (n count : ℕ) (boxes : List Rect) → n ≡ count → AreBoxesIn tin frame n boxes → AreBoxesIn tin frame count boxes
+all_boxes tin frame n count boxes e are = subst (λ (m : ℕ). AreBoxesIn tin frame m boxes) e are
+
+-- ---- a triangle whose box is not near fits
+pub others_fit : (tin : Triangulation) (frame : Frame) (boxes : List Rect) (first : ℕ) (seconds : List ℕ) → ShareAPointOrAreApart → AreBoxesIn tin frame (length tin.triangles) boxes → first < length tin.triangles → IsNearList boxes (box_at boxes first) seconds → DoOthersFit tin frame first seconds
+others_fit tin frame boxes first seconds law are within near u after hu = go (apart_or_not (box_at boxes u) (box_at boxes first))
+  where
+    b : IsBoxIn tin frame u (box_at boxes u)
+    b = are.each u hu
+
+    c : IsBoxIn tin frame first (box_at boxes first)
+    c = are.each first within
+
+    go : AreApart (box_at boxes u) (box_at boxes first) ⊎ (AreApart (box_at boxes u) (box_at boxes first) → ⊥) → Contains seconds u ⊎ DoFit tin frame first u
+    go (inl apart) = inr (apart_fit tin frame first u (box_at boxes first) (box_at boxes u) c b (turned apart))
+      where
+        turned : AreApart (box_at boxes u) (box_at boxes first) → AreApart (box_at boxes first) (box_at boxes u)
+        turned (inl (inl h)) = inl (inr h)
+        turned (inl (inr h)) = inl (inl h)
+        turned (inr (inl h)) = inr (inr h)
+        turned (inr (inr h)) = inr (inl h)
+    go (inr shared) =
+        let share : ShareAPoint (box_at boxes u) (box_at boxes first) = (law (box_at boxes u) (box_at boxes first) (box_ordered b.tri (box_at boxes u) b.of) (box_ordered c.tri (box_at boxes first) c.of)).shared.1 shared in
+        inl ((near.exact u).1 (omega (arith, are.count), share))
+
+-- ---- the same, as it is read from a grid
+pub near_in_range : (tin : Triangulation) (frame : Frame) (boxes kept read : List Rect) (r : Rect) (seconds listed : List ℕ) → AreBoxesIn tin frame (length tin.triangles) boxes → kept ≡ read → read ≡ boxes → IsNearList kept r seconds → listed ≡ seconds
+    → All (λ second. second < length tin.triangles) listed
+near_in_range tin frame boxes kept read r seconds listed are e f near same k d within =
+    let h = ((near.exact (get_or listed k d)).0 (subst (λ (ns : List ℕ). Contains ns (get_or listed k d)) same (Contains-get_or listed k d within))).0 in
+    let count : length kept ≡ length boxes = ap length (e ∙ f) in
+    omega (arith, are.count)
+
+pub others_read : (tin : Triangulation) (frame : Frame) (boxes kept read : List Rect) (r : Rect) (first : ℕ) (seconds listed : List ℕ) → ShareAPointOrAreApart → AreBoxesIn tin frame (length tin.triangles) boxes → first < length tin.triangles
+    → kept ≡ read → read ≡ boxes → r ≡ get_or boxes first r → IsNearList kept r seconds → listed ≡ seconds → DoOthersFit tin frame first listed
+others_read tin frame boxes kept read r first seconds listed law are within e f is near same =
+    subst (λ (ns : List ℕ). DoOthersFit tin frame first ns) (sym same)
+    (others_fit tin frame boxes first seconds law are within
+    (subst (λ (b : Rect). IsNearList boxes b seconds) (is ∙ get_or_default boxes first r no_box (omega (arith, are.count))) (subst (λ (bs : List Rect). IsNearList bs r seconds) (e ∙ f) near)))

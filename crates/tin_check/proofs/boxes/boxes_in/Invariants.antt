@@ -1,0 +1,6 @@
+use Rattle.tin_check.specs.Boxes.{AreBoxesIn}
+use Rattle.tin_check.proofs.boxes.boxes_in.Given as goal
+
+-- the boxes of the triangles so far are listed
+abbrev pub invariant-loop-triangle : goal.invariant-loop-triangle
+invariant-loop-triangle l = AreBoxesIn l.tin l.frame l.triangle l.boxes.items

@@ -1,0 +1,6 @@
+use Rattle.tin_check.proofs.Progress.{DoListedFit}
+use Rattle.tin_check.proofs.searching.first_unfit.Given as goal
+
+-- those so far fit
+abbrev pub invariant-loop-second : goal.invariant-loop-second
+invariant-loop-second l = DoListedFit l.tin l.frame l.first l.seconds l.second-index

@@ -1,0 +1,6 @@
+use Rattle.tin_check.specs.Progress.{DoFitBefore}
+use Rattle.tin_check.proofs.searching.first_unfit_pair.Given as goal
+
+-- the pairs of the first triangles so far fit
+abbrev pub invariant-loop-first : goal.invariant-loop-first
+invariant-loop-first l = DoFitBefore l.tin l.frame l.first 0

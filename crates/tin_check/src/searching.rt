@@ -1,0 +1,64 @@
+ghost use Rattle.std.specs.Prelude.{◌≡◌, ◌+◌, ◌<◌, true, false, length, All, IfOk, IsTrue};
+ghost use Rattle.std.specs.List.Sorted.{IsStrictlyIncreasing};
+ghost use Rattle.tin_base.specs.Soundness.{DoFit};
+ghost use Rattle.tin_check.specs.Progress.{ArePositive, DoFitBefore, IsFirstFound, IsFirstSecond, DoOthersFit};
+
+use crate::boxes::boxes_in;
+use crate::pairs::{Pair, pair_fits};
+use cell_grid::{Grid, boxes_share_a_point_or_are_apart};
+use std::alloc::{AllocError, Global};
+use tin_base::{Frame, Tin};
+
+/// The first pair of triangles, in order, that does not fit together in the frame. Only pairs whose boxes share a point are looked at.
+pub(crate) fn first_unfit_pair(
+    alloc: Global,
+    tin: &Tin,
+    frame: Frame,
+) -> Result<Option<Pair>, AllocError>
+    requires { ArePositive tin.now (length tin.now.triangles) }
+    ensures { IfOk result (λ found. IsFirstFound tin.now frame found) }
+{
+    boxes_share_a_point_or_are_apart();
+    let boxes = boxes_in(alloc, tin, frame)?;
+    let grid = Grid::build(alloc, &boxes)?;
+    for first in 0..tin.triangle_count() {
+        let near = grid.near(alloc, boxes[first as usize])?;
+        if let Some(second) = first_unfit(tin, frame, first, &near) {
+            return Ok(Some(Pair { first, second }));
+        }
+    }
+    Ok(None)
+}
+
+/// Of some triangles, in order, the first one behind `first` that does not fit it in the frame. All pairs of a lower first triangle fit, and the triangles behind `first` that are left out.
+fn first_unfit(tin: &Tin, frame: Frame, first: u32, seconds: &[u32]) -> Option<u32>
+    requires first { first < length tin.now.triangles }
+    requires positive { ArePositive tin.now (length tin.now.triangles) }
+    requires before { DoFitBefore tin.now frame first 0 }
+    requires in_range { All (λ second. second < length tin.now.triangles) seconds.now }
+    requires in_order { IsStrictlyIncreasing seconds.now }
+    requires others { DoOthersFit tin.now frame first seconds.now }
+    ensures { IsFirstSecond tin.now frame first result }
+{
+    for second in seconds {
+        if is_unfit(tin, frame, first, *second) {
+            return Some(*second);
+        }
+    }
+    None
+}
+
+/// Does the second triangle stand behind the first, and not fit it in the frame?
+fn is_unfit(tin: &Tin, frame: Frame, first: u32, second: u32) -> bool
+    requires first { first < length tin.now.triangles }
+    requires second { second < length tin.now.triangles }
+    requires positive { ArePositive tin.now (length tin.now.triangles) }
+    ensures behind { IsTrue result → first < second }
+    ensures not_fit { IsTrue result → DoFit tin.now frame first second → ⊥ }
+    ensures fit { result ≡ false → first < second → DoFit tin.now frame first second }
+{
+    if second <= first {
+        return false;
+    }
+    !pair_fits(tin, first, second, frame)
+}
