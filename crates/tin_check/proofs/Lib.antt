@@ -13,3 +13,4 @@ pub mod Beyond
 pub mod Parted
 pub mod InBoxes
 pub mod Apart
+pub mod BySides

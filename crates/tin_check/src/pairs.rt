@@ -1,5 +1,6 @@
-ghost use Rattle.std.specs.Prelude.{◌≡◌, ◌↔◌, ◌<◌, pos, ◌<ℤ◌, IsTrue, map, length};
+ghost use Rattle.std.specs.Prelude.{◌≡◌, ◌↔◌, ◌<◌, pos, ◌<ℤ◌, IsTrue, IfSome, map, length};
 ghost use Rattle.tin_base.specs.Soundness.{turn_in, has, DoFit};
+ghost use Rattle.tin_check.specs.Numbers.{IsMarkedSide};
 
 use crate::{Common, fits};
 use tin_base::{Frame, Tin};
@@ -29,6 +30,34 @@ fn marks(first: &[u32; 3], second: &[u32; 3]) -> [bool; 3]
     ]
 }
 
+/// A side of a triangle, in its direction, by the numbers of its corners.
+#[derive(Clone, Copy)]
+struct Side {
+    from: u32,
+    to: u32,
+}
+
+/// The side between the marked corners, where two are marked.
+fn marked_side(numbers: &[u32; 3], marks: [bool; 3]) -> Option<Side>
+    ensures { IfSome result (λ side. IsMarkedSide marks numbers.now side.from side.to) }
+{
+    match marks {
+        [true, true, false] => Some(Side {
+            from: numbers[0],
+            to: numbers[1],
+        }),
+        [false, true, true] => Some(Side {
+            from: numbers[1],
+            to: numbers[2],
+        }),
+        [true, false, true] => Some(Side {
+            from: numbers[2],
+            to: numbers[0],
+        }),
+        _ => None,
+    }
+}
+
 /// Do two triangles meet, in a frame, in their common corners and in what those span, and nowhere else?
 pub(crate) fn pair_fits(tin: &Tin, t: u32, u: u32, frame: Frame) -> bool
     requires t_in_range { t < length tin.now.triangles }
@@ -44,5 +73,10 @@ pub(crate) fn pair_fits(tin: &Tin, t: u32, u: u32, frame: Frame) -> bool
         of_t: marks(first, second),
         of_u: marks(second, first),
     };
+    let side = marked_side(first, common.of_t);
+    let other = marked_side(second, common.of_u);
+    if let (Some(side), Some(other)) = (side, other) {
+        return side.to == other.from;
+    }
     fits(&tin.tri(t, frame), &tin.tri(u, frame), common)
 }
