@@ -1,24 +1,31 @@
-ghost use Rattle.std.specs.Prelude.{◌≡◌, ◌≤ℤ◌, length, IfOk};
-ghost use Rattle.tin_base.specs.Limits.{IsWithinLimits};
-ghost use Rattle.tin_check.specs.Boxes.{IsOneOf, IsBoxOf, AreBoxesIn};
+ghost use Rattle.std.specs.Prelude.{◌≡◌, ◌<◌, ◌≤ℤ◌, length, IfOk};
+ghost use Rattle.tin_check.specs.Boxes.{IsOneOf, IsBoxOf, IsBoxIn, AreBoxesIn};
 
+use cell_grid::Grid;
 use plane_base::{Rect, Tri};
 use std::alloc::{AllocError, Global};
 use tin_base::{Frame, Tin};
 
-/// The boxes of all triangles in a frame, in order, in millimetres.
-pub(crate) fn boxes_in(alloc: Global, tin: &Tin, frame: Frame) -> Result<Vec<Rect>, AllocError>
-    ensures boxes { IfOk result (λ boxes. AreBoxesIn tin.now frame (length tin.now.triangles) boxes.items) }
-    ensures limits { IsWithinLimits tin.now }
+/// A grid over the boxes of all triangles in a frame, in order.
+pub(crate) fn grid_in(alloc: Global, tin: &Tin, frame: Frame) -> Result<Grid, AllocError>
+    ensures { IfOk result (λ grid. AreBoxesIn tin.now frame (length tin.now.triangles) grid.boxes) }
 {
     let mut boxes = Vec::with_capacity(alloc, tin.triangles().len())?;
     for triangle in 0..tin.triangle_count() {
-        boxes.push(box_of(&tin.tri(triangle, frame)))?;
+        boxes.push(box_in(tin, triangle, frame))?;
     }
-    Ok(boxes)
+    let grid = Grid::build(alloc, &boxes)?;
+    Ok(grid)
 }
 
-/// The box of a triangle, in millimetres.
+/// The box of a triangle in a frame, in millimetres.
+pub(crate) fn box_in(tin: &Tin, triangle: u32, frame: Frame) -> Rect
+    requires { triangle < length tin.now.triangles }
+    ensures { IsBoxIn tin.now frame triangle result }
+{
+    box_of(&tin.tri(triangle, frame))
+}
+
 fn box_of(t: &Tri) -> Rect
     ensures { IsBoxOf t.now result }
 {

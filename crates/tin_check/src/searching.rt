@@ -1,15 +1,17 @@
-ghost use Rattle.std.specs.Prelude.{◌≡◌, ◌+◌, ◌<◌, true, false, length, All, IfOk, IsTrue};
+ghost use Rattle.std.specs.Prelude.{◌≡◌, ◌+◌, ◌<◌, false, length, All, IfOk, IsTrue};
 ghost use Rattle.std.specs.List.Sorted.{IsStrictlyIncreasing};
 ghost use Rattle.tin_base.specs.Soundness.{DoFit};
-ghost use Rattle.tin_check.specs.Progress.{ArePositive, DoFitBefore, IsFirstFound, IsFirstSecond, DoOthersFit};
+ghost use Rattle.tin_check.specs.Boxes.{AreBoxesIn};
+ghost use Rattle.tin_check.specs.Progress.{ArePositive, DoFitBefore, DoAllFit, IsFirstFound, IsFirstSecond, DoOthersFit};
 
-use crate::boxes::boxes_in;
+use crate::boxes::{box_in, grid_in};
 use crate::pairs::{Pair, pair_fits};
-use cell_grid::{Grid, boxes_share_a_point_or_are_apart};
+use cell_grid::{Grid, boxes_share_a_point_or_are_apart, each_pair_is_told_once};
 use std::alloc::{AllocError, Global};
 use tin_base::{Frame, Tin};
 
-/// The first pair of triangles, in order, that does not fit together in the frame. Only pairs whose boxes share a point are looked at.
+/// The first pair of triangles, in order, that does not fit together in the frame. Only pairs whose boxes share a point are looked at:
+/// once in any order, and in their order where one of them does not fit.
 pub(crate) fn first_unfit_pair(
     alloc: Global,
     tin: &Tin,
@@ -18,11 +20,60 @@ pub(crate) fn first_unfit_pair(
     requires { ArePositive tin.now (length tin.now.triangles) }
     ensures { IfOk result (λ found. IsFirstFound tin.now frame found) }
 {
+    let grid = grid_in(alloc, tin, frame)?;
+    if do_all_fit(alloc, tin, frame, &grid)? {
+        return Ok(None);
+    }
+    first_in_order(alloc, tin, frame, &grid)
+}
+
+/// Do all pairs of triangles fit together in the frame? Each is looked at once.
+fn do_all_fit(alloc: Global, tin: &Tin, frame: Frame, grid: &Grid) -> Result<bool, AllocError>
+    requires positive { ArePositive tin.now (length tin.now.triangles) }
+    requires boxes { AreBoxesIn tin.now frame (length tin.now.triangles) grid.now.boxes }
+    ensures { IfOk result (λ fit. IsTrue fit → DoAllFit tin.now frame) }
+{
     boxes_share_a_point_or_are_apart();
-    let boxes = boxes_in(alloc, tin, frame)?;
-    let grid = Grid::build(alloc, &boxes)?;
+    each_pair_is_told_once();
+    let mut partners = Vec::new(alloc);
+    for triangle in 0..tin.triangle_count() {
+        grid.partners(triangle, &mut partners)?;
+        if !fits_each(tin, frame, triangle, &partners) {
+            return Ok(false);
+        }
+    }
+    Ok(true)
+}
+
+/// Does a triangle fit together with each of some others?
+fn fits_each(tin: &Tin, frame: Frame, triangle: u32, others: &[u32]) -> bool
+    requires triangle { triangle < length tin.now.triangles }
+    requires others { All (λ other. other < length tin.now.triangles) others.now }
+    requires positive { ArePositive tin.now (length tin.now.triangles) }
+    ensures { IsTrue result → All (λ other. DoFit tin.now frame triangle other) others.now }
+{
+    for other in others {
+        if !pair_fits(tin, triangle, *other, frame) {
+            return false;
+        }
+    }
+    true
+}
+
+/// The first pair, of those with the first triangle before those with the next one, that does not fit together in the frame.
+fn first_in_order(
+    alloc: Global,
+    tin: &Tin,
+    frame: Frame,
+    grid: &Grid,
+) -> Result<Option<Pair>, AllocError>
+    requires positive { ArePositive tin.now (length tin.now.triangles) }
+    requires boxes { AreBoxesIn tin.now frame (length tin.now.triangles) grid.now.boxes }
+    ensures { IfOk result (λ found. IsFirstFound tin.now frame found) }
+{
+    boxes_share_a_point_or_are_apart();
     for first in 0..tin.triangle_count() {
-        let near = grid.near(alloc, boxes[first as usize])?;
+        let near = grid.near(alloc, box_in(tin, first, frame))?;
         if let Some(second) = first_unfit(tin, frame, first, &near) {
             return Ok(Some(Pair { first, second }));
         }

@@ -1,5 +1,5 @@
 use Rattle.tin_check.specs.Boxes.{AreBoxesIn}
-use Rattle.tin_check.proofs.boxes.boxes_in.Given as goal
+use Rattle.tin_check.proofs.boxes.grid_in.Given as goal
 
 -- the boxes of the triangles so far are listed
 abbrev pub invariant-loop-triangle : goal.invariant-loop-triangle

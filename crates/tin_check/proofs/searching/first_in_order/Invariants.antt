@@ -1,5 +1,5 @@
 use Rattle.tin_check.specs.Progress.{DoFitBefore}
-use Rattle.tin_check.proofs.searching.first_unfit_pair.Given as goal
+use Rattle.tin_check.proofs.searching.first_in_order.Given as goal
 
 -- the pairs of the first triangles so far fit
 abbrev pub invariant-loop-first : goal.invariant-loop-first

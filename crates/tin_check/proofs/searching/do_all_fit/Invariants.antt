@@ -1,0 +1,6 @@
+use Rattle.tin_check.proofs.Apart.{DoPartnersFit}
+use Rattle.tin_check.proofs.searching.do_all_fit.Given as goal
+
+-- the triangles so far fit with their partners
+abbrev pub invariant-loop-triangle : goal.invariant-loop-triangle
+invariant-loop-triangle l = DoPartnersFit l.tin l.frame l.grid.boxes l.triangle

@@ -1,0 +1,6 @@
+use Rattle.tin_check.proofs.Apart.{DoFirstOthersFit}
+use Rattle.tin_check.proofs.searching.fits_each.Given as goal
+
+-- those so far fit
+abbrev pub invariant-loop-other : goal.invariant-loop-other
+invariant-loop-other l = DoFirstOthersFit l.tin l.frame l.triangle l.others l.other-index
