@@ -12,3 +12,4 @@ pub mod Keeps
 pub mod Collects
 pub mod Entered
 pub mod Kept
+pub mod Inside

@@ -12,3 +12,4 @@ pub mod Entering
 pub mod Finding
 pub mod Telling
 pub mod Kept
+pub mod Inside

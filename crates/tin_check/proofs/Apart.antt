@@ -23,7 +23,8 @@ use Rattle.tin_check.specs.Boxes.{IsOneOf, IsBoxOf, IsBoxIn, AreBoxesIn}
 use Rattle.tin_check.specs.Progress.{ArePositive, DoAllFit, DoOthersFit}
 use Rattle.tin_check.proofs.Counting.{marked_among}
 use Rattle.tin_check.proofs.Marking.{same_marked, told, all_near}
-use Rattle.tin_check.proofs.InBoxes.{triangle_in, corner_in, none_in_both, apart_or_not, box_ordered}
+use Rattle.cell_grid.proofs.Inside.{none_in_both, apart_or_not}
+use Rattle.tin_check.proofs.InBoxes.{triangle_in, corner_in, box_ordered}
 
 one : pos 0 <ℤ pos 1
 one = lt_z_yes tt

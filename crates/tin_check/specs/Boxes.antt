@@ -1,23 +1,12 @@
 -- Boxes round triangles. Only private functions speak of them.
-use Rattle.std.specs.Prelude.{◌≡◌, ◌⊎◌, ℕ, ◌<◌, ℤ, ◌*ℤ◌, ◌≤ℤ◌, List, [], ◌∷◌, length}
+use Rattle.std.specs.Prelude.{◌≡◌, ◌⊎◌, ℕ, ◌<◌, ℤ, List, length}
 use Rattle.plane_base.specs.declared.shapes.Rect.{Rect}
 use Rattle.plane_base.specs.declared.shapes.Tri.{Tri}
-use Rattle.plane_base.specs.Plane.{Point, corners}
+use Rattle.plane_base.specs.Plane.{corners}
 use Rattle.cell_grid.specs.Boxes.{box_at}
+use Rattle.cell_grid.specs.Inside.{AreIn}
 use Rattle.tin_base.specs.declared.frames.Frame.{Frame}
 use Rattle.tin_base.specs.Triangulation.{Triangulation, numbers_of, places}
-
--- the point is in the box
-pub record IsIn (box : Rect) (r : Point) : Type 0 where
-  pub left : (box.x0 *ℤ r.w) ≤ℤ r.x
-  pub right : r.x ≤ℤ (box.x1 *ℤ r.w)
-  pub bottom : (box.y0 *ℤ r.w) ≤ℤ r.y
-  pub top : r.y ≤ℤ (box.y1 *ℤ r.w)
-
--- the points are
-abbrev pub AreIn : Rect → List Point → Type 0
-AreIn box [] = Unit {0}
-AreIn box (p ∷ ps) = IsIn box p × AreIn box ps
 
 -- it is one of the three
 abbrev pub IsOneOf : ℤ → ℤ → ℤ → ℤ → Type 0

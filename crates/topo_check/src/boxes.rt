@@ -1,7 +1,8 @@
 ghost use Rattle.std.specs.Prelude.{◌≡◌, ◌≤ℤ◌, ℤ, ◌⊎◌, [], ◌∷◌};
 ghost use Rattle.plane_base.specs.Plane.{Point, whole, corners};
 ghost use Rattle.tin_base.specs.Pieces.{IsPieceInside};
-ghost use Rattle.topo_check.specs.Boxes.{IsIn, AreIn, IsAround, IsExactBox, IsRoundedBox};
+ghost use Rattle.cell_grid.specs.Inside.{IsIn, AreIn};
+ghost use Rattle.topo_check.specs.Boxes.{IsAround, IsExactBox, IsRoundedBox};
 
 use plane_base::{Pt, Rect, Tri};
 use tin_base::{Frame, Piece, SoundTin};
