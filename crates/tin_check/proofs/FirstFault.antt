@@ -16,6 +16,9 @@ not_zero z h e = absurd (omega (arith, ints))
 not_negative : (z : ℤ) → pos 0 <ℤ z → z <ℤ pos 0 → ⊥
 not_negative z h k = absurd (omega (arith, ints))
 
+three_ways : (m n : ℕ) → (m < n) ⊎ ((m ≡ n) ⊎ (n < m))
+three_ways m n = grind arith
+
 -- ---- the first fault of a triangle
 -- of a fault before the k-th of triangle t: that triangle is flat, in a frame of lower rank, or it is turned over
 abbrev HasEarlier : Triangulation → ℕ → ℕ → Type 0
@@ -78,11 +81,8 @@ earlier_of tin a b k NoMemory positive fit before fault = absurd fault
 still_before : (tin : Triangulation) (frame : Frame) (a b c d : ℕ) → (IsBeforePair c d a b → ⊥) → DoFitBefore tin frame c d → DoFitBefore tin frame a b
 still_before tin frame a b c d not fit t u order within before = fit t u order within (still t u a b c d not before)
   where
-    ways : (m n : ℕ) → (m < n) ⊎ ((m ≡ n) ⊎ (n < m))
-    ways m n = grind arith
-
     still : (t u a b c d : ℕ) → (IsBeforePair c d a b → ⊥) → IsBeforePair t u a b → IsBeforePair t u c d
-    still t u a b c d not before = go (ways t c) (ways u d) before
+    still t u a b c d not before = go (three_ways t c) (three_ways u d) before
       where
         first : t < a → c < t → ⊥
         first h k = not (inl (omega arith))
@@ -158,9 +158,6 @@ in_order [] (n ∷ ns) e = absurd (omega arith)
 in_order (m ∷ ms) [] e = absurd (omega arith)
 in_order (m ∷ ms) (n ∷ ns) e = go (three_ways m n) (in_order ms ns (omega arith))
   where
-    three_ways : (m n : ℕ) → (m < n) ⊎ ((m ≡ n) ⊎ (n < m))
-    three_ways m n = grind arith
-
     go : (m < n) ⊎ ((m ≡ n) ⊎ (n < m)) → IsBefore ms ns ⊎ ((ms ≡ ns) ⊎ IsBefore ns ms) → IsBefore (m ∷ ms) (n ∷ ns) ⊎ ((m ∷ ms ≡ n ∷ ns) ⊎ IsBefore (n ∷ ns) (m ∷ ms))
     go (inl h) rest = inl (inl h)
     go (inr (inr h)) rest = inr (inr (inl h))

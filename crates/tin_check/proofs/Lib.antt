@@ -14,3 +14,4 @@ pub mod Parted
 pub mod InBoxes
 pub mod Apart
 pub mod BySides
+pub mod Partners

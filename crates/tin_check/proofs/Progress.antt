@@ -1,5 +1,5 @@
 -- How the check goes on: along a list of second numbers, and from one first number to the next.
-use Rattle.std.proofs.Common.{◌≡◌, ◌⊎◌, inl, inr, ℕ, zero, suc, ◌+◌, ◌<◌, ◌≤◌, List, length, get_or, sym, ◌∙◌, subst, arith}
+use Rattle.std.proofs.Common.{below_more, ◌≡◌, ◌⊎◌, inl, inr, ℕ, zero, suc, ◌+◌, ◌<◌, ◌≤◌, List, length, get_or, sym, ◌∙◌, subst, arith}
 use Rattle.std.specs.Prelude.{Contains}
 use Rattle.std.specs.List.Sorted.{IsStrictlyIncreasing}
 use Rattle.std.proofs.lemmas.List.{get_or_default}
@@ -16,14 +16,7 @@ abbrev pub DoListedFit : Triangulation → Frame → ℕ → List ℕ → ℕ �
 DoListedFit tin frame first seconds n = (k : ℕ) → k < n → first < get_or seconds k 0 → DoFit tin frame first (get_or seconds k 0)
 
 pub one_more_listed : (tin : Triangulation) (frame : Frame) (first : ℕ) (seconds : List ℕ) (n : ℕ) → DoListedFit tin frame first seconds n → (first < get_or seconds n 0 → DoFit tin frame first (get_or seconds n 0)) → DoListedFit tin frame first seconds (n + 1)
-one_more_listed tin frame first seconds n listed here k below = go (last_or_not k n below)
-  where
-    last_or_not : (k n : ℕ) → k < n + 1 → (k < n) ⊎ (n ≡ k)
-    last_or_not k n h = grind arith
-
-    go : (k < n) ⊎ (n ≡ k) → first < get_or seconds k 0 → DoFit tin frame first (get_or seconds k 0)
-    go (inl before) = listed k before
-    go (inr same) = subst (λ (i : ℕ). first < get_or seconds i 0 → DoFit tin frame first (get_or seconds i 0)) same here
+one_more_listed tin frame first seconds n listed here = below_more (λ k. first < get_or seconds k 0 → DoFit tin frame first (get_or seconds k 0)) n listed here
 
 rises_on : (ns : List ℕ) (i k : ℕ) → IsStrictlyIncreasing ns → i + k < length ns → get_or ns i 0 ≤ get_or ns (i + k) 0
 rises_on ns i zero rises within = let same : i ≡ i + zero = omega arith in subst (λ (j : ℕ). get_or ns i 0 ≤ get_or ns j 0) same (omega arith)
@@ -80,24 +73,13 @@ first_of_list tin frame first seconds n rises firsts others listed within order 
 -- at the end of the list
 pub one_more_first : (tin : Triangulation) (frame : Frame) (first : ℕ) (seconds : List ℕ) (n : ℕ) → length seconds ≤ n → DoFitBefore tin frame first 0 → DoOthersFit tin frame first seconds → DoListedFit tin frame first seconds n → DoFitBefore tin frame (first + 1) 0
 one_more_first tin frame first seconds n past firsts others listed t u order within (inr (same, less)) = absurd (omega arith)
-one_more_first tin frame first seconds n past firsts others listed t u order within (inl below) = go (last_or_not t first below)
+one_more_first tin frame first seconds n past firsts others listed t u order within (inl below) = below_more (λ k. k < u → DoFit tin frame k u) first (λ k before o. firsts k u o within (inl before)) (λ after. here after (others u after within)) t below order
   where
-    last_or_not : (t n : ℕ) → t < n + 1 → (t < n) ⊎ (n ≡ t)
-    last_or_not t n h = grind arith
-
     here : first < u → Contains seconds u ⊎ DoFit tin frame first u → DoFit tin frame first u
     here after (inr fit) = fit
     here after (inl h) = let inside = h.1 in listed_fit tin frame first seconds n u listed after h (omega arith)
 
-    go : (t < first) ⊎ (first ≡ t) → DoFit tin frame t u
-    go (inl before) = firsts t u order within (inl before)
-    go (inr same) = let after : first < u = subst (λ (n : ℕ). n < u) (sym same) order in subst (λ (n : ℕ). DoFit tin frame n u) same (here after (others u after within))
-
 -- ---- from one first number to the next
-pub none_first : (tin : Triangulation) (frame : Frame) → DoFitBefore tin frame 0 0
-none_first tin frame t u order within (inl h) = absurd (omega arith)
-none_first tin frame t u order within (inr (e, h)) = absurd (omega arith)
-
 pub all_fit : (tin : Triangulation) (frame : Frame) (n : ℕ) → length tin.triangles ≤ n → DoFitBefore tin frame n 0 → DoAllFit tin frame
 all_fit tin frame n past before t u order within = before t u order within (inl (omega arith))
 

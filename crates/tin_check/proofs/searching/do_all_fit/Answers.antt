@@ -1,5 +1,5 @@
 use Rattle.std.proofs.Common.{refl, arith}
-use Rattle.tin_check.proofs.Apart.{partners_in_range, more_partners, all_partners_fit}
+use Rattle.tin_check.proofs.Partners.{partners_in_range, more_partners, all_partners_fit}
 use Rattle.tin_check.proofs.searching.do_all_fit.Goals as goal
 
 pub fits_each-requires-clause-others : goal.fits_each-requires-clause-others

@@ -1,4 +1,4 @@
-use Rattle.tin_check.proofs.Apart.{DoPartnersFit}
+use Rattle.tin_check.proofs.Partners.{DoPartnersFit}
 use Rattle.tin_check.proofs.searching.do_all_fit.Given as goal
 
 -- the triangles so far fit with their partners

@@ -1,5 +1,5 @@
 use Rattle.std.proofs.Common.{arith}
-use Rattle.tin_check.proofs.Apart.{near_in_range, others_fit}
+use Rattle.tin_check.proofs.Partners.{near_in_range, others_fit}
 use Rattle.tin_check.proofs.InBoxes.{box_ordered}
 use Rattle.tin_check.proofs.Progress.{all_fit}
 use Rattle.tin_check.proofs.searching.first_in_order.Goals as goal

@@ -1,5 +1,5 @@
 use Rattle.tin_base.proofs.Telling.{told}
-use Rattle.tin_check.proofs.Apart.{one_more_other, all_others}
+use Rattle.tin_check.proofs.Partners.{one_more_other, all_others}
 use Rattle.tin_check.proofs.searching.fits_each.Goals as goal
 
 pub loop-other-preserved : goal.loop-other-preserved

@@ -1,4 +1,4 @@
-use Rattle.tin_check.proofs.Apart.{DoFirstOthersFit}
+use Rattle.tin_check.proofs.Partners.{DoFirstOthersFit}
 use Rattle.tin_check.proofs.searching.fits_each.Given as goal
 
 -- those so far fit
