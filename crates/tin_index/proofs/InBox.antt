@@ -60,7 +60,7 @@ high_on : (a b c z : ℤ) (i j k : ℕ) → 0 < sum (i ∷ j ∷ k ∷ [])
 high_on a b c z i j k some e =
     not_above (int_max a (int_max b c)) a b c z (pos i) (pos j) (pos k) (max_first a b c) (max_second a b c) (max_third a b c) (nonneg_pos i) (nonneg_pos j) (nonneg_pos k) (some_weight i j k some) e
 
-in_box : (t : Tri) (p : Pt) → holds_of t p → IsUpTo (low_of t) p × IsUpTo p (high_of t)
+pub in_box : (t : Tri) (p : Pt) → holds_of t p → IsUpTo (low_of t) p × IsUpTo p (high_of t)
 in_box t p m = go m.0 m.1 m.2 m.3
   where
     go : (ks : List ℕ) → length ks ≡ 3 → 0 < sum ks → Same (whole p) (weighed ks (corners t)) → IsUpTo (low_of t) p × IsUpTo p (high_of t)

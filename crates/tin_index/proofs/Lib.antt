@@ -1,1 +1,7 @@
 pub mod InBox
+pub mod Boxing
+pub mod Least
+pub mod Corners
+pub mod Starring
+pub mod AtSide
+pub mod Across

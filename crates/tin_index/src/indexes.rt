@@ -1,19 +1,26 @@
-ghost use Rattle.std.specs.Prelude.{◌≡◌, ◌↔◌, ℕ, ◌<◌, length, IsTrue, IfOk, IfSome, IfNone};
+ghost use Rattle.std.specs.Prelude.{◌≡◌, ◌≢◌, ◌↔◌, ℕ, ◌<◌, length, IsTrue, IfOk, IfSome, IfNone};
 ghost use Rattle.plane_base.specs.Plane.{whole};
 ghost use Rattle.tin_base.specs.declared.frames.Frame.TheVariants.{Source};
 ghost use Rattle.tin_base.specs.Triangulation.{IsInTriangle};
 ghost use Rattle.tin_base.specs.Images.{IsInSome};
+ghost use Rattle.tin_index.specs.Sides.{HasCorner, corner_of, next_of, IsAcross, IsStar};
 
-use crate::boxes::has_point;
+use crate::boxes::boxes_of;
+use crate::locating::locate_in;
+use crate::stars::Stars;
+use cell_grid::Grid;
 use plane_base::Pt;
 use std::alloc::{AllocError, Global};
 use std::marker::Model;
-use tin_base::{Frame, SoundTin};
+use tin_base::SoundTin;
 
-/// A sound triangulation whose triangles can be found by a point.
+/// A sound triangulation whose triangles can be found by a point, by a corner, and by a side of another.
 #[derive(Debug, Drop)]
 pub struct TinIndex {
     tin: SoundTin,
+    // of the boxes of the source triangles
+    grid: Grid,
+    stars: Stars,
 }
 
 impl Model for TinIndex {
@@ -21,15 +28,23 @@ impl Model for TinIndex {
 
     ghost Value = { Triangulation };
 
-    ghost view = { λ index. index.tin };
+    ghost use Rattle.tin_index.specs.Kept.{seen, IsKept};
+
+    ghost view = { seen };
+
+    ghost invariant = { IsKept };
 }
 
 impl TinIndex {
     /// The index of a triangulation.
-    pub fn build(_alloc: Global, tin: SoundTin) -> Result<Self, AllocError>
+    pub fn build(alloc: Global, tin: SoundTin) -> Result<Self, AllocError>
         ensures { IfOk result (λ index. index ≡ tin) }
     {
-        Ok(TinIndex { tin })
+        tin.known();
+        let boxes = boxes_of(alloc, &tin)?;
+        let grid = Grid::build(alloc, &boxes)?;
+        let stars = Stars::of(alloc, &tin)?;
+        Ok(TinIndex { tin, grid, stars })
     }
 
     /// The triangulation that it was built of.
@@ -45,19 +60,74 @@ impl TinIndex {
         ensures least { IfSome result (λ triangle. (other : ℕ) → other < triangle → IsInTriangle self.now Source other (whole p) → ⊥) }
         ensures outside { IfNone result (IsInSome self.now Source (whole p) → ⊥) }
     {
-        for triangle in 0..self.tin.triangle_count() {
-            if self.is_in(triangle, p) {
-                return Some(triangle);
+        locate_in(&self.tin, &self.grid, p)
+    }
+
+    /// The numbers of the triangles that have the corner, ascending.
+    pub fn around(&self, corner: u32) -> &[u32]
+        requires { corner < length self.now.corners }
+        ensures { IsStar self.now corner result.now }
+    {
+        self.stars.at(corner)
+    }
+
+    /// The number of the other triangle that has both corners of the triangle's side `side`, which goes from the corner of that number, 0 to 2, to the next.
+    /// `None` comes exactly where there is no other.
+    pub fn across(&self, triangle: u32, side: u8) -> Option<u32>
+        requires triangle { triangle < length self.now.triangles }
+        requires side { side < 3 }
+        ensures found { IfSome result (λ other. IsAcross self.now triangle side other) }
+        ensures only { IfSome result (λ other. (u : ℕ) → IsAcross self.now triangle side u → u ≡ other) }
+        ensures none { IfNone result ((u : ℕ) → IsAcross self.now triangle side u → ⊥) }
+    {
+        self.tin.known();
+        let second = self.corner_of(triangle, next_of(side));
+        let star = self.around(self.corner_of(triangle, side));
+        for place in 0..star.len() {
+            let other = star[place];
+            if self.is_across(triangle, second, other) {
+                return Some(other);
             }
         }
         None
     }
 
-    /// Has the source triangle the point?
-    fn is_in(&self, triangle: u32, p: Pt) -> bool
-        requires { triangle < length self.now.triangles }
-        ensures { IsTrue result ↔ IsInTriangle self.now Source triangle (whole p) }
+    /// Is it another triangle than the first, and has it the corner?
+    fn is_across(&self, triangle: u32, corner: u32, other: u32) -> bool
+        requires { other < length self.now.triangles }
+        ensures { IsTrue result ↔ ((other ≢ triangle) × HasCorner self.now other corner) }
     {
-        has_point(&self.tin.tri(triangle, Frame::Source), p)
+        other != triangle && self.has_corner(other, corner)
+    }
+
+    /// Has the triangle the corner?
+    fn has_corner(&self, triangle: u32, corner: u32) -> bool
+        requires { triangle < length self.now.triangles }
+        ensures { IsTrue result ↔ HasCorner self.now triangle corner }
+    {
+        self.tin.triangles()[triangle as usize].contains(&corner)
+    }
+
+    /// The number of a corner of the triangle.
+    fn corner_of(&self, triangle: u32, k: u8) -> u32
+        requires triangle { triangle < length self.now.triangles }
+        requires k { k < 3 }
+        ensures value { result ≡ corner_of self.now triangle k }
+        ensures in_range { result < length self.now.corners }
+    {
+        self.tin.triangles()[triangle as usize][k as usize]
+    }
+}
+
+/// The corner after the k-th.
+fn next_of(k: u8) -> u8
+    requires { k < 3 }
+    ensures value { result ≡ next_of k }
+    ensures in_range { result < 3 }
+{
+    match k {
+        0 => 1,
+        1 => 2,
+        _ => 0,
     }
 }

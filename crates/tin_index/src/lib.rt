@@ -1,8 +1,10 @@
-//! The triangles of a sound triangulation, to be found by a point of the source frame.
-//! The answer is the least triangle that has the point, or that none has.
+//! The triangles of a sound triangulation, to be found by a point of the source frame, by a corner, and by a side of another triangle.
+//! The answers are exact: the least triangle that has the point, all that have the corner, and the one that has the side.
 #![tactic(auto)]
 
 mod boxes;
 mod indexes;
+mod locating;
+mod stars;
 
 pub use indexes::TinIndex;

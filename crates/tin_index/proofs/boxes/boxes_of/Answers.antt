@@ -1,0 +1,9 @@
+use Rattle.tin_index.proofs.Boxing.{no_boxes, boxes_more}
+use Rattle.tin_index.proofs.boxes.boxes_of.Goals as goal
+
+pub loop-triangle-init : goal.loop-triangle-init
+loop-triangle-init c = no_boxes c.args.tin.now c.in_ok-boxes.boxes.items c.in_ok-boxes.ensures.items
+
+pub loop-triangle-preserved : goal.loop-triangle-preserved
+loop-triangle-preserved c =
+    boxes_more c.args.tin.now c.loop-triangle.triangle c.loop-triangle.boxes.items c.push.new.self.items c.box_of.result c.tri.result c.loop-triangle.invariant c.tri.ensures.corners c.box_of.ensures c.in_ok-push.ensures.items

@@ -1,0 +1,5 @@
+use Rattle.tin_index.specs.Boxes.{AreBoxesOf}
+use Rattle.tin_index.proofs.boxes.boxes_of.Given as goal
+
+abbrev pub invariant-loop-triangle : goal.invariant-loop-triangle
+invariant-loop-triangle l = AreBoxesOf l.tin l.triangle l.boxes.items

@@ -1,0 +1,13 @@
+-- What the fields of an index keep. Only its own functions see them.
+use Rattle.std.specs.Prelude.{length}
+use Rattle.tin_base.specs.Triangulation.{Triangulation}
+use Rattle.tin_index.specs.Boxes.{AreBoxesOf}
+use Rattle.tin_index.specs.Stars.{AreStarsTo}
+use Rattle.tin_index.specs.declared.indexes.TinIndex.TheInside.{Inside}
+
+abbrev pub seen : Inside → Triangulation
+seen index = index.tin
+
+pub record IsKept (index : Inside) : Type 0 where
+  pub boxes : AreBoxesOf index.tin (length index.tin.triangles) index.grid.boxes
+  pub stars : AreStarsTo index.tin (length index.tin.triangles) index.stars
