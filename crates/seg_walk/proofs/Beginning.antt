@@ -1,5 +1,5 @@
 -- The slice of a triangle, and the part that begins at a parameter.
-use Rattle.std.proofs.Common.{◌≡◌, ℕ, ◌*◌, ◌<◌, ℤ, pos, ◌+ℤ◌, List, sym, subst, length}
+use Rattle.std.proofs.Common.{◌≡◌, ℕ, ◌*◌, ◌<◌, pos, ◌+ℤ◌, List, sym, subst, length}
 use Rattle.frac128.specs.declared.frac.Frac.{Frac}
 use Rattle.frac128.specs.Fractions.{IsSameValue, IsBelow}
 use Rattle.plane_base.specs.Plane.{Point, IsMix, corners}
@@ -48,7 +48,7 @@ params tin a b t slice limits ht told = go (stands tin t limits ht)
     go r = let common = (told r.0 r.1).0 in record { lo = common.0.0; hi = common.1.0 }
 
 -- ---- each spot of the triangle is from the slice's first to its last
-within : (tin : Triangulation) (a b : Pt) (t : ℕ) (slice : Stretch) (s : Spot) → IsWithinLimits tin → t < length tin.triangles → IsSliceIn tin a b t slice → IsShared tin a b t s → IsNotAfter (spot_of slice.lo) s × IsNotAfter s (spot_of slice.hi)
+pub within : (tin : Triangulation) (a b : Pt) (t : ℕ) (slice : Stretch) (s : Spot) → IsWithinLimits tin → t < length tin.triangles → IsSliceIn tin a b t slice → IsShared tin a b t s → IsNotAfter (spot_of slice.lo) s × IsNotAfter s (spot_of slice.hi)
 within tin a b t slice s limits ht told h = go (stands tin t limits ht) (params tin a b t slice limits ht told)
   where
     go : (r : Tri) × (corners r ≡ places tin Source (numbers_of tin t)) → HasParams slice → IsNotAfter (spot_of slice.lo) s × IsNotAfter s (spot_of slice.hi)

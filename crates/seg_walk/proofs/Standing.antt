@@ -8,7 +8,7 @@ use Rattle.plane_base.specs.declared.shapes.Tri.{Tri}
 use Rattle.plane_base.specs.declared.shapes.TheConstants.{SPAN}
 use Rattle.tin_index.proofs.InBox.{not_below, not_above}
 use Rattle.tin_base.specs.declared.frames.Frame.TheVariants.{Source}
-use Rattle.tin_base.specs.Triangulation.{Triangulation, corner_at, numbers_of, places, IsInTriangle}
+use Rattle.tin_base.specs.Triangulation.{Triangulation, place, corner_at, numbers_of, places, IsInTriangle}
 use Rattle.tin_base.specs.Images.{IsInSome}
 use Rattle.tin_base.specs.Limits.{IsWithinLimits}
 
@@ -109,3 +109,8 @@ stands tin t limits ht = go (numbers_of tin t) (limits.three t ht)
     go (i ∷ j ∷ []) e = absurd (omega arith)
     go (i ∷ j ∷ k ∷ l ∷ ns) e = absurd (omega arith)
     go (i ∷ j ∷ k ∷ []) e = (record { a = source_at tin i; b = source_at tin j; c = source_at tin k }, refl)
+
+-- ---- such a point is near a corner, wherever that stands
+pub near_place : (tin : Triangulation) (n : ℕ) (a q : Pt) → IsWithinLimits tin → n < length tin.corners → whole q ≡ place Source (corner_at tin n) → IsInSome tin Source (whole a) → IsNear a q
+near_place tin n a q limits hn is has =
+    turned q a (near_by q (source_at tin n) a (ap (λ (p : Point). p.x) is) (ap (λ (p : Point). p.y) is) (near_corner tin n a limits hn has))

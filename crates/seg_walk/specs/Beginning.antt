@@ -1,7 +1,5 @@
--- Pieces that begin at a given parameter.
-use Rattle.std.specs.Prelude.{◌≡◌, ℕ, ◌<◌, ℤ}
-use Rattle.frac128.specs.declared.frac.Frac.{Frac}
-use Rattle.frac128.specs.Fractions.{IsSameValue}
+-- Pieces that begin at a given spot.
+use Rattle.std.specs.Prelude.{◌≡◌, ℕ, ◌<◌, ℤ, List, length, Contains, Option, MatchOption}
 use Rattle.plane_base.specs.Plane.{corners}
 use Rattle.plane_base.specs.Slices.{IsIn}
 use Rattle.plane_base.specs.declared.shapes.Pt.{Pt}
@@ -16,13 +14,30 @@ use Rattle.seg_walk.specs.Steps.{spot_of, part_of, IsSliceIn}
 abbrev pub MissesTriangle : Triangulation → Pt → Pt → ℕ → Type 0
 MissesTriangle tin a b t = (r : Tri) → corners r ≡ places tin Source (numbers_of tin t) → (n d : ℤ) → IsIn a b r n d → ⊥
 
--- none of the triangles below t has a part that begins there
-abbrev pub HasNoneFrom : Triangulation → Pt → Pt → Frac → ℕ → Type 0
-HasNoneFrom tin a b at t = (u : ℕ) (first last : Spot) → u < t → IsPart tin a b u first last → IsSameSpot first (spot_of at) → ⊥
+-- triangle u has no part that begins at the spot
+abbrev pub HasNoPartFrom : Triangulation → Pt → Pt → Spot → ℕ → Type 0
+HasNoPartFrom tin a b x u = (first last : Spot) → IsPart tin a b u first last → IsSameSpot first x → ⊥
 
--- the step is a triangle's part that begins there, and no lesser triangle has one
-pub record IsStepFrom (tin : Triangulation) (a b : Pt) (at : Frac) (step : Step) : Type 0 where
+-- none of the triangles below t has one
+abbrev pub HasNoneFrom : Triangulation → Pt → Pt → Spot → ℕ → Type 0
+HasNoneFrom tin a b x t = (u : ℕ) → u < t → HasNoPartFrom tin a b x u
+
+-- the step is a triangle's part that begins at the spot
+pub record IsPartFrom (tin : Triangulation) (a b : Pt) (x : Spot) (step : Step) : Type 0 where
   pub slice : IsSliceIn tin a b step.tri step.slice
   pub part : IsPart tin a b step.tri (part_of step).first (part_of step).last
-  pub begins : IsSameValue step.slice.lo at
-  pub least : HasNoneFrom tin a b at step.tri
+  pub begins : IsSameSpot (spot_of step.slice.lo) x
+
+-- and no lesser one of the numbers is of a triangle that has one
+pub record IsLeastAmong (tin : Triangulation) (a b : Pt) (x : Spot) (numbers : List ℕ) (step : Step) : Type 0 where
+  pub from : IsPartFrom tin a b x step
+  pub least : (u : ℕ) → u < step.tri → Contains numbers u → HasNoPartFrom tin a b x u
+
+-- and no lesser triangle at all has one
+pub record IsStepFrom (tin : Triangulation) (a b : Pt) (x : Spot) (step : Step) : Type 0 where
+  pub from : IsPartFrom tin a b x step
+  pub least : HasNoneFrom tin a b x step.tri
+
+-- the step with the least triangle that has a part from there, or none where no triangle has one
+abbrev pub GoesOn : Triangulation → Pt → Pt → Spot → Option Step → Type 0
+GoesOn tin a b x next = MatchOption next (HasNoneFrom tin a b x (length tin.triangles)) (λ step. IsStepFrom tin a b x step)

@@ -4,12 +4,12 @@ ghost use Rattle.tin_base.specs.declared.frames.Frame.TheVariants.{Source};
 ghost use Rattle.tin_base.specs.Images.{IsInSome};
 ghost use Rattle.tin_base.specs.Limits.{IsWithinLimits};
 ghost use Rattle.tin_base.specs.Segments.{IsInside};
-ghost use Rattle.tin_base.specs.Soundness.{IsSound};
 ghost use Rattle.tin_base.specs.Triangulation.{IsInTriangle};
 ghost use Rattle.seg_walk.specs.declared.faults.WalkFault.TheVariants.{Outside};
 ghost use Rattle.seg_walk.specs.Steps.{AreSteps};
 
-use crate::slicing::{slice_in, step_from};
+use crate::slicing::slice_in;
+use crate::walking::{first_step, step_after};
 use crate::{Step, Steps, WalkFault};
 use frac128::Frac;
 use plane_base::Pt;
@@ -50,27 +50,28 @@ fn is_before_end(at: Frac) -> bool
     at.num < at.den
 }
 
-/// The pieces one after the other: from the end of each, the piece that begins there.
-fn cut_way(alloc: Global, tin: &SoundTin, a: Pt, b: Pt) -> Result<Steps, WalkFault>
-    requires limits { IsWithinLimits tin.now }
-    requires sound { IsSound tin.now }
+/// The pieces one after the other: from the end of each, the piece that begins there. `triangle` is the least that has the first point.
+fn cut_way(alloc: Global, index: &TinIndex, a: Pt, b: Pt, triangle: u32) -> Result<Steps, WalkFault>
     requires differ { a ≢ b }
-    requires has_a { IsInSome tin.now Source (whole a) }
-    requires has_b { IsInSome tin.now Source (whole b) }
-    ensures pieces { IfOk result (λ steps. AreSteps tin.now a b steps.items) }
-    ensures inside { IfOk result (λ _. IsInside tin.now a b) }
-    ensures outside { IsErrOf result Outside → IsInside tin.now a b → ⊥ }
+    requires has_b { IsInSome index.now Source (whole b) }
+    requires in_range { triangle < length index.now.triangles }
+    requires has_point { IsInTriangle index.now Source triangle (whole a) }
+    requires least { (other : ℕ) → other < triangle → IsInTriangle index.now Source other (whole a) → ⊥ }
+    ensures pieces { IfOk result (λ steps. AreSteps index.now a b steps.items) }
+    ensures inside { IfOk result (λ _. IsInside index.now a b) }
+    ensures outside { IsErrOf result Outside → IsInside index.now a b → ⊥ }
 {
+    index.tin().known();
     let mut steps = SmallVec::new(alloc);
-    let mut at = Frac { num: 0, den: 1 };
-    while is_before_end(at) {
-        let Some(step) = step_from(tin, a, b, at) else {
-            return Err(WalkFault::Outside);
-        };
+    let mut next = first_step(index, a, b, triangle);
+    while let Some(step) = next {
         steps.push(step)?;
-        at = step.slice.hi;
+        if !is_before_end(step.slice.hi) {
+            return Ok(steps);
+        }
+        next = step_after(index, a, b, step);
     }
-    Ok(steps)
+    Err(WalkFault::Outside)
 }
 
 /// The pieces of the segment from `a` to `b`, in millimetres of the source frame, in order from `a` to `b`.
@@ -93,5 +94,5 @@ pub fn cut(alloc: Global, index: &TinIndex, a: Pt, b: Pt) -> Result<Steps, WalkF
     if is_same(a, b) {
         return cut_point(alloc, tin, triangle, a);
     }
-    cut_way(alloc, tin, a, b)
+    cut_way(alloc, index, a, b, triangle)
 }

@@ -6,6 +6,7 @@ mod cutting;
 mod faults;
 mod slicing;
 mod steps;
+mod walking;
 
 pub use cutting::cut;
 pub use faults::WalkFault;

@@ -1,12 +1,13 @@
-ghost use Rattle.std.specs.Prelude.{◌↔◌, ◌<◌, length, IsTrue, IfSome, IfNone};
+ghost use Rattle.std.specs.Prelude.{◌≡◌, ◌↔◌, ℕ, ◌<◌, length, All, Contains, IsTrue, IfSome, IfNone};
+ghost use Rattle.std.specs.List.Sorted.{IsStrictlyIncreasing};
 ghost use Rattle.frac128.specs.Fractions.{IsSameValue, IsBelow};
 ghost use Rattle.plane_base.specs.Plane.{whole};
 ghost use Rattle.plane_base.specs.Slices.{IsParam};
 ghost use Rattle.tin_base.specs.declared.frames.Frame.TheVariants.{Source};
 ghost use Rattle.tin_base.specs.Images.{IsInSome};
 ghost use Rattle.tin_base.specs.Limits.{IsWithinLimits};
-ghost use Rattle.seg_walk.specs.Steps.{IsSliceIn};
-ghost use Rattle.seg_walk.specs.Beginning.{IsStepFrom, HasNoneFrom, MissesTriangle};
+ghost use Rattle.seg_walk.specs.Steps.{spot_of, IsSliceIn};
+ghost use Rattle.seg_walk.specs.Beginning.{MissesTriangle, HasNoPartFrom, IsPartFrom, IsLeastAmong};
 
 use crate::Step;
 use frac128::{Frac, order};
@@ -36,23 +37,42 @@ fn goes_on_from(slice: Stretch, at: Frac) -> bool
     order(slice.lo, at) == Ordering::Equal
 }
 
-/// The piece that begins at the parameter, with the least triangle that has it.
-pub fn step_from(tin: &SoundTin, a: Pt, b: Pt, at: Frac) -> Option<Step>
+/// The triangle's part, if it begins at the parameter.
+pub fn step_in(tin: &SoundTin, triangle: u32, a: Pt, b: Pt, at: Frac) -> Option<Step>
+    requires in_range { triangle < length tin.now.triangles }
     requires limits { IsWithinLimits tin.now }
     requires has_a { IsInSome tin.now Source (whole a) }
     requires has_b { IsInSome tin.now Source (whole b) }
     requires param { IsParam at.num at.den }
-    ensures some { IfSome result (λ step. IsStepFrom tin.now a b at step) }
-    ensures none { IfNone result (HasNoneFrom tin.now a b at (length tin.now.triangles)) }
+    ensures triangle { IfSome result (λ step. step.tri ≡ triangle) }
+    ensures some { IfSome result (λ step. IsPartFrom tin.now a b (spot_of at) step) }
+    ensures none { IfNone result (HasNoPartFrom tin.now a b (spot_of at) triangle) }
 {
-    for triangle in 0..tin.triangle_count() {
-        if let Some(slice) = slice_in(tin, triangle, a, b) {
-            if goes_on_from(slice, at) {
-                return Some(Step {
-                    tri: triangle,
-                    slice,
-                });
-            }
+    if let Some(slice) = slice_in(tin, triangle, a, b) {
+        if goes_on_from(slice, at) {
+            return Some(Step {
+                tri: triangle,
+                slice,
+            });
+        }
+    }
+    None
+}
+
+/// The part that begins at the parameter, with the least of these triangles that has one.
+pub fn least_from(tin: &SoundTin, numbers: &[u32], a: Pt, b: Pt, at: Frac) -> Option<Step>
+    requires ascending { IsStrictlyIncreasing numbers.now }
+    requires in_range { All (λ number. number < length tin.now.triangles) numbers.now }
+    requires limits { IsWithinLimits tin.now }
+    requires has_a { IsInSome tin.now Source (whole a) }
+    requires has_b { IsInSome tin.now Source (whole b) }
+    requires param { IsParam at.num at.den }
+    ensures some { IfSome result (λ step. IsLeastAmong tin.now a b (spot_of at) numbers.now step) }
+    ensures none { IfNone result ((u : ℕ) → Contains numbers.now u → HasNoPartFrom tin.now a b (spot_of at) u) }
+{
+    for place in 0..numbers.len() {
+        if let Some(step) = step_in(tin, numbers[place], a, b, at) {
+            return Some(step);
         }
     }
     None

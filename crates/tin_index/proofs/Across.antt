@@ -52,7 +52,7 @@ first_or n c ns h = go (eqb_tells n c)
     go (inl e) = inl e.1
     go (inr e) = inr (or_false (eqb n c) (has ns c) e.0 h)
 
-member : (i j k c : ℕ) → has (i ∷ j ∷ k ∷ []) c ≡ true → (i ≡ c) ⊎ ((j ≡ c) ⊎ (k ≡ c))
+pub member : (i j k c : ℕ) → has (i ∷ j ∷ k ∷ []) c ≡ true → (i ≡ c) ⊎ ((j ≡ c) ⊎ (k ≡ c))
 member i j k c h = ⊎_elim (λ e. inl e) (λ r. ⊎_elim (λ e. inr (inl e)) (λ q. ⊎_elim (λ e. inr (inr e)) (λ n. no_true n) (first_or k c [] q)) (first_or j c (k ∷ []) r)) (first_or i c (j ∷ k ∷ []) h)
 
 -- a number of both lists is common to them

@@ -1,13 +1,11 @@
-use Rattle.std.proofs.Common.{◌≡◌, ℕ, ◌<◌, true, false, Option, Some, None, IfSome, IfNone, IfOk, IsErrOf, Result, Ok, Err, subst, sym, length}
+use Rattle.std.proofs.Common.{◌≡◌, ℕ, ◌<◌, true, false, Option, Some, None, IfSome, IfNone, IfOk, Result, Ok, Err, subst, sym, length}
 use Rattle.std.specs.Option.{is_some}
 use Rattle.plane_base.specs.Plane.{whole}
 use Rattle.plane_base.specs.declared.shapes.Pt.{Pt}
 use Rattle.tin_base.specs.declared.frames.Frame.TheVariants.{Source}
 use Rattle.tin_base.specs.Triangulation.{Triangulation, IsInTriangle}
-use Rattle.tin_base.specs.Images.{IsInSome}
 use Rattle.tin_base.specs.Segments.{IsInside}
 use Rattle.tin_base.proofs.Telling.{told}
-use Rattle.seg_walk.specs.declared.faults.WalkFault.TheVariants.{Outside}
 use Rattle.seg_walk.specs.Steps.{AreSteps}
 use Rattle.seg_walk.proofs.Taking.{point_inside, first_inside, last_inside}
 use Rattle.seg_walk.proofs.cutting.cut.Goals as goal
@@ -47,10 +45,4 @@ returns-then-is_same-clause-inside c =
 pub cut_way-requires-clause-has_b : goal.cut_way-requires-clause-has_b
 cut_way-requires-clause-has_b c =
     let has = found (λ (t : ℕ). (t < length c.args.index.now.triangles) × IsInTriangle c.args.index.now Source t (whole c.args.b)) c.locate-2.result c.if-is_none.ensures c.locate-2.ensures.found in
-    subst (λ (tin : Triangulation). IsInSome tin Source (whole c.args.b)) (sym c.tin-tin.ensures) (has.0, has.1.0, has.1.1)
-
-pub returns-clause-inside : goal.returns-clause-inside
-returns-clause-inside c = subst (λ (tin : Triangulation). IfOk c.cut_way.result (λ _. IsInside tin c.args.a c.args.b)) c.tin-tin.ensures c.cut_way.ensures.inside
-
-pub returns-clause-outside : goal.returns-clause-outside
-returns-clause-outside c = subst (λ (tin : Triangulation). IsErrOf c.cut_way.result Outside → IsInside tin c.args.a c.args.b → ⊥) c.tin-tin.ensures c.cut_way.ensures.outside
+    (has.0, has.1.0, has.1.1)

@@ -1,52 +1,29 @@
-use Rattle.std.proofs.Common.{List, map, subst, sym, arith}
-use Rattle.std.proofs.lemmas.Int.{ints}
-use Rattle.tin_base.specs.Segments.{at_a}
+use Rattle.std.proofs.Common.{subst}
+use Rattle.tin_base.specs.Soundness.{IsSound}
+use Rattle.tin_base.specs.Triangulation.{Triangulation}
 use Rattle.tin_base.proofs.Telling.{told, denied}
-use Rattle.seg_walk.specs.declared.steps.Step.{Step}
-use Rattle.seg_walk.specs.Steps.{spot_by, part_of, HaveSlices}
-use Rattle.seg_walk.proofs.Walk.{IsWalked, start, stuck, all_inside}
-use Rattle.seg_walk.proofs.Taking.{stepped, no_more_of_a, more_of_a, all_steps}
+use Rattle.seg_walk.proofs.Taking.{on_start, on_more, at_end, not_inside, one_more}
 use Rattle.seg_walk.proofs.cutting.cut_way.Goals as goal
 
-pub loop-a-init : goal.loop-a-init
-loop-a-init c = (
-  (omega (arith, ints), omega (arith, ints), omega (arith, ints)),
-  (omega (arith, ints), omega (arith, ints)),
-  subst (λ (steps : List Step). HaveSlices c.args.tin.now c.args.a c.args.b steps) (sym c.new-steps.ensures.items) tt,
-  subst (λ (steps : List Step). IsWalked c.args.tin.now c.args.a c.args.b (map part_of steps) at_a) (sym c.new-steps.ensures.items) (start c.args.tin.now c.args.a c.args.b c.requires.has_a),
-)
+pub loop-next-init : goal.loop-next-init
+loop-next-init c =
+    on_start c.args.index.now c.args.a c.args.b c.new-steps.result.items c.first_step-next.result c.new-steps.ensures.items (c.args.triangle, c.requires.in_range, c.requires.has_point) c.first_step-next.ensures
 
-pub invariant_of-at : goal.invariant_of-at
-invariant_of-at c = record { positive = c.loop-a.invariant.0.0; num_small = c.loop-a.invariant.1.0; den_small = c.loop-a.invariant.1.1 }
+pub returns-then-not-is_before_end-clause-pieces : goal.returns-then-not-is_before_end-clause-pieces
+returns-then-not-is_before_end-clause-pieces c = (at_end c.args.index.now c.args.a c.args.b c.loop-next.steps.items c.push.new.self.items c.in-Some.step c.requires.differ (one_more c.args.index.now c.tin.result.now c.args.a c.args.b c.loop-next.steps.items c.push.new.self.items c.loop-next.next c.in-Some.step c.tin.ensures c.known.ensures.limits c.known.ensures.sound c.requires.differ c.loop-next.invariant c.in-Some.is c.in_ok-push.ensures.ok) (denied c.if-not-is_before_end.ensures)).0
 
-pub step_from-requires-clause-param : goal.step_from-requires-clause-param
-step_from-requires-clause-param c = c.loop-a.invariant.0
+pub returns-then-not-is_before_end-clause-inside : goal.returns-then-not-is_before_end-clause-inside
+returns-then-not-is_before_end-clause-inside c = (at_end c.args.index.now c.args.a c.args.b c.loop-next.steps.items c.push.new.self.items c.in-Some.step c.requires.differ (one_more c.args.index.now c.tin.result.now c.args.a c.args.b c.loop-next.steps.items c.push.new.self.items c.loop-next.next c.in-Some.step c.tin.ensures c.known.ensures.limits c.known.ensures.sound c.requires.differ c.loop-next.invariant c.in-Some.is c.in_ok-push.ensures.ok) (denied c.if-not-is_before_end.ensures)).1
 
-pub returns-in_default-clause-outside : goal.returns-in_default-clause-outside
-returns-in_default-clause-outside c =
-    λ _ inside.
-    stuck c.args.tin.now c.args.a c.args.b (map part_of c.loop-a.steps.items) (spot_by c.loop-a.at.0 c.loop-a.at.1.0) c.requires.sound (more_of_a c.loop-a.at.0 c.loop-a.at.1.0 (told c.loop-a-test.ensures)) c.loop-a.invariant.3
-    (λ u first last h p e. c.in_default.ensures.none u first last h p e) inside
-
-pub loop-a-smaller : goal.loop-a-smaller
-loop-a-smaller c =
+pub loop-next-smaller : goal.loop-next-smaller
+loop-next-smaller c = 
     let here =
-    stepped c.args.tin.now c.args.a c.args.b c.loop-a.steps.items c.push.new.self.items _ c.in-Some.step c.requires.limits c.requires.sound c.requires.differ c.loop-a.invariant.0 c.loop-a.invariant.2 c.loop-a.invariant.3
-    c.in-Some.ensures.some c.in_ok-push.ensures.ok in
+    one_more c.args.index.now c.tin.result.now c.args.a c.args.b c.loop-next.steps.items c.push.new.self.items c.loop-next.next c.in-Some.step c.tin.ensures c.known.ensures.limits c.known.ensures.sound c.requires.differ c.loop-next.invariant c.in-Some.is c.in_ok-push.ensures.ok in
     here.less
 
-pub loop-a-preserved : goal.loop-a-preserved
-loop-a-preserved c =
-    let here =
-    stepped c.args.tin.now c.args.a c.args.b c.loop-a.steps.items c.push.new.self.items _ c.in-Some.step c.requires.limits c.requires.sound c.requires.differ c.loop-a.invariant.0 c.loop-a.invariant.2 c.loop-a.invariant.3
-    c.in-Some.ensures.some c.in_ok-push.ensures.ok in
-    (here.param, (c.in-Some.step.slice.hi.num_small, c.in-Some.step.slice.hi.den_small), here.slices, here.walked)
+pub loop-next-preserved : goal.loop-next-preserved
+loop-next-preserved c = on_more c.args.index.now c.args.a c.args.b c.loop-next.steps.items c.push.new.self.items c.in-Some.step c.step_after-next.result (one_more c.args.index.now c.tin.result.now c.args.a c.args.b c.loop-next.steps.items c.push.new.self.items c.loop-next.next c.in-Some.step c.tin.ensures c.known.ensures.limits c.known.ensures.sound c.requires.differ c.loop-next.invariant c.in-Some.is c.in_ok-push.ensures.ok) (told c.if-not-is_before_end.ensures) c.step_after-next.ensures
 
-pub returns-clause-pieces : goal.returns-clause-pieces
-returns-clause-pieces c =
-    all_steps c.args.tin.now c.args.a c.args.b c.loop-a.steps.items c.loop-a.at.0 c.loop-a.at.1.0 c.requires.differ c.loop-a.invariant.2 c.loop-a.invariant.3
-    (no_more_of_a c.loop-a.at.0 c.loop-a.at.1.0 c.loop-a.invariant.0 (denied c.loop-a-test.ensures))
-
-pub returns-clause-inside : goal.returns-clause-inside
-returns-clause-inside c =
-    all_inside c.args.tin.now c.args.a c.args.b (map part_of c.loop-a.steps.items) (spot_by c.loop-a.at.0 c.loop-a.at.1.0) (no_more_of_a c.loop-a.at.0 c.loop-a.at.1.0 c.loop-a.invariant.0 (denied c.loop-a-test.ensures)) c.loop-a.invariant.3
+pub returns-clause-outside : goal.returns-clause-outside
+returns-clause-outside c =
+    λ _ inside. not_inside c.args.index.now c.args.a c.args.b c.loop-next.steps.items c.loop-next.next (subst (λ (tin : Triangulation). IsSound tin) c.tin.ensures c.known.ensures.sound) c.loop-next.invariant c.in_default.is inside

@@ -1,0 +1,8 @@
+use Rattle.std.proofs.Common.{ℕ, ◌<◌, get_or}
+use Rattle.seg_walk.specs.Steps.{spot_of}
+use Rattle.seg_walk.specs.Beginning.{HasNoPartFrom}
+use Rattle.seg_walk.proofs.slicing.least_from.Given as goal
+
+-- none of the triangles so far has a part that begins there
+abbrev pub invariant-loop-place : goal.invariant-loop-place
+invariant-loop-place l = (k : ℕ) → k < l.place → HasNoPartFrom l.tin l.a l.b (spot_of l.at) (get_or l.numbers k 0)
