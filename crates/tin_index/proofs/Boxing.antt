@@ -1,5 +1,5 @@
 -- The boxes of the source triangles: none is empty, any two are near each other, and a triangle's has its points.
-use Rattle.std.proofs.Common.{◌≡◌, ⊎_elim, ℕ, ◌+◌, ◌<◌, ◌≤◌, ℤ, pos, ◌-ℤ◌, ◌≤ℤ◌, ◌<ℤ◌, List, [], ◌∷◌, ◌++◌, length, get_or, All, sym, ap, ◌∙◌, subst, arith}
+use Rattle.std.proofs.Common.{◌≡◌, ⊎_elim, ℕ, ◌+◌, ◌<◌, ◌≤◌, ℤ, pos, ◌-ℤ◌, ◌≤ℤ◌, ◌<ℤ◌, List, [], ◌∷◌, ◌++◌, length, get_or, All, refl, sym, ap, ◌∙◌, subst, arith}
 use Rattle.std.proofs.lemmas.Bool.{cases_lt}
 use Rattle.std.proofs.lemmas.Int.{ints, int_min_is, int_max_is}
 use Rattle.std.proofs.lemmas.List.{length_push, get_or_append_left, get_or_push, get_or_default}
@@ -14,7 +14,7 @@ use Rattle.tin_base.specs.declared.frames.Frame.TheVariants.{Source}
 use Rattle.tin_base.specs.Triangulation.{Triangulation, place, corner_at, numbers_of, places, IsInTriangle}
 use Rattle.tin_base.specs.Limits.{IsWithinLimits}
 use Rattle.tin_base.proofs.Standing.{near_points}
-use Rattle.tin_index.specs.Boxes.{box_of, IsBoxOf, AreBoxesOf}
+use Rattle.tin_index.specs.Boxes.{box_of, source_at, IsBoxOf, AreBoxesOf}
 use Rattle.tin_index.proofs.InBox.{in_box}
 
 -- ---- one box more
@@ -62,21 +62,21 @@ spread_on : (a b c e f g : ℤ) → ((e -ℤ a) <ℤ SPAN) → ((e -ℤ b) <ℤ 
 spread_on a b c e f g h0 h1 h2 h3 h4 h5 h6 h7 h8 = omega (arith, ints, int_min_is a (int_min b c), int_min_is b c, int_max_is e (int_max f g), int_max_is f g)
 
 -- the corners of a triangle by their numbers
-record Standing (tin : Triangulation) (tri : Tri) : Type 0 where
-  i : ℕ
-  j : ℕ
-  k : ℕ
-  first : i < length tin.corners
-  second : j < length tin.corners
-  third : k < length tin.corners
-  is_a : whole tri.a ≡ place Source (corner_at tin i)
-  is_b : whole tri.b ≡ place Source (corner_at tin j)
-  is_c : whole tri.c ≡ place Source (corner_at tin k)
+pub record Standing (tin : Triangulation) (tri : Tri) : Type 0 where
+  pub i : ℕ
+  pub j : ℕ
+  pub k : ℕ
+  pub first : i < length tin.corners
+  pub second : j < length tin.corners
+  pub third : k < length tin.corners
+  pub is_a : whole tri.a ≡ place Source (corner_at tin i)
+  pub is_b : whole tri.b ≡ place Source (corner_at tin j)
+  pub is_c : whole tri.c ≡ place Source (corner_at tin k)
 
 abbrev nowhere : Point
 nowhere = record { x = pos 0; y = pos 0; w = pos 0 }
 
-standing : (tin : Triangulation) (tri : Tri) (ns : List ℕ) → length ns ≡ 3 → All (λ n. n < length tin.corners) ns → corners tri ≡ places tin Source ns → Standing tin tri
+pub standing : (tin : Triangulation) (tri : Tri) (ns : List ℕ) → length ns ≡ 3 → All (λ n. n < length tin.corners) ns → corners tri ≡ places tin Source ns → Standing tin tri
 standing tin tri [] e below is = absurd (omega arith)
 standing tin tri (i ∷ []) e below is = absurd (omega arith)
 standing tin tri (i ∷ j ∷ []) e below is = absurd (omega arith)
@@ -124,3 +124,11 @@ all_within tin boxes limits are k d hk l e hl =
     (within tin p.tri q.tri limits
     (standing tin p.tri (numbers_of tin k) (limits.three k (omega (arith, long))) (limits.in_range k (omega (arith, long))) p.stands)
     (standing tin q.tri (numbers_of tin l) (limits.three l (omega (arith, long))) (limits.in_range l (omega (arith, long))) q.stands)))
+
+-- each triangle stands somewhere
+pub tri_of : (tin : Triangulation) (ns : List ℕ) → length ns ≡ 3 → (r : Tri) × (corners r ≡ places tin Source ns)
+tri_of tin [] e = absurd (omega arith)
+tri_of tin (i ∷ []) e = absurd (omega arith)
+tri_of tin (i ∷ j ∷ []) e = absurd (omega arith)
+tri_of tin (i ∷ j ∷ k ∷ l ∷ ns) e = absurd (omega arith)
+tri_of tin (i ∷ j ∷ k ∷ []) e = (record { a = source_at tin i; b = source_at tin j; c = source_at tin k }, refl)

@@ -1,5 +1,6 @@
 pub mod InBox
 pub mod Boxing
+pub mod Round
 pub mod Least
 pub mod Corners
 pub mod Starring

@@ -1,7 +1,7 @@
 -- What the fields of an index keep. Only its own functions see them.
 use Rattle.std.specs.Prelude.{length}
 use Rattle.tin_base.specs.Triangulation.{Triangulation}
-use Rattle.tin_index.specs.Boxes.{AreBoxesOf}
+use Rattle.tin_index.specs.Boxes.{AreBoxesOf, IsRound}
 use Rattle.tin_index.specs.Stars.{AreStarsTo}
 use Rattle.tin_index.specs.declared.indexes.TinIndex.TheInside.{Inside}
 
@@ -9,5 +9,6 @@ abbrev pub seen : Inside → Triangulation
 seen index = index.tin
 
 pub record IsKept (index : Inside) : Type 0 where
+  pub round : IsRound index.tin (length index.tin.corners) index.round
   pub boxes : AreBoxesOf index.tin (length index.tin.triangles) index.grid.boxes
   pub stars : AreStarsTo index.tin (length index.tin.triangles) index.stars

@@ -1,7 +1,8 @@
 ghost use Rattle.std.specs.Prelude.{◌≡◌, ◌↔◌, pos, ◌<ℤ◌, length, IsTrue, IfOk};
 ghost use Rattle.std.specs.Int.{int_min, int_max};
 ghost use Rattle.plane_base.specs.Plane.{whole, turn_of, IsNearAll, holds_of};
-ghost use Rattle.tin_index.specs.Boxes.{IsUpTo, low_of, high_of, box_of, AreBoxesOf};
+ghost use Rattle.cell_grid.specs.Boxes.{HasPoint};
+ghost use Rattle.tin_index.specs.Boxes.{IsUpTo, low_of, high_of, box_of, AreBoxesOf, IsRound};
 
 use plane_base::{Pt, Rect, Tri, holds};
 use std::alloc::{AllocError, Global};
@@ -64,11 +65,78 @@ pub fn boxes_of(alloc: Global, tin: &SoundTin) -> Result<Vec<Rect>, AllocError>
     Ok(boxes)
 }
 
+/// The box of the point alone.
+fn box_at(p: Pt) -> Rect
+    ensures { result ≡ record { x0 = p.x; y0 = p.y; x1 = p.x; y1 = p.y } }
+{
+    Rect {
+        x0: p.x,
+        y0: p.y,
+        x1: p.x,
+        y1: p.y,
+    }
+}
+
+fn lesser(a: i64, b: i64) -> i64
+    ensures { result ≡ int_min a b }
+{
+    a.min(b)
+}
+
+fn greater(a: i64, b: i64) -> i64
+    ensures { result ≡ int_max a b }
+{
+    a.max(b)
+}
+
+/// The least box that has the box and the point.
+fn with(rect: Rect, p: Pt) -> Rect
+    ensures { result ≡ record { x0 = int_min rect.x0 p.x; y0 = int_min rect.y0 p.y; x1 = int_max rect.x1 p.x; y1 = int_max rect.y1 p.y } }
+{
+    Rect {
+        x0: lesser(rect.x0, p.x),
+        y0: lesser(rect.y0, p.y),
+        x1: greater(rect.x1, p.x),
+        y1: greater(rect.y1, p.y),
+    }
+}
+
+/// The least box that has all corners of the source frame; any box where there is none.
+pub fn box_of_all(tin: &SoundTin) -> Rect
+    ensures { IsRound tin.now (length tin.now.corners) result }
+{
+    let corners = tin.corners();
+    let mut round = box_at(Pt { x: 0, y: 0 });
+    for place in 0..corners.len() {
+        let p = corners[place].at(Frame::Source);
+        round = if place == 0 { box_at(p) } else { with(round, p) };
+    }
+    round
+}
+
 /// Is `p` below `q` on neither axis?
 fn is_up_to(p: Pt, q: Pt) -> bool
     ensures { IsTrue result ↔ IsUpTo p q }
 {
     p.x <= q.x && p.y <= q.y
+}
+
+/// Is the point in the box?
+pub fn is_in_box(rect: &Rect, p: Pt) -> bool
+    ensures { IsTrue result ↔ HasPoint rect.now p }
+{
+    let low = Pt {
+        x: rect.x0,
+        y: rect.y0,
+    };
+    let high = Pt {
+        x: rect.x1,
+        y: rect.y1,
+    };
+    if !is_up_to(low, p) {
+        return false;
+    }
+    is_up_to(p, high)
 }
 
 /// Is the point in the triangle? It may be anywhere: far from the corners it is refused by their box, before any product.

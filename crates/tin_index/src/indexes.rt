@@ -3,13 +3,14 @@ ghost use Rattle.plane_base.specs.Plane.{whole};
 ghost use Rattle.tin_base.specs.declared.frames.Frame.TheVariants.{Source};
 ghost use Rattle.tin_base.specs.Triangulation.{IsInTriangle};
 ghost use Rattle.tin_base.specs.Images.{IsInSome};
+ghost use Rattle.tin_index.specs.Boxes.{IsNearCorners};
 ghost use Rattle.tin_index.specs.Sides.{HasCorner, corner_of, next_of, IsAcross, IsStar};
 
-use crate::boxes::boxes_of;
+use crate::boxes::{box_of_all, boxes_of, is_in_box};
 use crate::locating::locate_in;
 use crate::stars::Stars;
 use cell_grid::Grid;
-use plane_base::Pt;
+use plane_base::{Pt, Rect};
 use std::alloc::{AllocError, Global};
 use std::marker::Model;
 use tin_base::SoundTin;
@@ -18,6 +19,8 @@ use tin_base::SoundTin;
 #[derive(Debug, Drop)]
 pub struct TinIndex {
     tin: SoundTin,
+    // that of all corners
+    round: Rect,
     // of the boxes of the source triangles
     grid: Grid,
     stars: Stars,
@@ -44,7 +47,13 @@ impl TinIndex {
         let boxes = boxes_of(alloc, &tin)?;
         let grid = Grid::build(alloc, &boxes)?;
         let stars = Stars::of(alloc, &tin)?;
-        Ok(TinIndex { tin, grid, stars })
+        let round = box_of_all(&tin);
+        Ok(TinIndex {
+            tin,
+            round,
+            grid,
+            stars,
+        })
     }
 
     /// The triangulation that it was built of.
@@ -60,7 +69,19 @@ impl TinIndex {
         ensures least { IfSome result (λ triangle. (other : ℕ) → other < triangle → IsInTriangle self.now Source other (whole p) → ⊥) }
         ensures outside { IfNone result (IsInSome self.now Source (whole p) → ⊥) }
     {
+        if !self.is_among_corners(p) {
+            return None;
+        }
         locate_in(&self.tin, &self.grid, p)
+    }
+
+    /// Is the point in the box of all corners? Only there is it in a triangle, and there it is near each corner.
+    pub fn is_among_corners(&self, p: Pt) -> bool
+        ensures has { IsInSome self.now Source (whole p) → IsTrue result }
+        ensures near { IsTrue result → IsNearCorners self.now p }
+    {
+        self.tin.known();
+        is_in_box(&self.round, p)
     }
 
     /// The numbers of the triangles that have the corner, ascending.

@@ -1,4 +1,4 @@
-use crate::made_tins::{at, notched, six, square};
+use crate::made_tins::{at, bow, notched, six, square};
 use frac128::{Frac, order};
 use plane_base::End;
 use seg_walk::{WalkFault, cut};
@@ -76,6 +76,23 @@ fn cuts_through_a_corner(rt: HostRuntime) -> Result<(), Fail> {
     let outer = [whole(2)];
     assert!(rt; is_cut(alloc, &six, (0, 5_000), (-5_000, 5_000), &outer));
     assert!(rt; is_outside(alloc, &six, (0, 5_000), (-5_000, 5_001)));
+    Ok(())
+}
+
+#[test]
+fn goes_on_where_two_triangles_meet_in_a_corner_alone(rt: HostRuntime) -> Result<(), Fail> {
+    let alloc = rt.alloc();
+    let bow = bow(alloc).expect(&rt, "sound");
+    let through = [
+        (1, START, HALF, End::Vertex, End::Side(0)),
+        (0, HALF, END, End::Side(0), End::Vertex),
+    ];
+    assert!(rt; is_cut(alloc, &bow, (-8_000, -4_000), (8_000, 4_000), &through));
+    // From the corner itself, into each of the two.
+    assert!(rt; is_cut(alloc, &bow, (0, 0), (8_000, 4_000), &[whole(0)]));
+    assert!(rt; is_cut(alloc, &bow, (0, 0), (-8_000, -4_000), &[whole(1)]));
+    assert!(rt; is_outside(alloc, &bow, (0, 0), (4_000, 8_000)));
+    assert!(rt; is_outside(alloc, &bow, (-8_000, -4_000), (4_000, 8_000)));
     Ok(())
 }
 

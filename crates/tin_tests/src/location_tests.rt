@@ -1,4 +1,4 @@
-use crate::made_tins::{same, sound_of, tin_of};
+use crate::made_tins::{bow, same, six, sound_of, square, tin_of};
 use plane_base::Pt;
 use std::test::Fail;
 use tin_index::TinIndex;
@@ -22,5 +22,44 @@ fn locates_points(rt: HostRuntime) -> Result<(), Fail> {
         assert_eq!(rt; index.locate(Pt { x, y }), want, "at {x} {y}");
     }
     assert_eq!(rt; index.tin().triangles(), [[0, 1, 2]].as_slice());
+    Ok(())
+}
+
+/// Are these the triangles across the sides of the triangle?
+fn are_across(index: &TinIndex, triangle: u32, want: &[Option<u32>; 3]) -> bool {
+    if triangle >= index.tin().triangle_count() {
+        return false;
+    }
+    index.across(triangle, 0) == want[0]
+        && index.across(triangle, 1) == want[1]
+        && index.across(triangle, 2) == want[2]
+}
+
+/// Are these the triangles round the corner?
+fn are_around(index: &TinIndex, corner: u32, want: &[u32]) -> bool {
+    if corner as usize >= index.tin().corners().len() {
+        return false;
+    }
+    index.around(corner) == want
+}
+
+#[test]
+fn finds_neighbours(rt: HostRuntime) -> Result<(), Fail> {
+    let alloc = rt.alloc();
+    let square = square(alloc).expect(&rt, "sound");
+    assert!(rt; are_across(&square, 0, &[None, None, Some(1)]));
+    assert!(rt; are_across(&square, 1, &[Some(0), None, None]));
+    assert!(rt; are_around(&square, 0, &[0, 1]));
+    assert!(rt; are_around(&square, 1, &[0]));
+    let six = six(alloc).expect(&rt, "sound");
+    assert!(rt; are_across(&six, 0, &[Some(5), None, Some(1)]));
+    assert!(rt; are_across(&six, 5, &[Some(4), None, Some(0)]));
+    assert!(rt; are_around(&six, 0, &[0, 1, 2, 3, 4, 5]));
+    assert!(rt; are_around(&six, 6, &[4, 5]));
+    // Two triangles that have a corner in common and no side.
+    let bow = bow(alloc).expect(&rt, "sound");
+    assert!(rt; are_across(&bow, 0, &[None, None, None]));
+    assert!(rt; are_across(&bow, 1, &[None, None, None]));
+    assert!(rt; are_around(&bow, 0, &[0, 1]));
     Ok(())
 }

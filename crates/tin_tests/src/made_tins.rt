@@ -106,6 +106,18 @@ pub fn six(alloc: Global) -> Option<TinIndex> {
     index_of(alloc, &corners, &triangles)
 }
 
+/// Two triangles that have a corner in common and no more, moved by a hundred metres on both axes.
+pub fn bow(alloc: Global) -> Option<TinIndex> {
+    let corners = [
+        corner((0, 0), (100_000, 100_000)),
+        corner((10_000, 0), (110_000, 100_000)),
+        corner((10_000, 10_000), (110_000, 110_000)),
+        corner((-10_000, 0), (90_000, 100_000)),
+        corner((-10_000, -10_000), (90_000, 90_000)),
+    ];
+    index_of(alloc, &corners, &[[0, 1, 2], [0, 3, 4]])
+}
+
 /// A square of twenty metres that lacks its upper right quarter, moved by a hundred metres on both axes.
 pub fn notched(alloc: Global) -> Option<TinIndex> {
     let corners = [

@@ -12,6 +12,10 @@ const CORNER: &str =
 const WHEEL: &str =
     r#"{"file_type":"triangulation_file","format_version":"1.1","transformed_components":["horizontal"],"vertices_columns":["source_x","source_y","target_x","target_y"],"triangles_columns":["idx_vertex1","idx_vertex2","idx_vertex3"],"vertices":[[0,0,100,100],[10,0,110,100],[10,10,110,110],[0,10,100,110],[-10,0,90,100],[-10,-10,90,90],[0,-10,100,90]],"triangles":[[0,1,2],[0,2,3],[0,3,4],[0,4,5],[0,5,6],[0,6,1]]}"#;
 
+/// Two triangles that have a corner in common and no more.
+const BOW: &str =
+    r#"{"file_type":"triangulation_file","format_version":"1.1","transformed_components":["horizontal"],"vertices_columns":["source_x","source_y","target_x","target_y"],"triangles_columns":["idx_vertex1","idx_vertex2","idx_vertex3"],"vertices":[[0,0,100,100],[10,0,110,100],[10,10,110,110],[-10,0,90,100],[-10,-10,90,90]],"triangles":[[0,1,2],[0,3,4]]}"#;
+
 /// Does a run that carries this layer through this triangulation end so, and make these files?
 fn migrates(
     alloc: Global,
@@ -49,6 +53,11 @@ fn segments_are_split_at_the_edges_of_triangles(rt: HostRuntime) {
             WHEEL,
             "LINESTRING (-4 -2, 4 2)",
             "LINESTRING (96.000 98.000, 100.000 100.000, 104.000 102.000)",
+        ),
+        (
+            BOW,
+            "LINESTRING (-8 -4, 8 4)",
+            "LINESTRING (92.000 96.000, 100.000 100.000, 108.000 104.000)",
         ),
         (
             WHEEL,
