@@ -11,6 +11,7 @@ use Rattle.tin_base.specs.declared.frames.Frame.TheVariants.{Source}
 use Rattle.tin_base.specs.Triangulation.{Triangulation, place, corner_at, numbers_of, places, IsInTriangle}
 use Rattle.tin_base.specs.Images.{IsInSome}
 use Rattle.tin_base.specs.Limits.{IsWithinLimits}
+use Rattle.tin_index.specs.Boxes.{IsNearCorners}
 
 -- where a corner stands
 abbrev pub source_at : Triangulation → ℕ → Pt
@@ -72,8 +73,15 @@ near_by p q a e f h = (omega (arith, ints), omega (arith, ints), omega (arith, i
 abbrev nowhere : Point
 nowhere = record { x = pos 0; y = pos 0; w = pos 0 }
 
-pub near_tri : (tin : Triangulation) (t : ℕ) (r : Tri) (p : Pt) → IsWithinLimits tin → t < length tin.triangles → corners r ≡ places tin Source (numbers_of tin t) → IsInSome tin Source (whole p) → IsNearTri r p
-near_tri tin t r p limits ht is has = go (numbers_of tin t) (limits.three t ht) (limits.in_range t ht) is
+-- ---- a point that is near each corner, in some triangle or not
+pub near_each : (tin : Triangulation) (p : Pt) → IsWithinLimits tin → IsInSome tin Source (whole p) → IsNearCorners tin p
+near_each tin p limits has n hn = near_corner tin n p limits hn has
+
+pub near_both : (tin : Triangulation) (a b : Pt) → IsWithinLimits tin → IsInSome tin Source (whole a) → IsNearCorners tin b → IsNear a b
+near_both tin a b limits has_a near = turned b a (near_all tin has_a.0 a b limits has_a.1 has_a.2 (λ n hn. turned (source_at tin n) b (near n hn)))
+
+pub near_triangle : (tin : Triangulation) (t : ℕ) (r : Tri) (p : Pt) → IsWithinLimits tin → t < length tin.triangles → corners r ≡ places tin Source (numbers_of tin t) → IsNearCorners tin p → IsNearTri r p
+near_triangle tin t r p limits ht is near = go (numbers_of tin t) (limits.three t ht) (limits.in_range t ht) is
   where
     go : (ns : List ℕ) → length ns ≡ 3 → All (λ n. n < length tin.corners) ns → corners r ≡ places tin Source ns → IsNearTri r p
     go [] e below is = absurd (omega arith)
@@ -81,9 +89,9 @@ near_tri tin t r p limits ht is has = go (numbers_of tin t) (limits.three t ht) 
     go (i ∷ j ∷ []) e below is = absurd (omega arith)
     go (i ∷ j ∷ k ∷ l ∷ ns) e below is = absurd (omega arith)
     go (i ∷ j ∷ k ∷ []) e below is = (
-      near_by r.a (source_at tin i) p (ap (λ (ps : List Point). (get_or ps 0 nowhere).x) is) (ap (λ (ps : List Point). (get_or ps 0 nowhere).y) is) (near_corner tin i p limits (below 0 0 (omega arith)) has),
-      near_by r.b (source_at tin j) p (ap (λ (ps : List Point). (get_or ps 1 nowhere).x) is) (ap (λ (ps : List Point). (get_or ps 1 nowhere).y) is) (near_corner tin j p limits (below 1 0 (omega arith)) has),
-      near_by r.c (source_at tin k) p (ap (λ (ps : List Point). (get_or ps 2 nowhere).x) is) (ap (λ (ps : List Point). (get_or ps 2 nowhere).y) is) (near_corner tin k p limits (below 2 0 (omega arith)) has),
+      near_by r.a (source_at tin i) p (ap (λ (ps : List Point). (get_or ps 0 nowhere).x) is) (ap (λ (ps : List Point). (get_or ps 0 nowhere).y) is) (near i (below 0 0 (omega arith))),
+      near_by r.b (source_at tin j) p (ap (λ (ps : List Point). (get_or ps 1 nowhere).x) is) (ap (λ (ps : List Point). (get_or ps 1 nowhere).y) is) (near j (below 1 0 (omega arith))),
+      near_by r.c (source_at tin k) p (ap (λ (ps : List Point). (get_or ps 2 nowhere).x) is) (ap (λ (ps : List Point). (get_or ps 2 nowhere).y) is) (near k (below 2 0 (omega arith))),
     )
 
 -- ---- a triangle that stands where one does is this one
@@ -111,6 +119,5 @@ stands tin t limits ht = go (numbers_of tin t) (limits.three t ht)
     go (i ∷ j ∷ k ∷ []) e = (record { a = source_at tin i; b = source_at tin j; c = source_at tin k }, refl)
 
 -- ---- such a point is near a corner, wherever that stands
-pub near_place : (tin : Triangulation) (n : ℕ) (a q : Pt) → IsWithinLimits tin → n < length tin.corners → whole q ≡ place Source (corner_at tin n) → IsInSome tin Source (whole a) → IsNear a q
-near_place tin n a q limits hn is has =
-    turned q a (near_by q (source_at tin n) a (ap (λ (p : Point). p.x) is) (ap (λ (p : Point). p.y) is) (near_corner tin n a limits hn has))
+pub near_place : (tin : Triangulation) (n : ℕ) (p q : Pt) → n < length tin.corners → whole q ≡ place Source (corner_at tin n) → IsNearCorners tin p → IsNear p q
+near_place tin n p q hn is near = turned q p (near_by q (source_at tin n) p (ap (λ (r : Point). r.x) is) (ap (λ (r : Point). r.y) is) (near n hn))

@@ -5,6 +5,7 @@ ghost use Rattle.tin_base.specs.Images.{IsInSome};
 ghost use Rattle.tin_base.specs.Limits.{IsWithinLimits};
 ghost use Rattle.tin_base.specs.Segments.{IsInside};
 ghost use Rattle.tin_base.specs.Triangulation.{IsInTriangle};
+ghost use Rattle.tin_index.specs.Boxes.{IsNearCorners};
 ghost use Rattle.seg_walk.specs.declared.faults.WalkFault.TheVariants.{Outside};
 ghost use Rattle.seg_walk.specs.Steps.{AreSteps};
 
@@ -53,7 +54,7 @@ fn is_before_end(at: Frac) -> bool
 /// The pieces one after the other: from the end of each, the piece that begins there. `triangle` is the least that has the first point.
 fn cut_way(alloc: Global, index: &TinIndex, a: Pt, b: Pt, triangle: u32) -> Result<Steps, WalkFault>
     requires differ { a ≢ b }
-    requires has_b { IsInSome index.now Source (whole b) }
+    requires near_b { IsNearCorners index.now b }
     requires in_range { triangle < length index.now.triangles }
     requires has_point { IsInTriangle index.now Source triangle (whole a) }
     requires least { (other : ℕ) → other < triangle → IsInTriangle index.now Source other (whole a) → ⊥ }
@@ -86,7 +87,7 @@ pub fn cut(alloc: Global, index: &TinIndex, a: Pt, b: Pt) -> Result<Steps, WalkF
     let Some(triangle) = index.locate(a) else {
         return Err(WalkFault::Outside);
     };
-    if index.locate(b).is_none() {
+    if !index.is_among_corners(b) {
         return Err(WalkFault::Outside);
     }
     let tin = index.tin();

@@ -6,6 +6,7 @@ ghost use Rattle.plane_base.specs.Slices.{IsParam};
 ghost use Rattle.tin_base.specs.declared.frames.Frame.TheVariants.{Source};
 ghost use Rattle.tin_base.specs.Images.{IsInSome};
 ghost use Rattle.tin_base.specs.Limits.{IsWithinLimits};
+ghost use Rattle.tin_index.specs.Boxes.{IsNearCorners};
 ghost use Rattle.seg_walk.specs.Steps.{spot_of, IsSliceIn};
 ghost use Rattle.seg_walk.specs.Beginning.{MissesTriangle, HasNoPartFrom, IsPartFrom, IsLeastAmong};
 
@@ -20,7 +21,7 @@ pub fn slice_in(tin: &SoundTin, triangle: u32, a: Pt, b: Pt) -> Option<Stretch>
     requires in_range { triangle < length tin.now.triangles }
     requires limits { IsWithinLimits tin.now }
     requires has_a { IsInSome tin.now Source (whole a) }
-    requires has_b { IsInSome tin.now Source (whole b) }
+    requires near_b { IsNearCorners tin.now b }
     ensures some { IfSome result (λ s. IsSliceIn tin.now a b triangle s) }
     ensures none { IfNone result (MissesTriangle tin.now a b triangle) }
 {
@@ -42,7 +43,7 @@ pub fn step_in(tin: &SoundTin, triangle: u32, a: Pt, b: Pt, at: Frac) -> Option<
     requires in_range { triangle < length tin.now.triangles }
     requires limits { IsWithinLimits tin.now }
     requires has_a { IsInSome tin.now Source (whole a) }
-    requires has_b { IsInSome tin.now Source (whole b) }
+    requires near_b { IsNearCorners tin.now b }
     requires param { IsParam at.num at.den }
     ensures triangle { IfSome result (λ step. step.tri ≡ triangle) }
     ensures some { IfSome result (λ step. IsPartFrom tin.now a b (spot_of at) step) }
@@ -65,7 +66,7 @@ pub fn least_from(tin: &SoundTin, numbers: &[u32], a: Pt, b: Pt, at: Frac) -> Op
     requires in_range { All (λ number. number < length tin.now.triangles) numbers.now }
     requires limits { IsWithinLimits tin.now }
     requires has_a { IsInSome tin.now Source (whole a) }
-    requires has_b { IsInSome tin.now Source (whole b) }
+    requires near_b { IsNearCorners tin.now b }
     requires param { IsParam at.num at.den }
     ensures some { IfSome result (λ step. IsLeastAmong tin.now a b (spot_of at) numbers.now step) }
     ensures none { IfNone result ((u : ℕ) → Contains numbers.now u → HasNoPartFrom tin.now a b (spot_of at) u) }

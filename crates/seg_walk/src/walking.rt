@@ -6,6 +6,7 @@ ghost use Rattle.tin_base.specs.Images.{IsInSome};
 ghost use Rattle.tin_base.specs.Limits.{IsWithinLimits};
 ghost use Rattle.tin_base.specs.Segments.{at_a};
 ghost use Rattle.tin_base.specs.Triangulation.{IsInTriangle};
+ghost use Rattle.tin_index.specs.Boxes.{IsNearCorners};
 ghost use Rattle.tin_index.specs.Sides.{corner_of, next_of};
 ghost use Rattle.seg_walk.specs.Steps.{spot_of, IsSliceIn};
 ghost use Rattle.seg_walk.specs.Beginning.{GoesOn};
@@ -23,7 +24,7 @@ fn is_on_line(tin: &SoundTin, a: Pt, b: Pt, corner: u32) -> bool
     requires corner { corner < length tin.now.corners }
     requires limits { IsWithinLimits tin.now }
     requires has_a { IsInSome tin.now Source (whole a) }
-    requires has_b { IsInSome tin.now Source (whole b) }
+    requires near_b { IsNearCorners tin.now b }
     ensures { IsTrue result ↔ IsOnLine tin.now a b corner }
 {
     turn(a, b, tin.place(corner, Frame::Source)) == 0
@@ -56,7 +57,7 @@ fn next_of(k: u8) -> u8
 fn step_over(index: &TinIndex, a: Pt, b: Pt, triangle: u32, side: u8, at: Frac) -> Option<Step>
     requires differ { a ≢ b }
     requires has_a { IsInSome index.now Source (whole a) }
-    requires has_b { IsInSome index.now Source (whole b) }
+    requires near_b { IsNearCorners index.now b }
     requires param { IsParam at.num at.den }
     requires left { IsLeftAt index.now a b triangle side (spot_of at) }
     ensures { GoesOn index.now a b (spot_of at) result }
@@ -81,7 +82,7 @@ fn step_over(index: &TinIndex, a: Pt, b: Pt, triangle: u32, side: u8, at: Frac) 
 pub fn step_after(index: &TinIndex, a: Pt, b: Pt, step: Step) -> Option<Step>
     requires differ { a ≢ b }
     requires has_a { IsInSome index.now Source (whole a) }
-    requires has_b { IsInSome index.now Source (whole b) }
+    requires near_b { IsNearCorners index.now b }
     requires in_range { step.tri < length index.now.triangles }
     requires slice { IsSliceIn index.now a b step.tri step.slice }
     requires before_end { step.slice.hi.num <ℤ step.slice.hi.den }
@@ -97,7 +98,7 @@ pub fn step_after(index: &TinIndex, a: Pt, b: Pt, step: Step) -> Option<Step>
 // The first step, where the triangle is the least that has the first point.
 pub fn first_step(index: &TinIndex, a: Pt, b: Pt, triangle: u32) -> Option<Step>
     requires differ { a ≢ b }
-    requires has_b { IsInSome index.now Source (whole b) }
+    requires near_b { IsNearCorners index.now b }
     requires in_range { triangle < length index.now.triangles }
     requires has_point { IsInTriangle index.now Source triangle (whole a) }
     requires least { (other : ℕ) → other < triangle → IsInTriangle index.now Source other (whole a) → ⊥ }

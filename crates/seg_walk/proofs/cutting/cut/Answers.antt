@@ -1,5 +1,4 @@
-use Rattle.std.proofs.Common.{◌≡◌, ℕ, ◌<◌, true, false, Option, Some, None, IfSome, IfNone, IfOk, Result, Ok, Err, subst, sym, length}
-use Rattle.std.specs.Option.{is_some}
+use Rattle.std.proofs.Common.{ℕ, ◌<◌, Bool, false, IsTrue, IfOk, Result, Ok, Err, subst, sym}
 use Rattle.plane_base.specs.Plane.{whole}
 use Rattle.plane_base.specs.declared.shapes.Pt.{Pt}
 use Rattle.tin_base.specs.declared.frames.Frame.TheVariants.{Source}
@@ -10,23 +9,19 @@ use Rattle.seg_walk.specs.Steps.{AreSteps}
 use Rattle.seg_walk.proofs.Taking.{point_inside, first_inside, last_inside}
 use Rattle.seg_walk.proofs.cutting.cut.Goals as goal
 
-found : {A : Type 0} (P : A → Type 0) (answer : Option A) → is_some answer ≡ true → IfSome answer P → (x : A) × P x
-found P (Some x) e h = (x, h)
-found P None e h = cc
-
-lost : {A P : Type 0} (answer : Option A) → is_some answer ≡ false → IfNone answer P → P
-lost None e h = h
-lost (Some x) e h = cc
-
 always : {A E P : Type 0} (answer : Result A E) → P → IfOk answer (λ _. P)
 always (Ok x) h = h
 always (Err e) h = tt
 
+not_true : IsTrue false → ⊥
+not_true e = cc
+
 pub returns-in_default-clause-outside : goal.returns-in_default-clause-outside
 returns-in_default-clause-outside c = λ _ inside. c.in_default.ensures.outside (first_inside c.args.index.now c.args.a c.args.b inside)
 
-pub returns-then-is_none-clause-outside : goal.returns-then-is_none-clause-outside
-returns-then-is_none-clause-outside c = λ _ inside. lost c.locate-2.result c.if-is_none.ensures c.locate-2.ensures.outside (last_inside c.args.index.now c.args.a c.args.b inside)
+pub returns-then-not-is_among_corners-clause-outside : goal.returns-then-not-is_among_corners-clause-outside
+returns-then-not-is_among_corners-clause-outside c =
+    λ _ inside. not_true (subst (λ (b : Bool). IsTrue b) c.if-not-is_among_corners.true (c.is_among_corners.ensures.has (last_inside c.args.index.now c.args.a c.args.b inside)))
 
 pub cut_point-requires-clause-least : goal.cut_point-requires-clause-least
 cut_point-requires-clause-least c =
@@ -41,8 +36,3 @@ pub returns-then-is_same-clause-inside : goal.returns-then-is_same-clause-inside
 returns-then-is_same-clause-inside c =
     let has = c.in-Some.ensures.found in
     always c.cut_point.result (subst (λ (b : Pt). IsInside c.args.index.now c.args.a b) (told c.if-is_same.ensures) (point_inside c.args.index.now c.args.a (c.in-Some.triangle, has.0, has.1)))
-
-pub cut_way-requires-clause-has_b : goal.cut_way-requires-clause-has_b
-cut_way-requires-clause-has_b c =
-    let has = found (λ (t : ℕ). (t < length c.args.index.now.triangles) × IsInTriangle c.args.index.now Source t (whole c.args.b)) c.locate-2.result c.if-is_none.ensures c.locate-2.ensures.found in
-    (has.0, has.1.0, has.1.1)

@@ -1,8 +1,12 @@
 use Rattle.std.proofs.Common.{◌≡◌, List, [], ◌∷◌, ◌++◌, subst, sym}
 use Rattle.seg_walk.specs.declared.steps.Step.{Step}
 use Rattle.seg_walk.specs.Steps.{AreSteps}
+use Rattle.seg_walk.proofs.Standing.{near_each}
 use Rattle.seg_walk.proofs.Taking.{one_step, point_not_missed}
 use Rattle.seg_walk.proofs.cutting.cut_point.Goals as goal
+
+pub slice_in-requires-clause-near_b : goal.slice_in-requires-clause-near_b
+slice_in-requires-clause-near_b c = near_each c.args.tin.now c.args.p c.requires.limits (c.args.triangle, c.requires.in_range, c.requires.has_point)
 
 pub returns-in-Some-clause-pieces : goal.returns-in-Some-clause-pieces
 returns-in-Some-clause-pieces c =

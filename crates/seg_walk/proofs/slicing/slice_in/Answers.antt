@@ -7,17 +7,18 @@ use Rattle.plane_base.specs.declared.slicing.Stretch.{Stretch}
 use Rattle.tin_base.specs.declared.frames.Frame.TheVariants.{Source}
 use Rattle.tin_base.specs.Triangulation.{Triangulation, numbers_of, places}
 use Rattle.seg_walk.specs.Steps.{IsSliceIn}
-use Rattle.seg_walk.proofs.Standing.{near_tri, near_ends, moved_to}
+use Rattle.seg_walk.proofs.Standing.{near_each, near_triangle, near_both, moved_to}
 use Rattle.seg_walk.proofs.slicing.slice_in.Goals as goal
 
 pub slice-requires-clause-near_a : goal.slice-requires-clause-near_a
-slice-requires-clause-near_a c = near_tri c.args.tin.now c.args.triangle c.tri.result c.args.a c.requires.limits c.requires.in_range c.tri.ensures.corners c.requires.has_a
+slice-requires-clause-near_a c =
+    near_triangle c.args.tin.now c.args.triangle c.tri.result c.args.a c.requires.limits c.requires.in_range c.tri.ensures.corners (near_each c.args.tin.now c.args.a c.requires.limits c.requires.has_a)
 
 pub slice-requires-clause-near_b : goal.slice-requires-clause-near_b
-slice-requires-clause-near_b c = near_tri c.args.tin.now c.args.triangle c.tri.result c.args.b c.requires.limits c.requires.in_range c.tri.ensures.corners c.requires.has_b
+slice-requires-clause-near_b c = near_triangle c.args.tin.now c.args.triangle c.tri.result c.args.b c.requires.limits c.requires.in_range c.tri.ensures.corners c.requires.near_b
 
 pub slice-requires-clause-near_ab : goal.slice-requires-clause-near_ab
-slice-requires-clause-near_ab c = near_ends c.args.tin.now c.args.a c.args.b c.requires.limits c.requires.has_a c.requires.has_b
+slice-requires-clause-near_ab c = near_both c.args.tin.now c.args.a c.args.b c.requires.limits c.requires.has_a c.requires.near_b
 
 told : (tin : Triangulation) (a b : Pt) (t : Tri) (u : ℕ) (answer : Option Stretch) → corners t ≡ places tin Source (numbers_of tin u) → slice_of a b t answer → IfSome answer (λ s. AreEnds a b t s) → (a ≡ b → IfSome answer (λ s. IsWholeWay s)) → IfSome answer (λ s. IsSliceIn tin a b u s)
 told tin a b t u None is common ends point = tt

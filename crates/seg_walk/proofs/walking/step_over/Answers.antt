@@ -4,6 +4,7 @@ use Rattle.tin_base.specs.declared.frames.Frame.TheVariants.{Source}
 use Rattle.tin_base.specs.Images.{IsInSome}
 use Rattle.tin_base.specs.Triangulation.{Triangulation}
 use Rattle.tin_base.proofs.Telling.{told, denied}
+use Rattle.tin_index.specs.Boxes.{IsNearCorners}
 use Rattle.tin_index.specs.Sides.{corner_of, IsStar, IsAcross}
 use Rattle.seg_walk.specs.Steps.{spot_of}
 use Rattle.seg_walk.specs.Beginning.{GoesOn, HasNoneFrom}
@@ -11,11 +12,11 @@ use Rattle.seg_walk.specs.Leaving.{IsLeftAt}
 use Rattle.seg_walk.proofs.Passing.{around_first, around_second, across_none, across_some, star_below}
 use Rattle.seg_walk.proofs.walking.step_over.Goals as goal
 
-pub is_on_line-requires-clause-has_b : goal.is_on_line-requires-clause-has_b
-is_on_line-requires-clause-has_b c = subst (λ (tin : Triangulation). IsInSome tin Source (whole c.args.b)) (sym c.tin-tin.ensures) c.requires.has_b
+pub is_on_line-requires-clause-near_b : goal.is_on_line-requires-clause-near_b
+is_on_line-requires-clause-near_b c = subst (λ (tin : Triangulation). IsNearCorners tin c.args.b) (sym c.tin-tin.ensures) c.requires.near_b
 
-pub is_on_line-requires-2-clause-has_b : goal.is_on_line-requires-2-clause-has_b
-is_on_line-requires-2-clause-has_b c = subst (λ (tin : Triangulation). IsInSome tin Source (whole c.args.b)) (sym c.tin-tin.ensures) c.requires.has_b
+pub is_on_line-requires-2-clause-near_b : goal.is_on_line-requires-2-clause-near_b
+is_on_line-requires-2-clause-near_b c = subst (λ (tin : Triangulation). IsNearCorners tin c.args.b) (sym c.tin-tin.ensures) c.requires.near_b
 
 pub least_from-requires-clause-in_range : goal.least_from-requires-clause-in_range
 least_from-requires-clause-in_range c = star_below c.tin-tin.result.now c.corner_of-first.result c.around.result.now (subst (λ (tin : Triangulation). IsStar tin c.corner_of-first.result c.around.result.now) (sym c.tin-tin.ensures) c.around.ensures)
@@ -23,8 +24,8 @@ least_from-requires-clause-in_range c = star_below c.tin-tin.result.now c.corner
 pub least_from-requires-clause-has_a : goal.least_from-requires-clause-has_a
 least_from-requires-clause-has_a c = subst (λ (tin : Triangulation). IsInSome tin Source (whole c.args.a)) (sym c.tin-tin.ensures) c.requires.has_a
 
-pub least_from-requires-clause-has_b : goal.least_from-requires-clause-has_b
-least_from-requires-clause-has_b c = subst (λ (tin : Triangulation). IsInSome tin Source (whole c.args.b)) (sym c.tin-tin.ensures) c.requires.has_b
+pub least_from-requires-clause-near_b : goal.least_from-requires-clause-near_b
+least_from-requires-clause-near_b c = subst (λ (tin : Triangulation). IsNearCorners tin c.args.b) (sym c.tin-tin.ensures) c.requires.near_b
 
 pub returns-then-is_on_line : goal.returns-then-is_on_line
 returns-then-is_on_line c =
@@ -41,8 +42,8 @@ least_from-requires-then-is_on_line-2-clause-in_range c = star_below c.tin-tin.r
 pub least_from-requires-then-is_on_line-2-clause-has_a : goal.least_from-requires-then-is_on_line-2-clause-has_a
 least_from-requires-then-is_on_line-2-clause-has_a c = subst (λ (tin : Triangulation). IsInSome tin Source (whole c.args.a)) (sym c.tin-tin.ensures) c.requires.has_a
 
-pub least_from-requires-then-is_on_line-2-clause-has_b : goal.least_from-requires-then-is_on_line-2-clause-has_b
-least_from-requires-then-is_on_line-2-clause-has_b c = subst (λ (tin : Triangulation). IsInSome tin Source (whole c.args.b)) (sym c.tin-tin.ensures) c.requires.has_b
+pub least_from-requires-then-is_on_line-2-clause-near_b : goal.least_from-requires-then-is_on_line-2-clause-near_b
+least_from-requires-then-is_on_line-2-clause-near_b c = subst (λ (tin : Triangulation). IsNearCorners tin c.args.b) (sym c.tin-tin.ensures) c.requires.near_b
 
 pub returns-then-is_on_line-2 : goal.returns-then-is_on_line-2
 returns-then-is_on_line-2 c =
@@ -61,8 +62,8 @@ returns-in_default c =
     (c.corner_of-second.ensures.value ∙ ap (λ (k : ℕ). corner_of c.tin-tin.result.now c.args.triangle k) c.next_of.ensures.value) (denied c.if-is_on_line.ensures) (denied c.if-is_on_line-2.ensures)
     (subst (λ (tin : Triangulation). (u : ℕ) → IsAcross tin c.args.triangle c.args.side u → ⊥) (sym c.tin-tin.ensures) c.in_default.ensures.none))
 
-pub step_in-requires-clause-has_b : goal.step_in-requires-clause-has_b
-step_in-requires-clause-has_b c = subst (λ (tin : Triangulation). IsInSome tin Source (whole c.args.b)) (sym c.tin-tin.ensures) c.requires.has_b
+pub step_in-requires-clause-near_b : goal.step_in-requires-clause-near_b
+step_in-requires-clause-near_b c = subst (λ (tin : Triangulation). IsNearCorners tin c.args.b) (sym c.tin-tin.ensures) c.requires.near_b
 
 pub returns : goal.returns
 returns c =
