@@ -6,3 +6,4 @@ pub mod Corners
 pub mod Starring
 pub mod AtSide
 pub mod Across
+pub mod Inside

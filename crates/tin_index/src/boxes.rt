@@ -1,10 +1,11 @@
 ghost use Rattle.std.specs.Prelude.{◌≡◌, ◌↔◌, pos, ◌<ℤ◌, length, IsTrue, IfOk};
 ghost use Rattle.std.specs.Int.{int_min, int_max};
-ghost use Rattle.plane_base.specs.Plane.{whole, turn_of, IsNearAll, holds_of};
+ghost use Rattle.plane_base.specs.Plane.{whole, turn_of, IsNearAll, IsNearTri, holds_of};
 ghost use Rattle.cell_grid.specs.Boxes.{HasPoint};
 ghost use Rattle.tin_index.specs.Boxes.{IsUpTo, low_of, high_of, box_of, AreBoxesOf, IsRound};
+ghost use Rattle.tin_index.specs.Locating.{IsInsideOf};
 
-use plane_base::{Pt, Rect, Tri, holds};
+use plane_base::{Pt, Rect, Tri, holds, turn};
 use std::alloc::{AllocError, Global};
 use tin_base::{Frame, SoundTin};
 
@@ -152,4 +153,33 @@ pub fn has_point(t: &Tri, p: Pt) -> bool
         return false;
     }
     holds(t, p)
+}
+
+fn all_positive(u: i128, v: i128, w: i128) -> bool
+    ensures { IsTrue result ↔ (pos 0 <ℤ u) × (pos 0 <ℤ v) × (pos 0 <ℤ w) }
+{
+    u > 0 && v > 0 && w > 0
+}
+
+/// Is the point to the left of each side?
+fn is_left_of_all(t: &Tri, p: Pt) -> bool
+    requires near { IsNearAll t.now.a t.now.b t.now.c }
+    requires near_point { IsNearTri t.now p }
+    ensures { IsTrue result ↔ IsInsideOf t.now p }
+{
+    all_positive(turn(t.a, t.b, p), turn(t.b, t.c, p), turn(t.c, t.a, p))
+}
+
+/// Is the point inside of the triangle, on none of its sides? It may be anywhere.
+pub fn has_inside(t: &Tri, p: Pt) -> bool
+    requires near { IsNearAll t.now.a t.now.b t.now.c }
+    ensures { IsTrue result → IsInsideOf t.now p }
+{
+    if !is_up_to(low(t), p) {
+        return false;
+    }
+    if !is_up_to(p, high(t)) {
+        return false;
+    }
+    is_left_of_all(t, p)
 }

@@ -7,7 +7,7 @@ ghost use Rattle.tin_index.specs.Boxes.{IsNearCorners};
 ghost use Rattle.tin_index.specs.Sides.{HasCorner, corner_of, next_of, IsAcross, IsStar};
 
 use crate::boxes::{box_of_all, boxes_of, is_in_box};
-use crate::locating::locate_in;
+use crate::locating::{is_inside, locate_in};
 use crate::stars::Stars;
 use cell_grid::Grid;
 use plane_base::{Pt, Rect};
@@ -73,6 +73,18 @@ impl TinIndex {
             return None;
         }
         locate_in(&self.tin, &self.grid, p)
+    }
+
+    /// As `locate`. It is quicker where the point is inside of the triangle that is guessed; any number will do.
+    pub fn locate_near(&self, p: Pt, guess: u32) -> Option<u32>
+        ensures found { IfSome result (λ triangle. (triangle < length self.now.triangles) × IsInTriangle self.now Source triangle (whole p)) }
+        ensures least { IfSome result (λ triangle. (other : ℕ) → other < triangle → IsInTriangle self.now Source other (whole p) → ⊥) }
+        ensures outside { IfNone result (IsInSome self.now Source (whole p) → ⊥) }
+    {
+        if is_inside(&self.tin, guess, p) {
+            return Some(guess);
+        }
+        self.locate(p)
     }
 
     /// Is the point in the box of all corners? Only there is it in a triangle, and there it is near each corner.

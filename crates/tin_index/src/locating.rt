@@ -5,9 +5,9 @@ ghost use Rattle.tin_base.specs.declared.frames.Frame.TheVariants.{Source};
 ghost use Rattle.tin_base.specs.Triangulation.{IsInTriangle};
 ghost use Rattle.tin_base.specs.Images.{IsInSome};
 ghost use Rattle.tin_index.specs.Boxes.{AreBoxesOf};
-ghost use Rattle.tin_index.specs.Locating.{IsOneOf};
+ghost use Rattle.tin_index.specs.Locating.{IsOneOf, IsOnlyIn};
 
-use crate::boxes::has_point;
+use crate::boxes::{has_inside, has_point};
 use cell_grid::Grid;
 use plane_base::Pt;
 use tin_base::{Frame, SoundTin};
@@ -56,4 +56,15 @@ fn is_in(tin: &SoundTin, triangle: u32, p: Pt) -> bool
     ensures { IsTrue result ↔ IsInTriangle tin.now Source triangle (whole p) }
 {
     has_point(&tin.tri(triangle, Frame::Source), p)
+}
+
+/// Is the point inside of the source triangle of this number, if there is one, and so in no other?
+pub fn is_inside(tin: &SoundTin, triangle: u32, p: Pt) -> bool
+    ensures { IsTrue result → IsOnlyIn tin.now triangle p }
+{
+    tin.known();
+    if triangle >= tin.triangle_count() {
+        return false;
+    }
+    has_inside(&tin.tri(triangle, Frame::Source), p)
 }
