@@ -107,14 +107,16 @@ pub record IsWayAt (points : List Pt) (track : Track) (j : ℕ) (way : Way) : Ty
   pub b : way.b ≡ end_of points track.row j
   pub from : way.from ≡ record { layer = track.from.layer; path = track.from.path; segment = j; piece = 0 }
 
-abbrev made : Pt → Pt → Place → Way
-made a b from = record { a = a; b = b; from = from }
+abbrev made : Pt → Pt → Place → ℕ → Way
+made a b from guess = record { a = a; b = b; from = from; guess = guess }
 
-abbrev way_of : List Pt → Track → ℕ → Way
-way_of points track j = made (begin_of points track.row j) (end_of points track.row j) (record { layer = track.from.layer; path = track.from.path; segment = j; piece = 0 })
+abbrev way_of : List Pt → Track → ℕ → ℕ → Way
+way_of points track j guess = made (begin_of points track.row j) (end_of points track.row j) (record { layer = track.from.layer; path = track.from.path; segment = j; piece = 0 }) guess
 
-way_is : (points : List Pt) (track : Track) (j : ℕ) (way : Way) → IsWayAt points track j way → way ≡ way_of points track j
-way_is points track j way is = ap (λ (a : Pt). made a way.b way.from) is.a ∙ ap (λ (b : Pt). made (begin_of points track.row j) b way.from) is.b ∙ ap (λ (from : Place). made (begin_of points track.row j) (end_of points track.row j) from) is.from
+way_is : (points : List Pt) (track : Track) (j : ℕ) (way : Way) → IsWayAt points track j way → way ≡ way_of points track j way.guess
+way_is points track j way is =
+    ap (λ (a : Pt). made a way.b way.from way.guess) is.a ∙ ap (λ (b : Pt). made (begin_of points track.row j) b way.from way.guess) is.b
+    ∙ ap (λ (from : Place). made (begin_of points track.row j) (end_of points track.row j) from way.guess) is.from
 
 pub path_next : (tin : Triangulation) (points : List Pt) (track : Track) (most : ℕ) (x x' y z : List Pt) (r r' s : List ℕ) (p p' q : List Piece) (j : ℕ) (image end : Pt) (way : Way)
     → IsPathFrom track.row.first track.row → j < segments_in track.row → IsPathCarried tin track.from.layer points track.from.path track.row most x x' r r' p p' j image → IsWayAt points track j way
@@ -200,7 +202,7 @@ path_cause tin points track most x x' r r' p p' j image way fault path h state i
         (cause_between tin track.from.layer (length p) most (segments_begun (first_vertices points track.from.path track.row j)) (segment_at points track.from.path track.row j ∷ [])
         (segments_begun (drop (suc j) (path_vertices points track.from.path track.row))) own fault carried.inside carried.of_segments
         (subst (λ (n : ℕ). IsCause tin track.from.layer n most (segment_at points track.from.path track.row j ∷ []) fault) grown
-        (cause_of_way tin track.from.layer (length p') most (way_of points track j) fault state.room (subst (λ (w : Way). IsWayCause tin w (length p') most fault) (way_is points track j way is) cause))))
+        (cause_of_way tin track.from.layer (length p') most (way_of points track j way.guess) fault state.room (subst (λ (w : Way). IsWayCause tin w (length p') most fault) (way_is points track j way is) cause))))
 
 -- the first point is in no triangle
 pub path_outside : (tin : Triangulation) (points : List Pt) (track : Track) (most : ℕ) (p : List Piece) → IsPathFrom track.row.first track.row → length p ≤ most → (IsInSome tin Source (whole (point_at points track.row.first)) → ⊥)

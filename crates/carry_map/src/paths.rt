@@ -65,13 +65,31 @@ fn next_point(row: PathRow, point: u32) -> u32
     }
 }
 
-/// The image of a point, or none where no triangle has it.
-fn image_at(index: &TinIndex, p: Pt) -> Option<Pt>
-    ensures some { IfSome result (λ image. IsRoundedImage index.now p image) }
+/// A triangle that has a point, and the image of the point.
+#[derive(Clone, Copy)]
+struct Found {
+    triangle: u32,
+    image: Pt,
+}
+
+/// Where a point is found, or none where no triangle has it.
+fn find(index: &TinIndex, p: Pt) -> Option<Found>
+    ensures some { IfSome result (λ found. IsRoundedImage index.now p found.image) }
     ensures none { IfNone result (IsInSome index.now Source (whole p) → ⊥) }
 {
     let triangle = index.locate(p)?;
-    Some(image_of(index.tin(), triangle, p))
+    Some(Found {
+        triangle,
+        image: image_of(index.tin(), triangle, p),
+    })
+}
+
+/// The triangle of the last piece, or the one that is given where there is none.
+fn last_triangle(pieces: &[Piece], triangle: u32) -> u32 {
+    match pieces.last() {
+        Some(piece) => piece.tri,
+        None => triangle,
+    }
 }
 
 /// Begins the run of the next point with its image.
@@ -87,7 +105,7 @@ fn begin_run(gathered: &mut Gathered, image: Pt) -> Result<(), CarryFault>
 }
 
 /// The segment of this number.
-fn way_at(points: &[Pt], track: Track, number: u32) -> Way
+fn way_at(points: &[Pt], track: Track, number: u32, guess: u32) -> Way
     requires in_path { track.row.first + number < track.row.past }
     requires in_range { track.row.past ≤ length points.now }
     ensures a { result.a ≡ begin_of points.now track.row number }
@@ -104,6 +122,7 @@ fn way_at(points: &[Pt], track: Track, number: u32) -> Way
             segment: number,
             piece: 0,
         },
+        guess,
     }
 }
 
@@ -128,16 +147,20 @@ pub(crate) fn carry_path(
     ensures cause { IfErr result (λ fault. IsCause index.now track.from.layer (vec_len pieces.old) most (segments_begun (path_vertices points.now track.from.path track.row)) fault) }
     ensures grows { Grows pieces.old.items pieces.new.items }
 {
-    let Some(mut image) = image_at(index, points[track.row.first as usize]) else {
+    let Some(found) = find(index, points[track.row.first as usize]) else {
         return Err(CarryFault::Outside {
             path: track.from.path,
             segment: 0,
         });
     };
+    let mut image = found.image;
+    // where a segment ends the next begins
+    let mut triangle = found.triangle;
     for number in 0..segment_count(track.row) {
         begin_run(gathered, image)?;
-        let way = way_at(points, track, number);
+        let way = way_at(points, track, number, triangle);
         image = carry_segment(alloc, index, way, most, image, &mut gathered.points, pieces)?;
+        triangle = last_triangle(pieces, triangle);
     }
     if segment_count(track.row) == point_count(track.row) {
         return Ok(());

@@ -11,17 +11,18 @@ ghost use Rattle.carry_map.specs.Causes.{IsCutCause, IsWayCause};
 use crate::CarryFault;
 use crate::crossings::end_image;
 use plane_base::Pt;
-use seg_walk::{Step, Steps, WalkFault, cut};
+use seg_walk::{Step, Steps, WalkFault, cut_from};
 use std::alloc::Global;
 use tin_base::{Piece, Place, SoundTin};
 use tin_index::TinIndex;
 
-/// A segment, and the place of its first piece.
+/// A segment, the place of its first piece, and a triangle that may have its first end.
 #[derive(Clone, Copy)]
 pub(crate) struct Way {
     pub(crate) a: Pt,
     pub(crate) b: Pt,
     pub(crate) from: Place,
+    pub(crate) guess: u32,
 }
 
 /// Appends the pieces of a segment, whose first end has this image. Answers the image of its last end.
@@ -84,7 +85,7 @@ fn cut_way(alloc: Global, index: &TinIndex, way: Way) -> Result<Steps, CarryFaul
     ensures inside { OnOk result (IsInside index.now way.a way.b) }
     ensures cause { IfErr result (λ fault. IsCutCause index.now way fault) }
 {
-    match cut(alloc, index, way.a, way.b) {
+    match cut_from(alloc, index, way.a, way.b, way.guess) {
         Ok(steps) => Ok(steps),
         Err(WalkFault::Outside) => Err(CarryFault::Outside {
             path: way.from.path,

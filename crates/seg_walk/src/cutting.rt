@@ -84,7 +84,16 @@ pub fn cut(alloc: Global, index: &TinIndex, a: Pt, b: Pt) -> Result<Steps, WalkF
     ensures inside { IfOk result (λ _. IsInside index.now a b) }
     ensures outside { IsErrOf result Outside → IsInside index.now a b → ⊥ }
 {
-    let Some(triangle) = index.locate(a) else {
+    cut_from(alloc, index, a, b, 0)
+}
+
+/// As `cut`. It is quicker where `a` is inside of the triangle that is guessed, as that of the piece before; any number will do.
+pub fn cut_from(alloc: Global, index: &TinIndex, a: Pt, b: Pt, guess: u32) -> Result<Steps, WalkFault>
+    ensures pieces { IfOk result (λ steps. AreSteps index.now a b steps.items) }
+    ensures inside { IfOk result (λ _. IsInside index.now a b) }
+    ensures outside { IsErrOf result Outside → IsInside index.now a b → ⊥ }
+{
+    let Some(triangle) = index.locate_near(a, guess) else {
         return Err(WalkFault::Outside);
     };
     if !index.is_among_corners(b) {

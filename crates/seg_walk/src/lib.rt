@@ -8,6 +8,6 @@ mod slicing;
 mod steps;
 mod walking;
 
-pub use cutting::cut;
+pub use cutting::{cut, cut_from};
 pub use faults::WalkFault;
 pub use steps::{Step, Steps};

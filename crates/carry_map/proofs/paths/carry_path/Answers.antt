@@ -17,7 +17,7 @@ returns-in_default-clause-cause c =
 pub loop-number-init : goal.loop-number-init
 loop-number-init c =
     let room : length c.args.pieces.now.items ≤ c.args.most = omega arith in
-    path_start c.args.index.now c.args.track.from.layer c.args.points.now c.args.track.from.path c.args.track.row c.args.most c.args.gathered.now.points.items c.args.gathered.now.run.items c.args.pieces.now.items c.in-Some.image
+    path_start c.args.index.now c.args.track.from.layer c.args.points.now c.args.track.from.path c.args.track.row c.args.most c.args.gathered.now.points.items c.args.gathered.now.run.items c.args.pieces.now.items c.in-Some.found.image
     c.in-Some.ensures.some room
 
 pub carry_segment-requires-clause-image : goal.carry_segment-requires-clause-image

@@ -1,7 +1,7 @@
 use Rattle.std.proofs.Common.{subst}
 use Rattle.tin_base.specs.Triangulation.{Triangulation}
 use Rattle.affine_image.specs.Rounded.{IsRoundedImage}
-use Rattle.carry_map.proofs.paths.image_at.Goals as goal
+use Rattle.carry_map.proofs.paths.find.Goals as goal
 
 pub returns-clause-some : goal.returns-clause-some
 returns-clause-some c = subst (λ (tin : Triangulation). IsRoundedImage tin c.args.p c.image_of.result) c.tin.ensures c.image_of.ensures
