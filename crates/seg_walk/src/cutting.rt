@@ -88,7 +88,13 @@ pub fn cut(alloc: Global, index: &TinIndex, a: Pt, b: Pt) -> Result<Steps, WalkF
 }
 
 /// As `cut`. It is quicker where `a` is inside of the triangle that is guessed, as that of the piece before; any number will do.
-pub fn cut_from(alloc: Global, index: &TinIndex, a: Pt, b: Pt, guess: u32) -> Result<Steps, WalkFault>
+pub fn cut_from(
+    alloc: Global,
+    index: &TinIndex,
+    a: Pt,
+    b: Pt,
+    guess: u32,
+) -> Result<Steps, WalkFault>
     ensures pieces { IfOk result (λ steps. AreSteps index.now a b steps.items) }
     ensures inside { IfOk result (λ _. IsInside index.now a b) }
     ensures outside { IsErrOf result Outside → IsInside index.now a b → ⊥ }

@@ -112,7 +112,7 @@ not_on_side tin ns cs p few all left m = go (on_a_side left.i left.j left.k cs f
 pub only_in : (tin : Triangulation) (t : ℕ) (r : Tri) (p : Pt) → IsWithinLimits tin → IsSound tin → t < length tin.triangles → corners r ≡ places tin Source (numbers_of tin t) → pos 0 <ℤ turn_of (whole r.a) (whole r.b) (whole r.c) → IsInsideOf r p → IsOnlyIn tin t p
 only_in tin t r p limits sound ht is positive inside =
     let has : IsInTriangle tin Source t (whole p) = subst (λ (ps : List Point). IsMix (whole p) ps) is
-        (mix_of_turns (whole r.a) (whole r.b) (whole r.c) (whole p) one one one one positive (≤_of_< (pos 0) (turn_of (whole r.a) (whole r.b) (whole p)) inside.0) (≤_of_< (pos 0) (turn_of (whole r.b) (whole r.c) (whole p)) inside.1) (≤_of_< (pos 0) (turn_of (whole r.c) (whole r.a) (whole p)) inside.2)) in
+    (mix_of_turns (whole r.a) (whole r.b) (whole r.c) (whole p) one one one one positive (≤_of_< (pos 0) (turn_of (whole r.a) (whole r.b) (whole p)) inside.0) (≤_of_< (pos 0) (turn_of (whole r.b) (whole r.c) (whole p)) inside.1) (≤_of_< (pos 0) (turn_of (whole r.c) (whole r.a) (whole p)) inside.2)) in
     record {
       in_range = ht;
       has = has;

@@ -110,7 +110,11 @@ pub fn box_of_all(tin: &SoundTin) -> Rect
     let mut round = box_at(Pt { x: 0, y: 0 });
     for place in 0..corners.len() {
         let p = corners[place].at(Frame::Source);
-        round = if place == 0 { box_at(p) } else { with(round, p) };
+        round = if place == 0 {
+            box_at(p)
+        } else {
+            with(round, p)
+        };
     }
     round
 }

@@ -16,7 +16,7 @@ pub returns-then-not-is_before_end-clause-inside : goal.returns-then-not-is_befo
 returns-then-not-is_before_end-clause-inside c = (at_end c.args.index.now c.args.a c.args.b c.loop-next.steps.items c.push.new.self.items c.in-Some.step c.requires.differ (one_more c.args.index.now c.tin.result.now c.args.a c.args.b c.loop-next.steps.items c.push.new.self.items c.loop-next.next c.in-Some.step c.tin.ensures c.known.ensures.limits c.known.ensures.sound c.requires.differ c.loop-next.invariant c.in-Some.is c.in_ok-push.ensures.ok) (denied c.if-not-is_before_end.ensures)).1
 
 pub loop-next-smaller : goal.loop-next-smaller
-loop-next-smaller c = 
+loop-next-smaller c =
     let here =
     one_more c.args.index.now c.tin.result.now c.args.a c.args.b c.loop-next.steps.items c.push.new.self.items c.loop-next.next c.in-Some.step c.tin.ensures c.known.ensures.limits c.known.ensures.sound c.requires.differ c.loop-next.invariant c.in-Some.is c.in_ok-push.ensures.ok in
     here.less
