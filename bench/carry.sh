@@ -1,8 +1,8 @@
 #!/bin/sh
 # How fast a layer of segments goes through a triangulation of 200 triangles. Pieces whose boxes meet are compared, so the time
 # grows with the number of such pairs.
-# Prints, for each of three runs, segments, pieces and slices of triangles a second, and the peak of memory. Each piece asks every
-# triangle for its slice. Needs GNU time as /usr/bin/time, or as the command that TIME names. No part of the gate.
+# Prints, for each of three runs, segments and pieces a second, and the peak of memory. Needs GNU time as /usr/bin/time, or as the
+# command that TIME names. No part of the gate.
 set -eu
 segments=${1:-1000}
 time=${TIME:-/usr/bin/time}
@@ -46,7 +46,7 @@ for run in 1 2 3; do
     pieces=$(sed -n 's/^layer 0 .* pieces \([0-9]*\) .*/\1/p' report)
     awk -v run="$run" -v segments="$segments" -v pieces="$pieces" '{
         seconds = $1 > 0 ? $1 : 0.01
-        printf "run %d: %s s, %d segments, %d pieces, %d slices a second, %d KiB at most\n",
-            run, $1, segments / seconds, pieces / seconds, pieces * 200 / seconds, $2
+        printf "run %d: %s s, %d segments, %d pieces a second, %d KiB at most\n",
+            run, $1, segments / seconds, pieces / seconds, $2
     }' taken
 done
