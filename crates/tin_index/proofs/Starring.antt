@@ -1,29 +1,19 @@
 -- The triangles of each corner, as the lists of them grow.
 use Rattle.std.proofs.Math.Numerals.{add-one}
-use Rattle.std.proofs.Common.{◌≡◌, ◌≢◌, ◌⊎◌, inl, inr, ⊎_elim, ℕ, zero, suc, ◌+◌, ◌<◌, ◌≤◌, Bool, true, false, ◌||◌, ◌==◌, eqb, List, [], ◌∷◌, ◌++◌, length, map, set, replicate, get_or, Contains, Vec, Global, refl, sym, ap, ◌∙◌, subst, arith}
+use Rattle.std.proofs.Common.{◌≡◌, ◌≢◌, ◌⊎◌, inl, inr, ⊎_elim, ℕ, zero, suc, ◌+◌, ◌<◌, ◌≤◌, Bool, true, false, ◌||◌, ◌==◌, cond, eqb, List, [], ◌∷◌, ◌++◌, length, get_or, All, Contains, lit<, refl, sym, ap, ◌∙◌, subst, arith}
 use Rattle.std.proofs.lemmas.Bool.{cases_lt}
 use Rattle.std.proofs.lemmas.Bool.Decides.{eqb_tells}
-use Rattle.std.proofs.lemmas.List.{length_push, get_or_append_left, get_or_push, length-set, get_or-set_same, get_or-set_other, map-set, get_or-map, length-map, length-replicate, get_or-replicate, append-nil}
-use Rattle.std.proofs.lemmas.List.Elements.{Contains-push, Contains-push_cases, Contains-get_or, Contains-append_left}
+use Rattle.std.proofs.lemmas.List.{length_push, get_or_append_left, get_or_push, append-nil}
+use Rattle.std.proofs.lemmas.List.Elements.{Contains-push, Contains-push_cases, Contains-get_or, Contains-append_left, All-push}
 use Rattle.std.specs.List.Sorted.{IsStrictlyIncreasing}
+use Rattle.number_groups.specs.declared.groups.Entry.{Entry}
+use Rattle.number_groups.specs.Groups.{numbers_of as numbers_under}
 use Rattle.tin_base.specs.Triangulation.{Triangulation, numbers_of}
 use Rattle.tin_base.specs.Soundness.{has, IsSound}
 use Rattle.tin_base.specs.Limits.{IsWithinLimits}
-use Rattle.tin_index.proofs.Corners.{three_read}
+use Rattle.tin_index.proofs.Corners.{three_read, read_differ}
 use Rattle.tin_index.specs.Sides.{HasCorner, IsStar}
-use Rattle.tin_index.specs.Stars.{one_if, star_to, AddsTriangle, AreStarsTo}
-
--- ---- lists of lists, as they are kept
-abbrev pub kept : List (Vec ℕ Global) → List (List ℕ)
-kept lists = map (λ (list : Vec ℕ Global). list.items) lists
-
--- a number behind those of one list
-pub kept_put : (lists : List (Vec ℕ Global)) (place number : ℕ) (old new : Vec ℕ Global) → place < length (kept lists) → old ≡ get_or lists place old → new.items ≡ old.items ++ number ∷ []
-    → kept (set lists place new) ≡ set (kept lists) place (get_or (kept lists) place [] ++ number ∷ [])
-kept_put lists place number old new within is pushed =
-    let long : length (kept lists) ≡ length lists = length-map lists (λ (list : Vec ℕ Global). list.items) in
-    let read : get_or (kept lists) place [] ≡ old.items = get_or-map (λ (list : Vec ℕ Global). list.items) lists place old [] (omega arith) ∙ ap (λ (list : Vec ℕ Global). list.items) (sym is) in
-    map-set (λ (list : Vec ℕ Global). list.items) lists place new ∙ ap (λ (xs : List ℕ). set (kept lists) place xs) (pushed ∙ ap (λ (xs : List ℕ). xs ++ number ∷ []) (sym read))
+use Rattle.tin_index.specs.Stars.{one_if, star_to, AreEntriesTo, AreStarsTo}
 
 -- ---- ascending numbers and one more
 increasing_push : (xs : List ℕ) (n : ℕ) → IsStrictlyIncreasing xs → ((k : ℕ) → Contains xs k → k < n) → IsStrictlyIncreasing (xs ++ n ∷ [])
@@ -85,23 +75,6 @@ star_is tin corner numbers e =
       exact = λ t. (λ c. star_has tin corner (length tin.triangles) t c, λ h. star_all tin corner (length tin.triangles) t h.0 h.1);
     })
 
--- ---- lists with no triangle
-pub no_triangles : (tin : Triangulation) (count : ℕ) → count ≡ length tin.corners → AreStarsTo tin 0 (replicate count [])
-unfolding star_to
-no_triangles tin count e = record { count = length-replicate count [] ∙ e; each = λ corner h. get_or-replicate count corner [] [] (omega arith) }
-
--- ---- one triangle more
-one_put : (xs : List (List ℕ)) (place t corner : ℕ) → place < length xs → get_or (set xs place (get_or xs place [] ++ t ∷ [])) corner [] ≡ get_or xs corner [] ++ one_if (place == corner) t
-one_put xs place t corner within = go (eqb_tells place corner)
-  where
-    go : ((eqb place corner ≡ true) × (place ≡ corner)) ⊎ ((eqb place corner ≡ false) × (place ≢ corner)) → get_or (set xs place (get_or xs place [] ++ t ∷ [])) corner [] ≡ get_or xs corner [] ++ one_if (eqb place corner) t
-    go (inl e) =
-        subst (λ (b : Bool). get_or (set xs place (get_or xs place [] ++ t ∷ [])) corner [] ≡ get_or xs corner [] ++ one_if b t) (sym e.0)
-        (subst (λ (c : ℕ). get_or (set xs place (get_or xs place [] ++ t ∷ [])) c [] ≡ get_or xs c [] ++ t ∷ []) e.1 (get_or-set_same xs place (get_or xs place [] ++ t ∷ []) [] within))
-    go (inr e) =
-        subst (λ (b : Bool). get_or (set xs place (get_or xs place [] ++ t ∷ [])) corner [] ≡ get_or xs corner [] ++ one_if b t) (sym e.0)
-        (get_or-set_other xs place corner (get_or xs place [] ++ t ∷ []) [] (λ f. e.1 (sym f)) ∙ sym (append-nil (get_or xs corner [])))
-
 -- of three different numbers one at most is the corner
 one_of_three : (i j k t corner : ℕ) (xs : List ℕ) → i ≢ j → i ≢ k → j ≢ k → ((xs ++ one_if (i == corner) t) ++ one_if (j == corner) t) ++ one_if (k == corner) t ≡ xs ++ one_if (has (i ∷ j ∷ k ∷ []) corner) t
 one_of_three i j k t corner xs ij ik jk = go (eqb_tells i corner) (eqb_tells j corner) (eqb_tells k corner)
@@ -130,36 +103,73 @@ one_of_three i j k t corner xs ij ik jk = go (eqb_tells i corner) (eqb_tells j c
         → ((xs ++ one_if (eqb i corner) t) ++ one_if (eqb j corner) t) ++ one_if (eqb k corner) t ≡ xs ++ one_if (has (i ∷ j ∷ k ∷ []) corner) t
     go e f g = by (eqb i corner) (eqb j corner) (eqb k corner) (both i j ij e f) (both i k ik e g) (both j k jk f g)
 
-pub three_put : (i j k t : ℕ) (xs ys zs ws : List (List ℕ)) → i ≢ j → i ≢ k → j ≢ k → i < length xs → j < length xs → k < length xs
-    → ys ≡ set xs i (get_or xs i [] ++ t ∷ []) → zs ≡ set ys j (get_or ys j [] ++ t ∷ []) → ws ≡ set zs k (get_or zs k [] ++ t ∷ []) → AddsTriangle (i ∷ j ∷ k ∷ []) t xs ws
-three_put i j k t xs ys zs ws ij ik jk hi hj hk e f g =
-    let ys_long : length ys ≡ length xs = ap length e ∙ length-set xs i (get_or xs i [] ++ t ∷ []) in
-    let zs_long : length zs ≡ length ys = ap length f ∙ length-set ys j (get_or ys j [] ++ t ∷ []) in
-    let ws_long : length ws ≡ length zs = ap length g ∙ length-set zs k (get_or zs k [] ++ t ∷ []) in
-    record {
-      count = ws_long ∙ zs_long ∙ ys_long;
-      each = λ corner h.
-          let first : get_or ys corner [] ≡ get_or xs corner [] ++ one_if (i == corner) t = ap (λ (ls : List (List ℕ)). get_or ls corner []) e ∙ one_put xs i t corner hi in
-          let second : get_or zs corner [] ≡ get_or ys corner [] ++ one_if (j == corner) t = ap (λ (ls : List (List ℕ)). get_or ls corner []) f ∙ one_put ys j t corner (omega arith) in
-          let third : get_or ws corner [] ≡ get_or zs corner [] ++ one_if (k == corner) t = ap (λ (ls : List (List ℕ)). get_or ls corner []) g ∙ one_put zs k t corner (omega arith) in
-          third ∙ ap (λ (l : List ℕ). l ++ one_if (k == corner) t) (second ∙ ap (λ (l : List ℕ). l ++ one_if (j == corner) t) first) ∙ one_of_three i j k t corner (get_or xs corner []) ij ik jk;
-    }
+-- ---- entries
+abbrev entry : ℕ → ℕ → Entry
+entry key number = record { key = key; number = number }
 
-pub stars_more : (tin : Triangulation) (t : ℕ) (xs ys : List (List ℕ)) → AreStarsTo tin t xs → AddsTriangle (numbers_of tin t) t xs ys → AreStarsTo tin (t + 1) ys
+cond_push : (b c : Bool) (m n : ℕ) (xs : List ℕ) → cond b (m ∷ xs ++ one_if c n) (xs ++ one_if c n) ≡ cond b (m ∷ xs) xs ++ one_if c n
+cond_push true c m n xs = refl
+cond_push false c m n xs = refl
+
+numbers_push : (key : ℕ) (xs : List Entry) (e : Entry) → numbers_under key (xs ++ e ∷ []) ≡ numbers_under key xs ++ one_if (e.key == key) e.number
+numbers_push key [] e = one (eqb e.key key)
+  where
+    one : (b : Bool) → cond b (e.number ∷ []) [] ≡ one_if b e.number
+    one true = refl
+    one false = refl
+numbers_push key (x ∷ xs) e =
+    ap (λ (l : List ℕ). cond (eqb x.key key) (x.number ∷ l) l) (numbers_push key xs e) ∙ cond_push (eqb x.key key) (eqb e.key key) x.number e.number (numbers_under key xs)
+
+keys_push : (tin : Triangulation) (xs : List Entry) (e : Entry) → All (λ x. x.key < length tin.corners) xs → e.key < length tin.corners → All (λ x. x.key < length tin.corners) (xs ++ e ∷ [])
+keys_push tin xs e all h = All-push (λ x. x.key < length tin.corners) xs e all h
+
+pub no_entries : (tin : Triangulation) (entries : List Entry) → entries ≡ [] → AreEntriesTo tin 0 entries
 unfolding star_to
-stars_more tin t xs ys stars adds =
-    let long : length xs ≡ length tin.corners = stars.count in
+no_entries tin entries e = subst (λ (es : List Entry). AreEntriesTo tin 0 es) (sym e) (record { count = refl; keys = λ k d h. absurd (omega arith); each = λ corner. refl })
+
+pub entries_more : (tin : Triangulation) (t i j k : ℕ) (xs ys zs ws : List Entry) → numbers_of tin t ≡ i ∷ j ∷ k ∷ [] → i ≢ j → i ≢ k → j ≢ k → i < length tin.corners → j < length tin.corners → k < length tin.corners
+    → AreEntriesTo tin t xs → ys ≡ xs ++ record { key = i; number = t } ∷ [] → zs ≡ ys ++ record { key = j; number = t } ∷ [] → ws ≡ zs ++ record { key = k; number = t } ∷ [] → AreEntriesTo tin (t + 1) ws
+unfolding star_to
+entries_more tin t i j k xs ys zs ws ns ij ik jk hi hj hk old e f g =
+    let ei : Entry = record { key = i; number = t } in
+    let ej : Entry = record { key = j; number = t } in
+    let ek : Entry = record { key = k; number = t } in
+    let long = old.count in
+    let ys_long : length ys ≡ length xs + 1 = ap length e ∙ length_push xs ei in
+    let zs_long : length zs ≡ length ys + 1 = ap length f ∙ length_push ys ej in
+    let ws_long : length ws ≡ length zs + 1 = ap length g ∙ length_push zs ek in
+    let ys_keys = subst (λ (es : List Entry). All (λ x. x.key < length tin.corners) es) (sym e) (keys_push tin xs ei old.keys hi) in
+    let zs_keys = subst (λ (es : List Entry). All (λ x. x.key < length tin.corners) es) (sym f) (keys_push tin ys ej ys_keys hj) in
     record {
-      count = adds.count ∙ long;
-      each = λ corner h. adds.each corner (omega arith) ∙ ap (λ (l : List ℕ). l ++ one_if (has (numbers_of tin t) corner) t) (stars.each corner h) ∙ one_more corner;
+      count = omega arith;
+      keys = subst (λ (es : List Entry). All (λ x. x.key < length tin.corners) es) (sym g) (keys_push tin zs ek zs_keys hk);
+      each = λ corner.
+          let first : numbers_under corner ys ≡ star_to tin corner t ++ one_if (i == corner) t = ap (numbers_under corner) e ∙ numbers_push corner xs ei ∙ ap (λ (l : List ℕ). l ++ one_if (i == corner) t) (old.each corner) in
+          let second : numbers_under corner zs ≡ numbers_under corner ys ++ one_if (j == corner) t = ap (numbers_under corner) f ∙ numbers_push corner ys ej in
+          let third : numbers_under corner ws ≡ numbers_under corner zs ++ one_if (k == corner) t = ap (numbers_under corner) g ∙ numbers_push corner zs ek in
+          third ∙ ap (λ (l : List ℕ). l ++ one_if (k == corner) t) (second ∙ ap (λ (l : List ℕ). l ++ one_if (j == corner) t) first) ∙ one_of_three i j k t corner (star_to tin corner t) ij ik jk
+          ∙ ap (λ (ms : List ℕ). star_to tin corner t ++ one_if (has ms corner) t) (sym ns) ∙ one_more corner;
     }
   where
     one_more : (corner : ℕ) → star_to tin corner t ++ one_if (has (numbers_of tin t) corner) t ≡ star_to tin corner (t + 1)
     one_more corner = rw add-one refl
 
-pub stars_more_read : (tin : Triangulation) (t : ℕ) (rows xs ys : List (List ℕ)) → IsWithinLimits tin → IsSound tin → rows ≡ tin.triangles → t < length rows → AreStarsTo tin t xs
-    → AddsTriangle (get_or (get_or rows t []) 0 0 ∷ get_or (get_or rows t []) 1 0 ∷ get_or (get_or rows t []) 2 0 ∷ []) t xs ys → AreStarsTo tin (t + 1) ys
-stars_more_read tin t rows xs ys limits sound e h stars adds =
-    let within : t < length tin.triangles = subst (λ (rs : List (List ℕ)). t < length rs) e h in
-    let here = subst (λ (rs : List (List ℕ)). AddsTriangle (get_or (get_or rs t []) 0 0 ∷ get_or (get_or rs t []) 1 0 ∷ get_or (get_or rs t []) 2 0 ∷ []) t xs ys) e adds in
-    stars_more tin t xs ys stars (subst (λ (ns : List ℕ). AddsTriangle ns t xs ys) (sym (three_read tin t limits sound within)) here)
+-- ---- as they are read
+pub entries_more_read : (tin : Triangulation) (t : ℕ) (rows : List (List ℕ)) (xs ys zs ws : List Entry) → IsWithinLimits tin → IsSound tin → rows ≡ tin.triangles → t < length rows → AreEntriesTo tin t xs
+    → ys ≡ xs ++ record { key = get_or (get_or rows t []) 0 0; number = t } ∷ [] → zs ≡ ys ++ record { key = get_or (get_or rows t []) 1 0; number = t } ∷ [] → ws ≡ zs ++ record { key = get_or (get_or rows t []) 2 0; number = t } ∷ []
+    → AreEntriesTo tin (t + 1) ws
+entries_more_read tin t rows xs ys zs ws limits sound same h old e f g =
+    let ht : t < length tin.triangles = subst (λ (rs : List (List ℕ)). t < length rs) same h in
+    let three : length (numbers_of tin t) ≡ 3 = limits.three t ht in
+    entries_more tin t (get_or (numbers_of tin t) 0 0) (get_or (numbers_of tin t) 1 0) (get_or (numbers_of tin t) 2 0) xs ys zs ws (three_read tin t limits sound ht)
+    (read_differ tin t 0 1 limits sound ht (lit< tt) (lit< tt) (omega arith)) (read_differ tin t 0 2 limits sound ht (lit< tt) (lit< tt) (omega arith)) (read_differ tin t 1 2 limits sound ht (lit< tt) (lit< tt) (omega arith))
+    (limits.in_range t ht 0 0 (omega arith)) (limits.in_range t ht 1 0 (omega arith)) (limits.in_range t ht 2 0 (omega arith)) old
+    (subst (λ (rs : List (List ℕ)). ys ≡ xs ++ entry (get_or (get_or rs t []) 0 0) t ∷ []) same e)
+    (subst (λ (rs : List (List ℕ)). zs ≡ ys ++ entry (get_or (get_or rs t []) 1 0) t ∷ []) same f)
+    (subst (λ (rs : List (List ℕ)). ws ≡ zs ++ entry (get_or (get_or rs t []) 2 0) t ∷ []) same g)
+
+-- ---- the groups of all entries
+pub stars_are : (tin : Triangulation) (n : ℕ) (entries : List Entry) (stars : List (List ℕ)) → n ≡ length tin.triangles → length stars ≡ length tin.corners → AreEntriesTo tin n entries
+    → ((key : ℕ) → key < length tin.corners → get_or stars key [] ≡ numbers_under key entries) → AreStarsTo tin (length tin.triangles) stars
+stars_are tin n entries stars e count are each =
+    subst (λ (m : ℕ). AreStarsTo tin m stars) e (record { count = count; each = λ corner h. each corner h ∙ are.each corner })

@@ -1,5 +1,7 @@
 -- How the lists of triangles by corners grow. Only private functions speak of it.
-use Rattle.std.specs.Prelude.{◌≡◌, ℕ, zero, suc, ◌<◌, Bool, true, false, List, [], ◌∷◌, ◌++◌, length, slice_index_or}
+use Rattle.std.specs.Prelude.{◌≡◌, ℕ, zero, suc, ◌*◌, ◌<◌, Bool, true, false, List, [], ◌∷◌, ◌++◌, length, All, slice_index_or}
+use Rattle.number_groups.specs.declared.groups.Entry.{Entry}
+use Rattle.number_groups.specs.Groups.{numbers_of as numbers_under}
 use Rattle.tin_base.specs.Triangulation.{Triangulation, numbers_of}
 use Rattle.tin_base.specs.Soundness.{has}
 
@@ -18,7 +20,8 @@ pub record AreStarsTo (tin : Triangulation) (n : ℕ) (stars : List (List ℕ)) 
   pub count : length stars ≡ length tin.corners
   pub each : (corner : ℕ) → corner < length tin.corners → slice_index_or stars corner [] ≡ star_to tin corner n
 
--- the triangle is put behind the others of each of its corners
-pub record AddsTriangle (numbers : List ℕ) (t : ℕ) (before now : List (List ℕ)) : Type 0 where
-  pub count : length now ≡ length before
-  pub each : (corner : ℕ) → corner < length before → slice_index_or now corner [] ≡ slice_index_or before corner [] ++ one_if (has numbers corner) t
+-- the entries of the first `n` triangles, each under each of its corners
+pub record AreEntriesTo (tin : Triangulation) (n : ℕ) (entries : List Entry) : Type 0 where
+  pub count : length entries ≡ 3 * n
+  pub keys : All (λ entry. entry.key < length tin.corners) entries
+  pub each : (corner : ℕ) → numbers_under corner entries ≡ star_to tin corner n

@@ -8,8 +8,9 @@ ghost use Rattle.tin_index.specs.Sides.{HasCorner, corner_of, next_of, IsAcross,
 
 use crate::boxes::{box_of_all, boxes_of, is_in_box};
 use crate::locating::{is_inside, locate_in};
-use crate::stars::Stars;
+use crate::stars::stars_of;
 use cell_grid::Grid;
+use number_groups::Groups;
 use plane_base::{Pt, Rect};
 use std::alloc::{AllocError, Global};
 use std::marker::Model;
@@ -23,7 +24,8 @@ pub struct TinIndex {
     round: Rect,
     // of the boxes of the source triangles
     grid: Grid,
-    stars: Stars,
+    // the triangles of each corner
+    stars: Groups,
 }
 
 impl Model for TinIndex {
@@ -46,7 +48,7 @@ impl TinIndex {
         tin.known();
         let boxes = boxes_of(alloc, &tin)?;
         let grid = Grid::build(alloc, &boxes)?;
-        let stars = Stars::of(alloc, &tin)?;
+        let stars = stars_of(alloc, &tin)?;
         let round = box_of_all(&tin);
         Ok(TinIndex {
             tin,

@@ -1,5 +1,0 @@
-use Rattle.std.proofs.Common.{◌≡◌, ℕ, [], map, replicate, Vec, Global}
-use Rattle.tin_index.proofs.stars.Stars.new.Given as goal
-
-abbrev pub invariant-loop : goal.invariant-loop
-invariant-loop l = map (λ (list : Vec ℕ Global). list.items) l.lists.items ≡ replicate l.counter []
