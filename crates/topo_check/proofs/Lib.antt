@@ -1,7 +1,9 @@
-pub mod Adding
 pub mod ByRounding
 pub mod Cases
+pub mod Collects
 pub mod InBoxes
-pub mod Nexts
+pub mod InOrder
 pub mod OneList
+pub mod Ordered
+pub mod Passes
 pub mod Spans

@@ -1,5 +1,5 @@
 -- Two pieces have one change or none, and so pieces have one list of changes.
-use Rattle.std.proofs.Common.{◌≡◌, ℕ, suc, ◌<◌, List, [], ◌∷◌, ◌++◌, length, All, Option, None, Some, refl, sym, ◌∙◌, ap, ap₂, subst, length-append, arith}
+use Rattle.std.proofs.Common.{◌≡◌, suc, List, [], ◌∷◌, ◌≤◌, ◌++◌, length, All, Option, None, Some, inr, refl, sym, ◌∙◌, ap, ap₂, arith}
 use Rattle.tin_base.specs.declared.pieces.Place.{Place}
 use Rattle.tin_base.specs.declared.pieces.Piece.{Piece}
 use Rattle.tin_base.specs.declared.pieces.Change.{Change}
@@ -8,7 +8,8 @@ use Rattle.tin_base.specs.Triangulation.{Triangulation}
 use Rattle.tin_base.specs.Pieces.{IsPieceInside, first_point, last_point}
 use Rattle.plane_base.specs.Plane.{whole}
 use Rattle.meet_rel.proofs.Exclusive.{relations_are_exclusive}
-use Rattle.topo_check.specs.Changes.{HadRelation, HasRelation, IsChangeOf, Pair, with_each, pairs, put, AreChangesOf}
+use Rattle.topo_check.specs.Changes.{HadRelation, HasRelation, IsChangeOf, Pair, with_each, pairs, put, AreChangesOf, Numbers, HaveChanged, piece_at, no_piece}
+use Rattle.topo_check.proofs.InOrder.{AreSteps, in_order}
 use Rattle.topo_check.specs.Laws.{ChangesAreOne, MoreStayMore}
 
 -- ---- of two pieces
@@ -64,25 +65,33 @@ one_list tin (x ∷ xs) cs ds i h k =
 pub changes_are_one : ChangesAreOne
 changes_are_one tin pieces h cs ds a b = one_list tin (pairs pieces) cs ds (pairs_inside tin pieces h) a b
 
--- ---- the changes of first pairs come first
-put_append : (c : Option Change) (xs ys : List Change) → put c (xs ++ ys) ≡ put c xs ++ ys
-put_append None xs ys = refl
-put_append (Some c) xs ys = refl
+-- ---- each pair that has changed has a place in the list of changes
+put_longer : (c : Option Change) (xs : List Change) → length xs ≤ length (put c xs)
+put_longer None xs = omega arith
+put_longer (Some c) xs = omega arith
 
-front_of : (tin : Triangulation) (front rest : List Pair) (cs ds : List Change) → AreInside tin (front ++ rest) → AreChangesOf tin front cs → AreChangesOf tin (front ++ rest) ds → (more : List Change) × (ds ≡ cs ++ more)
-unfolding AreInside
-front_of tin [] rest cs ds i h k = (ds, ap (λ (xs : List Change). xs ++ ds) (sym h))
-front_of tin (x ∷ xs) rest cs ds i h k =
-    let later = front_of tin xs rest h.1 k.1 i.2 h.3 k.3 in (
-      later.0,
-      k.4 ∙ ap₂ put (one_change tin x.first x.second k.0 h.0 i.0 i.1 k.2 h.2) later.1 ∙ put_append h.0 h.1 later.0 ∙ ap (λ (zs : List Change). zs ++ later.0) (sym h.4),
-    )
+-- the changes of some pairs are not fewer than the numbers
+abbrev AreNotMore : Triangulation → List Numbers → List Pair → Type 0
+AreNotMore tin changed ps = (changes : List Change) → AreChangesOf tin ps changes → length changed ≤ length changes
 
-longer : (xs ys zs : List Change) (n : ℕ) → zs ≡ xs ++ ys → n < length xs → n < length zs
-longer xs ys zs n e h = omega (arith, ap length e, length-append xs ys)
+one_more : (tin : Triangulation) (p q : Piece) (n : Numbers) (ns : List Numbers) (ps : List Pair) (d : Change) → IsPieceInside tin p → IsPieceInside tin q → IsChangeOf tin p q (Some d) → AreNotMore tin ns ps
+    → (here : Option Change) (later changes : List Change) → IsChangeOf tin p q here → AreChangesOf tin ps later → changes ≡ put here later → length (n ∷ ns) ≤ length changes
+one_more tin p q n ns ps d hp hq is not_more None later changes h k e = absurd (none_is_some d (one_change tin p q None (Some d) hp hq h is))
+  where
+    none_is_some : (d : Change) → None ≡ Some d → ⊥
+    none_is_some d e = cc
+one_more tin p q n ns ps d hp hq is not_more (Some c) later changes h k e = omega (arith, not_more later k, ap length e)
+
+counted : (tin : Triangulation) (pieces : List Piece) → All (λ q. IsPieceInside tin q) pieces → AreSteps (λ (n : Numbers). n) pieces (HaveChanged tin pieces) (λ i j. Unit {0}) (AreNotMore tin)
+counted tin pieces inside = record {
+  inside = λ n h. (h.earlier, h.in_range);
+  none = λ changes h. omega arith;
+  hit = λ n ns ps h not_more changes k.
+      one_more tin (piece_at pieces n.first) (piece_at pieces n.second) n ns ps h.change (inside n.first no_piece (omega (arith, h.earlier, h.in_range))) (inside n.second no_piece h.in_range) h.is_change not_more k.0 k.1 changes k.2 k.3 k.4;
+  miss = λ i j ns ps less within _ not_more changes k. omega (arith, not_more k.1 k.3, put_longer k.0 k.1, ap length k.4);
+}
 
 pub more_stay_more : MoreStayMore
-more_stay_more tin pieces most h m changes a =
-    let i = pairs_inside tin pieces h in
-    let f = front_of tin m.front m.rest m.changes changes (subst (λ (xs : List Pair). AreInside tin xs) (sym m.is_front) i) m.are_changes (subst (λ (xs : List Pair). AreChangesOf tin xs changes) (sym m.is_front) a) in
-    longer m.changes f.0 changes most f.1 m.more
+more_stay_more tin pieces most inside m changes a =
+    let not_more = in_order (λ (n : Numbers). n) pieces (HaveChanged tin pieces) (λ i j. Unit {0}) (AreNotMore tin) (counted tin pieces inside) m.changed m.ascending m.each (λ i j less within. inr tt) changes a in
+    omega (arith, not_more, m.more)

@@ -1,5 +1,6 @@
 -- The changes of pieces by rounding.
-use Rattle.std.specs.Prelude.{◌≡◌, ◌≢◌, ℕ, ◌<◌, pos, List, [], ◌∷◌, ◌++◌, length, map, All, Option, None, Some, slice_index_or}
+use Rattle.std.specs.Prelude.{◌≡◌, ◌≢◌, ◌⊎◌, ℕ, ◌<◌, pos, List, [], ◌∷◌, ◌++◌, length, map, All, Option, None, Some, slice_index_or}
+use Rattle.std.specs.List.{AllPairs}
 use Rattle.plane_base.specs.Plane.{whole}
 use Rattle.plane_base.specs.declared.shapes.Pt.{Pt}
 use Rattle.tin_base.specs.declared.pieces.Piece.{Piece}
@@ -91,23 +92,25 @@ AreChangesOf tin ps changes = AreChangesBy (HadRelation tin) ps changes
 abbrev pub AreChanges : Triangulation → List Piece → List Change → Type 0
 AreChanges tin pieces changes = AreChangesOf tin (pairs pieces) changes
 
--- some first pairs have more changes than `most`
-pub record HaveMoreThan (tin : Triangulation) (all : List Pair) (most : ℕ) : Type 0 where
-  pub front : List Pair
-  pub rest : List Pair
-  pub changes : List Change
-  pub is_front : front ++ rest ≡ all
-  pub are_changes : AreChangesOf tin front changes
-  pub more : most < length changes
+-- ---- pairs of numbers
+pub record Numbers : Type 0 where
+  pub first : ℕ
+  pub second : ℕ
 
-abbrev pub HasMoreThan : Triangulation → List Piece → ℕ → Type 0
-HasMoreThan tin pieces most = HaveMoreThan tin (pairs pieces) most
+-- the one pair comes before the other: by the first number, and then by the second
+abbrev pub DoPrecede : Numbers → Numbers → Type 0
+DoPrecede m n = (m.first < n.first) ⊎ ((m.first ≡ n.first) × (m.second < n.second))
 
--- ---- while pairs are added to those that are done
--- what were the changes of those done are now the changes of these too
-abbrev pub DoAdd : Triangulation → List Pair → List Change → List Change → Type 0
-DoAdd tin more before now = (done : List Pair) → AreChangesOf tin done before → AreChangesOf tin (done ++ more) now
+-- the pieces of the two numbers have a change, and the first is the earlier one
+pub record HaveChanged (tin : Triangulation) (pieces : List Piece) (numbers : Numbers) : Type 0 where
+  pub earlier : numbers.first < numbers.second
+  pub in_range : numbers.second < length pieces
+  pub change : Change
+  pub is_change : IsChangeOf tin (piece_at pieces numbers.first) (piece_at pieces numbers.second) (Some change)
 
--- with these there are more changes than `most`
-abbrev pub DoPassMost : Triangulation → List Pair → List Change → ℕ → Type 0
-DoPassMost tin more before most = (done : List Pair) → AreChangesOf tin done before → HaveMoreThan tin (done ++ more) most
+-- more pairs than `most` have changed: a list of such pairs, each once and in their order, is longer
+pub record HasMoreThan (tin : Triangulation) (pieces : List Piece) (most : ℕ) : Type 0 where
+  pub changed : List Numbers
+  pub ascending : AllPairs DoPrecede changed
+  pub each : All (λ numbers. HaveChanged tin pieces numbers) changed
+  pub more : most < length changed

@@ -16,7 +16,7 @@ use Rattle.topo_check.specs.Changes.{AreAllInside, pairs, AreChangesBy, AreChang
 abbrev pub ChangesAreOne : Type 0
 ChangesAreOne = (tin : Triangulation) (pieces : List Piece) → AreAllInside tin pieces → (first second : List Change) → AreChanges tin pieces first → AreChanges tin pieces second → first ≡ second
 
--- where some first pairs have more changes than `most`, all pairs have
+-- where more pairs than `most` have changed, the list of all changes is longer than `most`
 abbrev pub MoreStayMore : Type 0
 MoreStayMore = (tin : Triangulation) (pieces : List Piece) (most : ℕ) → AreAllInside tin pieces → HasMoreThan tin pieces most → (changes : List Change) → AreChanges tin pieces changes → most < length changes
 

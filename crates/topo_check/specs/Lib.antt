@@ -1,4 +1,4 @@
 pub mod Changes
 pub mod Laws
 pub mod Boxes
-pub mod Candidates
+pub mod Pairs

@@ -1,8 +1,8 @@
-ghost use Rattle.std.specs.Prelude.{◌≡◌, ◌≤ℤ◌, ℤ, ◌⊎◌, [], ◌∷◌};
+ghost use Rattle.std.specs.Prelude.{◌≡◌, ◌↔◌, ◌≤ℤ◌, ◌<ℤ◌, ℤ, ◌⊎◌, [], ◌∷◌, IsTrue};
+ghost use Rattle.cell_grid.specs.Boxes.{AreApart};
 ghost use Rattle.plane_base.specs.Plane.{Point, whole, corners};
 ghost use Rattle.tin_base.specs.Pieces.{IsPieceInside};
-ghost use Rattle.cell_grid.specs.Inside.{IsIn, AreIn};
-ghost use Rattle.topo_check.specs.Boxes.{IsAround, IsExactBox, IsRoundedBox};
+ghost use Rattle.topo_check.specs.Boxes.{IsIn, AreIn, IsAround, IsExactBox, IsRoundedBox};
 
 use plane_base::{Pt, Rect, Tri};
 use tin_base::{Frame, Piece, SoundTin};
@@ -22,6 +22,19 @@ pub(crate) fn rounded_box(piece: &Piece) -> Rect
     ensures { IsRoundedBox piece.now result }
 {
     around(piece.ia, piece.ib)
+}
+
+/// Whether two boxes are apart: on one of the axes the one is behind the other.
+pub(crate) fn are_apart(p: &Rect, q: &Rect) -> bool
+    ensures { IsTrue result ↔ AreApart p.now q.now }
+{
+    are_spans_apart(p.x0, p.x1, q.x0, q.x1) || are_spans_apart(p.y0, p.y1, q.y0, q.y1)
+}
+
+fn are_spans_apart(first: i64, last: i64, start: i64, end: i64) -> bool
+    ensures { IsTrue result ↔ ((last <ℤ start) ⊎ (end <ℤ first)) }
+{
+    last < start || end < first
 }
 
 // The box of two points.

@@ -1,9 +1,9 @@
 //! Which pieces lie to each other in another way after rounding than in the source frame: all changed pairs, in order.
-//! Two grids of boxes, one of the pieces and one of their rounded segments, tell which pairs can have changed; these are compared.
+//! Two grids of boxes, one of the pieces and then one of their rounded segments, tell each pair that can have changed once; these are compared.
 #![tactic(auto)]
 
 mod boxes;
-mod candidates;
+mod collecting;
 mod comparing;
 mod faults;
 mod grids;

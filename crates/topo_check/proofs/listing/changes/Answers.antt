@@ -1,20 +1,23 @@
-use Rattle.std.proofs.Common.{◌≤◌, length, refl, arith}
-use Rattle.topo_check.specs.Changes.{no_piece, piece_at}
-use Rattle.topo_check.specs.declared.faults.ChangesFault.TheVariants.{TooMany}
-use Rattle.topo_check.proofs.Adding.{more_done, too_many, handed_on}
+use Rattle.std.proofs.Common.{◌≡◌, ◌<◌, ◌≤◌, map, List, length, subst, arith}
+use Rattle.topo_check.specs.declared.comparing.ChangedPair.{ChangedPair}
+use Rattle.topo_check.specs.Pairs.{change_of}
+use Rattle.topo_check.proofs.Ordered.{collected_moved, too_many, in_range, all_listed}
 use Rattle.topo_check.proofs.listing.changes.Goals as goal
 
-pub near-requires : goal.near-requires
-near-requires c = let within = c.loop-first-test.true in (c.requires.comparable c.loop-first.first no_piece within c.loop-first.first no_piece within).first
+pub returns-then-len-most-clause-too_many : goal.returns-then-len-most-clause-too_many
+returns-then-len-most-clause-too_many c = λ _.
+    let moved = collected_moved c.args.tin.now c.args.pieces.now c.args.most c.in_ok-pairs.pairs.items c.sort.new.pairs.items c.sort.ensures.same c.in_ok-pairs.ensures in
+    let more : c.args.most < length c.sort.new.pairs.items = omega (arith, c.if-len-most.true, c.len.ensures, c.sort.new.pairs.ok.0) in
+    too_many c.args.tin.now c.args.pieces.now c.args.most c.sort.new.pairs.items moved c.sort.ensures.ascending more
 
-pub returns-in_err-add_changes-clause-too_many : goal.returns-in_err-add_changes-clause-too_many
-returns-in_err-add_changes-clause-too_many c = λ is.
-    let h = c.from_residual-in_err-add_changes.ensures.1 in let k = c.in_err-add_changes.ensures.too_many in
-    too_many c.args.tin.now c.args.pieces.now c.loop-first.first c.args.most c.loop-first.changes.items (piece_at c.args.pieces.now c.loop-first.first) no_piece c.loop-first-test.true refl c.loop-first.invariant
-    (k (handed_on c.from_residual-in_err-add_changes.result c.in_err-add_changes.field-0.0 TooMany h is))
+pub list-requires : goal.list-requires
+list-requires c =
+    let moved = collected_moved c.args.tin.now c.args.pieces.now c.args.most c.in_ok-pairs.pairs.items c.sort.new.pairs.items c.sort.ensures.same c.in_ok-pairs.ensures in
+    rw c.deref.ensures.value (in_range c.args.tin.now c.args.pieces.now c.args.most c.sort.new.pairs.items moved)
 
-pub loop-first-preserved : goal.loop-first-preserved
-loop-first-preserved c =
-    let few : length c.add_changes.new.changes.items ≤ c.args.most = omega (arith, c.in_ok-add_changes.ensures.within, c.add_changes.new.changes.ok.0) in
-    more_done c.args.tin.now c.args.pieces.now c.loop-first.first c.args.most c.loop-first.changes.items c.add_changes.new.changes.items (piece_at c.args.pieces.now c.loop-first.first) no_piece c.loop-first-test.true refl c.loop-first.invariant
-    c.in_ok-add_changes.ensures.ok few
+pub returns-clause-ok : goal.returns-clause-ok
+returns-clause-ok c =
+    let moved = collected_moved c.args.tin.now c.args.pieces.now c.args.most c.in_ok-pairs.pairs.items c.sort.new.pairs.items c.sort.ensures.same c.in_ok-pairs.ensures in
+    let few : length c.sort.new.pairs.items ≤ c.args.most = omega (arith, c.if-len-most.false, c.len.ensures, c.sort.new.pairs.ok.0) in
+    all_listed c.args.tin.now c.args.pieces.now c.args.most c.sort.new.pairs.items c.in_ok-changes.changes.items moved c.sort.ensures.ascending few
+    (subst (λ (ys : List ChangedPair). c.in_ok-changes.changes.items ≡ map (change_of c.args.pieces.now) ys) c.deref.ensures.value c.in_ok-changes.ensures)
