@@ -12,6 +12,7 @@ pub mod LayerLists
 pub mod OneLayers
 pub mod OneOutcome
 pub mod Readied
+pub mod LayerCauses
 pub mod Made
 pub mod Fronts
 pub mod Ending

@@ -5,6 +5,7 @@ use Rattle.topo_check.specs.Changes.{AreAllComparable}
 use Rattle.tinmove.specs.Wanted.{carriage_of}
 use Rattle.tinmove.proofs.HandedOn.{handed_on, refused_more, done_more}
 use Rattle.tinmove.proofs.Readied.{tin_refused, layers_refused, changes_refused, rows_named, run_comparable, migration_done, migration_form}
+use Rattle.tinmove.proofs.LayerCauses.{layers_causes, passed_since}
 use Rattle.tinmove.proofs.preparing.migrated.Goals as goal
 
 pub returns-in_err-index-clause-refused : goal.returns-in_err-index-clause-refused
@@ -46,3 +47,14 @@ returns-clause-refused g c =
     (λ refusal why.
     changes_refused (g.S.Shelf.files c.args.shelf.now) (carriage_of c.args.migration) c.in_ok-index.index c.in_ok-run.run' _ refusal (rw c.text.ensures at c.in_ok-index.ensures.ok) (rw c.in_ok-index.ensures.files at c.in_ok-run.ensures.ok) why)
     (rw c.tin-tin.ensures at c.reported.ensures.refused)
+
+pub returns-in_err-run-clause-causes : goal.returns-in_err-run-clause-causes
+returns-in_err-run-clause-causes g c =
+    handed_on _ c.in_err-run.field-0.0 c.from_residual-in_err-run.result c.from_residual-in_err-run.ensures.1
+    (layers_causes _ _ _ _ _ (g.S.Shelf.files c.args.shelf.now) _ _ c.in_err-run.field-0.0 c.in_err-run.ensures.of_layers (rw (c.in_ok-index.ensures.files, c.in_ok-index.ensures.same) at c.in_err-run.ensures.read)
+    (λ e. passed_since _ _ _ _ c.in_ok-index.ensures.given (c.in_err-run.ensures.long e)))
+
+pub returns-in_err-run-clause-same_err : goal.returns-in_err-run-clause-same_err
+returns-in_err-run-clause-same_err g c =
+    handed_on _ c.in_err-run.field-0.0 c.from_residual-in_err-run.result c.from_residual-in_err-run.ensures.1
+    (rw c.in_ok-index.ensures.same at c.in_err-run.ensures.same_err)
