@@ -23,7 +23,7 @@ of_low = follows 3 (λ a d r. (num (pos 2) ⊗ r ⊖ num (pos 1)) ⊗ d ≼ num 
 of_high : (a d r : ℤ) → (pos 2 *ℤ a) <ℤ ((pos 2 *ℤ r +ℤ pos 1) *ℤ d) → (pos 2 *ℤ a +ℤ d) <ℤ (r *ℤ (pos 2 *ℤ d) +ℤ pos 2 *ℤ d)
 of_high = follows 3 (λ a d r. num (pos 2) ⊗ a ≺ (num (pos 2) ⊗ r ⊕ num (pos 1)) ⊗ d ⇒ num (pos 2) ⊗ a ⊕ d ≺ r ⊗ (num (pos 2) ⊗ d) ⊕ num (pos 2) ⊗ d because over 0) tt
 
-within : (a d : ℤ) → pos 0 <ℤ d → IsWithinHalf a d (half_up_of a d)
+pub within : (a d : ℤ) → pos 0 <ℤ d → IsWithinHalf a d (half_up_of a d)
 within a d h =
     let r = half_up_of a d in
     record {

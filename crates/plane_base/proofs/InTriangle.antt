@@ -10,6 +10,7 @@ use Rattle.plane_base.specs.declared.shapes.Tri.{Tri}
 use lib.Signed.{lt_z_yes}
 use Rattle.plane_base.proofs.Points.{PointE, turn, plus, nothing, follows_at}
 use Rattle.plane_base.proofs.Turns.{turn_same, turn_mix, turn_cycle}
+use Rattle.plain_laws.proofs.Weights.{three_positive}
 
 -- the mix of three points
 abbrev of_three : ℕ → ℕ → ℕ → Point → Point → Point → Point
@@ -26,8 +27,6 @@ three_weights (k ∷ l ∷ m ∷ []) e = (k, l, m, refl)
 three_weights (k ∷ l ∷ m ∷ n ∷ ks) e = absurd (omega arith)
 
 -- ---- from weights to turns
-some_weight : (k l m : ℕ) → 0 < sum (k ∷ l ∷ m ∷ []) → pos 0 <ℤ (pos k +ℤ pos l +ℤ pos m)
-some_weight k l m h = omega (arith, ints)
 
 mix_positive : (a b c : Point) (k l m : ℤ) → pos 0 ≤ℤ k → pos 0 ≤ℤ l → pos 0 ≤ℤ m → pos 0 <ℤ (k +ℤ l +ℤ m) → pos 0 <ℤ a.w → pos 0 <ℤ b.w → pos 0 <ℤ c.w → pos 0 <ℤ (k *ℤ a.w +ℤ (l *ℤ b.w +ℤ (m *ℤ c.w +ℤ pos 0)))
 mix_positive =
@@ -56,7 +55,7 @@ turned a b c p k l m s = (
 side : (a b c p : Point) → pos 0 <ℤ a.w → pos 0 <ℤ b.w → pos 0 <ℤ c.w → pos 0 <ℤ p.w → pos 0 <ℤ turn_of a b c → (k l m : ℕ) → 0 < sum (k ∷ l ∷ m ∷ []) → Same p (of_three k l m a b c) → pos 0 ≤ℤ turn_of a b p
 side a b c p ha hb hc hp d k l m h s =
     sign_of (of_three k l m a b c).w (turn_of a b p) p.w (pos m) (turn_of a b c)
-    (mix_positive a b c (pos k) (pos l) (pos m) (nonneg_pos k) (nonneg_pos l) (nonneg_pos m) (some_weight k l m h) ha hb hc)
+    (mix_positive a b c (pos k) (pos l) (pos m) (nonneg_pos k) (nonneg_pos l) (nonneg_pos m) (three_positive k l m h) ha hb hc)
     hp (nonneg_pos m) d (turn_at a b c p k l m s)
 
 pub turns_of_mix : (a b c p : Point) → pos 0 <ℤ a.w → pos 0 <ℤ b.w → pos 0 <ℤ c.w → pos 0 <ℤ p.w → pos 0 <ℤ turn_of a b c → IsMix p (a ∷ b ∷ c ∷ []) → (pos 0 ≤ℤ turn_of a b p) × (pos 0 ≤ℤ turn_of b c p) × (pos 0 ≤ℤ turn_of c a p)

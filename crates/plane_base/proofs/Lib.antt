@@ -14,3 +14,5 @@ pub mod Exit
 pub mod Meeting
 pub mod Naming
 pub mod BoxLemmas
+pub mod NearSide
+pub mod NearPoints

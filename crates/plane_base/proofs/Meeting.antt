@@ -1,6 +1,5 @@
 -- Two triangles with a common point: a corner of the one is in the other, or a point of the one is on a side of the other.
-use Rattle.std.proofs.Common.{◌≡◌, ◌⊎◌, inl, inr, ℕ, ◌<◌, ℤ, pos, ◌+ℤ◌, ◌*ℤ◌, ◌≤ℤ◌, ◌<ℤ◌, [], ◌∷◌, sum, sym, ◌∙◌, subst, refl, arith}
-use Rattle.std.proofs.lemmas.Int.{ints}
+use Rattle.std.proofs.Common.{◌≡◌, ◌⊎◌, inl, inr, ℕ, ℤ, pos, ◌+ℤ◌, ◌*ℤ◌, ◌≤ℤ◌, ◌<ℤ◌, [], ◌∷◌, sym, ◌∙◌, subst, refl}
 use Rattle.integer_ring.proofs.Ring.{num, ◌⊕◌, ◌⊖◌, ◌⊗◌}
 use Rattle.integer_ring.proofs.Order.{≤_or_>, ≤_of_<, nonneg_pos, to_nat}
 use Rattle.integer_ring.proofs.Claims.{◌≐◌, ◌≼◌, ◌≺◌, never, none, gap, over, eqn, ◌⊞◌, ◌⊠◌, ◌because◌, ◌otherwise◌, ◌⇒◌, follows}
@@ -9,6 +8,7 @@ use Rattle.plane_base.proofs.Points.{turn, plus, nothing, follows_at, solve_at}
 use Rattle.plane_base.proofs.Turns.{turn_cycle}
 use Rattle.plane_base.proofs.InTriangle.{turns_of_mix, mix_of_turns}
 use Rattle.plane_base.proofs.Exit.{Exit, exit}
+use Rattle.plain_laws.proofs.Weights.{two_some}
 
 -- x·p + y·q
 abbrev pub blend : Point → Point → ℤ → ℤ → Point
@@ -37,9 +37,6 @@ not_both_zero =
     ⇒ num (pos 0) ≺ a.w ⇒ num (pos 0) ≺ b.w ⇒ num (pos 0) ≺ p.w ⇒ num (pos 0) ≺ turn a b c ⇒ num (pos 0) ≼ k ⇒ num (pos 0) ≼ l ⇒ num (pos 0) ≺ k ⊕ l
     otherwise gap 9 ⊠ (gap 3 ⊞ gap 4) ⊞ gap 7 ⊠ gap 4 ⊞ gap 8 ⊠ gap 3 ⊞ eqn 0 a.w ⊞ eqn 1 b.w ⊞ eqn 2 c.w ⊞ over 6 ⊠ gap 5 ⊞ over 5) tt
 
-a_weight : (k l : ℕ) → pos 0 <ℤ (pos k +ℤ pos l) → 0 < sum (k ∷ l ∷ [])
-a_weight k l h = omega (arith, ints)
-
 pub mix_of_side : (a b c p : Point) → pos 0 <ℤ a.w → pos 0 <ℤ b.w → pos 0 <ℤ p.w → pos 0 <ℤ turn_of a b c → turn_of a b p ≡ pos 0 → pos 0 ≤ℤ turn_of b c p → pos 0 ≤ℤ turn_of c a p → IsMix p (a ∷ b ∷ [])
 mix_of_side a b c p ha hb hp d z ta tb = go (to_nat (turn_of b c p) ta) (to_nat (turn_of c a p) tb)
   where
@@ -47,7 +44,7 @@ mix_of_side a b c p ha hb hp d z ta tb = go (to_nat (turn_of b c p) ta) (to_nat 
     go k l = (
       k.0 ∷ l.0 ∷ [],
       refl,
-      a_weight k.0 l.0 (not_both_zero a b c p (pos k.0) (pos l.0) k.1 l.1 z ha hb hp d (nonneg_pos k.0) (nonneg_pos l.0)),
+      two_some k.0 l.0 (not_both_zero a b c p (pos k.0) (pos l.0) k.1 l.1 z ha hb hp d (nonneg_pos k.0) (nonneg_pos l.0)),
       (same_x a b c p (pos k.0) (pos l.0) k.1 l.1 z, same_y a b c p (pos k.0) (pos l.0) k.1 l.1 z),
     )
 

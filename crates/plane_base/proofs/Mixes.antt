@@ -1,7 +1,6 @@
 -- Places and mixes: one place in two spellings, two weights, the points of a side, and mixes of mixes.
 use Rattle.std.proofs.Common.{◌≡◌, ℕ, zero, suc, negsuc, ◌+◌, ◌*◌, ◌<◌, ℤ, pos, ◌+ℤ◌, ◌*ℤ◌, ◌≤ℤ◌, ◌<ℤ◌, List, [], ◌∷◌, length, sum, sym, ◌∙◌, ap, subst, refl, arith}
 use Rattle.std.proofs.lemmas.Int.{ints}
-use Rattle.std.proofs.lemmas.List.Sums.{sum_by-cons}
 use Rattle.integer_ring.proofs.Ring.{num, neg, ◌⊕◌, ◌⊗◌}
 use Rattle.integer_ring.proofs.Order.{nonneg_pos, to_nat, ≤_of_<}
 use Rattle.integer_ring.proofs.Signs.{≡_of_mul, frac-≡_trans}
@@ -10,6 +9,7 @@ use Rattle.plane_base.specs.Plane.{Point, Same, turn_of, weighed, IsMix}
 use Rattle.plane_base.specs.Laws.{IsPlace, ArePlaces, AreMixes, MixesMix, TrianglesAreConvex}
 use Rattle.plane_base.proofs.Points.{turn, plus, nothing, solve_at}
 use Rattle.plane_base.proofs.Turns.{turn_same}
+use Rattle.plain_laws.proofs.Weights.{two_positive, zero_factor, sum-cons}
 
 -- ---- one place
 pub same_refl : (p : Point) → Same p p
@@ -68,11 +68,8 @@ mixed-w =
     follows 4 (λ k l v w. num (pos 0) ≺ v ⇒ num (pos 0) ≺ w ⇒ num (pos 0) ≺ k ⊕ l ⇒ num (pos 0) ≼ k ⇒ num (pos 0) ≼ l
     ⇒ num (pos 0) ≺ k ⊗ v ⊕ (l ⊗ w ⊕ num (pos 0)) because gap 3 ⊠ over 0 ⊞ gap 4 ⊠ over 1 ⊞ over 2) tt
 
-some_weight : (k l : ℕ) → 0 < k + l → pos 0 <ℤ (pos k +ℤ pos l)
-some_weight k l h = omega (arith, ints)
-
 pub between-w : (p q r : Point) (b : Between p q r) → pos 0 <ℤ p.w → pos 0 <ℤ q.w → pos 0 <ℤ (mixed b.k b.l p q).w
-between-w p q r b hp hq = mixed-w (pos b.k) (pos b.l) p.w q.w hp hq (some_weight b.k b.l b.some) (nonneg_pos b.k) (nonneg_pos b.l)
+between-w p q r b hp hq = mixed-w (pos b.k) (pos b.l) p.w q.w hp hq (two_positive b.k b.l b.some) (nonneg_pos b.k) (nonneg_pos b.l)
 
 -- a segment goes from either end
 last_first : (k l a b : ℤ) → k *ℤ a +ℤ (l *ℤ b +ℤ pos 0) ≡ l *ℤ b +ℤ (k *ℤ a +ℤ pos 0)
@@ -92,14 +89,11 @@ mix_swapped p c d m =
 side_turn : (c d : Point) (k l : ℕ) → turn_of c d (mixed k l c d) ≡ pos 0
 side_turn c d k l = solve_at 2 2 (λ c d k l. turn c d (plus k c (plus l d nothing)) ≐ num (pos 0)) tt c d (pos k) (pos l)
 
-zero_turn : (s t v : ℤ) → s *ℤ t ≡ v *ℤ pos 0 → t *ℤ s ≡ pos 0 *ℤ s
-zero_turn = follows 3 (λ s t v. s ⊗ t ≐ v ⊗ num (pos 0) ⇒ t ⊗ s ≐ num (pos 0) ⊗ s because eqn 0 (num (pos 1))) tt
-
 pub turn_on_side : (c d p : Point) → pos 0 <ℤ c.w → pos 0 <ℤ d.w → IsMix p (c ∷ d ∷ []) → turn_of c d p ≡ pos 0
 turn_on_side c d p hc hd on =
     let i = between_weights c d p on in
     let q = mixed i.k i.l c d in
-    ≡_of_mul (turn_of c d p) (pos 0) q.w (between-w c d p i hc hd) (zero_turn q.w (turn_of c d p) p.w (turn_same c d p q i.same ∙ ap (λ (z : ℤ). p.w *ℤ z) (side_turn c d i.k i.l)))
+    ≡_of_mul (turn_of c d p) (pos 0) q.w (between-w c d p i hc hd) (zero_factor q.w (turn_of c d p) p.w (turn_same c d p q i.same ∙ ap (λ (z : ℤ). p.w *ℤ z) (side_turn c d i.k i.l)))
 
 -- ---- m times some weights and n times others
 unfoldable pub combined : ℕ → ℕ → List ℕ → List ℕ → List ℕ
@@ -113,9 +107,6 @@ combined-length m n [] [] e = refl
 combined-length m n [] (l ∷ ls) e = absurd (omega arith)
 combined-length m n (k ∷ ks) [] e = absurd (omega arith)
 combined-length m n (k ∷ ks) (l ∷ ls) e = let rest = combined-length m n ks ls (omega arith) in omega arith
-
-sum-cons : (w : ℕ) (ws : List ℕ) → sum (w ∷ ws) ≡ w + sum ws
-sum-cons w ws = sum_by-cons (λ x. x) w ws
 
 one_sum : (m n k l s t r : ℕ) → r ≡ m * s + n * t → m * k + n * l + r ≡ m * (k + s) + n * (l + t)
 one_sum m n k l s t r e = omega arith

@@ -1,5 +1,5 @@
 -- The points between two points are those at the parameters from 0 to 1.
-use Rattle.std.proofs.Common.{◌≡◌, ℕ, ◌+◌, ◌<◌, ℤ, pos, ◌+ℤ◌, ◌-ℤ◌, ◌*ℤ◌, ◌<ℤ◌, [], ◌∷◌, refl, arith}
+use Rattle.std.proofs.Common.{◌≡◌, ℕ, ◌+◌, ◌<◌, ℤ, pos, ◌+ℤ◌, ◌-ℤ◌, ◌*ℤ◌, [], ◌∷◌, refl, arith}
 use Rattle.std.proofs.lemmas.Int.{ints}
 use Rattle.integer_ring.proofs.Ring.{num, neg, ◌⊕◌, ◌⊖◌, ◌⊗◌}
 use Rattle.integer_ring.proofs.Order.{to_nat, ≤-to-nonneg}
@@ -8,22 +8,17 @@ use Rattle.plane_base.specs.Plane.{IsMix, along}
 use Rattle.plane_base.specs.Slices.{IsParam}
 use Rattle.plane_base.specs.Laws.{HasParameter, SegmentsHaveParameters}
 use Rattle.plane_base.proofs.Mixes.{mixed, between_weights, weights_between, same_moved}
+use Rattle.plain_laws.proofs.Weights.{share_axis, share_some}
 
 -- weights k and l are the parameter l/(k + l)
 one_axis : (k l n d a b : ℤ) → n ≡ l → d -ℤ n ≡ k → k *ℤ a +ℤ (l *ℤ b +ℤ pos 0) ≡ (d -ℤ n) *ℤ a +ℤ n *ℤ b
 one_axis = follows 6 (λ k l n d a b. n ≐ l ⇒ d ⊖ n ≐ k ⇒ k ⊗ a ⊕ (l ⊗ b ⊕ num (pos 0)) ≐ (d ⊖ n) ⊗ a ⊕ n ⊗ b because eqn 0 (neg b) ⊞ eqn 1 (neg a)) tt
-
-other_axis : (k l n d a b : ℤ) → n ≡ l → d -ℤ n ≡ k → (d -ℤ n) *ℤ a +ℤ n *ℤ b ≡ k *ℤ a +ℤ (l *ℤ b +ℤ pos 0)
-other_axis = follows 6 (λ k l n d a b. n ≐ l ⇒ d ⊖ n ≐ k ⇒ (d ⊖ n) ⊗ a ⊕ n ⊗ b ≐ k ⊗ a ⊕ (l ⊗ b ⊕ num (pos 0)) because eqn 0 b ⊞ eqn 1 a) tt
 
 rest : (k l : ℕ) → pos (k + l) -ℤ pos l ≡ pos k
 rest k l = omega (arith, ints)
 
 param_of : (k l : ℕ) → 0 < k + l → IsParam (pos l) (pos (k + l))
 param_of k l some = (omega (arith, ints), omega (arith, ints), omega (arith, ints))
-
-some_of : (n d : ℤ) (k l : ℕ) → n ≡ pos l → d -ℤ n ≡ pos k → pos 0 <ℤ d → 0 < k + l
-some_of n d k l e f h = omega (arith, ints)
 
 pub segments_have_parameters : SegmentsHaveParameters
 segments_have_parameters p q r = (there, back)
@@ -47,7 +42,7 @@ segments_have_parameters p q r = (there, back)
         weights_between p q r (record {
           k = k.0;
           l = l.0;
-          some = some_of n d k.0 l.0 l.1 k.1 h.param.0;
+          some = share_some n d l.0 k.0 l.1 k.1 h.param.0;
           same = same_moved r (along p q n d) (mixed k.0 l.0 p q)
-              (other_axis (pos k.0) (pos l.0) n d p.x q.x l.1 k.1) (other_axis (pos k.0) (pos l.0) n d p.y q.y l.1 k.1) (other_axis (pos k.0) (pos l.0) n d p.w q.w l.1 k.1) h.same;
+              (share_axis n d (pos l.0) (pos k.0) p.x q.x l.1 k.1) (share_axis n d (pos l.0) (pos k.0) p.y q.y l.1 k.1) (share_axis n d (pos l.0) (pos k.0) p.w q.w l.1 k.1) h.same;
         })

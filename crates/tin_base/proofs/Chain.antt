@@ -1,11 +1,11 @@
 -- The pieces of a segment that is inside follow each other without a gap.
-use Rattle.std.proofs.Common.{◌≡◌, ◌≢◌, ◌⊎◌, inl, inr, ℕ, zero, suc, ◌+◌, ◌*◌, ◌<◌, ◌≤◌, ℤ, pos, ◌<ℤ◌, List, length, sym, subst, arith}
+use Rattle.std.proofs.Common.{◌≡◌, ◌≢◌, ◌⊎◌, inl, inr, ℕ, zero, suc, ◌+◌, ◌*◌, ◌<◌, ◌≤◌, pos, ◌<ℤ◌, List, length, sym, subst, arith}
 use Rattle.plane_base.specs.declared.shapes.Pt.{Pt}
 use Rattle.tin_base.specs.declared.frames.Frame.TheVariants.{Source}
 use Rattle.tin_base.specs.Triangulation.{Triangulation, numbers_of, places}
 use Rattle.tin_base.specs.Soundness.{turn_of_three, IsSound}
 use Rattle.tin_base.specs.Segments.{Spot, at_a, at_b, IsBefore, IsNotAfter, IsSameSpot, IsInside, IsShared, IsPart, Part, part_at, ArePieces, AreChain, DoCover}
-use Rattle.tin_base.proofs.Ends.{IsSpot, before_or, not_both, no_later, no_later_trans, before_trans_left, before_trans_right}
+use Rattle.tin_base.proofs.Ends.{IsSpot, before_or, not_both, no_later, no_later_trans, before_trans_left, before_trans_right, up_to_same, from_same, same_of}
 use Rattle.tin_base.proofs.Parts.{between_in}
 use Rattle.tin_base.proofs.Overlap.{same_spots}
 use Rattle.tin_base.proofs.Further.{NextPart, next_part}
@@ -16,15 +16,6 @@ record Next (parts : List Part) (x : Spot) : Type 0 where
   in_range : index < length parts
   from : IsNotAfter (part_at parts index).first x
   behind : IsBefore x (part_at parts index).last
-
-le_of_same : (m n : ℕ) → m ≡ n → m ≤ n
-le_of_same m n e = omega arith
-
-no_later_same : (s t : Spot) → IsSameSpot s t → IsNotAfter s t
-no_later_same s t e = le_of_same (s.of_b * t.of_a) (t.of_b * s.of_a) e
-
-no_later_back : (s t : Spot) → IsSameSpot s t → IsNotAfter t s
-no_later_back s t e = le_of_same (t.of_b * s.of_a) (s.of_b * t.of_a) (sym e)
 
 next : (tin : Triangulation) (a b : Pt) (parts : List Part) (x : Spot) → IsSound tin → IsInside tin a b → ArePieces tin a b parts → IsSpot x → 0 < x.of_a → Next parts x
 next tin a b parts x sound inside pieces some more =
@@ -40,12 +31,12 @@ next tin a b parts x sound inside pieces some more =
         record {
           index = e.0;
           in_range = e.1;
-          from = no_later_trans (part_at parts e.0).first n.first x has_first.some (no_later_same (part_at parts e.0).first n.first e.2) n.from;
-          behind = before_trans_right x n.last (part_at parts e.0).last piece_last.some n.behind (no_later_back (part_at parts e.0).last n.last e.3);
+          from = no_later_trans (part_at parts e.0).first n.first x has_first.some (up_to_same (part_at parts e.0).first n.first e.2) n.from;
+          behind = before_trans_right x n.last (part_at parts e.0).last piece_last.some n.behind (from_same (part_at parts e.0).last n.last e.3);
         }
 
 -- ---- no part begins before one that begins earlier has ended
-parts_apart : (tin : Triangulation) (a b : Pt) (t u : ℕ) (f l f' l' : Spot) → IsSound tin → a ≢ b → IsPart tin a b t f l → IsPart tin a b u f' l' → IsBefore f f' → IsNotAfter l f'
+pub parts_apart : (tin : Triangulation) (a b : Pt) (t u : ℕ) (f l f' l' : Spot) → IsSound tin → a ≢ b → IsPart tin a b t f l → IsPart tin a b u f' l' → IsBefore f f' → IsNotAfter l f'
 parts_apart tin a b t u f l f' l' sound differ p q before = go (before_or f' l)
   where
     steady_t : IsPart tin a b t f l → pos 0 <ℤ turn_of_three (places tin Source (numbers_of tin t))
@@ -111,11 +102,6 @@ later tin a b parts i j sound differ pieces hi behind = go (three_ways i j)
     go (inr (inr h)) = h
 
 -- ---- the chain
-antisymm : (m n : ℕ) → m ≤ n → n ≤ m → m ≡ n
-antisymm m n h k = omega arith
-
-same_of : (s t : Spot) → IsNotAfter s t → IsNotAfter t s → IsSameSpot s t
-same_of s t h k = antisymm (s.of_b * t.of_a) (t.of_b * s.of_a) h k
 
 from_a : (s : Spot) → IsNotAfter at_a s
 from_a s = omega arith

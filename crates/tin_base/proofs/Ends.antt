@@ -1,10 +1,12 @@
 -- Where a triangle has a point of a segment, there is a last such point; and a first one, which is the last from the other end.
-use Rattle.std.proofs.Common.{◌≡◌, ◌⊎◌, inl, inr, ℕ, ◌+◌, ◌*◌, ◌<◌, ◌≤◌, ℤ, pos, ◌+ℤ◌, ◌*ℤ◌, ◌≤ℤ◌, ◌<ℤ◌, neg_ℤ, arith}
+use Rattle.std.proofs.Common.{◌≡◌, ◌⊎◌, inl, inr, ℕ, ◌+◌, ◌*◌, ◌<◌, ◌≤◌, ℤ, pos, ◌+ℤ◌, ◌*ℤ◌, ◌≤ℤ◌, ◌<ℤ◌, neg_ℤ, sym, arith}
 use Rattle.std.proofs.lemmas.Int.{ints}
 use Rattle.integer_ring.proofs.Ring.{num, neg, ◌⊕◌, ◌⊗◌}
 use Rattle.integer_ring.proofs.Order.{nonneg_pos, ≤_or_>, to_nat}
 use Rattle.integer_ring.proofs.Claims.{◌≐◌, ◌≼◌, ◌≺◌, gap, over, eqn, ◌⊞◌, ◌⊠◌, ◌because◌, ◌otherwise◌, ◌⇒◌, follows}
-use Rattle.tin_base.specs.Segments.{Spot, at_b, IsBefore, IsNotAfter}
+use Rattle.tin_base.specs.Segments.{Spot, at_b, IsBefore, IsNotAfter, IsSameSpot}
+use Rattle.plain_laws.proofs.Weights.{two_positive}
+use Rattle.plain_laws.proofs.Order.{at_most_of_equal, equal_of_both}
 
 -- ---- the order of spots, in ℕ: fractions by cross multiplication
 abbrev pub IsSpot : Spot → Type 0
@@ -16,9 +18,6 @@ in_z m n h = omega (arith, ints)
 pub out_z : (m n : ℕ) → pos m ≤ℤ pos n → m ≤ n
 out_z m n h = omega (arith, ints)
 
-some_z : (m n : ℕ) → 0 < m + n → pos 0 <ℤ (pos m +ℤ pos n)
-some_z m n h = omega (arith, ints)
-
 -- b/a ≤ d/c and d/c ≤ f/e
 trans_z : (a b c d e f : ℤ) → pos 0 ≤ℤ a → pos 0 ≤ℤ e → pos 0 ≤ℤ c → pos 0 ≤ℤ d → pos 0 ≤ℤ b → pos 0 ≤ℤ f → pos 0 <ℤ (c +ℤ d) → (b *ℤ c) ≤ℤ (d *ℤ a) → (d *ℤ e) ≤ℤ (f *ℤ c) → (b *ℤ e) ≤ℤ (f *ℤ a)
 trans_z =
@@ -29,7 +28,7 @@ pub no_later_trans : (s t u : Spot) → IsSpot t → IsNotAfter s t → IsNotAft
 no_later_trans s t u some h k =
     out_z (s.of_b * u.of_a) (u.of_b * s.of_a)
     (trans_z (pos s.of_a) (pos s.of_b) (pos t.of_a) (pos t.of_b) (pos u.of_a) (pos u.of_b)
-    (nonneg_pos s.of_a) (nonneg_pos u.of_a) (nonneg_pos t.of_a) (nonneg_pos t.of_b) (nonneg_pos s.of_b) (nonneg_pos u.of_b) (some_z t.of_a t.of_b some)
+    (nonneg_pos s.of_a) (nonneg_pos u.of_a) (nonneg_pos t.of_a) (nonneg_pos t.of_b) (nonneg_pos s.of_b) (nonneg_pos u.of_b) (two_positive t.of_a t.of_b some)
     (in_z (s.of_b * t.of_a) (t.of_b * s.of_a) h) (in_z (t.of_b * u.of_a) (u.of_b * t.of_a) k))
 
 less_or : (m n : ℕ) → (m < n) ⊎ (n ≤ m)
@@ -49,6 +48,16 @@ less_le m n h = omega arith
 
 pub no_later : (s t : Spot) → IsBefore s t → IsNotAfter s t
 no_later s t h = less_le (s.of_b * t.of_a) (t.of_b * s.of_a) h
+
+-- one spot twice
+pub up_to_same : (s t : Spot) → IsSameSpot s t → IsNotAfter s t
+up_to_same s t e = at_most_of_equal (s.of_b * t.of_a) (t.of_b * s.of_a) e
+
+pub from_same : (s t : Spot) → IsSameSpot s t → IsNotAfter t s
+from_same s t e = at_most_of_equal (t.of_b * s.of_a) (s.of_b * t.of_a) (sym e)
+
+pub same_of : (s t : Spot) → IsNotAfter s t → IsNotAfter t s → IsSameSpot s t
+same_of s t h k = equal_of_both (s.of_b * t.of_a) (t.of_b * s.of_a) h k
 
 pub before_trans_right : (s t u : Spot) → IsSpot u → IsBefore s t → IsNotAfter t u → IsBefore s u
 before_trans_right s t u some h k = go (before_or s u)
@@ -114,7 +123,7 @@ last_up u v r some hv kept =
       spot = at_b;
       some = omega arith;
       from = omega arith;
-      upto = λ s some_s order _. kept_up u v (pos r.of_a) (pos r.of_b) (pos s.of_a) (pos s.of_b) hv (nonneg_pos r.of_a) (nonneg_pos r.of_b) (nonneg_pos s.of_a) (nonneg_pos s.of_b) (some_z r.of_a r.of_b some) kept (in_z (r.of_b * s.of_a) (s.of_b * r.of_a) order);
+      upto = λ s some_s order _. kept_up u v (pos r.of_a) (pos r.of_b) (pos s.of_a) (pos s.of_b) hv (nonneg_pos r.of_a) (nonneg_pos r.of_b) (nonneg_pos s.of_a) (nonneg_pos s.of_b) (two_positive r.of_a r.of_b some) kept (in_z (r.of_b * s.of_a) (s.of_b * r.of_a) order);
       only = λ s some_s m. omega arith;
     }
 
@@ -134,7 +143,7 @@ some_down : (v : ℤ) (m n : ℕ) → v <ℤ pos 0 → neg_ℤ v ≡ pos m → 0
 some_down v m n h e = omega (arith, ints)
 
 last_down : (u v : ℤ) (r : Spot) → IsSpot r → v <ℤ pos 0 → IsKeptAt u v r → Last (IsKeptAt u v) r
-last_down u v r some hv kept = go (to_nat u (start_up u v (pos r.of_a) (pos r.of_b) hv (nonneg_pos r.of_a) (nonneg_pos r.of_b) (some_z r.of_a r.of_b some) kept)) (to_nat (neg_ℤ v) (down hv))
+last_down u v r some hv kept = go (to_nat u (start_up u v (pos r.of_a) (pos r.of_b) hv (nonneg_pos r.of_a) (nonneg_pos r.of_b) (two_positive r.of_a r.of_b some) kept)) (to_nat (neg_ℤ v) (down hv))
   where
     down : v <ℤ pos 0 → pos 0 ≤ℤ neg_ℤ v
     down h = omega (arith, ints)

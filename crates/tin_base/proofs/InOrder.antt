@@ -3,7 +3,7 @@ use Rattle.std.proofs.Common.{◌≡◌, ◌≢◌, ◌⊎◌, inl, inr, ℕ, �
 use Rattle.std.specs.List.{IsDistinct, AllByRecursion, filter, list_any}
 use Rattle.std.specs.Cmp.{nat_eq_equiv}
 use Rattle.std.proofs.lemmas.Bool.Decides.{eqb_tells}
-use Rattle.std.proofs.lemmas.Bool.{eq-eqb}
+use Rattle.std.proofs.lemmas.Bool.{eq-eqb, or_parts}
 use Rattle.std.proofs.lemmas.Int.{ints}
 use Rattle.std.proofs.lemmas.Map.Made.{is_member-filter, length-from_same_keys}
 use Rattle.std.proofs.lemmas.Map.Keys.{IsDistinct-cons, IsDistinct-from_apart}
@@ -44,16 +44,9 @@ abbrev AreDifferent : List ℕ → Type 0
 AreDifferent [] = Unit {0}
 AreDifferent (n ∷ ns) = (has ns n ≡ false) × AreDifferent ns
 
-apart : (a b : Bool) → (a || b) ≡ false → (a ≡ false) × (b ≡ false)
-apart true b e = absurd (no e)
-  where
-    no : true ≡ false → ⊥
-    no e = cc
-apart false b e = (refl, e)
-
 each_apart : (k : ℕ) (ns : List ℕ) → has ns k ≡ false → AllByRecursion (λ n. eqb k n ≡ false) ns
 each_apart k [] e = tt
-each_apart k (n ∷ ns) e = let h = apart (eqb n k) (has ns k) e in (nat_eq_equiv.symm k n ∙ h.0, each_apart k ns h.1)
+each_apart k (n ∷ ns) e = let h = or_parts (eqb n k) (has ns k) e in (nat_eq_equiv.symm k n ∙ h.0, each_apart k ns h.1)
 
 distinct_of : (ns : List ℕ) → AreDifferent ns → IsDistinct eqb ns
 distinct_of [] h = IsDistinct-from_apart eqb [] (λ i j d before within. absurd (omega arith))
@@ -61,7 +54,7 @@ distinct_of (n ∷ ns) h = IsDistinct-cons eqb n ns (each_apart n ns h.0) (disti
 
 none_kept : (test : ℕ → Bool) (ns : List ℕ) (k : ℕ) → has ns k ≡ false → has (filter test ns) k ≡ false
 none_kept test [] k e = refl
-none_kept test (n ∷ ns) k e = let h = apart (eqb n k) (has ns k) e in go (test n) h.0 (none_kept test ns k h.1)
+none_kept test (n ∷ ns) k e = let h = or_parts (eqb n k) (has ns k) e in go (test n) h.0 (none_kept test ns k h.1)
   where
     go : (b : Bool) → eqb n k ≡ false → has (filter test ns) k ≡ false → has (cond b (n ∷ filter test ns) (filter test ns)) k ≡ false
     go true f g = ap (λ (b : Bool). b || has (filter test ns) k) f ∙ g

@@ -13,9 +13,7 @@ use Rattle.tin_base.specs.Images.{AreLikeMixes}
 use Rattle.tin_base.specs.Relations.{IsBetween}
 use Rattle.tin_base.proofs.Weights.{total, weighed-x, weighed-y, weighed-w}
 use Rattle.tin_base.proofs.Alike.{mix-w}
-
-some_weight : (k l : ℕ) → 0 < k + l → pos 0 <ℤ (pos k +ℤ pos l)
-some_weight k l h = omega (arith, ints)
+use Rattle.plain_laws.proofs.Weights.{two_positive}
 
 -- ---- the ends of a segment may stand for others of the same places
 -- in x: the ends a/v and b/w stand for c/s and d/t
@@ -49,7 +47,7 @@ remixed p q u v r pw qw uw vw ep eq eu ev hp hq hu hv same_p same_q b =
     let m = b.k * pw * vw in
     let n = b.l * qw * uw in
     let some : 0 < m + n =
-    below_pos (m + n) (weights_positive (pos b.k) (pos b.l) (pos pw) (pos qw) (pos uw) (pos vw) (nonneg_pos b.k) (nonneg_pos b.l) (some_weight b.k b.l b.some)
+    below_pos (m + n) (weights_positive (pos b.k) (pos b.l) (pos pw) (pos qw) (pos uw) (pos vw) (nonneg_pos b.k) (nonneg_pos b.l) (two_positive b.k b.l b.some)
     (subst (λ (z : ℤ). pos 0 <ℤ z) ep hp) (subst (λ (z : ℤ). pos 0 <ℤ z) eq hq) (subst (λ (z : ℤ). pos 0 <ℤ z) eu hu) (subst (λ (z : ℤ). pos 0 <ℤ z) ev hv)) in
     record {
       k = m;
@@ -99,7 +97,7 @@ combined_same at m n ks ls ns r e f s =
     both m n e f = cc
 
 some_of : (m n s t : ℕ) → 0 < m + n → 0 < s → 0 < t → 0 < m * s + n * t
-some_of m n s t h hs ht = below_pos (m * s + n * t) (some_positive (pos m) (pos n) (pos s) (pos t) (nonneg_pos m) (nonneg_pos n) (some_weight m n h) (is_above s hs) (is_above t ht))
+some_of m n s t h hs ht = below_pos (m * s + n * t) (some_positive (pos m) (pos n) (pos s) (pos t) (nonneg_pos m) (nonneg_pos n) (two_positive m n h) (is_above s hs) (is_above t ht))
   where
     is_above : (j : ℕ) → 0 < j → pos 0 <ℤ pos j
     is_above j i = omega (arith, ints)

@@ -1,5 +1,5 @@
 -- Two triangles of a sound triangulation with two common spots of a segment have the same spots of it: the segment runs along their common side.
-use Rattle.std.proofs.Common.{◌≡◌, ◌≢◌, ◌⊎◌, inl, inr, ℕ, ◌*◌, ◌<◌, ◌≤◌, ℤ, pos, ◌+ℤ◌, ◌-ℤ◌, ◌*ℤ◌, ◌≤ℤ◌, ◌<ℤ◌, neg_ℤ, Bool, true, false, ◌||◌, eqb, List, [], ◌∷◌, length, sum, sym, ◌∙◌, ap, ap₂, subst, arith}
+use Rattle.std.proofs.Common.{◌≡◌, ◌≢◌, ◌⊎◌, inl, inr, ℕ, ◌*◌, ◌<◌, ◌≤◌, ℤ, pos, ◌+ℤ◌, ◌-ℤ◌, ◌*ℤ◌, ◌≤ℤ◌, ◌<ℤ◌, neg_ℤ, true, false, eqb, List, [], ◌∷◌, length, sum, sym, ◌∙◌, ap, ap₂, subst, arith}
 use Rattle.std.proofs.lemmas.Int.{ints}
 use Rattle.std.proofs.lemmas.Bool.Decides.{eqb_tells}
 use Rattle.integer_ring.proofs.Ring.{num, neg, ◌⊕◌, ◌⊖◌, ◌⊗◌}
@@ -20,9 +20,11 @@ use Rattle.tin_base.proofs.Weights.{HasAll, common_in_first, common_in_second}
 use Rattle.tin_base.proofs.Stepping.{turn_mixed}
 use Rattle.tin_base.proofs.Alike.{alike_of, alike_in, alike_more}
 use Rattle.tin_base.proofs.Ends.{IsSpot}
+use Rattle.tin_base.proofs.Members.{one_of_three}
+use Rattle.plain_laws.proofs.Weights.{one_positive}
 
 -- a mix of some of the corners is one of them all
-in_more : (tin : Triangulation) (ns ks : List ℕ) (p : Point) → HasAll ns ks → IsMix p (places tin Source ks) → IsMix p (places tin Source ns)
+pub in_more : (tin : Triangulation) (ns ks : List ℕ) (p : Point) → HasAll ns ks → IsMix p (places tin Source ks) → IsMix p (places tin Source ns)
 in_more tin ns ks p h m = let q = alike_of tin Source ks p m in alike_in tin Source ns p q.0 (alike_more tin Source ns ks p q.0 h q.2)
 
 -- ---- two spots are not at one place
@@ -54,16 +56,13 @@ scaled_twice = solve 4 (λ k l a w. (k ⊗ a ⊕ (l ⊗ a ⊕ num (pos 0))) ⊗ 
 one-w : (k w : ℤ) → pos 0 <ℤ k → pos 0 <ℤ w → pos 0 <ℤ (k *ℤ w +ℤ pos 0)
 one-w = follows 2 (λ k w. num (pos 0) ≺ k ⇒ num (pos 0) ≺ w ⇒ num (pos 0) ≺ k ⊗ w ⊕ num (pos 0) because over 0 ⊠ gap 1 ⊞ over 1) tt
 
-a_weight : (k : ℕ) → 0 < sum (k ∷ []) → pos 0 <ℤ pos k
-a_weight k h = omega (arith, ints)
-
 at_one : (p c : Point) → pos 0 <ℤ c.w → IsMix p (c ∷ []) → Same p c
 at_one p c hc m = go m.0 m.1 m.2 m.3
   where
     go : (ks : List ℕ) → length ks ≡ 1 → 0 < sum ks → Same p (weighed ks (c ∷ [])) → Same p c
     go [] e h s = absurd (omega arith)
     go (k ∷ l ∷ ks) e h s = absurd (omega arith)
-    go (k ∷ []) e h s = same_trans p (weighed (k ∷ []) (c ∷ [])) c (one-w (pos k) c.w (a_weight k h) hc) s (scaled (pos k) c.x c.w, scaled (pos k) c.y c.w)
+    go (k ∷ []) e h s = same_trans p (weighed (k ∷ []) (c ∷ [])) c (one-w (pos k) c.w (one_positive k h) hc) s (scaled (pos k) c.x c.w, scaled (pos k) c.y c.w)
 
 pub at_twice : (p c : Point) → pos 0 <ℤ c.w → IsMix p (c ∷ c ∷ []) → Same p c
 at_twice p c hc m =
@@ -98,18 +97,6 @@ along_line a b c d r s hc hd before mr ms =
 -- ---- a point of a triangle with turn 0 at a side is on it
 negated_zero : (s t : ℤ) → s ≡ neg_ℤ t → t ≡ pos 0 → s ≡ pos 0
 negated_zero = follows 2 (λ s t. s ≐ neg t ⇒ t ≐ num (pos 0) ⇒ s ≐ num (pos 0) because eqn 0 (num (pos 1)) ⊞ eqn 1 (neg (num (pos 1)))) tt
-
-member : (i j k c : ℕ) → has (i ∷ j ∷ k ∷ []) c ≡ true → (i ≡ c) ⊎ ((j ≡ c) ⊎ (k ≡ c))
-member i j k c h = go (eqb_tells i c) (eqb_tells j c) (eqb_tells k c)
-  where
-    none : (x y z : Bool) → x ≡ false → y ≡ false → z ≡ false → (x || (y || (z || false))) ≡ true → ⊥
-    none x y z e f g h = cc
-
-    go : ((eqb i c ≡ true) × (i ≡ c)) ⊎ ((eqb i c ≡ false) × (i ≢ c)) → ((eqb j c ≡ true) × (j ≡ c)) ⊎ ((eqb j c ≡ false) × (j ≢ c)) → ((eqb k c ≡ true) × (k ≡ c)) ⊎ ((eqb k c ≡ false) × (k ≢ c)) → (i ≡ c) ⊎ ((j ≡ c) ⊎ (k ≡ c))
-    go (inl e) y z = inl e.1
-    go (inr e) (inl f) z = inr (inl f.1)
-    go (inr e) (inr f) (inl g) = inr (inr g.1)
-    go (inr e) (inr f) (inr g) = absurd (none (eqb i c) (eqb j c) (eqb k c) e.0 f.0 g.0 h)
 
 -- of three corners with positive turn, two on whose line p is
 on_side : (i j k c d p : Point) → pos 0 <ℤ i.w → pos 0 <ℤ j.w → pos 0 <ℤ p.w → pos 0 <ℤ turn_of i j k → turn_of i j p ≡ pos 0 → pos 0 ≤ℤ turn_of j k p → pos 0 ≤ℤ turn_of k i p → (c ≡ i) → (d ≡ j) → IsMix p (c ∷ d ∷ [])
@@ -172,7 +159,7 @@ on_line_of tin [] c d p hp t differ hc hd z m = absurd (not_zero t)
 on_line_of tin (i ∷ []) c d p hp t differ hc hd z m = absurd (not_zero t)
 on_line_of tin (i ∷ j ∷ []) c d p hp t differ hc hd z m = absurd (not_zero t)
 on_line_of tin (i ∷ j ∷ k ∷ l ∷ ns) c d p hp t differ hc hd z m = absurd (not_zero t)
-on_line_of tin (i ∷ j ∷ k ∷ []) c d p hp t differ hc hd z m = on_line tin i j k c d p hp t differ (member i j k c hc) (member i j k d hd) z m
+on_line_of tin (i ∷ j ∷ k ∷ []) c d p hp t differ hc hd z m = on_line tin i j k c d p hp t differ (one_of_three i j k c hc) (one_of_three i j k d hd) z m
 
 -- ---- two triangles with two common spots
 no_mix : (p : Point) → IsMix p [] → ⊥

@@ -1,7 +1,7 @@
 -- The slice of a segment by a triangle is the triangle's part: fractions along the segment as spots.
 use Rattle.std.proofs.Common.{◌≡◌, ℕ, ◌+◌, ◌*◌, ◌<◌, ℤ, pos, ◌+ℤ◌, ◌-ℤ◌, ◌*ℤ◌, ◌≤ℤ◌, ◌<ℤ◌, List, sym, subst, refl, length, arith}
 use Rattle.std.proofs.lemmas.Int.{ints}
-use Rattle.integer_ring.proofs.Ring.{num, neg, ◌⊕◌, ◌⊖◌, ◌⊗◌}
+use Rattle.integer_ring.proofs.Ring.{neg, ◌⊕◌, ◌⊖◌, ◌⊗◌}
 use Rattle.integer_ring.proofs.Order.{to_nat, ≤-to-nonneg}
 use Rattle.integer_ring.proofs.Claims.{◌≐◌, ◌≼◌, ◌≺◌, gap, over, eqn, ◌⊞◌, ◌because◌, ◌⇒◌, follows}
 use Rattle.plane_base.specs.Plane.{Point, IsMix, whole, corners, along}
@@ -16,6 +16,7 @@ use Rattle.tin_base.specs.Triangulation.{Triangulation, numbers_of, places}
 use Rattle.tin_base.specs.Segments.{Spot, spot_at, IsPart}
 use Rattle.tin_base.proofs.Spots.{spot-w}
 use Rattle.tin_base.proofs.Ends.{IsSpot, out_z}
+use Rattle.plain_laws.proofs.Weights.{share_some, share_axis}
 
 -- the spot at n/d
 pub record IsSpotAt (n d : ℤ) (s : Spot) : Type 0 where
@@ -28,17 +29,11 @@ spot_of n d h = go (to_nat n h.1) (to_nat (d -ℤ n) (≤-to-nonneg n d h.2))
     go : (k : ℕ) × (n ≡ pos k) → (l : ℕ) × (d -ℤ n ≡ pos l) → (s : Spot) × IsSpotAt n d s
     go k l = (record { of_a = l.0; of_b = k.0 }, record { share = k.1; rest = l.1 })
 
-spot_some : (n d : ℤ) (k l : ℕ) → n ≡ pos k → d -ℤ n ≡ pos l → pos 0 <ℤ d → 0 < l + k
-spot_some n d k l e f h = omega (arith, ints)
-
 pub param_of : (k l : ℕ) → 0 < l + k → IsParam (pos k) (pos l +ℤ pos k)
 param_of k l h = (omega (arith, ints), omega (arith, ints), omega (arith, ints))
 
 pub itself : (k l : ℕ) → pos l +ℤ pos k -ℤ pos k ≡ pos l
 itself k l = omega (arith, ints)
-
-pub one_axis : (n d k l a b : ℤ) → n ≡ k → d -ℤ n ≡ l → (d -ℤ n) *ℤ a +ℤ n *ℤ b ≡ l *ℤ a +ℤ (k *ℤ b +ℤ pos 0)
-one_axis = follows 6 (λ n d k l a b. n ≐ k ⇒ d ⊖ n ≐ l ⇒ (d ⊖ n) ⊗ a ⊕ n ⊗ b ≐ l ⊗ a ⊕ (k ⊗ b ⊕ num (pos 0)) because eqn 0 b ⊞ eqn 1 a) tt
 
 pub mix_by : (p q : Point) (ps : List Point) → pos 0 <ℤ p.w → q.x ≡ p.x → q.y ≡ p.y → q.w ≡ p.w → IsMix p ps → IsMix q ps
 mix_by p q ps h ex ey ew m = (m.0, m.1, m.2, same_trans q p _ h (same_moved q q p ex ey ew (same_refl q)) m.3)
@@ -47,7 +42,7 @@ spot_in : (a b : Pt) (r : Tri) (n d : ℤ) (s : Spot) → IsSpotAt n d s → IsI
 spot_in a b r n d s at h =
     let k = pos s.of_b in let l = pos s.of_a in
     mix_by (along (whole a) (whole b) n d) (spot_at a b s) (corners r) (along-w n d h.0.0)
-    (sym (one_axis n d k l a.x b.x at.share at.rest)) (sym (one_axis n d k l a.y b.y at.share at.rest)) (sym (one_axis n d k l (pos 1) (pos 1) at.share at.rest)) h.1
+    (sym (share_axis n d k l a.x b.x at.share at.rest)) (sym (share_axis n d k l a.y b.y at.share at.rest)) (sym (share_axis n d k l (pos 1) (pos 1) at.share at.rest)) h.1
 
 pub in_spot : (a b : Pt) (r : Tri) (s : Spot) → IsSpot s → IsMix (spot_at a b s) (corners r) → IsIn a b r (pos s.of_b) (pos s.of_a +ℤ pos s.of_b)
 in_spot a b r s some m =
@@ -55,7 +50,7 @@ in_spot a b r s some m =
     let e = itself s.of_b s.of_a in (
       param_of s.of_b s.of_a some,
       mix_by (spot_at a b s) (along (whole a) (whole b) k (l +ℤ k)) (corners r) (spot-w a b s some)
-          (one_axis k (l +ℤ k) k l a.x b.x refl e) (one_axis k (l +ℤ k) k l a.y b.y refl e) (one_axis k (l +ℤ k) k l (pos 1) (pos 1) refl e) m,
+          (share_axis k (l +ℤ k) k l a.x b.x refl e) (share_axis k (l +ℤ k) k l a.y b.y refl e) (share_axis k (l +ℤ k) k l (pos 1) (pos 1) refl e) m,
     )
 
 -- orders: of fractions, as of spots
@@ -99,8 +94,8 @@ slice_part tin a b t r slice ht is common order = go (spot_of slice.lo.num slice
           at_hi = at_hi;
           part = record {
             in_range = ht;
-            has_first = record { some = spot_some slice.lo.num slice.lo.den first.of_b first.of_a at_lo.share at_lo.rest slice.lo.positive; inside = there (spot_at a b first) (spot_in a b r slice.lo.num slice.lo.den first at_lo common.0) };
-            has_last = record { some = spot_some slice.hi.num slice.hi.den last.of_b last.of_a at_hi.share at_hi.rest slice.hi.positive; inside = there (spot_at a b last) (spot_in a b r slice.hi.num slice.hi.den last at_hi common.1) };
+            has_first = record { some = share_some slice.lo.num slice.lo.den first.of_b first.of_a at_lo.share at_lo.rest slice.lo.positive; inside = there (spot_at a b first) (spot_in a b r slice.lo.num slice.lo.den first at_lo common.0) };
+            has_last = record { some = share_some slice.hi.num slice.hi.den last.of_b last.of_a at_hi.share at_hi.rest slice.hi.positive; inside = there (spot_at a b last) (spot_in a b r slice.hi.num slice.hi.den last at_hi common.1) };
             differ = less_out (first.of_b * last.of_a) (last.of_b * first.of_a) (less_z slice.lo.num slice.lo.den slice.hi.num slice.hi.den (pos first.of_b) (pos first.of_a) (pos last.of_a) (pos last.of_b) at_lo.share at_lo.rest at_hi.share at_hi.rest order);
             none_before = λ s h. out_z (first.of_b * s.of_a) (s.of_b * first.of_a) (from_z slice.lo.num slice.lo.den (pos first.of_b) (pos first.of_a) (pos s.of_a) (pos s.of_b) at_lo.share at_lo.rest (common.2 (pos s.of_b) (pos s.of_a +ℤ pos s.of_b) (in_spot a b r s h.some (back (spot_at a b s) h.inside))).0);
             none_after = λ s h. out_z (s.of_b * last.of_a) (last.of_b * s.of_a) (upto_z slice.hi.num slice.hi.den (pos last.of_b) (pos last.of_a) (pos s.of_a) (pos s.of_b) at_hi.share at_hi.rest (common.2 (pos s.of_b) (pos s.of_a +ℤ pos s.of_b) (in_spot a b r s h.some (back (spot_at a b s) h.inside))).1);

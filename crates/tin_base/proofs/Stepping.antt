@@ -1,7 +1,7 @@
 -- On the way from a point to another, each point of which is in some triangle, some triangle has the first point and a point further on.
 -- Near the first point each side is on one hand all along, and so each triangle has all of the way or none. How near is a natural number n:
 -- the points k·p + l·q with n·l ≤ k.
-use Rattle.std.proofs.Common.{◌≡◌, ◌⊎◌, inl, inr, ℕ, suc, zero, ◌+◌, ◌*◌, ◌<◌, ◌≤◌, ℤ, pos, negsuc, ◌+ℤ◌, ◌-ℤ◌, ◌*ℤ◌, ◌≤ℤ◌, ◌<ℤ◌, List, [], ◌∷◌, length, subst, arith}
+use Rattle.std.proofs.Common.{◌≡◌, ◌⊎◌, inl, inr, ℕ, suc, zero, ◌+◌, ◌*◌, ◌<◌, ◌≤◌, ℤ, pos, ◌+ℤ◌, ◌-ℤ◌, ◌*ℤ◌, ◌≤ℤ◌, ◌<ℤ◌, List, [], ◌∷◌, length, subst, arith}
 use Rattle.std.proofs.lemmas.Int.{ints}
 use Rattle.integer_ring.proofs.Ring.{num, neg, ◌⊕◌, ◌⊖◌, ◌⊗◌}
 use Rattle.integer_ring.proofs.Order.{nonneg_pos, ≤_or_>, ≤_antisymm}
@@ -16,6 +16,7 @@ use Rattle.tin_base.specs.Triangulation.{Triangulation, place, corner_at, number
 use Rattle.tin_base.specs.Soundness.{turn_of_three}
 use Rattle.tin_base.specs.Images.{IsInSome}
 use Rattle.tin_base.specs.Relations.{IsBetween}
+use Rattle.plain_laws.proofs.Weights.{lift}
 
 -- ---- a value that goes from u to v: near u it has one sign all along
 abbrev IsNear : ℕ → ℕ → ℕ → Type 0
@@ -26,10 +27,6 @@ IsKept n u v = (k l : ℕ) → IsNear n k l → pos 0 ≤ℤ (pos k *ℤ u +ℤ 
 
 abbrev IsLost : ℕ → ℤ → ℤ → Type 0
 IsLost n u v = (k l : ℕ) → IsNear n k l → 0 < l → (pos k *ℤ u +ℤ pos l *ℤ v) <ℤ pos 0
-
-fill : (z : ℤ) → (n : ℕ) × (pos 0 ≤ℤ (pos n +ℤ z))
-fill (pos k) = (0, omega (arith, ints))
-fill (negsuc k) = (k + 1, omega (arith, ints))
 
 near_in_z : (n k l : ℕ) → n * l ≤ k → (pos n *ℤ pos l) ≤ℤ pos k
 near_in_z n k l h = let m : pos (n * l) ≤ℤ pos k = omega (arith, ints) in m
@@ -64,8 +61,8 @@ side : (u v : ℤ) → Side u v
 side u v = go (≤_or_> u (pos 0)) (≤_or_> (pos 0) u) (≤_or_> (pos 0) v)
   where
     go : (u ≤ℤ pos 0) ⊎ (pos 0 <ℤ u) → (pos 0 ≤ℤ u) ⊎ (u <ℤ pos 0) → (pos 0 ≤ℤ v) ⊎ (v <ℤ pos 0) → Side u v
-    go (inr h) y z = let f = fill v in record { n = f.0; one_sign = inl (kept_where_above u v f.0 h f.1) }
-    go (inl h) (inr k) z = let f = fill (pos 0 -ℤ v -ℤ pos 1) in record { n = f.0; one_sign = inr (lost_where_below u v f.0 k f.1) }
+    go (inr h) y z = let f = lift v in record { n = f.0; one_sign = inl (kept_where_above u v f.0 h f.1) }
+    go (inl h) (inr k) z = let f = lift (pos 0 -ℤ v -ℤ pos 1) in record { n = f.0; one_sign = inr (lost_where_below u v f.0 k f.1) }
     go (inl h) (inl k) (inl j) = record { n = 0; one_sign = inl (kept_where_zero u v (≤_antisymm u (pos 0) h k) j) }
     go (inl h) (inl k) (inr j) = record { n = 0; one_sign = inr (lost_where_zero u v (≤_antisymm u (pos 0) h k) j) }
 

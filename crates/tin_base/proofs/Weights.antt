@@ -1,13 +1,13 @@
 -- Weights of some corners, written as weights of more corners: one list of weights serves in both frames.
 use Rattle.std.proofs.Common.{◌≡◌, ◌⊎◌, inl, inr, ℕ, ◌+◌, ℤ, pos, ◌+ℤ◌, ◌*ℤ◌, Bool, true, false, ◌||◌, eqb, cond, List, [], ◌∷◌, length, map, sum, sym, ◌∙◌, ap, subst, refl, arith}
 use Rattle.std.proofs.lemmas.Int.{ints}
-use Rattle.std.proofs.lemmas.List.Sums.{sum_by-cons}
-use Rattle.std.proofs.lemmas.Bool.{eq-eqb}
+use Rattle.std.proofs.lemmas.Bool.{eq-eqb, or_left, or_right}
 use Rattle.std.proofs.lemmas.Bool.Decides.{eqb_tells}
 use Rattle.integer_ring.proofs.Ring.{num, ◌⊕◌, ◌⊗◌}
 use Rattle.integer_ring.proofs.Claims.{◌≐◌, eqn, ◌because◌, ◌⇒◌, follows}
 use Rattle.plane_base.specs.Plane.{Point, weighed}
 use Rattle.tin_base.specs.Soundness.{has, common}
+use Rattle.plain_laws.proofs.Weights.{sum-cons}
 
 -- the sum of a value over numbers, each as often as its weight says
 abbrev pub total : (ℕ → ℤ) → List ℕ → List ℕ → ℤ
@@ -30,9 +30,6 @@ weighed-w at [] ns = refl
 weighed-w at (w ∷ ws) [] = refl
 weighed-w at (w ∷ ws) (n ∷ ns) = ap (λ z. pos w *ℤ (at n).w +ℤ z) (weighed-w at ws ns)
 
-pub sum-cons : (w : ℕ) (ws : List ℕ) → sum (w ∷ ws) ≡ w + sum ws
-sum-cons w ws = sum_by-cons (λ x. x) w ws
-
 -- the sum of ones
 one_more : (w : ℕ) (z : ℤ) (s : ℕ) → z ≡ pos s → pos w *ℤ pos 1 +ℤ z ≡ pos (w + s)
 one_more w z s e = omega (arith, ints)
@@ -46,14 +43,6 @@ total-ones (w ∷ ws) (n ∷ ns) e = one_more w (total (λ _. pos 1) ws ns) (sum
 abbrev pub HasAll : List ℕ → List ℕ → Type 0
 HasAll ns [] = Unit {0}
 HasAll ns (k ∷ ks) = (has ns k ≡ true) × HasAll ns ks
-
-or_right : (a b : Bool) → b ≡ true → (a || b) ≡ true
-or_right true b e = refl
-or_right false b e = e
-
-or_left : (a b : Bool) → a ≡ true → (a || b) ≡ true
-or_left true b e = refl
-or_left false b e = cc
 
 has_all_more : (n : ℕ) (ns ks : List ℕ) → HasAll ns ks → HasAll (n ∷ ns) ks
 has_all_more n ns [] h = tt

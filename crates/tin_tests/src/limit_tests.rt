@@ -10,7 +10,7 @@ fn on_axes(sx: i64, ty: i64) -> Corner {
 #[test]
 fn tells_the_limits(rt: HostRuntime) {
     let reach = 1_000_000_000_000_000;
-    let span = 1_073_741_824;
+    let span = 2_147_483_648;
     for (second, third, numbers, want) in [
         ((5, 0), (0, 5), [0, 1, 2], true),
         ((5, 0), (0, 5), [0, 1, 3], false),

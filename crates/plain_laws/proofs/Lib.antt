@@ -1,0 +1,5 @@
+pub mod Booleans
+pub mod Order
+pub mod Lists
+pub mod Digits
+pub mod Weights

@@ -1,0 +1,2 @@
+// Plain lemmas on tests, orders, lists and weights: no code.
+#![tactic(auto)]
