@@ -84,7 +84,7 @@ here key places number xs ys (inl e) c = subst (λ (l : List ℕ). Contains l nu
 here key places number xs ys (inr e) c = absurd (e.0 c)
 
 -- ascending numbers and one more
-increasing_push : (xs : List ℕ) (n : ℕ) → IsStrictlyIncreasing xs → ((k : ℕ) → Contains xs k → k < n) → IsStrictlyIncreasing (xs ++ n ∷ [])
+pub increasing_push : (xs : List ℕ) (n : ℕ) → IsStrictlyIncreasing xs → ((k : ℕ) → Contains xs k → k < n) → IsStrictlyIncreasing (xs ++ n ∷ [])
 increasing_push xs n up below k within =
     let long = length_push xs n in
     let low : get_or (xs ++ n ∷ []) k 0 ≡ get_or xs k 0 = get_or_append_left xs (n ∷ []) 0 k (omega arith) in

@@ -13,3 +13,4 @@ pub mod Collects
 pub mod Entered
 pub mod Kept
 pub mod Inside
+pub mod UsedLevels

@@ -20,9 +20,9 @@ StandsIn level cells cut number = (p : Pt) × HasPoint cut p × Contains (number
 abbrev pub StandsBefore : List (List ℕ) → (ℕ → ℕ) → ℕ → ℕ → Type 0
 StandsBefore cells place count number = (k : ℕ) × (k < count) × Contains (numbers_at cells (place k)) number
 
--- the number of a box on a level before this one
-abbrev pub IsOnLevelBefore : List Rect → ℕ → ℕ → Type 0
-IsOnLevelBefore boxes level number = (l : ℕ) × (l < level) × IsOnLevel boxes l number
+-- the number of a box on one of the first levels of a list
+abbrev pub IsOnFirst : List Rect → List ℕ → ℕ → ℕ → Type 0
+IsOnFirst boxes levels count number = (k : ℕ) × (k < count) × IsOnLevel boxes (slice_index levels k) number
 
 -- one of the first numbers of a list
 abbrev pub IsOneOf : List ℕ → ℕ → ℕ → Type 0

@@ -37,8 +37,8 @@ pub(crate) fn tell(
     requires past { All (λ rect. IsPastCorner level.now.low rect) boxes.now }
     requires count { length boxes.now < LIMIT }
     requires number { number < length boxes.now }
-    requires above { level_of (box_at boxes.now number) ≤ level.now.shift }
-    ensures { OnOk result (DoesTell (IsPartnerOn boxes.now number level.now.shift) found.old.items found.new.items) }
+    requires above { level_of (box_at boxes.now number) ≤ level.now.number }
+    ensures { OnOk result (DoesTell (IsPartnerOn boxes.now number level.now.number) found.old.items found.new.items) }
 {
     let rect = &boxes[number as usize];
     let asked = Asked {
@@ -57,10 +57,10 @@ pub(crate) fn tell(
 // The first number that can be behind that of a box: the next one on its own level, and any on a level above.
 fn first_meant(level: &Level, rect: &Rect, number: u32) -> u32
     requires { number < LIMIT }
-    ensures own { level_of rect.now ≡ level.now.shift → result ≡ number + 1 }
-    ensures above { level_of rect.now ≢ level.now.shift → result ≡ 0 }
+    ensures own { level_of rect.now ≡ level.now.number → result ≡ number + 1 }
+    ensures above { level_of rect.now ≢ level.now.number → result ≡ 0 }
 {
-    if level_of(rect) == level.shift {
+    if level_of(rect) == level.number {
         number + 1
     } else {
         0
