@@ -1,8 +1,8 @@
-ghost use Rattle.std.specs.Prelude.{◌≡◌, ◌+◌, ◌<◌, false, length, All, IfOk, IsTrue};
+ghost use Rattle.std.specs.Prelude.{◌≡◌, ◌+◌, ◌<◌, ◌≤◌, false, length, All, IfOk, IsTrue};
 ghost use Rattle.std.specs.List.Sorted.{IsStrictlyIncreasing};
 ghost use Rattle.tin_base.specs.Soundness.{DoFit};
 ghost use Rattle.tin_check.specs.Boxes.{AreBoxesIn};
-ghost use Rattle.tin_check.specs.Progress.{ArePositive, DoFitBefore, DoAllFit, IsFirstFound, IsFirstSecond, DoOthersFit};
+ghost use Rattle.tin_check.specs.Progress.{ArePositive, DoFitBefore, DoAllFit, IsFirstFound, IsFirstFoundBelow, IsFirstSecond, DoOthersFit};
 
 use crate::boxes::{box_in, grid_in};
 use crate::pairs::{Pair, pair_fits};
@@ -24,7 +24,24 @@ pub(crate) fn first_unfit_pair(
     if do_all_fit(alloc, tin, frame, &grid)? {
         return Ok(None);
     }
-    first_in_order(alloc, tin, frame, &grid)
+    let found = first_in_order(alloc, tin, frame, &grid, tin.triangle_count())?;
+    Ok(found)
+}
+
+/// The same among the pairs whose first triangle is below `end`. No other pair is looked at.
+pub(crate) fn first_unfit_pair_below(
+    alloc: Global,
+    tin: &Tin,
+    frame: Frame,
+    end: u32,
+) -> Result<Option<Pair>, AllocError>
+    requires positive { ArePositive tin.now (length tin.now.triangles) }
+    requires end { end ≤ length tin.now.triangles }
+    ensures { IfOk result (λ found. IsFirstFoundBelow tin.now frame end found) }
+{
+    let grid = grid_in(alloc, tin, frame)?;
+    let found = first_in_order(alloc, tin, frame, &grid, end)?;
+    Ok(found)
 }
 
 /// Do all pairs of triangles fit together in the frame? Each is looked at once.
@@ -60,19 +77,21 @@ fn fits_each(tin: &Tin, frame: Frame, triangle: u32, others: &[u32]) -> bool
     true
 }
 
-/// The first pair, of those with the first triangle before those with the next one, that does not fit together in the frame.
+/// The first pair in order whose first triangle is below `end` and that does not fit together in the frame.
 fn first_in_order(
     alloc: Global,
     tin: &Tin,
     frame: Frame,
     grid: &Grid,
+    end: u32,
 ) -> Result<Option<Pair>, AllocError>
     requires positive { ArePositive tin.now (length tin.now.triangles) }
+    requires end { end ≤ length tin.now.triangles }
     requires boxes { AreBoxesIn tin.now frame (length tin.now.triangles) grid.now.boxes }
-    ensures { IfOk result (λ found. IsFirstFound tin.now frame found) }
+    ensures { IfOk result (λ found. IsFirstFoundBelow tin.now frame end found) }
 {
     boxes_share_a_point_or_are_apart();
-    for first in 0..tin.triangle_count() {
+    for first in 0..end {
         let near = grid.near(alloc, box_in(tin, first, frame))?;
         if let Some(second) = first_unfit(tin, frame, first, &near) {
             return Ok(Some(Pair { first, second }));
