@@ -5,7 +5,9 @@
 # beside evenly spread boxes. Builds a program in a folder of its own, outside the gate.
 #
 #     large.sh [BOXES [N..]]      200000 boxes and N = 64 128 256 512, if nothing else is said
+#     PART=check or PART=layouts  runs one of the two alone
 set -eu
+part=${PART:-both}
 boxes=${1:-200000}
 [ $# -gt 0 ] && shift
 [ $# -gt 0 ] || set -- 64 128 256 512
@@ -14,12 +16,15 @@ work=$(mktemp -d)
 trap 'rm -rf "$work"' EXIT
 
 # ---- check
-for count in "$@"; do
-    python3 "$top/bench/json_text.py" make "$count" "$work/$count.json"
-done
-# The first run proves and builds the program where that is due, and is not counted.
-"$top/tinmove" check --tin "$work/$1.json" >/dev/null
-python3 "$top/bench/growth.py" "$work" "$top/crates/tinmove/out/tinmove" "$@"
+if [ "$part" != layouts ]; then
+    for count in "$@"; do
+        python3 "$top/bench/json_text.py" make "$count" "$work/$count.json"
+    done
+    # The first run proves and builds the program where that is due, and is not counted.
+    "$top/tinmove" check --tin "$work/$1.json" >/dev/null
+    python3 "$top/bench/growth.py" "$work" "$top/crates/tinmove/out/tinmove" "$@"
+fi
+[ "$part" != check ] || exit 0
 
 # ---- layouts
 crate=$work/crates/grid_bench
