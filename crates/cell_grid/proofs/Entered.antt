@@ -72,7 +72,7 @@ cells_levels boxes levels entries keys cells is laid all are l d within =
     }
 
 -- ---- levels one after another
-pub laid_more : (levels : List Level) (level : Level) (number base : ℕ) → AreLaid levels → length levels ≡ number → number < 31 → All (λ (v : Level). v.base + v.mask < base) levels → level.base ≡ base → level.number ≡ number → AreLaid (levels ++ level ∷ [])
+pub laid_more : (levels : List Level) (level : Level) (number base : ℕ) → AreLaid levels → length levels ≡ number → number < 32 → All (λ (v : Level). v.base + v.mask < base) levels → level.base ≡ base → level.number ≡ number → AreLaid (levels ++ level ∷ [])
 laid_more levels level number base laid count few before at is =
     let long = length_push levels level in
     record {

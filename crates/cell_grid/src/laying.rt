@@ -15,10 +15,10 @@ use std::alloc::{AllocError, Global};
 
 /// How many boxes each level has, from level 0 to the greatest level of a box.
 pub(crate) fn counts_of(alloc: Global, boxes: &[Rect]) -> Result<Vec<u32>, AllocError>
-    requires sizes { AreOfLevels 31 boxes.now }
+    requires sizes { AreOfLevels 32 boxes.now }
     requires count { length boxes.now < LIMIT }
     ensures of_levels { IfOk result (λ counts. AreOfLevels (length counts.items) boxes.now) }
-    ensures few { IfOk result (λ counts. length counts.items ≤ 31) }
+    ensures few { IfOk result (λ counts. length counts.items ≤ 32) }
     ensures some { IfOk result (λ counts. All (λ rect. 0 < slice_index counts.items (level_of rect)) boxes.now) }
 {
     let mut counts = vec![in alloc; 0; level_count(boxes)]?;
@@ -30,7 +30,7 @@ pub(crate) fn counts_of(alloc: Global, boxes: &[Rect]) -> Result<Vec<u32>, Alloc
 
 /// The numbers of the levels that have boxes, ascending.
 pub(crate) fn used_levels(alloc: Global, counts: &[u32]) -> Result<Vec<u32>, AllocError>
-    requires few { length counts.now ≤ 31 }
+    requires few { length counts.now ≤ 32 }
     ensures ascending { IfOk result (λ used. IsStrictlyIncreasing used.items) }
     ensures below { IfOk result (λ used. All (λ level. level < length counts.now) used.items) }
     ensures few { IfOk result (λ used. length used.items ≤ length counts.now) }
@@ -63,7 +63,7 @@ pub(crate) fn levels_for(
     counts: &[u32],
     around: &Rect,
 ) -> Result<Vec<Level>, AllocError>
-    requires few { length counts.now ≤ 31 }
+    requires few { length counts.now ≤ 32 }
     requires of_levels { AreOfLevels (length counts.now) boxes.now }
     requires ordered { AreOrdered boxes.now }
     requires around { IsAround around.now boxes.now }
@@ -83,7 +83,7 @@ pub(crate) fn levels_for(
 // A level for each count of boxes. The cells of each are as wide as they can be if its boxes are spread evenly over an area,
 // in square millimetres.
 fn even_levels(alloc: Global, counts: &[u32], low: Pt, area: u64) -> Result<Vec<Level>, AllocError>
-    requires few { length counts.now ≤ 31 }
+    requires few { length counts.now ≤ 32 }
     ensures count { IfOk result (λ levels. length levels.items ≡ length counts.now) }
     ensures laid { IfOk result (λ levels. AreLaid levels.items) }
     ensures low { IfOk result (λ levels. All (λ level. level.low ≡ low) levels.items) }
@@ -114,9 +114,9 @@ pub(crate) fn place_count(levels: &[Level]) -> u32
 
 // One more than the greatest level of these boxes, 0 where there are none.
 fn level_count(boxes: &[Rect]) -> usize
-    requires sizes { AreOfLevels 31 boxes.now }
+    requires sizes { AreOfLevels 32 boxes.now }
     ensures of_levels { AreOfLevels result boxes.now }
-    ensures few { result ≤ 31 }
+    ensures few { result ≤ 32 }
 {
     let mut count = 0;
     for rect in boxes {
