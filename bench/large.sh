@@ -95,18 +95,18 @@ fn place(layout: Layout, number: u64, state: &mut u64) -> [i64; 4] {
     let mut y = 0;
     match layout {
         Layout::Even => {
-            x = random(state, 7_000_000);
-            y = random(state, 7_000_000);
+            x = random(state, 3_000_000);
+            y = random(state, 3_000_000);
         }
         Layout::TwoVillages => {
             let at = village(number, 2);
-            x = random(state, 5_000_000).saturating_add(at);
-            y = random(state, 5_000_000).saturating_add(at);
+            x = random(state, 2_100_000).saturating_add(at);
+            y = random(state, 2_100_000).saturating_add(at);
         }
         Layout::TenVillages => {
             let at = village(number, 10);
-            x = random(state, 2_200_000).saturating_add(at);
-            y = random(state, 2_200_000).saturating_add(at);
+            x = random(state, 950_000).saturating_add(at);
+            y = random(state, 950_000).saturating_add(at);
         }
         Layout::Chain => {
             size = random(state, 300).saturating_add(500);

@@ -15,7 +15,8 @@ use Rattle.cell_grid.specs.declared.blocks.Block.{Block}
 use Rattle.cell_grid.proofs.Finds.{find_as, find_more, index_of_member}
 use Rattle.cell_grid.proofs.Indices.{place_there, index_within}
 use Rattle.cell_grid.proofs.Places.{cell_within}
-use Rattle.cell_grid.proofs.Spans.{point_in, cut_has}
+use Rattle.plane_base.proofs.BoxLemmas.{outer_has}
+use Rattle.cell_grid.proofs.Spans.{cut_has}
 
 -- ---- cells one after another
 pub stands_more : (boxes : List Rect) (r : Rect) (cells : List (List ℕ)) (place : ℕ → ℕ) (index : ℕ) (cell : List ℕ) (xs ys zs : List ℕ) → cell ≡ numbers_at cells (place index)
@@ -58,7 +59,7 @@ level_found boxes r around level cells xs ys is round finds =
     find_as boxes r (StandsIn level cells (cut_of around r)) (IsOnLevel boxes level.number) xs ys finds
     (λ n on near.
     let shared = near.1 in
-    (shared.0, cut_has around r shared.0 (point_in around (box_at boxes n) shared.0 (round.all n no_box near.0) shared.1) shared.2, is.held n shared.0 on shared.1))
+    (shared.0, cut_has around r shared.0 (outer_has around (box_at boxes n) shared.0 (round.all n no_box near.0) shared.1) shared.2, is.held n shared.0 on shared.1))
 
 -- ---- all levels
 pub levels_more : (boxes : List Rect) (r : Rect) (levels : List ℕ) (i : ℕ) (xs ys zs : List ℕ) → DoesFind boxes r (IsOnFirst boxes levels i) xs ys → DoesFind boxes r (IsOnLevel boxes (get_or levels i 0)) ys zs

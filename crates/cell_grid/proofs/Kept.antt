@@ -10,7 +10,8 @@ use Rattle.cell_grid.specs.Cells.{numbers_at, cell_of, HasNumbersBelow, IsLevelO
 use Rattle.cell_grid.specs.Laying.{AreLaid}
 use Rattle.cell_grid.specs.Around.{IsAround, corner_of, put_of}
 use Rattle.cell_grid.specs.declared.levels.Level.{Level}
-use Rattle.cell_grid.proofs.Spans.{past, past_corner, between_in, point_in, put_same}
+use Rattle.cell_grid.proofs.Spans.{past, past_corner, between_in, put_same}
+use Rattle.plane_base.proofs.BoxLemmas.{outer_has}
 use Rattle.cell_grid.proofs.Places.{cell_within}
 
 -- ---- a level of the grid
@@ -45,7 +46,7 @@ cell_below boxes cells place cell below at k d within = below place (get_or cell
 pub cell_exact : (boxes : List Rect) (around : Rect) (cells : List (List ℕ)) (k : ℕ) (level : Level) (p : Pt) (cell : List ℕ) → IsAround around boxes → IsKeptLevel boxes around cells k level
     → cell ≡ numbers_at cells (cell_of level (put_of around p)) → (n : ℕ) → IsHolder boxes p n → Contains cell n ↔ (level_of (box_at boxes n) ≡ k)
 cell_exact boxes around cells k level p cell round kept at n holder =
-    let same = put_same around p (point_in around (box_at boxes n) p (round.all n no_box holder.0) holder.1) in
+    let same = put_same around p (outer_has around (box_at boxes n) p (round.all n no_box holder.0) holder.1) in
     let there : cell ≡ numbers_at cells (cell_of level p) = at ∙ ap (λ (q : Pt). numbers_at cells (cell_of level q)) same in (
       λ c. (kept.is.of_level (cell_of level p) n (cell_within level p) (subst (λ (l : List ℕ). Contains l n) there c)).1 ∙ kept.number,
       λ e. subst (λ (l : List ℕ). Contains l n) (sym there) (kept.is.held n p (holder.0, e ∙ sym kept.number) holder.1),

@@ -13,7 +13,8 @@ use Rattle.std.proofs.lemmas.List.Elements.{Contains-push, Contains-push_cases, 
 use Rattle.std.proofs.lemmas.List.Folds.{list_any_none}
 use Rattle.std.proofs.lemmas.Map.Keys.{IsDistinct-push}
 use Rattle.plane_base.specs.declared.shapes.Rect.{Rect}
-use Rattle.cell_grid.specs.Boxes.{HasPoint, IsOrdered, AreOrdered, ShareAPoint, box_at, no_box}
+use Rattle.plane_base.specs.Boxes.{HasPoint, IsOrdered, ShareAPoint}
+use Rattle.cell_grid.specs.Boxes.{AreOrdered, box_at, no_box}
 use Rattle.cell_grid.specs.Sizes.{level_of}
 use Rattle.cell_grid.specs.Stripes.{IsPast}
 use Rattle.cell_grid.specs.Cells.{numbers_at, cell_of, IsLevelOf, IsPlaceOf}
@@ -22,7 +23,7 @@ use Rattle.cell_grid.specs.Partners.{ArePartners}
 use Rattle.cell_grid.specs.Telling.{DoesTell, IsAsked, least, index_with, IsTellable, IsToldBefore, IsToldAmong, IsPartnerOn, IsPartnerOnFirst}
 use Rattle.cell_grid.specs.declared.telling.Asked.{Asked}
 use Rattle.cell_grid.proofs.Finds.{index_of_member}
-use Rattle.cell_grid.proofs.Points.{meeting}
+use Rattle.plane_base.proofs.BoxLemmas.{meeting}
 use Rattle.cell_grid.proofs.Indices.{place_there, index_within}
 
 -- ---- the least common point

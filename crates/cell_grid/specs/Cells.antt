@@ -3,7 +3,8 @@ use Rattle.std.specs.Prelude.{◌≡◌, ℕ, ◌+◌, ◌*◌, ◌%◌, ◌^◌
 use Rattle.std.specs.List.Sorted.{IsStrictlyIncreasing}
 use Rattle.plane_base.specs.declared.shapes.Pt.{Pt}
 use Rattle.plane_base.specs.declared.shapes.Rect.{Rect}
-use Rattle.cell_grid.specs.Boxes.{HasPoint, box_at}
+use Rattle.plane_base.specs.Boxes.{HasPoint}
+use Rattle.cell_grid.specs.Boxes.{box_at}
 use Rattle.cell_grid.specs.Sizes.{level_of}
 use Rattle.cell_grid.specs.Stripes.{stripe_of}
 use Rattle.cell_grid.specs.declared.levels.Level.{Level}

@@ -2,7 +2,8 @@
 use Rattle.std.specs.Prelude.{◌≡◌, ◌⊎◌, ℕ, ◌<◌, List, slice_index, Contains}
 use Rattle.plane_base.specs.declared.shapes.Pt.{Pt}
 use Rattle.plane_base.specs.declared.shapes.Rect.{Rect}
-use Rattle.cell_grid.specs.Boxes.{HasPoint, IsNear}
+use Rattle.plane_base.specs.Boxes.{HasPoint}
+use Rattle.cell_grid.specs.Boxes.{IsNear}
 use Rattle.cell_grid.specs.Cells.{numbers_at, cell_of, IsOnLevel}
 use Rattle.cell_grid.specs.declared.levels.Level.{Level}
 

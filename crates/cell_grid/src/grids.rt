@@ -1,6 +1,7 @@
 ghost use Rattle.std.specs.Prelude.{◌≡◌, ◌↔◌, ℕ, ◌<◌, length, All, Contains, IfOk, OnOk, slice_index};
 ghost use Rattle.std.specs.List.Sorted.{IsStrictlyIncreasing};
-ghost use Rattle.cell_grid.specs.Boxes.{IsOrdered, AreOrdered, AreWithinSpan, IsNearList, IsHolder, box_at};
+ghost use Rattle.plane_base.specs.Boxes.{IsOrdered};
+ghost use Rattle.cell_grid.specs.Boxes.{AreOrdered, AreWithinSpan, IsNearList, IsHolder, box_at};
 ghost use Rattle.cell_grid.specs.Sizes.{level_of};
 ghost use Rattle.cell_grid.specs.Partners.{ArePartners};
 ghost use Rattle.cell_grid.specs.Telling.{DoesTell, IsPartnerOn};

@@ -1,7 +1,8 @@
 ghost use Rattle.std.specs.Prelude.{◌≡◌, ◌≢◌, ◌↔◌, ℕ, ◌<◌, ◌≤◌, ◌+◌, length, All, Contains, OnOk, IsTrue};
 ghost use Rattle.std.specs.List.Sorted.{IsStrictlyIncreasing};
 ghost use Rattle.cell_grid.specs.declared.grids.TheConstants.{LIMIT};
-ghost use Rattle.cell_grid.specs.Boxes.{ShareAPoint, box_at};
+ghost use Rattle.plane_base.specs.Boxes.{ShareAPoint};
+ghost use Rattle.cell_grid.specs.Boxes.{box_at};
 ghost use Rattle.cell_grid.specs.Sizes.{level_of};
 ghost use Rattle.cell_grid.specs.Stripes.{IsPastCorner};
 ghost use Rattle.cell_grid.specs.Cells.{IsLevelOf, DoAscend};
@@ -10,7 +11,7 @@ ghost use Rattle.cell_grid.specs.Telling.{DoesTell, IsAsked, IsTold, IsTellable,
 
 use crate::blocks::Block;
 use crate::levels::Level;
-use crate::rects::{level_of, share_a_point};
+use crate::rects::level_of;
 use number_groups::Groups;
 use plane_base::Rect;
 use std::alloc::AllocError;
@@ -127,7 +128,7 @@ impl Asked {
         requires past { IsPastCorner self.now.level.low rect.now }
         ensures { IsTrue result ↔ IsTold self.now index rect.now }
     {
-        if !share_a_point(rect, &self.rect) {
+        if !rect.shares_a_point(&self.rect) {
             return false;
         }
         self.index_with(rect) == index as u64

@@ -13,14 +13,15 @@ use plane_base::turn;
 use std::alloc::Global;
 use tin_base::{Frame, SoundTin, Tin};
 
-/// The triangulation, where it is sound. Else its first fault: of the triangles in order, flat in the source, flat in the target, turned over;
-/// then of the pairs in order of the first and of the second number, those that do not fit in the source, and in the target.
+/// The triangulation if it is sound, or else its first fault. Of the triangles, in order: flat in the source, flat in the
+/// target, turned over. Then of the pairs, in order of the first and of the second number: those that do not fit in the
+/// source, and in the target.
 pub fn check_tin(alloc: Global, tin: Tin) -> Result<SoundTin, CheckFault>
     ensures same { IfOk result (λ sound. sound ≡ tin) }
     ensures sound { OnOk result (IsSound tin) }
     ensures images { IfOk result (λ sound. IsOneToOne sound) }
     ensures first { IfErr result (λ fault. IsCause tin fault) }
-    // So a sound triangulation is refused for want of memory alone.
+    // So a sound triangulation is refused only when it runs out of memory.
     ensures accepted { IsSound tin → IfErr result (λ fault. fault ≡ NoMemory) }
 {
     check_triangles(&tin)?;
@@ -120,7 +121,7 @@ fn meets(pair: Pair, frame: Frame) -> CheckFault
     }
 }
 
-/// Does the one pair stand before the other?
+/// Whether the one pair comes before the other.
 fn is_before(pair: Pair, other: Pair) -> bool
     ensures { IsTrue result ↔ IsBeforePair pair.first pair.second other.first other.second }
 {

@@ -6,12 +6,13 @@ ghost use Rattle.tin_check.specs.Progress.{ArePositive, DoFitBefore, DoAllFit, I
 
 use crate::boxes::{box_in, grid_in};
 use crate::pairs::{Pair, pair_fits};
-use cell_grid::{Grid, boxes_share_a_point_or_are_apart, each_pair_is_told_once};
+use cell_grid::{Grid, each_pair_is_told_once};
+use plane_base::boxes_share_a_point_or_are_apart;
 use std::alloc::{AllocError, Global};
 use tin_base::{Frame, Tin};
 
-/// The first pair of triangles, in order, that does not fit together in the frame. Only pairs whose boxes share a point are looked at:
-/// once in any order, and in their order where one of them does not fit.
+/// The first pair of triangles, in order, that does not fit together in the frame. Only pairs whose boxes share a point are
+/// looked at: once in any order, and in their order where one of them does not fit.
 pub(crate) fn first_unfit_pair(
     alloc: Global,
     tin: &Tin,
@@ -44,7 +45,7 @@ pub(crate) fn first_unfit_pair_below(
     Ok(found)
 }
 
-/// Do all pairs of triangles fit together in the frame? Each is looked at once.
+/// Whether all pairs of triangles fit together in the frame. Each is looked at once.
 fn do_all_fit(alloc: Global, tin: &Tin, frame: Frame, grid: &Grid) -> Result<bool, AllocError>
     requires positive { ArePositive tin.now (length tin.now.triangles) }
     requires boxes { AreBoxesIn tin.now frame (length tin.now.triangles) grid.now.boxes }
@@ -62,7 +63,7 @@ fn do_all_fit(alloc: Global, tin: &Tin, frame: Frame, grid: &Grid) -> Result<boo
     Ok(true)
 }
 
-/// Does a triangle fit together with each of some others?
+/// Whether a triangle fits together with each of some others.
 fn fits_each(tin: &Tin, frame: Frame, triangle: u32, others: &[u32]) -> bool
     requires triangle { triangle < length tin.now.triangles }
     requires others { All (λ other. other < length tin.now.triangles) others.now }
@@ -100,7 +101,8 @@ fn first_in_order(
     Ok(None)
 }
 
-/// Of some triangles, in order, the first one behind `first` that does not fit it in the frame. All pairs of a lower first triangle fit, and the triangles behind `first` that are left out.
+/// Of some triangles, in order, the first one after `first` that does not fit it in the frame. All pairs of a lower first
+/// triangle fit, and so do the triangles after `first` that are left out.
 fn first_unfit(tin: &Tin, frame: Frame, first: u32, seconds: &[u32]) -> Option<u32>
     requires first { first < length tin.now.triangles }
     requires positive { ArePositive tin.now (length tin.now.triangles) }
@@ -118,7 +120,7 @@ fn first_unfit(tin: &Tin, frame: Frame, first: u32, seconds: &[u32]) -> Option<u
     None
 }
 
-/// Does the second triangle stand behind the first, and not fit it in the frame?
+/// Whether the second triangle comes after the first, and does not fit it in the frame.
 fn is_unfit(tin: &Tin, frame: Frame, first: u32, second: u32) -> bool
     requires first { first < length tin.now.triangles }
     requires second { second < length tin.now.triangles }
