@@ -104,7 +104,8 @@ fn stripe(low: i64, shift: u32, x: i64) -> u32
     (x.abs_diff(low) as u32) >> shift
 }
 
-// By how many places a row is behind the one below it: near to the golden section of `size`, so that rows far apart seldom meet, and five more than a multiple of eight.
+// By how many places a row is behind the one below it: near the golden section of `size`, so that rows far apart seldom
+// meet, and five more than a multiple of eight.
 fn skew_of(size: u32) -> u32
     requires { size < 2 ^ 25 }
 {

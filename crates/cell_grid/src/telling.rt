@@ -109,7 +109,7 @@ impl Asked {
         Ok(())
     }
 
-    // Is this number told at the cell of this index?
+    // Whether this number is told at the cell of this index.
     fn is_tellable(&self, number: u32, index: u32, boxes: &[Rect]) -> bool
         requires asked { IsAsked self.now }
         requires past { All (λ rect. IsPastCorner self.now.level.low rect) boxes.now }
@@ -122,7 +122,7 @@ impl Asked {
         self.is_told(index, &boxes[number as usize])
     }
 
-    // Have the boxes a common point, and is the least in the cell of this index?
+    // Whether the boxes have a common point, and the least one is in the cell of this index.
     fn is_told(&self, index: u32, rect: &Rect) -> bool
         requires asked { IsAsked self.now }
         requires past { IsPastCorner self.now.level.low rect.now }
