@@ -1,52 +1,109 @@
 #!/bin/sh
-# How fast a layer of segments goes through a triangulation of 200 triangles. Pieces whose boxes meet are compared, so the time
-# grows with the number of such pairs.
-# Prints, for each of three runs, segments and pieces a second, and the peak of memory. Needs GNU time as /usr/bin/time, or as the
-# command that TIME names. No part of the gate.
+# How fast a layer goes through a triangulation, apart from the comparing of its pieces: the time from a sheet to images and
+# pieces, beside Python's json.load of the triangulation's text in the same run. First the layer of two lines in each cell, of
+# N = 512: 524288 segments and 1048576 pieces. Then N lines from side to side, with the exponent of growth in pieces.
+# Builds a program in a folder of its own, outside the gate.
+#
+#     carry.sh [N [N..]]      N = 64 128 256 512 for the lines, if nothing else is said
 set -eu
-segments=${1:-1000}
-time=${TIME:-/usr/bin/time}
+[ $# -gt 0 ] || set -- 64 128 256 512
 top=$(CDPATH='' cd -- "$(dirname -- "$0")/.." && pwd)
-folder=$(mktemp -d)
-trap 'rm -rf "$folder"' EXIT
-cd "$folder"
+work=$(mktemp -d)
+trap 'rm -rf "$work"' EXIT
+crate=$work/crates/carry_bench
+mkdir -p "$crate/src"
+for name in $(sed -n 's/^\([a-z0-9_]*\):.*/\1/p' "$top/crates.txt"); do
+    case $name in
+    *_tests | tinmove | topo_check | meet_rel | report_text | job_words | gj_layer | dxf_*) ;;
+    *)
+        cp -r "$top/crates/$name" "$work/crates/$name"
+        grep -E "^$name:" "$top/crates.txt"
+        ;;
+    esac
+done > "$work/crates.txt"
+uses=$(for name in carry_map tin_file wkt_layer; do sed -n "s/^$name: *//p" "$top/crates.txt"; done | tr ' ' '\n' | sort -u | tr '\n' ' ')
+uses=$(printf '%s\n' $uses tin_check tin_file wkt_layer carry_map anyhow | sort -u | tr '\n' ' ')
+echo "carry_bench: $uses" >> "$work/crates.txt"
+cat > "$crate/src/main.rt" <<'END'
+//! Carries the layer `layer.wkt` through the triangulation `made.json`, and prints how long each step takes in microseconds.
+#![tactic(auto)]
 
-# A square of ten by ten cells of 10 m, each cut into two triangles, moved and shaken by millimetres.
-awk 'BEGIN {
-    printf "{\"file_type\":\"triangulation_file\",\"format_version\":\"1.1\",\"transformed_components\":[\"horizontal\"],"
-    printf "\"vertices_columns\":[\"source_x\",\"source_y\",\"target_x\",\"target_y\"],"
-    printf "\"triangles_columns\":[\"idx_vertex1\",\"idx_vertex2\",\"idx_vertex3\"],\"vertices\":["
-    for (j = 0; j <= 10; j++) for (i = 0; i <= 10; i++)
-        printf "%s[%d,%d,%d.%03d,%d.%03d]", (i + j ? "," : ""), 10 * i, 10 * j,
-            1000 + 10 * i, (7 * i + 13 * j) % 41, 2000 + 10 * j, (11 * i + 5 * j) % 37
-    printf "],\"triangles\":["
-    for (j = 0; j < 10; j++) for (i = 0; i < 10; i++) {
-        a = 11 * j + i
-        printf "%s[%d,%d,%d],[%d,%d,%d]", (i + j ? "," : ""), a, a + 1, a + 12, a, a + 12, a + 11
+use carry_map::{MOST_PIECES, carry};
+use sheet_base::{How, Layer};
+use std::fs;
+use std::time::CpuClock;
+use tin_check::check_tin;
+use tin_file::{MOST_BYTES, read_tin};
+use tin_index::TinIndex;
+use wkt_layer::Wkt;
+
+fn main(rt: HostRuntime) -> anyhow::Result<()> {
+    let alloc = rt.alloc();
+    let how = How {
+        exact: false,
+        drop_other: false,
+        inside_only: false,
+    };
+    let text = fs::read(&rt, "made.json")?;
+    let layer = fs::read(&rt, "layer.wkt")?;
+    if text.len() as u64 > MOST_BYTES as u64 || layer.len() > 1 << 26 {
+        return Ok(());
     }
-    printf "]}"
-}' > t.json
-
-# Lines of two points, up to 20 m on each axis from each other, anywhere in the square.
-awk -v segments="$segments" 'BEGIN {
-    for (k = 0; k < segments; k++) {
-        x = k * 7919 % 80000
-        y = k * 104729 % 80000
-        u = x + k * 31 % 20000
-        v = y + k * 17 % 20000
-        printf "LINESTRING (%d.%03d %d.%03d, %d.%03d %d.%03d)\n", x / 1000, x % 1000, y / 1000, y % 1000,
-            u / 1000, u % 1000, v / 1000, v % 1000
-    }
-}' > l.wkt
-
-# The first run proves and builds the program where that is due, and is not counted.
-"$top/tinmove" migrate --tin t.json --out out l.wkt | head -n 3
-for run in 1 2 3; do
-    "$time" -f '%U %M' -o taken "$top/crates/tinmove/out/tinmove" migrate --tin t.json --out out l.wkt > report
-    pieces=$(sed -n 's/^layer 0 .* pieces \([0-9]*\) .*/\1/p' report)
-    awk -v run="$run" -v segments="$segments" -v pieces="$pieces" '{
-        seconds = $1 > 0 ? $1 : 0.01
-        printf "run %d: %s s, %d segments, %d pieces a second, %d KiB at most\n",
-            run, $1, segments / seconds, pieces / seconds, $2
-    }' taken
+    let Ok(tin) = read_tin(alloc, &text, how) else {
+        return Ok(());
+    };
+    let begun = rt.thread_cpu_time()?;
+    let Ok(sound) = check_tin(alloc, tin) else {
+        return Ok(());
+    };
+    let checked = rt.thread_cpu_time()?;
+    let Ok(index) = TinIndex::build(alloc, sound) else {
+        return Ok(());
+    };
+    let indexed = rt.thread_cpu_time()?;
+    let Ok(sheet) = <Wkt as Layer>::read(alloc, &layer, how) else {
+        return Ok(());
+    };
+    let read = rt.thread_cpu_time()?;
+    let mut pieces = Vec::new(alloc);
+    let Ok(images) = carry(alloc, &index, &sheet, 0, MOST_PIECES, &mut pieces) else {
+        return Ok(());
+    };
+    let carried = rt.thread_cpu_time()?;
+    println!(rt; "{} {} {} {} {} {}", images.points().len(), pieces.len(), checked.saturating_sub(begun).as_micros(),
+        indexed.saturating_sub(checked).as_micros(), read.saturating_sub(indexed).as_micros(), carried.saturating_sub(read).as_micros())?;
+    Ok(())
+}
+END
+(cd "$crate" && rt run > "$work/log" 2>&1) || true
+program=$crate/out/carry_bench
+[ -x "$program" ] || { tail -n 30 "$work/log"; exit 1; }
+cd "$work"
+printf '%-14s %8s %8s %9s %9s %9s %7s %7s\n' layer points pieces 'check ms' 'index ms' 'carry ms' ratio growth
+row() { # the name of the row, N, the kind of layer
+    python3 "$top/bench/json_text.py" make "$2" made.json
+    python3 "$top/bench/carry_text.py" "$3" "$2" layer.wkt
+    yardstick=$(python3 -c 'import json, time
+best = 9e9
+for _ in range(3):
+    start = time.process_time()
+    json.load(open("made.json"))
+    best = min(best, time.process_time() - start)
+print(best * 1e6)')
+    # the file 'before' has the pieces and the microseconds of the row before
+    for _ in 1 2 3; do "$program"; done | sort -n -k 6 | head -n 1 | awk -v name="$1" -v json="$yardstick" '{
+        growth = "-"
+        if ((getline last < "before") > 0) {
+            split(last, was, " ")
+            growth = sprintf("%.2f", log($6 / was[2]) / log($2 / was[1]))
+        }
+        close("before")
+        printf "%-14s %8d %8d %9.0f %9.0f %9.1f %7.2f %7s\n", name, $1, $2, $3 / 1000, $4 / 1000, $6 / 1000, $6 / json, growth
+        print $2, ($6 > 0 ? $6 : 1) > "before"
+    }'
+}
+row 'two a cell' 512 cells
+rm before
+for count in "$@"; do
+    row "$count lines" "$count" lines
 done

@@ -23,7 +23,7 @@ pub struct Carried {
     pub dropped: u64,
 }
 
-/// Does the path's last point begin no segment? So it is with a line of two points or more.
+/// Whether the path's last point begins no segment, as that of a line of two points or more.
 fn is_open(row: PathRow) -> bool
     ensures { result ≡ ends_open row }
 {

@@ -1,9 +1,10 @@
 -- Boxes on their levels, and what the groups of all entries are.
-use Rattle.std.proofs.Common.{◌≡◌, ℕ, ◌+◌, ◌-◌, ◌^◌, ◌<◌, ◌≤◌, List, [], ◌∷◌, ◌++◌, length, get_or, All, Contains, ⊎_elim, sym, ap, ◌∙◌, subst, arith}
-use Rattle.std.proofs.lemmas.Bool.{cases_lt}
-use Rattle.std.proofs.lemmas.List.{get_or_past, get_or_default, get_or_append_left, get_or_push, length_push}
+use Rattle.std.proofs.Common.{◌≡◌, ℕ, ◌+◌, ◌-◌, ◌^◌, ◌<◌, ◌≤◌, List, [], ◌∷◌, ◌++◌, length, get_or, All, Contains, ⊎_elim, refl, set, sym, ap, ◌∙◌, subst, arith}
+use Rattle.std.proofs.lemmas.Bool.{cases_lt, cases_eq}
+use Rattle.std.proofs.lemmas.List.{get_or_past, get_or_default, get_or_append_left, get_or_push, length_push, length-set, get_or-set_same, get_or-set_other}
 use Rattle.std.proofs.lemmas.List.Elements.{All-push}
 use Rattle.std.specs.List.Sorted.{IsStrictlyIncreasing}
+use Rattle.plane_base.specs.declared.shapes.Pt.{Pt}
 use Rattle.plane_base.specs.declared.shapes.Rect.{Rect}
 use Rattle.number_groups.specs.declared.groups.Entry.{Entry}
 use Rattle.number_groups.specs.Groups.{numbers_of}
@@ -11,7 +12,7 @@ use Rattle.cell_grid.specs.Boxes.{box_at, no_box}
 use Rattle.cell_grid.specs.Sizes.{longer_side, level_of, AreOfLevels}
 use Rattle.cell_grid.specs.Stripes.{IsPastCorner}
 use Rattle.cell_grid.specs.Cells.{numbers_at, cell_of, HasNumbersBelow, IsLevelOf, IsOnLevel, DoAscend}
-use Rattle.cell_grid.specs.Laying.{AreLaid}
+use Rattle.cell_grid.specs.Laying.{AreLaid, HasSamePlaces, HaveSamePlaces}
 use Rattle.cell_grid.specs.Entering.{AreEntered}
 use Rattle.cell_grid.specs.declared.levels.Level.{Level}
 use Rattle.cell_grid.proofs.Sizes.{small_on}
@@ -28,8 +29,8 @@ level_past boxes levels number l level past h within is = subst (λ (v : Level).
 pub level_small : (boxes : List Rect) (levels : List Level) (number l : ℕ) (level : Level) → AreLaid levels → l ≡ level_of (box_at boxes number) → l < length levels → level ≡ get_or levels l level
     → IsPastCorner level.low (box_at boxes number) → longer_side (box_at boxes number) < 2 ^ level.shift
 level_small boxes levels number l level laid of_it within is past =
-    let shift : level.shift ≡ l = ap (λ (v : Level). v.shift) is ∙ laid.shift l level within in
-    small_on level.low (box_at boxes number) level.shift past (omega (arith, of_it, shift))
+    let own : level.number ≡ l = ap (λ (v : Level). v.number) is ∙ laid.number l level within in
+    small_on level.low (box_at boxes number) level.shift past (omega (arith, of_it, own, level.wide))
 
 -- ---- the groups of all entries
 pub record AreGroups (entries : List Entry) (keys : ℕ) (cells : List (List ℕ)) : Type 0 where
@@ -59,25 +60,25 @@ pub cells_levels : (boxes : List Rect) (levels : List Level) (entries : List Ent
     → All (λ (v : Level). v.base + v.mask < keys) levels → AreGroups entries keys cells → All (λ (v : Level). IsLevelOf boxes cells v) levels
 cells_levels boxes levels entries keys cells is laid all are l d within =
     let level = get_or levels l d in
-    let shift = laid.shift l d within in
+    let own = laid.number l d within in
     let end = all l d within in
     record {
       places = omega (arith, are.count, end);
-      of_level = λ place k on c. subst (λ (n : ℕ). IsOnLevel boxes n k) (sym shift) (is.of_level place k l d within on (among entries keys cells place k are c));
+      of_level = λ place k on c. subst (λ (n : ℕ). IsOnLevel boxes n k) (sym own) (is.of_level place k l d within on (among entries keys cells place k are c));
       held = λ k p on has.
           let top = cell_within level p in
           subst (λ (list : List ℕ). Contains list k) (sym (are.each (cell_of level p) (omega (arith, top.1, end))))
-          (is.held k l d p within on.0 (subst (λ (n : ℕ). IsOnLevel boxes n k) shift on) has);
+          (is.held k l d p within on.0 (subst (λ (n : ℕ). IsOnLevel boxes n k) own on) has);
     }
 
 -- ---- levels one after another
-pub laid_more : (levels : List Level) (level : Level) (shift base : ℕ) → AreLaid levels → length levels ≡ shift → shift < 32 → All (λ (v : Level). v.base + v.mask < base) levels → level.base ≡ base → level.shift ≡ shift → AreLaid (levels ++ level ∷ [])
-laid_more levels level shift base laid count few before at is =
+pub laid_more : (levels : List Level) (level : Level) (number base : ℕ) → AreLaid levels → length levels ≡ number → number < 32 → All (λ (v : Level). v.base + v.mask < base) levels → level.base ≡ base → level.number ≡ number → AreLaid (levels ++ level ∷ [])
+laid_more levels level number base laid count few before at is =
     let long = length_push levels level in
     record {
       few = omega arith;
-      shift = λ k d h. ⊎_elim
-          (λ inside. rw (get_or_append_left levels (level ∷ []) d k inside) (laid.shift k d inside))
+      number = λ k d h. ⊎_elim
+          (λ inside. rw (get_or_append_left levels (level ∷ []) d k inside) (laid.number k d inside))
           (λ last. rw (get_or_push levels level d k (omega arith)) (is ∙ omega arith))
           (cases_lt k (length levels));
       apart = λ i j d less h.
@@ -105,3 +106,54 @@ last_all levels level laid some is k d h =
     let same : get_or levels k d ≡ level = ap (λ (n : ℕ). get_or levels n d) e ∙ sym read in
     rw same (omega arith))
     (cases_lt k (length levels - 1))
+
+-- ---- levels with other cells
+pub same_laid : (before now : List Level) → HaveSamePlaces before now → AreLaid before → AreLaid now
+same_laid before now same laid =
+    record {
+      few = omega (arith, same.count, laid.few);
+      number = λ k d h. let at : k < length before = omega (arith, same.count) in (same.each k d at).number ∙ laid.number k d at;
+      apart = λ i j d less h.
+          let there : j < length before = omega (arith, same.count) in
+          let here : i < length before = omega arith in
+          let first = same.each i d here in
+          let second = same.each j d there in
+          omega (arith, laid.apart i j d less there, first.base, first.mask, second.base);
+    }
+
+pub same_low : (before now : List Level) (low : Pt) → HaveSamePlaces before now → All (λ (v : Level). v.low ≡ low) before → All (λ (v : Level). v.low ≡ low) now
+same_low before now low same all k d h = let at : k < length before = omega (arith, same.count) in (same.each k d at).low ∙ all k d at
+
+pub same_none : (levels : List Level) → HaveSamePlaces levels levels
+same_none levels = record { count = refl; each = λ k d h. record { low = refl; number = refl; base = refl; mask = refl } }
+
+pub same_set : (before now : List Level) (place : ℕ) (old level : Level) → HaveSamePlaces before now → place < length now → old ≡ get_or now place old → HasSamePlaces old level → HaveSamePlaces before (set now place level)
+same_set before now place old level same within is one =
+    record {
+      count = length-set now place level ∙ same.count;
+      each = λ k d h.
+          let kept = same.each k d h in
+          ⊎_elim
+          (λ here.
+          let read : old ≡ get_or now k d = is ∙ get_or_default now place old d within ∙ ap (λ (n : ℕ). get_or now n d) (sym here) in
+          let put : get_or (set now place level) k d ≡ level = ap (λ (n : ℕ). get_or (set now place level) n d) here ∙ get_or-set_same now place level d within in
+          let from : HasSamePlaces (get_or now k d) level = subst (λ (v : Level). HasSamePlaces v level) read one in
+          rw put (record { low = from.low ∙ kept.low; number = from.number ∙ kept.number; base = from.base ∙ kept.base; mask = from.mask ∙ kept.mask }))
+          (λ other. rw (get_or-set_other now place k level d other) kept)
+          (cases_eq k place);
+    }
+
+pub same_then : (a b c : List Level) → HaveSamePlaces a b → HaveSamePlaces b c → HaveSamePlaces a c
+same_then a b c first second =
+    record {
+      count = second.count ∙ first.count;
+      each = λ k d h.
+          let one = first.each k d h in
+          let other = second.each k d (omega (arith, first.count)) in
+          record { low = other.low ∙ one.low; number = other.number ∙ one.number; base = other.base ∙ one.base; mask = other.mask ∙ one.mask };
+    }
+
+pub same_past : (before now : List Level) (boxes : List Rect) → HaveSamePlaces before now → All (λ (v : Level). All (λ (r : Rect). IsPastCorner v.low r) boxes) before → All (λ (v : Level). All (λ (r : Rect). IsPastCorner v.low r) boxes) now
+same_past before now boxes same past k d h =
+    let at : k < length before = omega (arith, same.count) in
+    subst (λ (p : Pt). All (λ (r : Rect). IsPastCorner p r) boxes) (sym (same.each k d at).low) (past k d at)

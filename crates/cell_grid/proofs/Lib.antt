@@ -1,4 +1,3 @@
-pub mod Points
 pub mod Finds
 pub mod Spans
 pub mod Stripes
@@ -12,4 +11,4 @@ pub mod Keeps
 pub mod Collects
 pub mod Entered
 pub mod Kept
-pub mod Inside
+pub mod UsedLevels

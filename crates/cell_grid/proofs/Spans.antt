@@ -7,17 +7,13 @@ use Rattle.std.specs.Int.{int_max, int_min}
 use Rattle.plane_base.specs.declared.shapes.Pt.{Pt}
 use Rattle.plane_base.specs.declared.shapes.Rect.{Rect}
 use Rattle.plane_base.specs.declared.shapes.TheConstants.{SPAN}
-use Rattle.cell_grid.specs.Boxes.{HasPoint, IsOrdered, AreOrdered, IsWithinSpan, AreWithinSpan, no_box}
+use Rattle.plane_base.specs.Boxes.{HasPoint, HasBox, IsOrdered, joined}
+use Rattle.plane_base.proofs.BoxLemmas.{joined_has, outer_box}
+use Rattle.cell_grid.specs.Boxes.{AreOrdered, IsWithinSpan, AreWithinSpan, no_box}
 use Rattle.cell_grid.specs.Stripes.{IsPast, IsPastCorner}
-use Rattle.cell_grid.specs.Around.{IsInside, join, between, cut_of, put_of, corner_of}
+use Rattle.cell_grid.specs.Around.{between, cut_of, put_of, corner_of}
 
 -- ---- one axis: two spans joined
-low_joined : (a b : ℤ) → (int_min a b ≤ℤ a) × (int_min a b ≤ℤ b)
-low_joined a b = (omega (arith, ints, int_min_is a b), omega (arith, ints, int_min_is a b))
-
-high_joined : (a b : ℤ) → (a ≤ℤ int_max a b) × (b ≤ℤ int_max a b)
-high_joined a b = (omega (arith, ints, int_max_is a b), omega (arith, ints, int_max_is a b))
-
 -- an end behind a joined beginning
 short_after : (a b x s : ℤ) → (x -ℤ a) <ℤ s → (x -ℤ b) <ℤ s → (x -ℤ int_min a b) <ℤ s
 short_after a b x s h k = omega (arith, ints, int_min_is a b)
@@ -31,7 +27,7 @@ pub record IsAroundFirst (boxes : List Rect) (count : ℕ) (all : Rect) : Type 0
   pub span : IsWithinSpan all all
   pub to : All (λ rect. IsWithinSpan all rect) boxes
   pub from : All (λ rect. IsWithinSpan rect all) boxes
-  pub inside : (k : ℕ) (d : Rect) → k < count → IsInside all (get_or boxes k d)
+  pub inside : (k : ℕ) (d : Rect) → k < count → HasBox all (get_or boxes k d)
 
 pub first_of_none : (boxes : List Rect) → length boxes ≡ 0 → IsAroundFirst boxes 0 no_box
 first_of_none boxes none =
@@ -54,29 +50,16 @@ first_of_some boxes rect is some ordered span =
       inside = λ k d h. absurd (omega arith);
     }
 
-join_to : (p q r : Rect) → IsWithinSpan p r → IsWithinSpan q r → IsWithinSpan (join p q) r
+join_to : (p q r : Rect) → IsWithinSpan p r → IsWithinSpan q r → IsWithinSpan (joined p q) r
 join_to p q r a b = (short_after p.x0 q.x0 r.x1 SPAN a.0 b.0, short_after p.y0 q.y0 r.y1 SPAN a.1 b.1)
 
-join_from : (p q r : Rect) → IsWithinSpan r p → IsWithinSpan r q → IsWithinSpan r (join p q)
+join_from : (p q r : Rect) → IsWithinSpan r p → IsWithinSpan r q → IsWithinSpan r (joined p q)
 join_from p q r a b = (short_before p.x1 q.x1 r.x0 SPAN a.0 b.0, short_before p.y1 q.y1 r.y0 SPAN a.1 b.1)
 
-join_inside : (p q r : Rect) → IsInside p r → IsInside (join p q) r
-join_inside p q r h =
-    record {
-      left = omega (arith, ints, h.left, int_min_is p.x0 q.x0);
-      right = omega (arith, ints, h.right, int_max_is p.x1 q.x1);
-      bottom = omega (arith, ints, h.bottom, int_min_is p.y0 q.y0);
-      top = omega (arith, ints, h.top, int_max_is p.y1 q.y1);
-    }
-
-join_itself : (p q : Rect) → IsInside (join p q) q
-join_itself p q =
-    record { left = (low_joined p.x0 q.x0).1; right = (high_joined p.x1 q.x1).1; bottom = (low_joined p.y0 q.y0).1; top = (high_joined p.y1 q.y1).1 }
-
-join_ordered : (p q : Rect) → IsOrdered p → IsOrdered (join p q)
+join_ordered : (p q : Rect) → IsOrdered p → IsOrdered (joined p q)
 join_ordered p q h = (omega (arith, ints, h.0, int_min_is p.x0 q.x0, int_max_is p.x1 q.x1), omega (arith, ints, h.1, int_min_is p.y0 q.y0, int_max_is p.y1 q.y1))
 
-pub first_more : (boxes : List Rect) (i : ℕ) (all rect now : Rect) → i < length boxes → rect ≡ get_or boxes i rect → AreWithinSpan boxes → IsAroundFirst boxes i all → now ≡ join all rect → IsAroundFirst boxes (i + 1) now
+pub first_more : (boxes : List Rect) (i : ℕ) (all rect now : Rect) → i < length boxes → rect ≡ get_or boxes i rect → AreWithinSpan boxes → IsAroundFirst boxes i all → now ≡ joined all rect → IsAroundFirst boxes (i + 1) now
 first_more boxes i all rect now within read span is made =
     let to_all : All (λ q. IsWithinSpan rect q) boxes = subst (λ (r : Rect). All (λ q. IsWithinSpan r q) boxes) (sym read) (span i rect within) in
     let from_all : All (λ q. IsWithinSpan q rect) boxes = λ k d h. subst (λ (r : Rect). IsWithinSpan (get_or boxes k d) r) (sym read) (span k d h i rect within) in
@@ -85,13 +68,13 @@ first_more boxes i all rect now within read span is made =
     let back : IsWithinSpan rect all = subst (λ (r : Rect). IsWithinSpan r all) (sym read) (is.from i rect within) in
     subst (λ (r : Rect). IsAroundFirst boxes (i + 1) r) (sym made) (record {
       ordered = join_ordered all rect is.ordered;
-      span = join_from all rect (join all rect) (join_to all rect all is.span back) (join_to all rect rect there itself);
+      span = join_from all rect (joined all rect) (join_to all rect all is.span back) (join_to all rect rect there itself);
       to = λ k d h. join_to all rect (get_or boxes k d) (is.to k d h) (to_all k d h);
       from = λ k d h. join_from all rect (get_or boxes k d) (is.from k d h) (from_all k d h);
       inside = λ k d h. ⊎_elim
-          (λ earlier. join_inside all rect (get_or boxes k d) (is.inside k d earlier))
+          (λ earlier. outer_box (joined all rect) all (get_or boxes k d) (joined_has all rect).0 (is.inside k d earlier))
           (λ late. let e : k ≡ i = omega arith in
-          subst (λ (r : Rect). IsInside (join all rect) r) (get_or_read boxes i rect within read d ∙ ap (λ (n : ℕ). get_or boxes n d) (sym e)) (join_itself all rect))
+          subst (λ (r : Rect). HasBox (joined all rect) r) (get_or_read boxes i rect within read d ∙ ap (λ (n : ℕ). get_or boxes n d) (sym e)) (joined_has all rect).1)
           (cases_lt k i);
     })
 
@@ -117,7 +100,7 @@ pub past : (low high x : ℤ) → (high -ℤ low) <ℤ SPAN → low ≤ℤ x →
 past low high x h a b = (a, omega (arith, ints))
 
 -- a box in the box round all
-pub past_corner : (around rect : Rect) → IsOrdered rect → IsWithinSpan around around → IsInside around rect → IsPastCorner (corner_of around) rect
+pub past_corner : (around rect : Rect) → IsOrdered rect → IsWithinSpan around around → HasBox around rect → IsPastCorner (corner_of around) rect
 past_corner around rect ordered span inside =
     record {
       ordered = ordered;
@@ -142,11 +125,6 @@ cut_past around r ordered span up =
     }
 
 -- a point of a box in the box round all
-pub point_in : (around rect : Rect) (p : Pt) → IsInside around rect → HasPoint rect p → HasPoint around p
-point_in around rect p inside has =
-    record { left = omega (arith, ints, inside.left, has.left); right = omega (arith, ints, inside.right, has.right); bottom = omega (arith, ints, inside.bottom, has.bottom); top = omega (arith, ints, inside.top, has.top) }
-
--- a common point is in what is cut
 pub cut_has : (around r : Rect) (p : Pt) → HasPoint around p → HasPoint r p → HasPoint (cut_of around r) p
 cut_has around r p a b =
     record {
@@ -159,5 +137,5 @@ cut_has around r p a b =
 pub put_same : (around : Rect) (p : Pt) → HasPoint around p → put_of around p ≡ p
 put_same around p a = rw (between_same around.x0 around.x1 p.x a.left a.right, between_same around.y0 around.y1 p.y a.bottom a.top) refl
 
-pub first_next : (boxes : List Rect) (i : ℕ) (all now : Rect) → i < length boxes → AreWithinSpan boxes → IsAroundFirst boxes i all → now ≡ join all (get_or boxes i no_box) → IsAroundFirst boxes (i + 1) now
+pub first_next : (boxes : List Rect) (i : ℕ) (all now : Rect) → i < length boxes → AreWithinSpan boxes → IsAroundFirst boxes i all → now ≡ joined all (get_or boxes i no_box) → IsAroundFirst boxes (i + 1) now
 first_next boxes i all now within span is made = first_more boxes i all (get_or boxes i no_box) now within (get_or_default boxes i no_box (get_or boxes i no_box) within) span is made

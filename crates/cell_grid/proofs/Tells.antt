@@ -1,5 +1,5 @@
 -- Partners that are told one after another.
-use Rattle.std.proofs.Common.{◌≡◌, ◌≢◌, ◌⊎◌, ℕ, ◌+◌, ◌*◌, ◌<◌, ◌≤◌, ℤ, List, [], ◌∷◌, ◌++◌, length, get_or, Contains, nat_eq, inl, inr, ⊎_elim, sym, ap, ◌∙◌, subst, arith}
+use Rattle.std.proofs.Common.{◌≡◌, ◌≢◌, ◌⊎◌, ℕ, ◌+◌, ◌*◌, ◌<◌, ◌≤◌, ℤ, List, [], ◌∷◌, ◌++◌, length, get_or, All, Contains, nat_eq, inl, inr, ⊎_elim, sym, ap, ◌∙◌, subst, arith}
 use Rattle.std.specs.List.{IsDistinct}
 use Rattle.std.specs.List.Sorted.{IsStrictlyIncreasing}
 use Rattle.std.specs.Int.{int_max}
@@ -13,15 +13,17 @@ use Rattle.std.proofs.lemmas.List.Elements.{Contains-push, Contains-push_cases, 
 use Rattle.std.proofs.lemmas.List.Folds.{list_any_none}
 use Rattle.std.proofs.lemmas.Map.Keys.{IsDistinct-push}
 use Rattle.plane_base.specs.declared.shapes.Rect.{Rect}
-use Rattle.cell_grid.specs.Boxes.{HasPoint, IsOrdered, AreOrdered, ShareAPoint, box_at, no_box}
-use Rattle.cell_grid.specs.Sizes.{level_of, AreOfLevels}
+use Rattle.plane_base.specs.Boxes.{HasPoint, IsOrdered, ShareAPoint}
+use Rattle.cell_grid.specs.Boxes.{AreOrdered, box_at, no_box}
+use Rattle.cell_grid.specs.Sizes.{level_of}
 use Rattle.cell_grid.specs.Stripes.{IsPast}
 use Rattle.cell_grid.specs.Cells.{numbers_at, cell_of, IsLevelOf, IsPlaceOf}
 use Rattle.cell_grid.specs.Blocks.{place_at}
 use Rattle.cell_grid.specs.Partners.{ArePartners}
-use Rattle.cell_grid.specs.Telling.{DoesTell, IsAsked, least, index_with, IsTellable, IsToldBefore, IsToldAmong, IsPartnerOn, IsPartnerBefore}
+use Rattle.cell_grid.specs.Telling.{DoesTell, IsAsked, least, index_with, IsTellable, IsToldBefore, IsToldAmong, IsPartnerOn, IsPartnerOnFirst}
 use Rattle.cell_grid.specs.declared.telling.Asked.{Asked}
-use Rattle.cell_grid.proofs.Points.{meeting}
+use Rattle.cell_grid.proofs.Finds.{index_of_member}
+use Rattle.plane_base.proofs.BoxLemmas.{meeting}
 use Rattle.cell_grid.proofs.Indices.{place_there, index_within}
 
 -- ---- the least common point
@@ -130,10 +132,10 @@ index_more asked boxes cells index numbers xs ys zs is ordered of_level place at
 
 -- all cells
 pub block_told : (asked : Asked) (boxes : List Rect) (number count : ℕ) (xs ys : List ℕ) → IsAsked asked → AreOrdered boxes → asked.rect ≡ box_at boxes number → asked.block.columns * asked.block.rows ≤ count
-    → level_of (box_at boxes number) ≤ asked.level.shift → (level_of (box_at boxes number) ≡ asked.level.shift → asked.from ≡ number + 1) → (level_of (box_at boxes number) ≢ asked.level.shift → asked.from ≡ 0)
-    → DoesTell (IsToldBefore asked boxes count) xs ys → DoesTell (IsPartnerOn boxes number asked.level.shift) xs ys
+    → level_of (box_at boxes number) ≤ asked.level.number → (level_of (box_at boxes number) ≡ asked.level.number → asked.from ≡ number + 1) → (level_of (box_at boxes number) ≢ asked.level.number → asked.from ≡ 0)
+    → DoesTell (IsToldBefore asked boxes count) xs ys → DoesTell (IsPartnerOn boxes number asked.level.number) xs ys
 block_told asked boxes number count xs ys is ordered its all above own other tells =
-    tell_as (IsToldBefore asked boxes count) (IsPartnerOn boxes number asked.level.shift) xs ys tells
+    tell_as (IsToldBefore asked boxes count) (IsPartnerOn boxes number asked.level.number) xs ys tells
     (λ n h.
     let shared = subst (λ (r : Rect). ShareAPoint (box_at boxes n) r) its h.shared in (
       (
@@ -141,7 +143,7 @@ block_told asked boxes number count xs ys is ordered its all above own other tel
         ⊎_elim
             (λ same. inr (h.on_level.1 ∙ sym same, omega (arith, own same, h.from)))
             (λ differ. inl (omega (arith, h.on_level.1, differ)))
-            (cases_eq (level_of (box_at boxes number)) asked.level.shift),
+            (cases_eq (level_of (box_at boxes number)) asked.level.number),
       ),
       h.on_level.1,
     ))
@@ -153,33 +155,41 @@ block_told asked boxes number count xs ys is ordered its all above own other tel
       from = ⊎_elim
           (λ same. ⊎_elim (λ less. absurd (omega (arith, less, same, h.1))) (λ behind. omega (arith, own same, behind.1)) h.0.1)
           (λ differ. omega (arith, other differ))
-          (cases_eq (level_of (box_at boxes number)) asked.level.shift);
+          (cases_eq (level_of (box_at boxes number)) asked.level.number);
       shared = shared;
       before = omega (arith, index_within asked.level asked.rect asked.block (least (box_at boxes n) asked.rect) is.past is.block common.1);
     })
 
 -- ---- on all levels
-pub levels_told : (boxes : List Rect) (number level : ℕ) (xs ys zs : List ℕ) → DoesTell (IsPartnerBefore boxes number level) xs ys → DoesTell (IsPartnerOn boxes number level) ys zs
-    → DoesTell (IsPartnerBefore boxes number (level + 1)) xs zs
-levels_told boxes number level xs ys zs before here =
-    tell_more (IsPartnerBefore boxes number level) (IsPartnerOn boxes number level) (IsPartnerBefore boxes number (level + 1)) xs ys zs before here
-    (λ n h. ⊎_elim (λ earlier. inl (h.0, earlier)) (λ late. inr (h.0, omega (arith, h.1))) (cases_lt (level_of (box_at boxes n)) level))
-    (λ n h. (h.0, omega (arith, h.1)))
-    (λ n h. (h.0, omega (arith, h.1)))
-    (λ n h m. omega (arith, h.1, m.1))
+pub levels_told : (boxes : List Rect) (number : ℕ) (levels : List ℕ) (i : ℕ) (xs ys zs : List ℕ) → IsStrictlyIncreasing levels → i < length levels → DoesTell (IsPartnerOnFirst boxes number levels i) xs ys
+    → DoesTell (IsPartnerOn boxes number (get_or levels i 0)) ys zs → DoesTell (IsPartnerOnFirst boxes number levels (i + 1)) xs zs
+levels_told boxes number levels i xs ys zs up within before here =
+    tell_more (IsPartnerOnFirst boxes number levels i) (IsPartnerOn boxes number (get_or levels i 0)) (IsPartnerOnFirst boxes number levels (i + 1)) xs ys zs before here
+    (λ n h. ⊎_elim
+    (λ earlier. inl (h.0, (h.1.0, earlier, h.1.2)))
+    (λ late. let e : h.1.0 ≡ i = omega (arith, h.1.1) in inr (h.0, h.1.2 ∙ ap (λ (k : ℕ). get_or levels k 0) e))
+    (cases_lt h.1.0 i))
+    (λ n h. (h.0, (h.1.0, omega (arith, h.1.1), h.1.2)))
+    (λ n h. (h.0, (i, omega arith, h.1)))
+    (λ n h m. omega (arith, less levels h.1.0 i up h.1.1 within, h.1.2, m.1))
 
-pub none_before : (boxes : List Rect) (number : ℕ) (xs : List ℕ) → DoesTell (IsPartnerBefore boxes number (level_of (box_at boxes number))) xs xs
-none_before boxes number xs =
-    tell_none (IsPartnerBefore boxes number (level_of (box_at boxes number))) xs
-    (λ n h. ⊎_elim (λ above. omega (arith, above, h.1)) (λ same. omega (arith, same.0, h.1)) h.0.1)
+-- a level of smaller boxes has no partner
+pub none_on_lower : (boxes : List Rect) (number level : ℕ) (xs : List ℕ) → level < level_of (box_at boxes number) → DoesTell (IsPartnerOn boxes number level) xs xs
+none_on_lower boxes number level xs low = tell_none (IsPartnerOn boxes number level) xs (λ n h. ⊎_elim (λ above. omega (arith, above, h.1, low)) (λ same. omega (arith, same.0, h.1, low)) h.0.1)
 
-pub all_told : (boxes : List Rect) (number levels : ℕ) (found : List ℕ) → AreOfLevels levels boxes → DoesTell (IsPartnerBefore boxes number levels) [] found → ArePartners boxes number found
+pub none_on_first : (boxes : List Rect) (number : ℕ) (levels xs : List ℕ) → DoesTell (IsPartnerOnFirst boxes number levels 0) xs xs
+none_on_first boxes number levels xs = tell_none (IsPartnerOnFirst boxes number levels 0) xs (λ n h. omega (arith, h.1.1))
+
+pub all_told : (boxes : List Rect) (number : ℕ) (levels : List ℕ) (count : ℕ) (found : List ℕ) → All (λ (rect : Rect). Contains levels (level_of rect)) boxes → length levels ≤ count
+    → DoesTell (IsPartnerOnFirst boxes number levels count) [] found → ArePartners boxes number found
 unfolding IsDistinct
-all_told boxes number levels found of_levels tells =
+all_told boxes number levels count found on_levels all tells =
     record {
       once = tells.once tt (λ n h c. absurd (omega (arith, c.1)));
       exact = λ n. (
         λ h. ⊎_elim (λ none. absurd (omega (arith, none.1))) (λ partner. partner.0) (tells.only n h),
-        λ partner. tells.told n (partner, of_levels n no_box partner.0.0),
+        λ partner.
+            let k = index_of_member levels (level_of (box_at boxes n)) (on_levels n no_box partner.0.0) in
+            tells.told n (partner, (k.0, omega (arith, k.1), k.2)),
       );
     }

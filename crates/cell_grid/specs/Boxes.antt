@@ -4,22 +4,9 @@ use Rattle.std.specs.List.Sorted.{IsStrictlyIncreasing}
 use Rattle.plane_base.specs.declared.shapes.Pt.{Pt}
 use Rattle.plane_base.specs.declared.shapes.Rect.{Rect}
 use Rattle.plane_base.specs.declared.shapes.TheConstants.{SPAN}
+use Rattle.plane_base.specs.Boxes.{HasPoint, IsOrdered, ShareAPoint}
 
--- the box has the point, its border included
-pub record HasPoint (rect : Rect) (p : Pt) : Type 0 where
-  pub left : rect.x0 ≤ℤ p.x
-  pub right : p.x ≤ℤ rect.x1
-  pub bottom : rect.y0 ≤ℤ p.y
-  pub top : p.y ≤ℤ rect.y1
-
--- a whole point is in both
-abbrev pub ShareAPoint : Rect → Rect → Type 0
-ShareAPoint p q = (point : Pt) × HasPoint p point × HasPoint q point
-
--- it has a point: neither end is below the other one's beginning
-abbrev pub IsOrdered : Rect → Type 0
-IsOrdered rect = (rect.x0 ≤ℤ rect.x1) × (rect.y0 ≤ℤ rect.y1)
-
+-- each of the boxes has a point
 abbrev pub AreOrdered : List Rect → Type 0
 AreOrdered boxes = All (λ rect. IsOrdered rect) boxes
 
@@ -30,18 +17,6 @@ IsWithinSpan p q = ((q.x1 -ℤ p.x0) <ℤ SPAN) × ((q.y1 -ℤ p.y0) <ℤ SPAN)
 -- each of them does so with each
 abbrev pub AreWithinSpan : List Rect → Type 0
 AreWithinSpan boxes = All (λ p. All (λ q. IsWithinSpan p q) boxes) boxes
-
--- on one of the axes the one is behind the other
-abbrev pub AreApart : Rect → Rect → Type 0
-AreApart p q = ((p.x1 <ℤ q.x0) ⊎ (q.x1 <ℤ p.x0)) ⊎ ((p.y1 <ℤ q.y0) ⊎ (q.y1 <ℤ p.y0))
-
--- two boxes are apart exactly where they share no point, and share one exactly where they are not apart
-pub record AreEither (p q : Rect) : Type 0 where
-  pub apart : AreApart p q ↔ (¬ ShareAPoint p q)
-  pub shared : ShareAPoint p q ↔ (¬ AreApart p q)
-
-abbrev pub ShareAPointOrAreApart : Type 0
-ShareAPointOrAreApart = (p q : Rect) → IsOrdered p → IsOrdered q → AreEither p q
 
 -- ---- boxes by their numbers, from 0
 -- what a number stands for that is no box's

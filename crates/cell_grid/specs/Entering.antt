@@ -6,7 +6,8 @@ use Rattle.plane_base.specs.declared.shapes.Pt.{Pt}
 use Rattle.plane_base.specs.declared.shapes.Rect.{Rect}
 use Rattle.number_groups.specs.declared.groups.Entry.{Entry}
 use Rattle.number_groups.specs.Groups.{numbers_of}
-use Rattle.cell_grid.specs.Boxes.{HasPoint, box_at}
+use Rattle.plane_base.specs.Boxes.{HasPoint}
+use Rattle.cell_grid.specs.Boxes.{box_at}
 use Rattle.cell_grid.specs.Cells.{cell_of, IsPlaceOf, IsOnLevel}
 use Rattle.cell_grid.specs.declared.levels.Level.{Level}
 

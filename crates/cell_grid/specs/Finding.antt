@@ -2,7 +2,8 @@
 use Rattle.std.specs.Prelude.{◌≡◌, ◌⊎◌, ℕ, ◌<◌, List, slice_index, Contains}
 use Rattle.plane_base.specs.declared.shapes.Pt.{Pt}
 use Rattle.plane_base.specs.declared.shapes.Rect.{Rect}
-use Rattle.cell_grid.specs.Boxes.{HasPoint, IsNear}
+use Rattle.plane_base.specs.Boxes.{HasPoint}
+use Rattle.cell_grid.specs.Boxes.{IsNear}
 use Rattle.cell_grid.specs.Cells.{numbers_at, cell_of, IsOnLevel}
 use Rattle.cell_grid.specs.declared.levels.Level.{Level}
 
@@ -20,9 +21,9 @@ StandsIn level cells cut number = (p : Pt) × HasPoint cut p × Contains (number
 abbrev pub StandsBefore : List (List ℕ) → (ℕ → ℕ) → ℕ → ℕ → Type 0
 StandsBefore cells place count number = (k : ℕ) × (k < count) × Contains (numbers_at cells (place k)) number
 
--- the number of a box on a level before this one
-abbrev pub IsOnLevelBefore : List Rect → ℕ → ℕ → Type 0
-IsOnLevelBefore boxes level number = (l : ℕ) × (l < level) × IsOnLevel boxes l number
+-- the number of a box on one of the first levels of a list
+abbrev pub IsOnFirst : List Rect → List ℕ → ℕ → ℕ → Type 0
+IsOnFirst boxes levels count number = (k : ℕ) × (k < count) × IsOnLevel boxes (slice_index levels k) number
 
 -- one of the first numbers of a list
 abbrev pub IsOneOf : List ℕ → ℕ → ℕ → Type 0

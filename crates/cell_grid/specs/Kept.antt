@@ -2,7 +2,7 @@
 use Rattle.std.specs.Prelude.{◌≡◌, ◌<◌, length, All}
 use Rattle.cell_grid.specs.Boxes.{AreOrdered}
 use Rattle.cell_grid.specs.Grids.{Boxes}
-use Rattle.cell_grid.specs.Sizes.{AreOfLevels}
+use Rattle.cell_grid.specs.Sizes.{AreOfLevels, AreUsed}
 use Rattle.cell_grid.specs.Cells.{IsLevelOf, DoAscend, HasNumbersBelow}
 use Rattle.cell_grid.specs.Laying.{AreLaid}
 use Rattle.cell_grid.specs.Around.{IsAround, corner_of}
@@ -10,13 +10,14 @@ use Rattle.cell_grid.specs.declared.grids.Grid.TheInside.{Inside}
 use Rattle.cell_grid.specs.declared.grids.TheConstants.{LIMIT}
 
 abbrev pub seen : Inside → Boxes
-seen grid = record { boxes = grid.boxes.items; levels = length grid.levels.items }
+seen grid = record { boxes = grid.boxes.items; levels = grid.used.items }
 
 pub record IsKept (grid : Inside) : Type 0 where
   pub ordered : AreOrdered grid.boxes.items
   pub count : length grid.boxes.items < LIMIT
   pub around : IsAround grid.around grid.boxes.items
   pub of_levels : AreOfLevels (length grid.levels.items) grid.boxes.items
+  pub used : AreUsed (length grid.levels.items) grid.boxes.items grid.used.items
   pub laid : AreLaid grid.levels.items
   pub low : All (λ level. level.low ≡ corner_of grid.around) grid.levels.items
   pub levels : All (λ level. IsLevelOf grid.boxes.items grid.cells level) grid.levels.items

@@ -12,4 +12,3 @@ pub mod Entering
 pub mod Finding
 pub mod Telling
 pub mod Kept
-pub mod Inside

@@ -2,7 +2,8 @@
 use Rattle.std.specs.Prelude.{◌≡◌, ◌≢◌, ◌⊎◌, ◌↔◌, ℕ, ◌<◌, List, length, Contains, nat_eq}
 use Rattle.std.specs.List.{IsDistinct}
 use Rattle.plane_base.specs.declared.shapes.Rect.{Rect}
-use Rattle.cell_grid.specs.Boxes.{ShareAPoint, IsNear, box_at}
+use Rattle.plane_base.specs.Boxes.{ShareAPoint}
+use Rattle.cell_grid.specs.Boxes.{IsNear, box_at}
 use Rattle.cell_grid.specs.Sizes.{level_of}
 
 -- in the order by level, and on one level by number, `other` stands behind `number`

@@ -1,5 +1,6 @@
 -- Boxes by size: the level of a box is a matter of its longer side alone.
-use Rattle.std.specs.Prelude.{ℕ, ◌-◌, ◌<◌, max, ◌-ℤ◌, unsigned_abs, List, All}
+use Rattle.std.specs.Prelude.{ℕ, ◌-◌, ◌<◌, ◌≤◌, max, ◌-ℤ◌, unsigned_abs, List, length, All, Contains}
+use Rattle.std.specs.List.Sorted.{IsStrictlyIncreasing}
 use Rattle.std.specs.Int.{w64, leading_zeros}
 use Rattle.plane_base.specs.declared.shapes.Rect.{Rect}
 
@@ -18,3 +19,10 @@ level_of rect = binary_digits (longer_side rect)
 -- each of the boxes is of one of so many levels
 abbrev pub AreOfLevels : ℕ → List Rect → Type 0
 AreOfLevels count boxes = All (λ rect. level_of rect < count) boxes
+
+-- these are levels, ascending, and each box is on one of them
+pub record AreUsed (count : ℕ) (boxes : List Rect) (used : List ℕ) : Type 0 where
+  pub ascending : IsStrictlyIncreasing used
+  pub below : All (λ level. level < count) used
+  pub few : length used ≤ count
+  pub each : All (λ rect. Contains used (level_of rect)) boxes

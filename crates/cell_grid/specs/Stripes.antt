@@ -3,7 +3,7 @@ use Rattle.std.specs.Prelude.{ℕ, ◌/◌, ◌^◌, ℤ, ◌-ℤ◌, ◌≤ℤ�
 use Rattle.plane_base.specs.declared.shapes.Pt.{Pt}
 use Rattle.plane_base.specs.declared.shapes.Rect.{Rect}
 use Rattle.plane_base.specs.declared.shapes.TheConstants.{SPAN}
-use Rattle.cell_grid.specs.Boxes.{IsOrdered}
+use Rattle.plane_base.specs.Boxes.{IsOrdered}
 
 -- x is not before the low end, and less than `SPAN` behind it
 abbrev pub IsPast : ℤ → ℤ → Type 0

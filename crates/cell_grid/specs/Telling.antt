@@ -4,7 +4,8 @@ use Rattle.std.specs.Int.{int_max}
 use Rattle.std.specs.List.{IsDistinct}
 use Rattle.plane_base.specs.declared.shapes.Pt.{Pt}
 use Rattle.plane_base.specs.declared.shapes.Rect.{Rect}
-use Rattle.cell_grid.specs.Boxes.{ShareAPoint, box_at}
+use Rattle.plane_base.specs.Boxes.{ShareAPoint}
+use Rattle.cell_grid.specs.Boxes.{box_at}
 use Rattle.cell_grid.specs.Sizes.{level_of}
 use Rattle.cell_grid.specs.Partners.{IsPartner}
 use Rattle.cell_grid.specs.Stripes.{IsPastCorner}
@@ -44,7 +45,7 @@ pub record IsTellable (asked : Asked) (boxes : List Rect) (index number : ℕ) :
 
 -- on the level, from the first number that is asked for, with a common point in a cell before the one of this index
 pub record IsToldBefore (asked : Asked) (boxes : List Rect) (index number : ℕ) : Type 0 where
-  pub on_level : IsOnLevel boxes asked.level.shift number
+  pub on_level : IsOnLevel boxes asked.level.number number
   pub from : asked.from ≤ number
   pub shared : ShareAPoint (box_at boxes number) asked.rect
   pub before : index_with asked (box_at boxes number) < index
@@ -53,9 +54,10 @@ pub record IsToldBefore (asked : Asked) (boxes : List Rect) (index number : ℕ)
 abbrev pub IsToldAmong : Asked → List Rect → ℕ → List ℕ → ℕ → ℕ → Type 0
 IsToldAmong asked boxes index numbers count number = ((k : ℕ) × (k < count) × (slice_index numbers k ≡ number)) × IsTellable asked boxes index number
 
--- a partner on this level, or on one before it
+-- a partner on this level
 abbrev pub IsPartnerOn : List Rect → ℕ → ℕ → ℕ → Type 0
 IsPartnerOn boxes number level other = IsPartner boxes number other × (level_of (box_at boxes other) ≡ level)
 
-abbrev pub IsPartnerBefore : List Rect → ℕ → ℕ → ℕ → Type 0
-IsPartnerBefore boxes number level other = IsPartner boxes number other × (level_of (box_at boxes other) < level)
+-- a partner on one of the first levels of a list
+abbrev pub IsPartnerOnFirst : List Rect → ℕ → List ℕ → ℕ → ℕ → Type 0
+IsPartnerOnFirst boxes number levels count other = IsPartner boxes number other × ((k : ℕ) × (k < count) × (level_of (box_at boxes other) ≡ slice_index levels k))

@@ -1,5 +1,6 @@
 ghost use Rattle.std.specs.Prelude.{◌≡◌, ℕ, ◌<◌, ◌*◌, ◌+◌, ◌^◌, length, Contains, OnOk};
-ghost use Rattle.cell_grid.specs.Boxes.{IsOrdered, AreOrdered};
+ghost use Rattle.plane_base.specs.Boxes.{IsOrdered};
+ghost use Rattle.cell_grid.specs.Boxes.{AreOrdered};
 ghost use Rattle.cell_grid.specs.Stripes.{IsPastCorner};
 ghost use Rattle.cell_grid.specs.Cells.{HasPlacesOf, HasNumbersBelow};
 ghost use Rattle.cell_grid.specs.Blocks.{place_at};
@@ -7,12 +8,12 @@ ghost use Rattle.cell_grid.specs.Finding.{DoesFind, StandsIn, StandsBefore};
 
 use crate::blocks::Block;
 use crate::levels::Level;
-use crate::rects::share_a_point;
 use number_groups::Groups;
 use plane_base::Rect;
 use std::alloc::AllocError;
 
-/// Finds the boxes of a level that share a point with `r`, a box in several cells in each of them. `cut` is the part of `r` where boxes can be.
+/// Finds the boxes of a level that share a point with `r`, a box in several cells in each of them. `cut` is the part of `r`
+/// where boxes can be.
 /// Where `cut` meets more cells than the level has places, it looks at all places.
 pub(crate) fn find(
     level: &Level,
@@ -105,7 +106,7 @@ fn find_one(number: u32, boxes: &[Rect], r: &Rect, found: &mut Vec<u32>) -> Resu
     requires r { IsOrdered r.now }
     ensures { OnOk result (DoesFind boxes.now r.now (λ n. n ≡ number) found.old.items found.new.items) }
 {
-    if !share_a_point(&boxes[number as usize], r) {
+    if !boxes[number as usize].shares_a_point(r) {
         return Ok(());
     }
     found.push(number)?;

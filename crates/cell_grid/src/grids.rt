@@ -1,12 +1,14 @@
-ghost use Rattle.std.specs.Prelude.{◌≡◌, ◌↔◌, ℕ, ◌<◌, length, All, Contains, IfOk, OnOk};
+ghost use Rattle.std.specs.Prelude.{◌≡◌, ◌↔◌, ℕ, ◌<◌, length, All, Contains, IfOk, OnOk, slice_index};
 ghost use Rattle.std.specs.List.Sorted.{IsStrictlyIncreasing};
-ghost use Rattle.cell_grid.specs.Boxes.{IsOrdered, AreOrdered, AreWithinSpan, IsNearList, IsHolder, box_at};
-ghost use Rattle.cell_grid.specs.Sizes.{level_of, AreOfLevels};
+ghost use Rattle.plane_base.specs.Boxes.{IsOrdered};
+ghost use Rattle.cell_grid.specs.Boxes.{AreOrdered, AreWithinSpan, IsNearList, IsHolder, box_at};
+ghost use Rattle.cell_grid.specs.Sizes.{level_of};
 ghost use Rattle.cell_grid.specs.Partners.{ArePartners};
+ghost use Rattle.cell_grid.specs.Telling.{DoesTell, IsPartnerOn};
 
 use crate::entering::cells_of;
 use crate::finding::find;
-use crate::laying::levels_for;
+use crate::laying::{counts_of, levels_for, used_levels};
 use crate::levels::Level;
 use crate::rects::{around_all, cut_to, level_of, put_into};
 use crate::telling::tell;
@@ -18,13 +20,16 @@ use std::marker::Model;
 /// A grid is of fewer boxes than this.
 pub const LIMIT: usize = 1 << 23;
 
-/// Boxes that can be found by a point or by another box. A box's number is its place in the list that the grid was built of, from 0.
+/// Boxes that are found by a point or by another box. A box's number is its place in the list that the grid was built of,
+/// from 0.
 #[derive(Debug, Drop)]
 pub struct Grid {
     boxes: Vec<Rect>,
     // round all boxes
     around: Rect,
+    // all levels up to the greatest, and the numbers of those that have boxes
     levels: Vec<Level>,
+    used: Vec<u32>,
     // the numbers in each cell, the cells by their places
     cells: Groups,
 }
@@ -42,7 +47,8 @@ impl Model for Grid {
 }
 
 impl Grid {
-    /// The grid of these boxes, in millimetres. It takes memory for the boxes, for their numbers in at most four cells each, twice while it sorts them, and for about as many cells as boxes.
+    /// The grid of these boxes, in millimetres. It takes memory for the boxes, for their numbers in at most four cells each,
+    /// twice while it sorts them, and for about as many cells as boxes.
     pub fn build(alloc: Global, boxes: &[Rect]) -> Result<Self, AllocError>
         requires ordered { AreOrdered boxes.now }
         requires span { AreWithinSpan boxes.now }
@@ -50,16 +56,14 @@ impl Grid {
         ensures { IfOk result (λ grid. grid.boxes ≡ boxes.now) }
     {
         let around = around_all(boxes);
-        let low = Pt {
-            x: around.x0,
-            y: around.y0,
-        };
-        let levels = levels_for(alloc, boxes, low)?;
+        let counts = counts_of(alloc, boxes)?;
+        let levels = levels_for(alloc, boxes, &counts, &around)?;
         Ok(Grid {
             cells: cells_of(alloc, boxes, &levels)?,
             boxes: Vec::from_slice(alloc, boxes)?,
             around,
             levels,
+            used: used_levels(alloc, &counts)?,
         })
     }
 
@@ -70,44 +74,64 @@ impl Grid {
     {
         let cut = cut_to(&self.around, &r);
         let mut numbers = Vec::new(alloc);
-        for level in &self.levels {
+        for used in &self.used {
+            let level = &self.levels[*used as usize];
             find(level, &self.cells, &self.boxes, &cut, &r, &mut numbers)?;
         }
         sort_once(&mut numbers);
         Ok(numbers)
     }
 
-    /// How many levels there are. A box's level, from 0, is the number of binary digits of its longer side.
+    /// On how many levels there are boxes. Each box is on one level, by the number of binary digits of its longer side.
     pub fn levels(&self) -> u32
-        ensures count { result ≡ self.now.levels }
-        ensures within { AreOfLevels result self.now.boxes }
+        ensures count { result ≡ length self.now.levels }
+        ensures ascending { IsStrictlyIncreasing self.now.levels }
+        ensures each { All (λ rect. Contains self.now.levels (level_of rect)) self.now.boxes }
     {
-        self.levels.len() as u32
+        self.used.len() as u32
     }
 
-    /// The numbers of some boxes of a level, ascending. Those of the level that have `p` are among them. `p`, in millimetres, may be anywhere.
+    /// The numbers of some boxes of a level, ascending: of those that contain `p` just the ones that are on this level.
+    /// So each box that contains `p` is in the cell of `p` on exactly one level. `p`, in millimetres, may be anywhere.
     pub fn cell(&self, level: u32, p: Pt) -> &[u32]
-        requires { level < self.now.levels }
+        requires { level < length self.now.levels }
         ensures ascending { IsStrictlyIncreasing result.now }
         ensures numbers { All (λ number. number < length self.now.boxes) result.now }
-        ensures level { (number : ℕ) → IsHolder self.now.boxes p number → Contains result.now number ↔ (level_of (box_at self.now.boxes number) ≡ level) }
+        ensures level { (number : ℕ) → IsHolder self.now.boxes p number → Contains result.now number ↔ (level_of (box_at self.now.boxes number) ≡ slice_index self.now.levels level) }
     {
-        let level = &self.levels[level as usize];
+        let used = self.used[level as usize];
+        let level = &self.levels[used as usize];
         let inside = put_into(&self.around, p);
         self.cells
             .at(level.place(level.column(inside.x), level.row(inside.y)))
     }
 
-    /// Tells the partners of a box: the boxes that share a point with it and stand behind it, in the order by level and on one level by number.
-    /// `found` is cleared first, and then has the number of each once. Whatever the sizes, the box is looked for in at most four cells a level.
+    /// The partners of a box: the boxes that share a point with it and come after it, in the order by level and on one level
+    /// by number. `found` is cleared first, and then has the number of each once. Whatever the sizes, at most four cells a
+    /// level are looked at.
     pub fn partners(&self, number: u32, found: &mut Vec<u32>) -> Result<(), AllocError>
         requires { number < length self.now.boxes }
         ensures { OnOk result (ArePartners self.now.boxes number found.new.items) }
     {
         found.clear();
-        for level in level_of(&self.boxes[number as usize]) as usize..self.levels.len() {
-            tell(&self.levels[level], &self.cells, &self.boxes, number, found)?;
+        for place in 0..self.used.len() {
+            self.tell_on(place as u32, number, found)?;
         }
+        Ok(())
+    }
+
+    // Tells the partners of a box on the level at this place among those that have boxes.
+    fn tell_on(&self, place: u32, number: u32, found: &mut Vec<u32>) -> Result<(), AllocError>
+        requires place { place < length self.now.levels }
+        requires number { number < length self.now.boxes }
+        ensures { OnOk result (DoesTell (IsPartnerOn self.now.boxes number (slice_index self.now.levels place)) found.old.items found.new.items) }
+    {
+        let used = self.used[place as usize];
+        if used < level_of(&self.boxes[number as usize]) {
+            return Ok(());
+        }
+        let level = &self.levels[used as usize];
+        tell(level, &self.cells, &self.boxes, number, found)?;
         Ok(())
     }
 }

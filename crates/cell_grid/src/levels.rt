@@ -4,11 +4,13 @@ ghost use Rattle.cell_grid.specs.Stripes.{IsPast, stripe_of};
 use crate::LIMIT;
 use plane_base::Pt;
 
-/// A level for boxes of one size: its cells, of two to the power of `shift` millimetres from a low corner on, and their places in the list of all cells.
-/// There are about as many places as boxes of the level, so that some cells have one in common.
+/// A level: the boxes whose longer side has `number` binary digits, and their cells. The cells begin at a low corner, and
+/// each is two to the power of `shift` millimetres wide and high, which is more than the sides of the boxes. There are
+/// about as many places for cells as boxes, so that some cells share one.
 #[derive(Clone, Copy, Debug)]
 pub(crate) struct Level {
     pub(crate) low: Pt,
+    pub(crate) number: u32,
     pub(crate) shift: u32,
     /// the first place of the level
     pub(crate) base: u32,
@@ -16,29 +18,51 @@ pub(crate) struct Level {
     pub(crate) mask: u32,
     // by how many places a row is behind the one below it
     skew: u32,
+    ghost wide: { number ≤ shift },
     ghost short: { shift < 32 },
     ghost few: { base + mask < 2 ^ 31 },
 }
 
 impl Level {
     ghost use Rattle.cell_grid.specs.Cells.{column_of, row_of, place_of};
+    ghost use Rattle.cell_grid.specs.Laying.{HasSamePlaces};
 
-    /// A level with room for so many boxes.
-    pub(crate) fn new(low: Pt, shift: u32, base: u32, count: u32) -> Self
-        requires shift { shift < 32 }
-        requires base { base ≤ shift * 2 ^ 24 }
+    /// A level with room for so many boxes. Its cells are as wide as `shift` says, but no less than its boxes need.
+    pub(crate) fn new(low: Pt, number: u32, shift: u32, base: u32, count: u32) -> Self
+        requires number { number < 32 }
+        requires base { base ≤ number * 2 ^ 24 }
         ensures low { result.low ≡ low }
-        ensures shift { result.shift ≡ shift }
+        ensures number { result.number ≡ number }
         ensures base { result.base ≡ base }
-        ensures few { result.base + result.mask + 1 ≤ (shift + 1) * 2 ^ 24 }
+        ensures few { result.base + result.mask + 1 ≤ (number + 1) * 2 ^ 24 }
     {
         let size = count.min(LIMIT as u32).next_power_of_two();
         Level {
             low,
-            shift,
+            number,
+            shift: shift.min(31).max(number),
             base,
             mask: size - 1,
             skew: skew_of(size),
+        }
+    }
+
+    /// Whether the cells are wider than the boxes of the level need.
+    pub(crate) fn is_wide(&self) -> bool {
+        self.shift > self.number
+    }
+
+    /// The level with cells of a quarter of the width, but no less than its boxes need.
+    pub(crate) fn narrowed(&self) -> Self
+        ensures { HasSamePlaces self.now result }
+    {
+        Level {
+            low: self.low,
+            number: self.number,
+            shift: self.shift.saturating_sub(2).max(self.number),
+            base: self.base,
+            mask: self.mask,
+            skew: self.skew,
         }
     }
 
@@ -80,7 +104,8 @@ fn stripe(low: i64, shift: u32, x: i64) -> u32
     (x.abs_diff(low) as u32) >> shift
 }
 
-// By how many places a row is behind the one below it: near to the golden section of `size`, so that rows far apart seldom meet, and five more than a multiple of eight.
+// By how many places a row is behind the one below it: near the golden section of `size`, so that rows far apart seldom
+// meet, and five more than a multiple of eight.
 fn skew_of(size: u32) -> u32
     requires { size < 2 ^ 25 }
 {

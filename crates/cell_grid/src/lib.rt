@@ -11,6 +11,7 @@ mod laying;
 mod levels;
 mod rects;
 mod telling;
+mod widths;
 
 pub use grids::{Grid, LIMIT};
-pub use laws::{boxes_share_a_point_or_are_apart, each_pair_is_told_once};
+pub use laws::each_pair_is_told_once;

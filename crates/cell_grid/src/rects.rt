@@ -1,28 +1,10 @@
-ghost use Rattle.std.specs.Prelude.{◌≡◌, ◌↔◌, ◌≤◌, ◌≤ℤ◌, IsTrue};
-ghost use Rattle.cell_grid.specs.Around.{IsAround, join, cut_of, put_of};
-ghost use Rattle.cell_grid.specs.Boxes.{IsOrdered, AreOrdered, AreWithinSpan, ShareAPoint};
+ghost use Rattle.std.specs.Prelude.{◌≡◌, ◌≤◌};
+ghost use Rattle.cell_grid.specs.Around.{IsAround, cut_of, put_of};
+ghost use Rattle.plane_base.specs.Boxes.{IsOrdered};
+ghost use Rattle.cell_grid.specs.Boxes.{AreOrdered, AreWithinSpan};
 ghost use Rattle.cell_grid.specs.Sizes.{longer_side, level_of};
 
 use plane_base::{Pt, Rect};
-
-/// Have two boxes a common point? Boxes that only touch have one.
-pub(crate) fn share_a_point(p: &Rect, q: &Rect) -> bool
-    requires p { IsOrdered p.now }
-    requires q { IsOrdered q.now }
-    ensures { IsTrue result ↔ ShareAPoint p.now q.now }
-{
-    if !do_overlap(p.x0, p.x1, q.x0, q.x1) {
-        return false;
-    }
-    do_overlap(p.y0, p.y1, q.y0, q.y1)
-}
-
-// Has each of two spans begun before the other ends?
-fn do_overlap(first: i64, last: i64, start: i64, end: i64) -> bool
-    ensures { IsTrue result ↔ (first ≤ℤ end) × (start ≤ℤ last) }
-{
-    first <= end && start <= last
-}
 
 /// The level of a box: the number of binary digits of its longer side.
 pub(crate) fn level_of(rect: &Rect) -> u32
@@ -54,21 +36,9 @@ pub(crate) fn around_all(boxes: &[Rect]) -> Rect
         },
     };
     for rect in boxes {
-        all = around(&all, rect);
+        all = all.joined(rect);
     }
     all
-}
-
-// The least box that has two boxes in it.
-fn around(p: &Rect, q: &Rect) -> Rect
-    ensures { result ≡ join p.now q.now }
-{
-    Rect {
-        x0: p.x0.min(q.x0),
-        y0: p.y0.min(q.y0),
-        x1: p.x1.max(q.x1),
-        y1: p.y1.max(q.y1),
-    }
 }
 
 /// The box with its corners moved into another box, where they are not in it.

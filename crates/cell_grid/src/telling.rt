@@ -1,7 +1,8 @@
 ghost use Rattle.std.specs.Prelude.{◌≡◌, ◌≢◌, ◌↔◌, ℕ, ◌<◌, ◌≤◌, ◌+◌, length, All, Contains, OnOk, IsTrue};
 ghost use Rattle.std.specs.List.Sorted.{IsStrictlyIncreasing};
 ghost use Rattle.cell_grid.specs.declared.grids.TheConstants.{LIMIT};
-ghost use Rattle.cell_grid.specs.Boxes.{ShareAPoint, box_at};
+ghost use Rattle.plane_base.specs.Boxes.{ShareAPoint};
+ghost use Rattle.cell_grid.specs.Boxes.{box_at};
 ghost use Rattle.cell_grid.specs.Sizes.{level_of};
 ghost use Rattle.cell_grid.specs.Stripes.{IsPastCorner};
 ghost use Rattle.cell_grid.specs.Cells.{IsLevelOf, DoAscend};
@@ -10,7 +11,7 @@ ghost use Rattle.cell_grid.specs.Telling.{DoesTell, IsAsked, IsTold, IsTellable,
 
 use crate::blocks::Block;
 use crate::levels::Level;
-use crate::rects::{level_of, share_a_point};
+use crate::rects::level_of;
 use number_groups::Groups;
 use plane_base::Rect;
 use std::alloc::AllocError;
@@ -37,8 +38,8 @@ pub(crate) fn tell(
     requires past { All (λ rect. IsPastCorner level.now.low rect) boxes.now }
     requires count { length boxes.now < LIMIT }
     requires number { number < length boxes.now }
-    requires above { level_of (box_at boxes.now number) ≤ level.now.shift }
-    ensures { OnOk result (DoesTell (IsPartnerOn boxes.now number level.now.shift) found.old.items found.new.items) }
+    requires above { level_of (box_at boxes.now number) ≤ level.now.number }
+    ensures { OnOk result (DoesTell (IsPartnerOn boxes.now number level.now.number) found.old.items found.new.items) }
 {
     let rect = &boxes[number as usize];
     let asked = Asked {
@@ -57,10 +58,10 @@ pub(crate) fn tell(
 // The first number that can be behind that of a box: the next one on its own level, and any on a level above.
 fn first_meant(level: &Level, rect: &Rect, number: u32) -> u32
     requires { number < LIMIT }
-    ensures own { level_of rect.now ≡ level.now.shift → result ≡ number + 1 }
-    ensures above { level_of rect.now ≢ level.now.shift → result ≡ 0 }
+    ensures own { level_of rect.now ≡ level.now.number → result ≡ number + 1 }
+    ensures above { level_of rect.now ≢ level.now.number → result ≡ 0 }
 {
-    if level_of(rect) == level.shift {
+    if level_of(rect) == level.number {
         number + 1
     } else {
         0
@@ -108,7 +109,7 @@ impl Asked {
         Ok(())
     }
 
-    // Is this number told at the cell of this index?
+    // Whether this number is told at the cell of this index.
     fn is_tellable(&self, number: u32, index: u32, boxes: &[Rect]) -> bool
         requires asked { IsAsked self.now }
         requires past { All (λ rect. IsPastCorner self.now.level.low rect) boxes.now }
@@ -121,13 +122,13 @@ impl Asked {
         self.is_told(index, &boxes[number as usize])
     }
 
-    // Have the boxes a common point, and is the least in the cell of this index?
+    // Whether the boxes have a common point, and the least one is in the cell of this index.
     fn is_told(&self, index: u32, rect: &Rect) -> bool
         requires asked { IsAsked self.now }
         requires past { IsPastCorner self.now.level.low rect.now }
         ensures { IsTrue result ↔ IsTold self.now index rect.now }
     {
-        if !share_a_point(rect, &self.rect) {
+        if !rect.shares_a_point(&self.rect) {
             return false;
         }
         self.index_with(rect) == index as u64

@@ -51,7 +51,8 @@ fn is_before_end(at: Frac) -> bool
     at.num < at.den
 }
 
-/// The pieces one after the other: from the end of each, the piece that begins there. `triangle` is the least that has the first point.
+/// The pieces one after the other: from the end of each, the piece that begins there. `triangle` is the least that contains
+/// the first point.
 fn cut_way(alloc: Global, index: &TinIndex, a: Pt, b: Pt, triangle: u32) -> Result<Steps, WalkFault>
     requires differ { a ≢ b }
     requires near_b { IsNearCorners index.now b }

@@ -28,7 +28,7 @@ pub fn slice_in(tin: &SoundTin, triangle: u32, a: Pt, b: Pt) -> Option<Stretch>
     slice(a, b, &tin.tri(triangle, Frame::Source))
 }
 
-/// Does the stretch begin at the parameter, and end behind it?
+/// Whether the stretch begins at the parameter and ends after it.
 fn goes_on_from(slice: Stretch, at: Frac) -> bool
     ensures { IsTrue result ↔ (IsSameValue slice.lo at × IsBelow slice.lo slice.hi) }
 {

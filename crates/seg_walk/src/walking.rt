@@ -19,7 +19,7 @@ use plane_base::{End, Pt, turn};
 use tin_base::{Frame, SoundTin};
 use tin_index::TinIndex;
 
-// Does the line through `a` and `b` go through the corner?
+// Whether the line through `a` and `b` goes through the corner.
 fn is_on_line(tin: &SoundTin, a: Pt, b: Pt, corner: u32) -> bool
     requires corner { corner < length tin.now.corners }
     requires limits { IsWithinLimits tin.now }
@@ -53,7 +53,8 @@ fn next_of(k: u8) -> u8
     }
 }
 
-// The next step where the segment leaves a triangle by a side. At a corner many triangles may go on; within the side only the one across.
+// The next step where the segment leaves a triangle by a side. At a corner many triangles may go on; inside the side only the
+// one across.
 fn step_over(index: &TinIndex, a: Pt, b: Pt, triangle: u32, side: u8, at: Frac) -> Option<Step>
     requires differ { a ≢ b }
     requires has_a { IsInSome index.now Source (whole a) }

@@ -7,7 +7,8 @@ use Rattle.plane_base.specs.declared.shapes.Tri.{Tri}
 use Rattle.plane_base.specs.declared.shapes.Rect.{Rect}
 use Rattle.plane_base.specs.declared.shapes.TheConstants.{SPAN}
 use Rattle.plane_base.specs.Plane.{whole, corners}
-use Rattle.cell_grid.specs.Boxes.{IsOrdered, AreOrdered, IsWithinSpan, AreWithinSpan, AreApart, box_at, no_box}
+use Rattle.plane_base.specs.Boxes.{IsOrdered, AreApart}
+use Rattle.cell_grid.specs.Boxes.{AreOrdered, IsWithinSpan, AreWithinSpan, box_at, no_box}
 use Rattle.tin_base.specs.declared.frames.Frame.{Frame}
 use Rattle.tin_base.specs.Triangulation.{Triangulation, numbers_of}
 use Rattle.tin_base.specs.Soundness.{has, DoFit}
@@ -18,7 +19,7 @@ use Rattle.tin_check.specs.Marks.{points_of, marked_of, IsAmong, AreNearTris}
 use Rattle.tin_check.specs.Boxes.{IsOneOf, IsBoxOf, IsBoxIn, AreBoxesIn}
 use Rattle.tin_check.proofs.Counting.{marked_among}
 use Rattle.tin_check.proofs.Marking.{same_marked, told, all_near}
-use Rattle.cell_grid.proofs.Inside.{none_in_both}
+use Rattle.plane_base.proofs.BoxLemmas.{none_in_both}
 use Rattle.tin_check.proofs.InBoxes.{triangle_in, corner_in, box_ordered}
 
 one : pos 0 <ℤ pos 1

@@ -127,6 +127,14 @@ source_alone tin a b positive source target = first_in_source tin a b positive s
 pub target_alone : (tin : Triangulation) (a b : ℕ) → ArePositive tin (length tin.triangles) → IsFirstPair tin Target a b → DoAllFit tin Source → IsFirstFault tin (Meets a b Target)
 target_alone tin a b positive target source = first_in_target tin a b positive target (all_before tin Source a b source) (source a b target.in_order target.in_range)
 
+-- where all pairs of the target that could come before fit
+pub source_before : (tin : Triangulation) (a b : ℕ) → ArePositive tin (length tin.triangles) → IsFirstPair tin Source a b → DoFitBefore tin Target (a + 1) 0 → IsFirstFault tin (Meets a b Source)
+source_before tin a b positive source target = first_in_source tin a b positive source upto
+  where
+    upto : DoFitBefore tin Target a b
+    upto t u order within (inl below) = target t u order within (inl (omega arith))
+    upto t u order within (inr (same, less)) = target t u order within (inl (omega arith))
+
 -- where each frame has a first pair, the earlier one is named, and the source's where it is one pair
 pub source_first : (tin : Triangulation) (a b c d : ℕ) → ArePositive tin (length tin.triangles) → IsFirstPair tin Source a b → IsFirstPair tin Target c d → (IsBeforePair c d a b → ⊥) → IsFirstFault tin (Meets a b Source)
 source_first tin a b c d positive source target not = first_in_source tin a b positive source (still_before tin Target a b c d not target.before)

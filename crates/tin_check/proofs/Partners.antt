@@ -6,13 +6,14 @@ use Rattle.std.proofs.lemmas.List.Elements.{Contains-get_or, All-contains}
 use Rattle.cell_grid.specs.Partners.{IsPartner, ArePartners, IsToldFor, EachPairIsToldOnce}
 use Rattle.tin_base.proofs.InOrder.{fit_exchanged}
 use Rattle.plane_base.specs.declared.shapes.Rect.{Rect}
-use Rattle.cell_grid.specs.Boxes.{AreApart, ShareAPoint, ShareAPointOrAreApart, IsNearList, box_at}
+use Rattle.plane_base.specs.Boxes.{AreApart, ShareAPoint, ShareAPointOrAreApart}
+use Rattle.cell_grid.specs.Boxes.{IsNearList, box_at}
 use Rattle.tin_base.specs.declared.frames.Frame.{Frame}
 use Rattle.tin_base.specs.Triangulation.{Triangulation}
 use Rattle.tin_base.specs.Soundness.{DoFit}
 use Rattle.tin_check.specs.Boxes.{IsBoxIn, AreBoxesIn}
 use Rattle.tin_check.specs.Progress.{ArePositive, DoAllFit, DoOthersFit}
-use Rattle.cell_grid.proofs.Inside.{apart_or_not}
+use Rattle.plane_base.proofs.BoxLemmas.{apart_or_not}
 use Rattle.tin_check.proofs.InBoxes.{box_ordered}
 use Rattle.tin_check.proofs.Apart.{apart_fit}
 

@@ -1,5 +1,5 @@
 -- How the check goes on: along a list of second numbers, and from one first number to the next.
-use Rattle.std.proofs.Common.{below_more, ◌≡◌, ◌⊎◌, inl, inr, ℕ, zero, suc, ◌+◌, ◌<◌, ◌≤◌, List, length, get_or, sym, ◌∙◌, subst, arith}
+use Rattle.std.proofs.Common.{below_more, ◌≡◌, ◌⊎◌, inl, inr, ℕ, zero, suc, ◌+◌, ◌<◌, ◌≤◌, List, length, get_or, Option, Some, None, sym, ◌∙◌, subst, arith}
 use Rattle.std.specs.Prelude.{Contains}
 use Rattle.std.specs.List.Sorted.{IsStrictlyIncreasing}
 use Rattle.std.proofs.lemmas.List.{get_or_default}
@@ -8,7 +8,8 @@ use Rattle.tin_base.specs.declared.frames.Frame.TheVariants.{Source, Target}
 use Rattle.tin_base.specs.Triangulation.{Triangulation}
 use Rattle.tin_base.specs.Soundness.{DoFit, IsSound}
 use Rattle.tin_base.proofs.InOrder.{sound_of_pairs}
-use Rattle.tin_check.specs.Progress.{ArePositive, DoFitBefore, DoAllFit, IsFirstPair, DoOthersFit}
+use Rattle.tin_check.specs.Progress.{ArePositive, DoFitBefore, DoAllFit, IsFirstPair, IsFirstFound, IsFirstFoundBelow, DoOthersFit}
+use Rattle.tin_check.specs.declared.pairs.Pair.{Pair}
 
 -- ---- along a list
 -- those of the first n numbers of a list that are above `first` fit it
@@ -82,6 +83,16 @@ one_more_first tin frame first seconds n past firsts others listed t u order wit
 -- ---- from one first number to the next
 pub all_fit : (tin : Triangulation) (frame : Frame) (n : ℕ) → length tin.triangles ≤ n → DoFitBefore tin frame n 0 → DoAllFit tin frame
 all_fit tin frame n past before t u order within = before t u order within (inl (omega arith))
+
+-- with fewer first numbers
+pub fit_below : (tin : Triangulation) (frame : Frame) (n end : ℕ) → end ≤ n → DoFitBefore tin frame n 0 → DoFitBefore tin frame end 0
+fit_below tin frame n end past before t u order within (inl below) = before t u order within (inl (omega arith))
+fit_below tin frame n end past before t u order within (inr (same, less)) = absurd (omega arith)
+
+-- with all first numbers
+pub first_of_all : (tin : Triangulation) (frame : Frame) (end : ℕ) (found : Option Pair) → length tin.triangles ≤ end → IsFirstFoundBelow tin frame end found → IsFirstFound tin frame found
+first_of_all tin frame end None past before = all_fit tin frame end past before
+first_of_all tin frame end (Some pair) past first = first
 
 -- ---- at the end
 pub checked : (tin : Triangulation) → ArePositive tin (length tin.triangles) → DoAllFit tin Source → DoAllFit tin Target → IsSound tin

@@ -4,7 +4,7 @@ use Rattle.plane_base.specs.declared.shapes.Rect.{Rect}
 use Rattle.plane_base.specs.declared.shapes.Tri.{Tri}
 use Rattle.plane_base.specs.Plane.{corners}
 use Rattle.cell_grid.specs.Boxes.{box_at}
-use Rattle.cell_grid.specs.Inside.{AreIn}
+use Rattle.plane_base.specs.Boxes.{AreIn}
 use Rattle.tin_base.specs.declared.frames.Frame.{Frame}
 use Rattle.tin_base.specs.Triangulation.{Triangulation, numbers_of, places}
 

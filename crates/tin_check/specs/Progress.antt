@@ -33,6 +33,11 @@ abbrev pub IsFirstFound : Triangulation → Frame → Option Pair → Type 0
 IsFirstFound tin frame None = DoAllFit tin frame
 IsFirstFound tin frame (Some pair) = IsFirstPair tin frame pair.first pair.second
 
+-- the same, of the pairs whose first triangle is below `end`
+abbrev pub IsFirstFoundBelow : Triangulation → Frame → ℕ → Option Pair → Type 0
+IsFirstFoundBelow tin frame end None = DoFitBefore tin frame end 0
+IsFirstFoundBelow tin frame end (Some pair) = IsFirstPair tin frame pair.first pair.second
+
 -- the same, of the pairs of one first triangle
 abbrev pub IsFirstSecond : Triangulation → Frame → ℕ → Option ℕ → Type 0
 IsFirstSecond tin frame first None = DoFitBefore tin frame (first + 1) 0

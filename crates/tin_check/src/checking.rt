@@ -3,24 +3,25 @@ ghost use Rattle.tin_base.specs.Soundness.{turn_in, IsSound};
 ghost use Rattle.tin_base.specs.declared.frames.Frame.TheVariants.{Source, Target};
 ghost use Rattle.tin_base.specs.Laws.{IsOneToOne};
 ghost use Rattle.tin_check.specs.Faults.{IsFirstFault, IsCause};
-ghost use Rattle.tin_check.specs.Progress.{ArePositive, IsBeforePair, DoAllFit};
+ghost use Rattle.tin_check.specs.Progress.{ArePositive, IsBeforePair, DoAllFit, IsFirstPair};
 ghost use Rattle.tin_check.specs.declared.faults.CheckFault.TheVariants.{Meets, NoMemory};
 
 use crate::CheckFault;
 use crate::pairs::Pair;
-use crate::searching::first_unfit_pair;
+use crate::searching::{first_unfit_pair, first_unfit_pair_below};
 use plane_base::turn;
 use std::alloc::Global;
 use tin_base::{Frame, SoundTin, Tin};
 
-/// The triangulation, where it is sound. Else its first fault: of the triangles in order, flat in the source, flat in the target, turned over;
-/// then of the pairs in order of the first and of the second number, those that do not fit in the source, and in the target.
+/// The triangulation if it is sound, or else its first fault. Of the triangles, in order: flat in the source, flat in the
+/// target, turned over. Then of the pairs, in order of the first and of the second number: those that do not fit in the
+/// source, and in the target.
 pub fn check_tin(alloc: Global, tin: Tin) -> Result<SoundTin, CheckFault>
     ensures same { IfOk result (λ sound. sound ≡ tin) }
     ensures sound { OnOk result (IsSound tin) }
     ensures images { IfOk result (λ sound. IsOneToOne sound) }
     ensures first { IfErr result (λ fault. IsCause tin fault) }
-    // So a sound triangulation is refused for want of memory alone.
+    // So a sound triangulation is refused only when it runs out of memory.
     ensures accepted { IsSound tin → IfErr result (λ fault. fault ≡ NoMemory) }
 {
     check_triangles(&tin)?;
@@ -66,26 +67,46 @@ fn check_turns(tin: &Tin, triangle: u32) -> Result<(), CheckFault>
     Ok(())
 }
 
-/// Looks at each pair, in one frame after the other.
+/// Looks at the pairs of triangles, in one frame after the other.
 fn check_pairs(alloc: Global, tin: &Tin) -> Result<(), CheckFault>
     requires positive { ArePositive tin.now (length tin.now.triangles) }
     ensures source { OnOk result (DoAllFit tin.now Source) }
     ensures target { OnOk result (DoAllFit tin.now Target) }
     ensures first { IfErr result (λ fault. IsCause tin.now fault) }
 {
-    let source = first_unfit_pair(alloc, tin, Frame::Source)?;
-    let target = first_unfit_pair(alloc, tin, Frame::Target)?;
-    match (source, target) {
-        (None, None) => Ok(()),
-        (Some(pair), None) => Err(meets(pair, Frame::Source)),
-        (None, Some(pair)) => Err(meets(pair, Frame::Target)),
-        (Some(source), Some(target)) => {
-            if is_before(target, source) {
-                Err(meets(target, Frame::Target))
-            } else {
-                Err(meets(source, Frame::Source))
-            }
-        }
+    match first_unfit_pair(alloc, tin, Frame::Source)? {
+        Some(pair) => Err(first_meeting(alloc, tin, pair)),
+        None => match first_unfit_pair(alloc, tin, Frame::Target)? {
+            Some(pair) => Err(meets(pair, Frame::Target)),
+            None => Ok(()),
+        },
+    }
+}
+
+/// The first fault where this pair is the first that does not fit in the source. In the target only pairs up to it matter.
+fn first_meeting(alloc: Global, tin: &Tin, source: Pair) -> CheckFault
+    requires positive { ArePositive tin.now (length tin.now.triangles) }
+    requires source { IsFirstPair tin.now Source source.first source.second }
+    ensures { IsCause tin.now result }
+{
+    match first_unfit_pair_below(alloc, tin, Frame::Target, source.first + 1) {
+        Ok(Some(target)) => earlier(tin, source, target),
+        Ok(None) => meets(source, Frame::Source),
+        Err(_) => CheckFault::NoMemory,
+    }
+}
+
+/// The first fault where each frame has a first pair: that of the earlier pair, and the source's where they are one pair.
+fn earlier(tin: &Tin, source: Pair, target: Pair) -> CheckFault
+    requires positive { ArePositive tin.now (length tin.now.triangles) }
+    requires source { IsFirstPair tin.now Source source.first source.second }
+    requires target { IsFirstPair tin.now Target target.first target.second }
+    ensures { IsCause tin.now result }
+{
+    if is_before(target, source) {
+        meets(target, Frame::Target)
+    } else {
+        meets(source, Frame::Source)
     }
 }
 
@@ -100,7 +121,7 @@ fn meets(pair: Pair, frame: Frame) -> CheckFault
     }
 }
 
-/// Does the one pair stand before the other?
+/// Whether the one pair comes before the other.
 fn is_before(pair: Pair, other: Pair) -> bool
     ensures { IsTrue result ↔ IsBeforePair pair.first pair.second other.first other.second }
 {

@@ -19,7 +19,8 @@ pub enum CheckFault {
     TurnsOver {
         triangle: u32,
     },
-    /// In the frame two triangles have three common corners, or a common point that is no mix of their common corners. The first has the lower number.
+    /// In the frame two triangles have three common corners, or a common point that is no mix of their common corners.
+    /// The first has the lower number.
     #[error("triangles {first} and {second} meet in the frame {frame:?}")]
     Meets {
         first: u32,

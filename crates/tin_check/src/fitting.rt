@@ -8,7 +8,7 @@ use crate::marked_corners::{Marked, counted_from, is_same, read_marks};
 use crate::parting::{are_parted, is_beyond};
 use plane_base::{Pt, Tri, holds, slice};
 
-/// Does the triangle have a point of the segment from `p` to `q`?
+/// Whether the triangle has a point of the segment from `p` to `q`.
 fn meets_side(p: Pt, q: Pt, t: &Tri) -> bool
     requires near { IsNearAll t.now.a t.now.b t.now.c }
     requires near_p { IsNearTri t.now p }
@@ -20,7 +20,7 @@ fn meets_side(p: Pt, q: Pt, t: &Tri) -> bool
     slice(p, q, t).is_some()
 }
 
-/// Have the triangles a point in common?
+/// Whether the triangles have a common point.
 fn meet(t: &Tri, u: &Tri) -> bool
     requires near { AreNearTris t.now u.now }
     requires t_positive { pos 0 <ℤ turn_of (whole t.now.a) (whole t.now.b) (whole t.now.c) }
@@ -45,7 +45,7 @@ fn meet(t: &Tri, u: &Tri) -> bool
     meets_side(t.c, t.a, u)
 }
 
-/// Of two triangles whose first corners are the same: have they no other point in common?
+/// Whether two triangles whose first corners are the same have no other common point.
 fn meet_at_corner(t: &Tri, u: &Tri) -> bool
     requires near { AreNearTris t.now u.now }
     requires t_positive { pos 0 <ℤ turn_of (whole t.now.a) (whole t.now.b) (whole t.now.c) }
@@ -62,8 +62,8 @@ fn meet_at_corner(t: &Tri, u: &Tri) -> bool
     !meets_side(u.b, u.c, t)
 }
 
-/// Of two triangles of which the second begins at the second corner of the first, and has the first one's first corner too: have they only
-/// the side between these corners in common? They do where the side runs in opposite directions.
+/// Whether two triangles have only a side in common. The second one begins at the second corner of the first, and has the
+/// first one's first corner too: the side between these corners. It is all where it runs in opposite directions.
 fn meet_at_side(t: &Tri, u: &Tri) -> bool
     requires t_positive { pos 0 <ℤ turn_of (whole t.now.a) (whole t.now.b) (whole t.now.c) }
     requires u_positive { pos 0 <ℤ turn_of (whole u.now.a) (whole u.now.b) (whole u.now.c) }
@@ -74,7 +74,7 @@ fn meet_at_side(t: &Tri, u: &Tri) -> bool
     is_same(t.a, u.b)
 }
 
-/// Have the triangles only the first corner of `t` in common, which is a corner of `u` too?
+/// Whether the triangles have only the first corner of `t` in common, which is a corner of `u` too.
 fn fit_at_corner(t: &Tri, u: &Tri) -> bool
     requires near { AreNearTris t.now u.now }
     requires t_positive { pos 0 <ℤ turn_of (whole t.now.a) (whole t.now.b) (whole t.now.c) }
@@ -85,7 +85,7 @@ fn fit_at_corner(t: &Tri, u: &Tri) -> bool
     meet_at_corner(t, &counted_from(u, t.a))
 }
 
-/// Have the triangles only the first side of `t` in common, whose ends are corners of `u` too?
+/// Whether the triangles have only the first side of `t` in common, whose ends are corners of `u` too.
 fn fit_at_side(t: &Tri, u: &Tri) -> bool
     requires t_positive { pos 0 <ℤ turn_of (whole t.now.a) (whole t.now.b) (whole t.now.c) }
     requires u_positive { pos 0 <ℤ turn_of (whole u.now.a) (whole u.now.b) (whole u.now.c) }
@@ -96,7 +96,7 @@ fn fit_at_side(t: &Tri, u: &Tri) -> bool
     meet_at_side(t, &counted_from(u, t.b))
 }
 
-/// Do the triangles meet in their common corners and in what those span, and nowhere else?
+/// Whether the triangles meet in their common corners and in what those span, and nowhere else.
 pub fn fits(t: &Tri, u: &Tri, common: Common) -> bool
     requires near { AreNearTris t.now u.now }
     requires t_positive { pos 0 <ℤ turn_of (whole t.now.a) (whole t.now.b) (whole t.now.c) }

@@ -30,7 +30,7 @@ pub(crate) fn next(t: Tri) -> Tri
     }
 }
 
-/// Have the two points the same coordinates?
+/// Whether the two points have the same coordinates.
 pub(crate) fn is_same(p: Pt, q: Pt) -> bool
     ensures { IsTrue result ↔ (p ≡ q) }
 {

@@ -12,7 +12,7 @@ pub(crate) struct Pair {
     pub(crate) second: u32,
 }
 
-/// Is the number one of three?
+/// Whether the number is one of three.
 fn is_among(numbers: &[u32; 3], number: u32) -> bool
     ensures { result ≡ has numbers.now number }
 {
@@ -58,7 +58,7 @@ fn marked_side(numbers: &[u32; 3], marks: [bool; 3]) -> Option<Side>
     }
 }
 
-/// Do two triangles meet, in a frame, in their common corners and in what those span, and nowhere else?
+/// Whether two triangles meet, in a frame, in their common corners and in what those span, and nowhere else.
 pub(crate) fn pair_fits(tin: &Tin, t: u32, u: u32, frame: Frame) -> bool
     requires t_in_range { t < length tin.now.triangles }
     requires u_in_range { u < length tin.now.triangles }

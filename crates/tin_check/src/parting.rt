@@ -6,7 +6,7 @@ ghost use Rattle.tin_check.specs.Parting.{IsParted, AreRight};
 
 use plane_base::{Pt, Tri, turn};
 
-/// Of two triangles whose first corners are the same: do the turns at this corner show that they have no other point in common?
+/// Whether the turns at the common first corner of two triangles show that they have no other common point.
 /// They always do where a line through the corner has the one on its left and the other on its right. `false` shows nothing.
 pub(crate) fn are_parted(t: &Tri, u: &Tri) -> bool
     requires near { AreNearTris t.now u.now }
@@ -30,7 +30,7 @@ fn do_part(be: i128, bf: i128, ce: i128, cf: i128) -> bool
     (ce > 0 && (cf >= 0 || be >= 0)) || (bf < 0 && (be <= 0 || cf <= 0))
 }
 
-/// Has a side of `t` all of `u` on its right? Then they have no point in common. `false` shows nothing.
+/// Whether a side of `t` has all of `u` on its right. Then they have no common point. `false` shows nothing.
 pub(crate) fn is_beyond(t: &Tri, u: &Tri) -> bool
     requires near { AreNearTris t.now u.now }
     requires positive { pos 0 <ℤ turn_of (whole t.now.a) (whole t.now.b) (whole t.now.c) }
@@ -45,7 +45,7 @@ pub(crate) fn is_beyond(t: &Tri, u: &Tri) -> bool
     is_right_of(t.c, t.a, u)
 }
 
-/// Is each corner of `u` to the right of the line from `p` to `q`?
+/// Whether each corner of `u` is to the right of the line from `p` to `q`.
 fn is_right_of(p: Pt, q: Pt, u: &Tri) -> bool
     requires near { IsNear p q }
     requires near_p { IsNearTri u.now p }

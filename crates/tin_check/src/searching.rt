@@ -1,17 +1,18 @@
-ghost use Rattle.std.specs.Prelude.{◌≡◌, ◌+◌, ◌<◌, false, length, All, IfOk, IsTrue};
+ghost use Rattle.std.specs.Prelude.{◌≡◌, ◌+◌, ◌<◌, ◌≤◌, false, length, All, IfOk, IsTrue};
 ghost use Rattle.std.specs.List.Sorted.{IsStrictlyIncreasing};
 ghost use Rattle.tin_base.specs.Soundness.{DoFit};
 ghost use Rattle.tin_check.specs.Boxes.{AreBoxesIn};
-ghost use Rattle.tin_check.specs.Progress.{ArePositive, DoFitBefore, DoAllFit, IsFirstFound, IsFirstSecond, DoOthersFit};
+ghost use Rattle.tin_check.specs.Progress.{ArePositive, DoFitBefore, DoAllFit, IsFirstFound, IsFirstFoundBelow, IsFirstSecond, DoOthersFit};
 
 use crate::boxes::{box_in, grid_in};
 use crate::pairs::{Pair, pair_fits};
-use cell_grid::{Grid, boxes_share_a_point_or_are_apart, each_pair_is_told_once};
+use cell_grid::{Grid, each_pair_is_told_once};
+use plane_base::boxes_share_a_point_or_are_apart;
 use std::alloc::{AllocError, Global};
 use tin_base::{Frame, Tin};
 
-/// The first pair of triangles, in order, that does not fit together in the frame. Only pairs whose boxes share a point are looked at:
-/// once in any order, and in their order where one of them does not fit.
+/// The first pair of triangles, in order, that does not fit together in the frame. Only pairs whose boxes share a point are
+/// looked at: once in any order, and in their order where one of them does not fit.
 pub(crate) fn first_unfit_pair(
     alloc: Global,
     tin: &Tin,
@@ -24,10 +25,27 @@ pub(crate) fn first_unfit_pair(
     if do_all_fit(alloc, tin, frame, &grid)? {
         return Ok(None);
     }
-    first_in_order(alloc, tin, frame, &grid)
+    let found = first_in_order(alloc, tin, frame, &grid, tin.triangle_count())?;
+    Ok(found)
 }
 
-/// Do all pairs of triangles fit together in the frame? Each is looked at once.
+/// The same among the pairs whose first triangle is below `end`. No other pair is looked at.
+pub(crate) fn first_unfit_pair_below(
+    alloc: Global,
+    tin: &Tin,
+    frame: Frame,
+    end: u32,
+) -> Result<Option<Pair>, AllocError>
+    requires positive { ArePositive tin.now (length tin.now.triangles) }
+    requires end { end ≤ length tin.now.triangles }
+    ensures { IfOk result (λ found. IsFirstFoundBelow tin.now frame end found) }
+{
+    let grid = grid_in(alloc, tin, frame)?;
+    let found = first_in_order(alloc, tin, frame, &grid, end)?;
+    Ok(found)
+}
+
+/// Whether all pairs of triangles fit together in the frame. Each is looked at once.
 fn do_all_fit(alloc: Global, tin: &Tin, frame: Frame, grid: &Grid) -> Result<bool, AllocError>
     requires positive { ArePositive tin.now (length tin.now.triangles) }
     requires boxes { AreBoxesIn tin.now frame (length tin.now.triangles) grid.now.boxes }
@@ -45,7 +63,7 @@ fn do_all_fit(alloc: Global, tin: &Tin, frame: Frame, grid: &Grid) -> Result<boo
     Ok(true)
 }
 
-/// Does a triangle fit together with each of some others?
+/// Whether a triangle fits together with each of some others.
 fn fits_each(tin: &Tin, frame: Frame, triangle: u32, others: &[u32]) -> bool
     requires triangle { triangle < length tin.now.triangles }
     requires others { All (λ other. other < length tin.now.triangles) others.now }
@@ -60,19 +78,21 @@ fn fits_each(tin: &Tin, frame: Frame, triangle: u32, others: &[u32]) -> bool
     true
 }
 
-/// The first pair, of those with the first triangle before those with the next one, that does not fit together in the frame.
+/// The first pair in order whose first triangle is below `end` and that does not fit together in the frame.
 fn first_in_order(
     alloc: Global,
     tin: &Tin,
     frame: Frame,
     grid: &Grid,
+    end: u32,
 ) -> Result<Option<Pair>, AllocError>
     requires positive { ArePositive tin.now (length tin.now.triangles) }
+    requires end { end ≤ length tin.now.triangles }
     requires boxes { AreBoxesIn tin.now frame (length tin.now.triangles) grid.now.boxes }
-    ensures { IfOk result (λ found. IsFirstFound tin.now frame found) }
+    ensures { IfOk result (λ found. IsFirstFoundBelow tin.now frame end found) }
 {
     boxes_share_a_point_or_are_apart();
-    for first in 0..tin.triangle_count() {
+    for first in 0..end {
         let near = grid.near(alloc, box_in(tin, first, frame))?;
         if let Some(second) = first_unfit(tin, frame, first, &near) {
             return Ok(Some(Pair { first, second }));
@@ -81,7 +101,8 @@ fn first_in_order(
     Ok(None)
 }
 
-/// Of some triangles, in order, the first one behind `first` that does not fit it in the frame. All pairs of a lower first triangle fit, and the triangles behind `first` that are left out.
+/// Of some triangles, in order, the first one after `first` that does not fit it in the frame. All pairs of a lower first
+/// triangle fit, and so do the triangles after `first` that are left out.
 fn first_unfit(tin: &Tin, frame: Frame, first: u32, seconds: &[u32]) -> Option<u32>
     requires first { first < length tin.now.triangles }
     requires positive { ArePositive tin.now (length tin.now.triangles) }
@@ -99,7 +120,7 @@ fn first_unfit(tin: &Tin, frame: Frame, first: u32, seconds: &[u32]) -> Option<u
     None
 }
 
-/// Does the second triangle stand behind the first, and not fit it in the frame?
+/// Whether the second triangle comes after the first, and does not fit it in the frame.
 fn is_unfit(tin: &Tin, frame: Frame, first: u32, second: u32) -> bool
     requires first { first < length tin.now.triangles }
     requires second { second < length tin.now.triangles }

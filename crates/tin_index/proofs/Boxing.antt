@@ -9,19 +9,21 @@ use Rattle.plane_base.specs.declared.shapes.Pt.{Pt}
 use Rattle.plane_base.specs.declared.shapes.Rect.{Rect}
 use Rattle.plane_base.specs.declared.shapes.Tri.{Tri}
 use Rattle.plane_base.specs.declared.shapes.TheConstants.{SPAN}
-use Rattle.cell_grid.specs.Boxes.{HasPoint, IsOrdered, AreOrdered, IsWithinSpan, AreWithinSpan, IsHolder, no_box, box_at}
+use Rattle.plane_base.specs.Boxes.{HasPoint, IsOrdered}
+use Rattle.cell_grid.specs.Boxes.{AreOrdered, IsWithinSpan, AreWithinSpan, IsHolder, no_box, box_at}
 use Rattle.tin_base.specs.declared.frames.Frame.TheVariants.{Source}
 use Rattle.tin_base.specs.Triangulation.{Triangulation, place, corner_at, numbers_of, places, IsInTriangle}
 use Rattle.tin_base.specs.Limits.{IsWithinLimits}
 use Rattle.tin_base.proofs.Standing.{near_points}
-use Rattle.tin_index.specs.Boxes.{box_of, source_at, IsBoxOf, AreBoxesOf}
+use Rattle.plane_base.specs.Boxes.{box_of_triangle}
+use Rattle.tin_index.specs.Boxes.{source_at, IsBoxOf, AreBoxesOf}
 use Rattle.tin_index.proofs.InBox.{in_box}
 
 -- ---- one box more
 pub no_boxes : (tin : Triangulation) (boxes : List Rect) → boxes ≡ [] → AreBoxesOf tin 0 boxes
 no_boxes tin boxes e = record { count = ap length e; each = λ t h. absurd (omega arith) }
 
-pub boxes_more : (tin : Triangulation) (n : ℕ) (xs ys : List Rect) (rect : Rect) (tri : Tri) → AreBoxesOf tin n xs → corners tri ≡ places tin Source (numbers_of tin n) → rect ≡ box_of tri → ys ≡ xs ++ rect ∷ [] → AreBoxesOf tin (n + 1) ys
+pub boxes_more : (tin : Triangulation) (n : ℕ) (xs ys : List Rect) (rect : Rect) (tri : Tri) → AreBoxesOf tin n xs → corners tri ≡ places tin Source (numbers_of tin n) → rect ≡ box_of_triangle tri → ys ≡ xs ++ rect ∷ [] → AreBoxesOf tin (n + 1) ys
 boxes_more tin n xs ys rect tri old stands same e = subst (λ (zs : List Rect). AreBoxesOf tin (n + 1) zs) (sym e) (record { count = (let long = old.count in omega (arith, length_push xs rect, long)); each = each })
   where
     each : (t : ℕ) → t < n + 1 → IsBoxOf tin t (box_at (xs ++ rect ∷ []) t)
@@ -40,7 +42,7 @@ boxes_more tin n xs ys rect tri old stands same e = subst (λ (zs : List Rect). 
 low_high : (a b c : ℤ) → int_min a (int_min b c) ≤ℤ int_max a (int_max b c)
 low_high a b c = omega (arith, ints, int_min_is a (int_min b c), int_min_is b c, int_max_is a (int_max b c), int_max_is b c)
 
-ordered : (tri : Tri) → IsOrdered (box_of tri)
+ordered : (tri : Tri) → IsOrdered (box_of_triangle tri)
 ordered tri = (low_high tri.a.x tri.b.x tri.c.x, low_high tri.a.y tri.b.y tri.c.y)
 
 pub all_ordered : (tin : Triangulation) (n : ℕ) (boxes : List Rect) → AreBoxesOf tin n boxes → AreOrdered boxes
@@ -99,7 +101,7 @@ far : (tin : Triangulation) (m n : ℕ) (p q : Pt) → IsWithinLimits tin → m 
 far tin m n p q limits hm hn e f =
     let near = near_points tin Source m n p q limits hm hn e f in (near.0, near.2)
 
-within : (tin : Triangulation) (p q : Tri) → IsWithinLimits tin → Standing tin p → Standing tin q → IsWithinSpan (box_of p) (box_of q)
+within : (tin : Triangulation) (p q : Tri) → IsWithinLimits tin → Standing tin p → Standing tin q → IsWithinSpan (box_of_triangle p) (box_of_triangle q)
 within tin p q limits s t =
     let aa = far tin t.i s.i q.a p.a limits t.first s.first t.is_a s.is_a in
     let ab = far tin t.i s.j q.a p.b limits t.first s.second t.is_a s.is_b in
@@ -120,7 +122,7 @@ all_within tin boxes limits are k d hk l e hl =
     let p = are.each k (omega (arith, long)) in
     let q = are.each l (omega (arith, long)) in
     subst (λ (r : Rect). IsWithinSpan r (get_or boxes l e)) (sym p.same ∙ get_or_default boxes k no_box d hk)
-    (subst (λ (r : Rect). IsWithinSpan (box_of p.tri) r) (sym q.same ∙ get_or_default boxes l no_box e hl)
+    (subst (λ (r : Rect). IsWithinSpan (box_of_triangle p.tri) r) (sym q.same ∙ get_or_default boxes l no_box e hl)
     (within tin p.tri q.tri limits
     (standing tin p.tri (numbers_of tin k) (limits.three k (omega (arith, long))) (limits.in_range k (omega (arith, long))) p.stands)
     (standing tin q.tri (numbers_of tin l) (limits.three l (omega (arith, long))) (limits.in_range l (omega (arith, long))) q.stands)))

@@ -1,5 +1,5 @@
 -- The least triangle that has a point, by the numbers of each level in turn.
-use Rattle.std.proofs.Common.{◌≡◌, inl, inr, ⊎_elim, ◌↔◌, ℕ, ◌+◌, ◌<◌, ◌≤◌, List, length, get_or, Contains, refl, sym, ◌∙◌, subst, arith}
+use Rattle.std.proofs.Common.{◌≡◌, inl, inr, ⊎_elim, ◌↔◌, ℕ, ◌+◌, ◌<◌, ◌≤◌, List, length, get_or, All, Contains, refl, sym, ap, ◌∙◌, subst, arith}
 use Rattle.std.proofs.lemmas.Bool.{cases_lt}
 use Rattle.std.proofs.lemmas.Grind.{get_or_default_zero}
 use Rattle.std.proofs.lemmas.List.Kept.{AllPairs-from_increasing}
@@ -8,7 +8,7 @@ use Rattle.plane_base.specs.Plane.{whole}
 use Rattle.plane_base.specs.declared.shapes.Pt.{Pt}
 use Rattle.plane_base.specs.declared.shapes.Rect.{Rect}
 use Rattle.cell_grid.specs.Boxes.{IsHolder, no_box, box_at}
-use Rattle.cell_grid.specs.Sizes.{level_of, AreOfLevels}
+use Rattle.cell_grid.specs.Sizes.{level_of}
 use Rattle.tin_base.specs.declared.frames.Frame.TheVariants.{Source}
 use Rattle.tin_base.specs.Triangulation.{Triangulation, IsInTriangle}
 use Rattle.tin_index.specs.Boxes.{AreBoxesOf}
@@ -33,32 +33,33 @@ not_among tin p numbers i none h n c m =
     none c.0 (let l = c.1 in omega (arith, l)) (subst (λ (k : ℕ). IsInTriangle tin Source k (whole p)) (sym same) m)
 
 -- ---- level by level
--- no triangle of the levels so far that has the point is below the one that was found
-pub record IsLeastSoFar (tin : Triangulation) (boxes : List Rect) (p : Pt) (level found : ℕ) : Type 0 where
+-- no triangle of the first levels that has the point is below the one that was found
+pub record IsLeastSoFar (tin : Triangulation) (boxes : List Rect) (p : Pt) (levels : List ℕ) (count found : ℕ) : Type 0 where
   pub within : found ≤ length tin.triangles
   pub one : IsOneOf tin p (length tin.triangles) found
-  pub least : (t : ℕ) → t < length tin.triangles → IsInTriangle tin Source t (whole p) → level_of (box_at boxes t) < level → found ≤ t
+  pub least : (t : ℕ) → t < length tin.triangles → IsInTriangle tin Source t (whole p) → (k : ℕ) → k < count → level_of (box_at boxes t) ≡ get_or levels k 0 → found ≤ t
 
-pub least_start : (tin : Triangulation) (boxes : List Rect) (p : Pt) → IsLeastSoFar tin boxes p 0 (length tin.triangles)
-least_start tin boxes p = record { within = omega arith; one = inl refl; least = λ t h m l. absurd (omega arith) }
+pub least_start : (tin : Triangulation) (boxes : List Rect) (p : Pt) (levels : List ℕ) → IsLeastSoFar tin boxes p levels 0 (length tin.triangles)
+least_start tin boxes p levels = record { within = omega arith; one = inl refl; least = λ t h m k l at. absurd (omega arith) }
 
-pub least_more : (tin : Triangulation) (boxes : List Rect) (p : Pt) (level least now : ℕ) (numbers : List ℕ) → AreBoxesOf tin (length tin.triangles) boxes → IsLeastSoFar tin boxes p level least
-    → ((n : ℕ) → IsHolder boxes p n → Contains numbers n ↔ (level_of (box_at boxes n) ≡ level)) → now ≤ least → IsOneOf tin p least now
-    → ((n : ℕ) → Contains numbers n → IsInTriangle tin Source n (whole p) → now ≤ n) → IsLeastSoFar tin boxes p (level + 1) now
-least_more tin boxes p level least now numbers are old cell below one among =
+pub least_more : (tin : Triangulation) (boxes : List Rect) (p : Pt) (levels : List ℕ) (i least now : ℕ) (numbers : List ℕ) → AreBoxesOf tin (length tin.triangles) boxes → IsLeastSoFar tin boxes p levels i least
+    → ((n : ℕ) → IsHolder boxes p n → Contains numbers n ↔ (level_of (box_at boxes n) ≡ get_or levels i 0)) → now ≤ least → IsOneOf tin p least now
+    → ((n : ℕ) → Contains numbers n → IsInTriangle tin Source n (whole p) → now ≤ n) → IsLeastSoFar tin boxes p levels (i + 1) now
+least_more tin boxes p levels i least now numbers are old cell below one among =
     let to : least ≤ length tin.triangles = old.within in
     record {
       within = omega arith;
       one = ⊎_elim (λ e. subst (λ (n : ℕ). IsOneOf tin p (length tin.triangles) n) (sym e) old.one) (λ h. inr h) one;
-      least = λ t h m l. ⊎_elim
-          (λ before. let b = old.least t h m before in omega (arith, b))
-          (λ from. let here : level_of (box_at boxes t) ≡ level = omega arith in among t ((cell t (holder tin boxes t p are h m)).1 here) m)
-          (cases_lt (level_of (box_at boxes t)) level);
+      least = λ t h m k l at. ⊎_elim
+          (λ before. let b = old.least t h m k before at in omega (arith, b))
+          (λ from. let last : k ≡ i = omega (arith, l) in among t ((cell t (holder tin boxes t p are h m)).1 (at ∙ ap (λ (n : ℕ). get_or levels n 0) last)) m)
+          (cases_lt k i);
     }
 
-pub least_of_all : (tin : Triangulation) (boxes : List Rect) (p : Pt) (levels level least : ℕ) → AreBoxesOf tin (length tin.triangles) boxes → IsLeastSoFar tin boxes p level least → AreOfLevels levels boxes → levels ≤ level
-    → (t : ℕ) → t < length tin.triangles → IsInTriangle tin Source t (whole p) → least ≤ t
-least_of_all tin boxes p levels level least are far of_levels h t ht m =
+pub least_of_all : (tin : Triangulation) (boxes : List Rect) (p : Pt) (levels : List ℕ) (count least : ℕ) → AreBoxesOf tin (length tin.triangles) boxes → IsLeastSoFar tin boxes p levels count least
+    → All (λ (rect : Rect). Contains levels (level_of rect)) boxes → length levels ≤ count → (t : ℕ) → t < length tin.triangles → IsInTriangle tin Source t (whole p) → least ≤ t
+least_of_all tin boxes p levels count least are far on_levels h t ht m =
     let long = are.count in
-    let below = of_levels t no_box (omega (arith, long)) in
-    far.least t ht m (omega (arith, below))
+    let k = on_levels t no_box (omega (arith, long)) in
+    let l = k.1 in
+    far.least t ht m k.0 (omega (arith, l)) (sym (sym (get_or_default_zero levels k.0 (level_of (box_at boxes t)) k.1) ∙ k.2))

@@ -5,7 +5,8 @@ use Rattle.plane_base.specs.Plane.{corners, IsNear}
 use Rattle.plane_base.specs.declared.shapes.Pt.{Pt}
 use Rattle.plane_base.specs.declared.shapes.Rect.{Rect}
 use Rattle.plane_base.specs.declared.shapes.Tri.{Tri}
-use Rattle.cell_grid.specs.Boxes.{HasPoint, box_at}
+use Rattle.plane_base.specs.Boxes.{HasPoint, box_of_triangle}
+use Rattle.cell_grid.specs.Boxes.{box_at}
 use Rattle.tin_base.specs.declared.frames.Frame.TheVariants.{Source}
 use Rattle.tin_base.specs.Triangulation.{Triangulation, x_in, y_in, corner_at, numbers_of, places}
 
@@ -21,15 +22,11 @@ low_of t = record { x = int_min t.a.x (int_min t.b.x t.c.x); y = int_min t.a.y (
 abbrev pub high_of : Tri → Pt
 high_of t = record { x = int_max t.a.x (int_max t.b.x t.c.x); y = int_max t.a.y (int_max t.b.y t.c.y) }
 
--- the box
-abbrev pub box_of : Tri → Rect
-box_of t = record { x0 = (low_of t).x; y0 = (low_of t).y; x1 = (high_of t).x; y1 = (high_of t).y }
-
 -- the rectangle is the box of the source triangle, wherever that stands
 pub record IsBoxOf (tin : Triangulation) (t : ℕ) (rect : Rect) : Type 0 where
   pub tri : Tri
   pub stands : corners tri ≡ places tin Source (numbers_of tin t)
-  pub same : rect ≡ box_of tri
+  pub same : rect ≡ box_of_triangle tri
 
 -- the boxes of the first `n` source triangles, in order
 pub record AreBoxesOf (tin : Triangulation) (n : ℕ) (boxes : List Rect) : Type 0 where

@@ -6,7 +6,7 @@ ghost use Rattle.tin_base.specs.Images.{IsInSome};
 ghost use Rattle.tin_index.specs.Boxes.{IsNearCorners};
 ghost use Rattle.tin_index.specs.Sides.{HasCorner, corner_of, next_of, IsAcross, IsStar};
 
-use crate::boxes::{box_of_all, boxes_of, is_in_box};
+use crate::boxes::{box_of_all, boxes_of};
 use crate::locating::{is_inside, locate_in};
 use crate::stars::stars_of;
 use cell_grid::Grid;
@@ -65,7 +65,8 @@ impl TinIndex {
         &self.tin
     }
 
-    /// The number of the least source triangle that has the point, or none where no triangle has it. The point, in millimetres, may be anywhere.
+    /// The number of the least source triangle that contains the point, or none where no triangle does. The point, in
+    /// millimetres, may be anywhere.
     pub fn locate(&self, p: Pt) -> Option<u32>
         ensures found { IfSome result (λ triangle. (triangle < length self.now.triangles) × IsInTriangle self.now Source triangle (whole p)) }
         ensures least { IfSome result (λ triangle. (other : ℕ) → other < triangle → IsInTriangle self.now Source other (whole p) → ⊥) }
@@ -89,13 +90,13 @@ impl TinIndex {
         self.locate(p)
     }
 
-    /// Is the point in the box of all corners? Only there is it in a triangle, and there it is near each corner.
+    /// Whether the point is in the box of all corners. Only there can a triangle contain it, and there it is near each corner.
     pub fn is_among_corners(&self, p: Pt) -> bool
         ensures has { IsInSome self.now Source (whole p) → IsTrue result }
         ensures near { IsTrue result → IsNearCorners self.now p }
     {
         self.tin.known();
-        is_in_box(&self.round, p)
+        self.round.has_point(p)
     }
 
     /// The numbers of the triangles that have the corner, ascending.
@@ -106,7 +107,8 @@ impl TinIndex {
         self.stars.at(corner)
     }
 
-    /// The number of the other triangle that has both corners of the triangle's side `side`, which goes from the corner of that number, 0 to 2, to the next.
+    /// The number of the other triangle that has both corners of the triangle's side `side`, which goes from the corner of
+    /// that number, 0 to 2, to the next.
     /// `None` comes exactly where there is no other.
     pub fn across(&self, triangle: u32, side: u8) -> Option<u32>
         requires triangle { triangle < length self.now.triangles }
@@ -127,7 +129,7 @@ impl TinIndex {
         None
     }
 
-    /// Is it another triangle than the first, and has it the corner?
+    /// Whether it is another triangle than the first, and has the corner.
     fn is_across(&self, triangle: u32, corner: u32, other: u32) -> bool
         requires { other < length self.now.triangles }
         ensures { IsTrue result ↔ ((other ≢ triangle) × HasCorner self.now other corner) }
@@ -135,7 +137,7 @@ impl TinIndex {
         other != triangle && self.has_corner(other, corner)
     }
 
-    /// Has the triangle the corner?
+    /// Whether the triangle has the corner.
     fn has_corner(&self, triangle: u32, corner: u32) -> bool
         requires { triangle < length self.now.triangles }
         ensures { IsTrue result ↔ HasCorner self.now triangle corner }

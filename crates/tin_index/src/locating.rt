@@ -50,7 +50,7 @@ fn least_of(tin: &SoundTin, numbers: &[u32], p: Pt, found: u32) -> u32
     found
 }
 
-// Has the source triangle the point?
+// Whether the source triangle contains the point.
 fn is_in(tin: &SoundTin, triangle: u32, p: Pt) -> bool
     requires { triangle < length tin.now.triangles }
     ensures { IsTrue result ↔ IsInTriangle tin.now Source triangle (whole p) }
@@ -58,7 +58,7 @@ fn is_in(tin: &SoundTin, triangle: u32, p: Pt) -> bool
     has_point(&tin.tri(triangle, Frame::Source), p)
 }
 
-/// Is the point inside of the source triangle of this number, if there is one, and so in no other?
+/// Whether the point is inside the source triangle of this number, if there is one, and so in no other.
 pub fn is_inside(tin: &SoundTin, triangle: u32, p: Pt) -> bool
     ensures { IsTrue result → IsOnlyIn tin.now triangle p }
 {

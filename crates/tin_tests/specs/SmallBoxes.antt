@@ -1,7 +1,7 @@
 -- Boxes near the origin, as the tests take them.
 use Rattle.std.specs.Prelude.{pos, negsuc, ◌≤ℤ◌}
 use Rattle.plane_base.specs.declared.shapes.Rect.{Rect}
-use Rattle.cell_grid.specs.Boxes.{IsOrdered}
+use Rattle.plane_base.specs.Boxes.{IsOrdered}
 
 -- ordered, and not more than a hundred kilometres from 0
 pub record IsSmall (rect : Rect) : Type 0 where

@@ -10,7 +10,7 @@ use std::test::Fail;
 use tin_base::Piece;
 use tin_index::TinIndex;
 
-/// Does the path begin at this point, and has it some, and just one where it is a dot?
+/// Whether the path begins at this point and has some points, just one if it is a dot.
 fn is_path_from(first: u32, row: PathRow) -> bool
     ensures { IsTrue result → IsPathFrom first row }
 {
@@ -27,7 +27,7 @@ fn is_path_from(first: u32, row: PathRow) -> bool
     }
 }
 
-/// Do the paths follow each other without a gap from point 0 to before this one?
+/// Whether the paths follow each other without a gap from point 0 up to this one.
 fn are_tiled(rows: &[PathRow], past: u32) -> bool
     ensures { IsTrue result → AreTiled rows.now 0 past }
 {
@@ -79,7 +79,7 @@ fn sheet_of(alloc: Global, paths: &[Drawn]) -> Option<Sheet> {
     tiled(alloc, rows, points)
 }
 
-/// Are these the images, in millimetres, and the places where the runs begin?
+/// Whether these are the images, in millimetres, and the places where the runs begin.
 fn are_images(images: &Images, points: &[(i32, i32)], run: &[u32]) -> bool {
     if images.run() != run || images.points().len() != points.len() {
         return false;
@@ -103,7 +103,7 @@ fn is_piece(piece: &Piece, layer: u32, want: &Want) -> bool {
         && piece.ib == at(want.3)
 }
 
-/// Are these the pieces that are wanted, in order, all of the one layer?
+/// Whether these are the wanted pieces, in order, all of the one layer.
 pub fn are_pieces(pieces: &[Piece], layer: u32, want: &[Want]) -> bool {
     pieces.len() == want.len()
         && pieces
@@ -112,7 +112,7 @@ pub fn are_pieces(pieces: &[Piece], layer: u32, want: &[Want]) -> bool {
             .all(|(piece, want)| is_piece(piece, layer, want))
 }
 
-/// Carries the paths alone: are these the images and the pieces?
+/// Carries the paths alone. Whether these are the images and the pieces.
 fn is_carried(
     alloc: Global,
     index: &TinIndex,
@@ -131,7 +131,7 @@ fn is_carried(
     are_images(&images, points, run) && are_pieces(&pieces, 3, want)
 }
 
-/// Carries the paths where there may be so many pieces: is that refused so, with the pieces as before?
+/// Carries the paths where there may be so many pieces. Whether that is refused so, with the pieces as before.
 fn is_refused(
     alloc: Global,
     index: &TinIndex,

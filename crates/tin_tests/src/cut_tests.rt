@@ -25,7 +25,7 @@ fn whole(triangle: u32) -> Want {
     (triangle, START, END, End::Vertex, End::Vertex)
 }
 
-/// Are these the pieces of the segment, in millimetres?
+/// Whether these are the pieces of the segment, in millimetres.
 fn is_cut(alloc: Global, index: &TinIndex, a: (i32, i32), b: (i32, i32), want: &[Want]) -> bool {
     let Ok(steps) = cut(alloc, index, at(a), at(b)) else {
         return false;

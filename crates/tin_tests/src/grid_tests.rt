@@ -1,5 +1,5 @@
 ghost use Rattle.std.specs.Prelude.{◌≡◌, ◌≤◌, ◌<◌, length, All, IfOk, IsTrue};
-ghost use Rattle.cell_grid.specs.Boxes.{IsOrdered};
+ghost use Rattle.plane_base.specs.Boxes.{IsOrdered};
 ghost use Rattle.cell_grid.specs.declared.grids.TheConstants.{LIMIT};
 ghost use Rattle.tin_tests.specs.SmallBoxes.{IsSmall};
 
@@ -247,5 +247,42 @@ fn tells_a_pair_for_the_smaller_box(rt: HostRuntime) -> Result<(), Fail> {
             assert_eq!(rt; found.as_slice(), want, "partners of {number}");
         }
     }
+    Ok(())
+}
+
+// A small box at each of a hundred by a hundred points a kilometre apart, and ten by ten boxes of more than a kilometre, each
+// with one of these points in it. The cells of the small boxes are wider than these boxes need.
+#[test]
+fn finds_small_boxes_in_large_ones(rt: HostRuntime) -> Result<(), Fail> {
+    let alloc = rt.alloc();
+    let mut boxes = Vec::new(alloc);
+    for row in 0..100u16 {
+        let y = i64::from(row) * 1_000_000 - 50_000_000;
+        for column in 0..100u16 {
+            let x = i64::from(column) * 1_000_000 - 50_000_000;
+            boxes.push(rect([x, y, x + 100, y + 100]))?;
+        }
+    }
+    for row in 0..10u16 {
+        let y = i64::from(row) * 10_000_000 - 49_700_000;
+        for column in 0..10u16 {
+            let x = i64::from(column) * 10_000_000 - 49_700_000;
+            boxes.push(rect([x, y, x + 1_200_000, y + 1_200_000]))?;
+        }
+    }
+    let grid = grid_over(alloc, &boxes)?;
+    assert_eq!(rt; grid.levels(), 2);
+    assert_eq!(rt; pairs(alloc, &grid, boxes.len() as u32)?, 100);
+    assert_eq!(rt; all_near(alloc, &grid, &boxes)?, 10_100 + 2 * 100);
+    assert_eq!(rt;
+        near(
+            alloc,
+            &grid,
+            [-49_700_000, -49_700_000, -48_500_000, -48_500_000]
+        )?
+        .as_slice(),
+        [101, 10_000].as_slice()
+    );
+    assert_eq!(rt; times(&grid, 101, -48_999_900, -49_000_000), 1);
     Ok(())
 }

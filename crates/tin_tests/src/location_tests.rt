@@ -25,7 +25,7 @@ fn locates_points(rt: HostRuntime) -> Result<(), Fail> {
     Ok(())
 }
 
-/// Are these the triangles across the sides of the triangle?
+/// Whether these are the triangles across the sides of the triangle.
 fn are_across(index: &TinIndex, triangle: u32, want: &[Option<u32>; 3]) -> bool {
     if triangle >= index.tin().triangle_count() {
         return false;
@@ -35,7 +35,7 @@ fn are_across(index: &TinIndex, triangle: u32, want: &[Option<u32>; 3]) -> bool 
         && index.across(triangle, 2) == want[2]
 }
 
-/// Are these the triangles round the corner?
+/// Whether these are the triangles round the corner.
 fn are_around(index: &TinIndex, corner: u32, want: &[u32]) -> bool {
     if corner as usize >= index.tin().corners().len() {
         return false;

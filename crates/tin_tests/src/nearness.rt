@@ -4,7 +4,7 @@ ghost use Rattle.plane_base.specs.declared.shapes.TheConstants.{SPAN};
 
 use plane_base::{Pt, SPAN};
 
-/// Is each point less than the span from the other, on both axes?
+/// Whether each point is less than the span from the other, on both axes.
 pub fn is_near(p: Pt, q: Pt) -> bool
     ensures { IsTrue result → IsNear p q }
 {

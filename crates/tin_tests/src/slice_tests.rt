@@ -17,7 +17,7 @@ fn is_near_all(t: &Tri, p: Pt) -> bool
     is_near(t.a, p) && is_near(t.b, p) && is_near(t.c, p)
 }
 
-// Are the corners near to each other, and is their turn positive?
+// Whether the corners are near each other, and their turn is positive.
 fn is_proper(t: &Tri) -> bool
     ensures near { IsTrue result → IsNearAll t.now.a t.now.b t.now.c }
     ensures positive { IsTrue result → pos 0 <ℤ turn_of (whole t.now.a) (whole t.now.b) (whole t.now.c) }
@@ -64,7 +64,7 @@ fn corners(row: [i64; 6]) -> Tri {
     }
 }
 
-// Has the fraction this value?
+// Whether the fraction has this value.
 fn is_value(f: Frac, num: i128, den: i128) -> bool {
     match (f.num.checked_mul(den), num.checked_mul(f.den)) {
         (Some(x), Some(y)) => x == y,

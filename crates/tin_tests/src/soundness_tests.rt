@@ -118,3 +118,40 @@ fn names_a_pair_without_common_corners(rt: HostRuntime) {
         assert_eq!(rt; got.err(), meets(0, 1, Frame::Source), "{name}");
     }
 }
+
+// Many triangles over one another: the first pair is named as soon as it is met.
+#[test]
+fn names_the_first_of_many_pairs(rt: HostRuntime) -> Result<(), Fail> {
+    let mut triangles = Vec::new(rt.alloc());
+    for _ in 0..50_000u32 {
+        triangles.push([0, 1, 2])?;
+    }
+    let got = found(rt.alloc(), &square_corners(), &triangles);
+    assert_eq!(rt; got.err(), meets(0, 1, Frame::Source));
+    Ok(())
+}
+
+// Two triangles that meet in the target stand before two others that meet in the source.
+#[test]
+fn names_an_earlier_pair_of_the_target(rt: HostRuntime) {
+    let corners = [
+        same(0, 0),
+        same(10_000, 0),
+        same(0, 10_000),
+        corner((20_000, 0), (1_000, 0)),
+        corner((30_000, 0), (11_000, 0)),
+        corner((20_000, 10_000), (1_000, 10_000)),
+        same(50_000, 0),
+        same(60_000, 0),
+        same(50_000, 10_000),
+        corner((51_000, 0), (71_000, 0)),
+        corner((61_000, 0), (81_000, 0)),
+        corner((51_000, 10_000), (71_000, 10_000)),
+    ];
+    let rows = [[0, 1, 2], [6, 7, 8], [9, 10, 11], [3, 4, 5]];
+    let got = found(rt.alloc(), &corners, &rows);
+    assert_eq!(rt; got.err(), meets(0, 3, Frame::Target));
+    let later = [[6, 7, 8], [9, 10, 11], [0, 1, 2], [3, 4, 5]];
+    let got = found(rt.alloc(), &corners, &later);
+    assert_eq!(rt; got.err(), meets(0, 1, Frame::Source));
+}

@@ -9,7 +9,7 @@ ghost use Rattle.tin_tests.specs.Within.{AreBeside, IsBesideFirst, AreFirstFine,
 use plane_base::{Pt, SPAN};
 use tin_base::{Corner, Frame, MOST_CORNERS, MOST_TRIANGLES, REACH};
 
-/// Can a triangulation have these corners and these triangles? It compares each two corners, and takes no memory.
+/// Whether a triangulation can have these corners and these triangles. It compares each two corners, and takes no memory.
 pub fn are_within_limits(corners: &[Corner], triangles: &[[u32; 3]]) -> bool
     ensures { (inexact : ℕ) → IsTrue result ↔ IsWithinLimits (triangulation corners.now triangles.now inexact) }
 {
@@ -25,7 +25,7 @@ pub fn are_within_limits(corners: &[Corner], triangles: &[[u32; 3]]) -> bool
     are_all_fine(corners)
 }
 
-/// Is each number of the rows below the count?
+/// Whether each number of the rows is below the count.
 fn are_rows_below(rows: &[[u32; 3]], count: usize) -> bool
     ensures { IsTrue result ↔ AreRowsBelow rows.now count (length rows.now) }
 {
@@ -43,7 +43,7 @@ fn is_row_below(row: &[u32; 3], count: usize) -> bool
     (row[0] as usize) < count && (row[1] as usize) < count && (row[2] as usize) < count
 }
 
-/// Is each corner in reach and beside those before it?
+/// Whether each corner is in reach and beside those before it.
 fn are_all_fine(corners: &[Corner]) -> bool
     ensures { IsTrue result ↔ AreFirstFine corners.now (length corners.now) }
 {

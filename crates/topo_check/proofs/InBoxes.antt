@@ -23,7 +23,7 @@ use Rattle.meet_rel.proofs.Ending.{piece_ends}
 use Rattle.meet_rel.proofs.Scale.{mix_first}
 use Rattle.topo_check.specs.Changes.{HadRelation, HasRelation}
 use Rattle.tin_base.specs.Pieces.{IsPieceOf, IsPieceInside, first_point, last_point}
-use Rattle.cell_grid.specs.Boxes.{AreApart, IsOrdered}
+use Rattle.plane_base.specs.Boxes.{AreApart, IsOrdered}
 use Rattle.topo_check.specs.Boxes.{IsIn, AreIn, IsAround, EachCorner, IsAmongCorners, IsExactBox, IsRoundedBox}
 use Rattle.plane_base.specs.declared.shapes.Rect.{Rect}
 

@@ -4,7 +4,8 @@ use Rattle.std.specs.List.{AllByRecursion}
 use Rattle.plane_base.specs.declared.shapes.Pt.{Pt}
 use Rattle.plane_base.specs.declared.shapes.Rect.{Rect}
 use Rattle.plane_base.specs.Plane.{Point, whole}
-use Rattle.cell_grid.specs.Boxes.{IsOrdered, box_at}
+use Rattle.plane_base.specs.Boxes.{IsOrdered}
+use Rattle.cell_grid.specs.Boxes.{box_at}
 use Rattle.tin_base.specs.declared.corners.Corner.{Corner}
 use Rattle.tin_base.specs.declared.pieces.Piece.{Piece}
 use Rattle.tin_base.specs.Triangulation.{Triangulation, corner_at}

@@ -1,5 +1,5 @@
 ghost use Rattle.std.specs.Prelude.{◌≡◌, ◌↔◌, ◌≤ℤ◌, ◌<ℤ◌, ℤ, ◌⊎◌, [], ◌∷◌, IsTrue};
-ghost use Rattle.cell_grid.specs.Boxes.{AreApart};
+ghost use Rattle.plane_base.specs.Boxes.{AreApart};
 ghost use Rattle.plane_base.specs.Plane.{Point, whole, corners};
 ghost use Rattle.tin_base.specs.Pieces.{IsPieceInside};
 ghost use Rattle.topo_check.specs.Boxes.{IsIn, AreIn, IsAround, IsExactBox, IsRoundedBox};

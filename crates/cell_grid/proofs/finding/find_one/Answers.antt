@@ -4,4 +4,4 @@ use Rattle.cell_grid.proofs.finding.find_one.Goals as goal
 
 pub returns : goal.returns
 returns c =
-    find_one c.args.boxes.now c.args.r.now c.args.number c.args.found.now.items c.push.new.self.items (c.requires.number, c.if-not-share_a_point.ensures.0 refl) c.in_ok-push.ensures.items
+    find_one c.args.boxes.now c.args.r.now c.args.number c.args.found.now.items c.push.new.self.items (c.requires.number, c.if-not-shares_a_point.ensures.0 refl) c.in_ok-push.ensures.items

@@ -1,5 +1,6 @@
-use Rattle.std.proofs.Common.{◌≤◌, length, All}
-use Rattle.cell_grid.specs.Sizes.{AreOfLevels}
+use Rattle.std.proofs.Common.{◌≤◌, ◌<◌, ℕ, length, All, slice_index, slice_index_or}
+use Rattle.plane_base.specs.declared.shapes.Rect.{Rect}
+use Rattle.cell_grid.specs.Sizes.{level_of, AreOfLevels}
 use Rattle.cell_grid.proofs.laying.counts_of.Given as goal
 
 abbrev pub invariant-loop-rect : goal.invariant-loop-rect
@@ -7,5 +8,6 @@ invariant-loop-rect l =
     record {
       of_levels : AreOfLevels (length l.counts.items) l.boxes;
       few : length l.counts.items ≤ 32;
+      some : (k : ℕ) (d : Rect) → k < l.rect-index → 0 < slice_index l.counts.items (level_of (slice_index_or l.boxes k d));
       counted : All (λ count. count ≤ l.rect-index) l.counts.items;
     }

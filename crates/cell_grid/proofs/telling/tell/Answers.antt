@@ -12,7 +12,7 @@ pub overflow_cast-index-end : goal.overflow_cast-index-end
 overflow_cast-index-end c =
     let rect = box_at c.args.boxes.now c.args.number in
     let past = c.requires.past c.args.number no_box c.requires.number in
-    omega (arith, c.count-index-end.ensures, few c.args.level.now rect c.of.result past c.of.ensures (small_on c.args.level.now.low rect c.args.level.now.shift past c.requires.above))
+    omega (arith, c.count-index-end.ensures, few c.args.level.now rect c.of.result past c.of.ensures (small_on c.args.level.now.low rect c.args.level.now.shift past (omega (arith, c.requires.above, c.args.level.now.wide))))
 
 pub tell_among-requires-clause-numbers : goal.tell_among-requires-clause-numbers
 tell_among-requires-clause-numbers c = λ k h.

@@ -1,7 +1,7 @@
 use Rattle.std.proofs.Common.{arith}
 use Rattle.tin_check.proofs.Partners.{near_in_range, others_fit}
 use Rattle.tin_check.proofs.InBoxes.{box_ordered}
-use Rattle.tin_check.proofs.Progress.{all_fit}
+use Rattle.tin_check.proofs.Progress.{fit_below}
 use Rattle.tin_check.proofs.searching.first_in_order.Goals as goal
 
 pub near-requires : goal.near-requires
@@ -16,4 +16,4 @@ first_unfit-requires-clause-others c =
     c.boxes_share_a_point_or_are_apart.ensures c.requires.boxes c.box_in.ensures c.in_ok-near.ensures c.deref.ensures.value
 
 pub returns : goal.returns
-returns c = all_fit c.args.tin.now c.args.frame c.loop-first.first (omega arith) c.loop-first.invariant
+returns c = fit_below c.args.tin.now c.args.frame c.loop-first.first c.args.end (omega arith) c.loop-first.invariant

@@ -1,31 +1,27 @@
-use Rattle.std.proofs.Common.{◌≡◌, ◌<◌, ℕ, List, [], length, ap, subst, ◌∙◌, arith}
+use Rattle.std.proofs.Common.{◌≡◌, ◌<◌, ◌≤◌, ℕ, List, [], length, All, Contains, ap, sym, subst, arith}
+use Rattle.std.specs.List.Sorted.{IsStrictlyIncreasing}
 use Rattle.plane_base.specs.declared.shapes.Rect.{Rect}
 use Rattle.cell_grid.specs.Grids.{Boxes}
-use Rattle.cell_grid.specs.Sizes.{AreOfLevels}
-use Rattle.cell_grid.specs.Telling.{DoesTell, IsPartnerOn}
-use Rattle.cell_grid.proofs.Kept.{level_kept, boxes_past}
-use Rattle.cell_grid.proofs.Tells.{levels_told, all_told}
+use Rattle.cell_grid.specs.Sizes.{level_of}
+use Rattle.cell_grid.specs.Telling.{DoesTell, IsPartnerOnFirst}
+use Rattle.cell_grid.proofs.Tells.{levels_told, none_on_first, all_told}
 use Rattle.cell_grid.proofs.grids.Grid.partners.Goals as goal
 
-pub tell-requires-clause-past : goal.tell-requires-clause-past
-tell-requires-clause-past c =
-    let within : c.loop-level.level < length c.self.inside.levels.items = omega arith in
-    let kept = level_kept c.self.inside.boxes.items c.self.inside.around c.self.inside.cells c.self.inside.levels.items c.loop-level.level c.index-in-loop-level.result.now
-    c.self.invariant.laid c.self.invariant.low c.self.invariant.levels within c.index-in-loop-level.ensures in
-    rw c.deref.ensures.value (boxes_past c.self.inside.boxes.items c.self.inside.around c.index-in-loop-level.result.now.low c.self.invariant.ordered c.self.invariant.around kept.low)
+pub loop-place-init : goal.loop-place-init
+loop-place-init c =
+    subst (λ (l : List ℕ). DoesTell (IsPartnerOnFirst c.args.self.now.boxes c.args.number c.args.self.now.levels 0) [] l) (sym c.clear.ensures.items) (none_on_first c.args.self.now.boxes c.args.number c.args.self.now.levels [])
 
-pub loop-level-preserved : goal.loop-level-preserved
-loop-level-preserved c =
-    let boxes : c.self.inside.boxes.items ≡ c.args.self.now.boxes = ap (λ (v : Boxes). v.boxes) c.self.view_is in
-    let within : c.loop-level.level < length c.self.inside.levels.items = omega arith in
-    let kept = level_kept c.self.inside.boxes.items c.self.inside.around c.self.inside.cells c.self.inside.levels.items c.loop-level.level c.index-in-loop-level.result.now
-    c.self.invariant.laid c.self.invariant.low c.self.invariant.levels within c.index-in-loop-level.ensures in
-    let tells = subst (λ (bs : List Rect). DoesTell (IsPartnerOn bs c.args.number c.index-in-loop-level.result.now.shift) c.loop-level.found.items c.tell.new.found.items) (c.deref.ensures.value ∙ boxes) c.in_ok-tell.ensures in
-    levels_told c.args.self.now.boxes c.args.number c.loop-level.level [] c.loop-level.found.items c.tell.new.found.items c.loop-level.invariant
-    (subst (λ (l : ℕ). DoesTell (IsPartnerOn c.args.self.now.boxes c.args.number l) c.loop-level.found.items c.tell.new.found.items) kept.shift tells)
+pub loop-place-preserved : goal.loop-place-preserved
+loop-place-preserved c =
+    let levels : c.self.inside.used.items ≡ c.args.self.now.levels = ap (λ (v : Boxes). v.levels) c.self.view_is in
+    let up : IsStrictlyIncreasing c.args.self.now.levels = subst (λ (l : List ℕ). IsStrictlyIncreasing l) levels c.self.invariant.used.ascending in
+    let within : c.loop-place.place < length c.args.self.now.levels = subst (λ (l : List ℕ). c.loop-place.place < length l) levels (omega (arith, c.loop-place-test.true, c.len-place-end.ensures)) in
+    levels_told c.args.self.now.boxes c.args.number c.args.self.now.levels c.loop-place.place [] c.loop-place.found.items c.tell_on.new.found.items up within c.loop-place.invariant c.in_ok-tell_on.ensures
 
 pub returns : goal.returns
 returns c =
-    let boxes : c.self.inside.boxes.items ≡ c.args.self.now.boxes = ap (λ (v : Boxes). v.boxes) c.self.view_is in
-    let of_levels : AreOfLevels c.loop-level.level c.args.self.now.boxes = subst (λ (bs : List Rect). AreOfLevels c.loop-level.level bs) boxes (λ k d h. let low = c.self.invariant.of_levels k d h in omega arith) in
-    all_told c.args.self.now.boxes c.args.number c.loop-level.level c.loop-level.found.items of_levels c.loop-level.invariant
+    let levels : c.self.inside.used.items ≡ c.args.self.now.levels = ap (λ (v : Boxes). v.levels) c.self.view_is in
+    let on_levels : All (λ (rect : Rect). Contains c.args.self.now.levels (level_of rect)) c.args.self.now.boxes =
+    subst (λ (v : Boxes). All (λ (rect : Rect). Contains v.levels (level_of rect)) v.boxes) c.self.view_is c.self.invariant.used.each in
+    let all : length c.args.self.now.levels ≤ c.loop-place.place = subst (λ (l : List ℕ). length l ≤ c.loop-place.place) levels (omega (arith, c.loop-place-test.false, c.len-place-end.ensures)) in
+    all_told c.args.self.now.boxes c.args.number c.args.self.now.levels c.loop-place.place c.loop-place.found.items on_levels all c.loop-place.invariant

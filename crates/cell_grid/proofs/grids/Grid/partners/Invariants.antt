@@ -1,6 +1,6 @@
 use Rattle.std.proofs.Common.{[]}
-use Rattle.cell_grid.specs.Telling.{DoesTell, IsPartnerBefore}
+use Rattle.cell_grid.specs.Telling.{DoesTell, IsPartnerOnFirst}
 use Rattle.cell_grid.proofs.grids.Grid.partners.Given as goal
 
-abbrev pub invariant-loop-level : goal.invariant-loop-level
-invariant-loop-level l = DoesTell (IsPartnerBefore l.self.boxes l.number l.level) [] l.found.items
+abbrev pub invariant-loop-place : goal.invariant-loop-place
+invariant-loop-place l = DoesTell (IsPartnerOnFirst l.self.boxes l.number l.self.levels l.place) [] l.found.items

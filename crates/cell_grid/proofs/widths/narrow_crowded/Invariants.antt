@@ -1,0 +1,5 @@
+use Rattle.cell_grid.specs.Laying.{HaveSamePlaces}
+use Rattle.cell_grid.proofs.widths.narrow_crowded.Given as goal
+
+abbrev pub invariant-loop-round : goal.invariant-loop-round
+invariant-loop-round l = HaveSamePlaces l.initial.levels.items l.levels.items
