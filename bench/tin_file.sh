@@ -1,9 +1,12 @@
 #!/bin/sh
 # Reads a triangulation file of N = 512 by read_tin, from bytes to corners and triangles, and prints the processor time of
-# one reading, beside that of Python's json on the same bytes. It builds a program over the crates of this repository in a
-# folder of its own, outside the gate.
+# one reading and the peak of memory, beside what Python's json takes for the same bytes. It builds a program over the
+# crates of this repository in a folder of its own, outside the gate.
+#
+#     tin_file.sh [N]          the file of N * N squares, 512 where there is no N
+#     tin_file.sh FILE ..      these files, each in turn
 set -e
-count=${1:-512}
+here=$(pwd)
 top=$(cd "$(dirname "$0")/.." && pwd)
 work=$(mktemp -d)
 trap 'rm -rf "$work"' EXIT
@@ -61,11 +64,30 @@ fn main(rt: HostRuntime) -> anyhow::Result<()> {
     Ok(())
 }
 END
-python3 "$top/bench/json_text.py" make "$count" "$work/made.json"
 # The run that builds the program has no file at hand and is not counted.
 (cd "$work/crates/tin_bench" && rt run > "$work/log" 2>&1) || true
 program="$work/crates/tin_bench/out/tin_bench"
 [ -x "$program" ] || { tail -n 20 "$work/log"; exit 1; }
-cd "$work"
-"$program"
-python3 "$top/bench/json_text.py" time "$work/made.json"
+
+# Runs the program over this file, and Python's json.
+compare() {
+    printf '%s\n' "$(basename "$1")"
+    ln -sf "$1" "$work/made.json"
+    (cd "$work" && python3 -c 'import resource, subprocess, sys
+print(subprocess.run([sys.argv[1]], stdout=subprocess.PIPE, text=True).stdout, end="")
+print("most memory: %d KiB" % resource.getrusage(resource.RUSAGE_CHILDREN).ru_maxrss)' "$program")
+    python3 "$top/bench/json_text.py" time "$1"
+}
+
+case ${1:-512} in
+    *[!0-9]*)
+        for name in "$@"; do
+            case $name in
+                /*) compare "$name" ;;
+                *) compare "$here/$name" ;;
+            esac
+        done ;;
+    *)
+        python3 "$top/bench/json_text.py" make "${1:-512}" "$work/squares.json"
+        compare "$work/squares.json" ;;
+esac

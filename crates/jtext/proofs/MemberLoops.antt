@@ -1,7 +1,6 @@
 -- Going over the members of an object for those of one key.
-use Rattle.std.proofs.Common.{◌≡◌, ℕ, zero, suc, ◌+◌, ◌<◌, List, [], ◌∷◌, ◌++◌, length, get_or, Bool, true, false, refl, sym, ap, ◌∙◌, arith, subst, ◌==◌}
+use Rattle.std.proofs.Common.{◌≡◌, ℕ, zero, suc, ◌+◌, ◌<◌, List, [], ◌∷◌, ◌++◌, length, get_or, Bool, true, false, refl, sym, ap, ◌∙◌, arith, subst}
 use Rattle.std.specs.Prelude.{Option, Some, None, Err, slice_get}
-use Rattle.std.proofs.lemmas.Bool.{eqb-true, eq-eqb, and_parts}
 use Rattle.std.proofs.lemmas.Option.{same_Some}
 use Rattle.jtext.specs.Characters.{units_of}
 use Rattle.jtext.specs.Values.{Json, Members, null, truth, numeral, quoted, array, object, no_member, member}
@@ -13,28 +12,16 @@ use Rattle.jtext.specs.declared.document.Node.{Node}
 use Rattle.jtext.specs.declared.document.Doc.{Doc}
 use Rattle.jtext.proofs.Standing.{MembersStand, object_stands, key_stands, member_stands, members_rest_stand, ends_within, first_there, node_stands, node_count_positive}
 use Rattle.jtext.proofs.TextNodes.{found_node, no_node}
-
-same_lists : (xs ys : List ℕ) → are_same xs ys ≡ true → xs ≡ ys
-same_lists [] [] h = refl
-same_lists [] (y ∷ ys) h = cc
-same_lists (x ∷ xs) [] h = cc
-same_lists (x ∷ xs) (y ∷ ys) h =
-    let both = and_parts (x == y) (are_same xs ys) h in
-    let first = eqb-true x y both.0 in
-    let rest = same_lists xs ys both.1 in cc
-
-itself : (xs : List ℕ) → are_same xs xs ≡ true
-itself [] = refl
-itself (x ∷ xs) = rw (eq-eqb x x refl) (itself xs)
+use Rattle.jtext.proofs.SameTexts.{same_is, is_same}
 
 pub are_same_so : (xs ys : List ℕ) → xs ≡ ys → are_same xs ys ≡ true
-are_same_so xs ys same = subst (λ (zs : List ℕ). are_same xs zs ≡ true) same (itself xs)
+are_same_so xs ys same = subst (λ (zs : List ℕ). are_same xs zs ≡ true) same (is_same xs)
 
 pub are_not_same : (xs ys : List ℕ) → (xs ≡ ys → ⊥) → are_same xs ys ≡ false
 are_not_same xs ys other = by_test (are_same xs ys) refl
   where
     by_test : (test : Bool) → are_same xs ys ≡ test → are_same xs ys ≡ false
-    by_test true h = absurd (other (same_lists xs ys h))
+    by_test true h = absurd (other (same_is xs ys h))
     by_test false h = h
 
 -- what was found so far

@@ -1,26 +1,19 @@
 -- Texts that are the same, and tests whether one says another.
-use Rattle.std.proofs.Common.{◌≡◌, ℕ, List, [], ◌∷◌, Bool, true, false, refl, sym, subst, ◌&&◌}
+use Rattle.std.proofs.Common.{◌≡◌, ℕ, List, [], ◌∷◌, Bool, true, false, refl, sym, subst}
 use Rattle.std.specs.Prelude.{◌↔◌, ◌==◌, IsTrue}
-use Rattle.std.proofs.lemmas.Bool.{eqb-true, eq-eqb}
+use Rattle.std.proofs.lemmas.Bool.{eqb-true, eq-eqb, and_parts}
 use Rattle.jtext.specs.Characters.{Char, units_of}
 use Rattle.jtext.specs.Values.{quoted}
 use Rattle.jtext.specs.Lookups.{Says, are_same}
-
-same_head : (a b : ℕ) (more : Bool) → ((a == b) && more) ≡ true → (a ≡ b) × (more ≡ true)
-same_head a b more h = split (a == b) refl h
-  where
-    split : (test : Bool) → (a == b) ≡ test → (test && more) ≡ true → (a ≡ b) × (more ≡ true)
-    split true is h = (eqb-true a b is, h)
-    split false is h = cc
 
 pub same_is : (xs ys : List ℕ) → are_same xs ys ≡ true → xs ≡ ys
 same_is [] [] h = refl
 same_is [] (b ∷ ys) h = cc
 same_is (a ∷ xs) [] h = cc
 same_is (a ∷ xs) (b ∷ ys) h =
-    let both = same_head a b (are_same xs ys) h in
+    let both = and_parts (a == b) (are_same xs ys) h in
     let tails : xs ≡ ys = same_is xs ys both.1 in
-    let heads : a ≡ b = both.0 in cc
+    let heads : a ≡ b = eqb-true a b both.0 in cc
 
 pub is_same : (xs : List ℕ) → are_same xs xs ≡ true
 is_same [] = refl

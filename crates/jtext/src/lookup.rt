@@ -80,3 +80,13 @@ fn between_marks(bytes: &[u8], node: Node) -> &[u8]
 {
     &bytes[node.start as usize + 1..node.end as usize - 1]
 }
+
+/// Laws: at each node of a document a value stands, and at a node of an object an object. So the
+/// clauses of `member` and `same_text` on a value that stands there say something of each of their
+/// calls.
+pub fn each_node_has_a_value()
+    ensures value { (doc : Doc) → (bytes : List ℕ) → (number : ℕ) → IsReadFrom doc bytes → number < length doc.nodes
+        → (start : ℕ) × (value : Json) × Stands doc.nodes bytes number start value }
+    ensures object { (doc : Doc) → (bytes : List ℕ) → (number : ℕ) → IsReadFrom doc bytes → HasKind doc.nodes number Kind.Object
+        → (start : ℕ) × (blank : List ℕ) × (members : Members) × Stands doc.nodes bytes number start (Json.object blank members) }
+{}

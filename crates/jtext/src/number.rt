@@ -117,6 +117,14 @@ fn is_digit(byte: u8) -> bool
     byte >= b'0' && byte <= b'9'
 }
 
+/// Is the byte a comma or the end of an array? No number goes on with it.
+#[inline(always)]
+fn is_comma_or_end(byte: u8) -> bool
+    ensures { IsTrue result → (place : NumberPlace) → number_step place byte ≡ None }
+{
+    byte == b',' || byte == b']'
+}
+
 /// The place behind the digits from this place on, where any number of them may stand.
 #[inline(always)]
 fn digits_behind(bytes: &[u8], from: usize, place: NumberPlace) -> usize
@@ -143,6 +151,10 @@ pub fn number_end(bytes: &[u8], from: usize, first: NumberPlace) -> (usize, Numb
     let mut at = digits_behind(bytes, from, first);
     let mut place = first;
     while at < bytes.len() {
+        // Most numbers end here: no table is asked.
+        if is_comma_or_end(bytes[at]) {
+            return (at, place);
+        }
         match place.after(bytes[at]) {
             Some(next) => place = next,
             None => return (at, place),

@@ -5,7 +5,7 @@ use Rattle.std.specs.List.{AllByRecursion}
 use Rattle.std.proofs.Math.Nat.{pow-succ', pow-le-pow_right, one-le-pow}
 use Rattle.std.proofs.Math.Seq.{take-length}
 use Rattle.std.proofs.lemmas.List.{take_more, append-nil}
-use Rattle.mm_decimal.specs.Numerals.{Sign, Bare, Minus, Numeral, IsDigit, Value, HasValue, number_of, is_minus, sign_text}
+use Rattle.mm_decimal.specs.Numerals.{Sign, Bare, Minus, Numeral, IsDigit, Value, HasValue, number_of, is_minus, sign_text, fraction_text, fraction_digits}
 use Rattle.mm_decimal.specs.Millimetres.{signed_of, IsRead}
 use Rattle.mm_decimal.specs.Rounding.{HasSize}
 use Rattle.mm_decimal.specs.Answers.{Reads}
@@ -54,7 +54,10 @@ module _ (whole fraction : List ℕ) (number rest : ℕ) where
       again : (a p f : ℕ) → f * 1000 ≡ rest * p → 1000 * (a * p + f) ≡ (a * 1000 + rest) * p
       again a p f e = omega (arith, e)
 
-module _ (whole fraction : List ℕ) (size : ℕ) (worth : 1000 * number_of (whole ++ fraction) ≡ size * 10 ^ length fraction) where
+module _ (whole : List ℕ) (part : Option (List ℕ)) (size : ℕ) (worth : 1000 * number_of (whole ++ fraction_digits part) ≡ size * 10 ^ length (fraction_digits part)) where
+  abbrev fraction : List ℕ
+  fraction = fraction_digits part
+
   abbrev digits : ℕ
   digits = number_of (whole ++ fraction)
 
@@ -75,15 +78,15 @@ module _ (whole fraction : List ℕ) (size : ℕ) (worth : 1000 * number_of (who
   reads sign within = value_read_so (value sign) 0 (record { size = size; exact = true }) (omega arith) (so sign within)
 
   abbrev numeral : Sign → Numeral
-  numeral sign = record { sign = sign; whole = whole; fraction = Some fraction; power = None }
+  numeral sign = record { sign = sign; whole = whole; fraction = part; power = None }
 
-  has_value : (sign : Sign) (text : List ℕ) → text ≡ whole ++ 46 ∷ fraction → 0 < length whole → AllByRecursion IsDigit whole → AllByRecursion IsDigit fraction
+  has_value : (sign : Sign) (text : List ℕ) → text ≡ whole ++ fraction_text part → 0 < length whole → AllByRecursion IsDigit whole → AllByRecursion IsDigit fraction
       → HasValue (sign_text sign ++ text) (value sign)
   has_value sign text is some a b = (
     numeral sign,
     (
       record { whole = a; fraction = b; some = omega (arith, some, length-append whole fraction); power = tt },
-      ap (λ t. sign_text sign ++ t) (is ∙ ap (λ t. whole ++ 46 ∷ t) (sym (append-nil fraction))),
+      ap (λ t. sign_text sign ++ t) (is ∙ ap (λ t. whole ++ t) (sym (append-nil (fraction_text part)))),
     ),
     refl,
   )
@@ -94,7 +97,7 @@ reads_plain sign text size h within short = (
   short,
   (
     value h.whole h.fraction size h.worth sign,
-    has_value h.whole h.fraction size h.worth sign text h.is h.some h.whole_digits h.fraction_digits,
+    has_value h.whole h.fraction size h.worth sign text h.is h.some h.whole_are h.fraction_are,
     reads h.whole h.fraction size h.worth sign within,
   ),
 )
@@ -108,11 +111,11 @@ plain_with digits behind more number count value rest is more_is low high front 
     let moved : 1000 * value ≡ rest * 10 ^ length more = size ∙ ap (λ n. rest * 10 ^ n) same in
     record {
       whole = digits;
-      fraction = more;
+      fraction = Some more;
       is = ap (λ t. digits ++ t) (is ∙ ap (λ t. 46 ∷ t) (sym more_is));
       some = some;
-      whole_digits = writes.all;
-      fraction_digits = all.all;
+      whole_are = writes.all;
+      fraction_are = all.all;
       worth = worth_of digits more number rest writes (omega (arith, all.worth, moved));
     }
 

@@ -1,4 +1,4 @@
-//! Numerals of digits, a point and one to three digits, as most layers have them. They are read without a scan.
+//! Numerals of digits, and perhaps a point and up to three digits, as most files have them. They are read without a scan.
 
 ghost use Rattle.std.specs.Prelude.{◌≡◌, ◌*◌, ◌^◌, ◌<◌, ◌≤◌, ◌++◌, ◌∷◌, ℕ, List, length, take, drop, IfSome, IsTrue, true};
 ghost use Rattle.mm_decimal.specs.Millimetres.{signed_of};
@@ -36,7 +36,7 @@ fn front_of(text: &[u8]) -> Front
     Front { number, count }
 }
 
-/// The thousandths that one to three digits behind a point are worth.
+/// The thousandths that up to three digits behind a point are worth.
 #[inline(always)]
 fn thousandths_of(fraction: Front) -> Option<u64>
     requires { fraction.number < 10 ^ fraction.count }
@@ -44,6 +44,7 @@ fn thousandths_of(fraction: Front) -> Option<u64>
     ensures small { IfSome result (λ rest. rest < 1000) }
 {
     match fraction.count {
+        0 => Some(0),
         1 => Some(fraction.number * 100),
         2 => Some(fraction.number * 10),
         3 => Some(fraction.number),
@@ -72,6 +73,9 @@ fn size_with(whole: Front, behind: &[u8]) -> Option<u64>
     ensures { IfSome result (λ size. (digits : List ℕ) → length digits ≡ whole.count → Write digits whole.number
         → IsPlain (digits ++ behind.now) size) }
 {
+    if behind.is_empty() {
+        return Some(whole.number * 1000);
+    }
     if !begins_with(behind, b'.') {
         return None;
     }

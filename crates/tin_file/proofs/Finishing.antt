@@ -1,7 +1,8 @@
 -- The triangulation of complete rows is within the limits.
 use Rattle.std.proofs.Common.{◌≡◌, ℕ, suc, zero, ◌<◌, List, [], ◌∷◌, map, length, get_or, Bool, true, false, refl, sym, ap, ◌∙◌, subst, arith}
-use Rattle.std.specs.Prelude.{◌||◌, if◌then◌else◌, not, Result, Ok, Err, All, ℤ, pos, ◌-ℤ◌, ◌≤ℤ◌, ◌<ℤ◌, int_le, int_lt}
+use Rattle.std.specs.Prelude.{if◌then◌else◌, not, Result, Ok, Err, All, ℤ, pos, ◌-ℤ◌, ◌≤ℤ◌, ◌<ℤ◌, int_le, int_lt}
 use Rattle.std.specs.List.{list_any, AllByRecursion}
+use Rattle.std.proofs.lemmas.Bool.{or_parts, or_right}
 use Rattle.std.proofs.lemmas.List.{length-map}
 use Rattle.std.specs.Int.Signed.{lt_z, lt_z_yes, lt_z_no}
 use Rattle.std.proofs.lemmas.Float.{T_from_true}
@@ -27,16 +28,8 @@ use Rattle.tin_file.proofs.Reaching.{at_of, T_is}
 -- ---- spans
 false_at : {A : Type 0} (p : A → Bool) (xs : List A) (i : ℕ) (d : A) → list_any p xs ≡ false → i < length xs → p (get_or xs i d) ≡ false
 false_at p [] i d h within = absurd (omega (arith, within))
-false_at p (x ∷ xs) zero d h within = (both (p x) (list_any p xs) h).0
-  where
-    both : (a b : Bool) → (a || b) ≡ false → (a ≡ false) × (b ≡ false)
-    both false b h = (refl, h)
-    both true b h = cc
-false_at p (x ∷ xs) (suc i) d h within = false_at p xs i d (rest (p x) (list_any p xs) h) (omega (arith, within))
-  where
-    rest : (a b : Bool) → (a || b) ≡ false → b ≡ false
-    rest false b h = h
-    rest true b h = cc
+false_at p (x ∷ xs) zero d h within = (or_parts (p x) (list_any p xs) h).0
+false_at p (x ∷ xs) (suc i) d h within = false_at p xs i d (or_parts (p x) (list_any p xs) h).1 (omega (arith, within))
 
 below_span : (z : ℤ) → int_le SPAN z ≡ false → z <ℤ SPAN
 below_span z h = by_test (lt_z z SPAN) refl
@@ -90,11 +83,7 @@ near_all corners h frames.Target m n first second = (near_on (x_in frames.Target
 among_at : (rows : List Corner) (i : ℕ) → i < length rows → list_any (is_same (get_or rows i no_corner)) rows ≡ true
 among_at [] i within = absurd (omega (arith, within))
 among_at (row ∷ rows) zero within = rw (is_itself row) refl
-among_at (row ∷ rows) (suc i) within = or_true (is_same (get_or rows i no_corner) row) (list_any (is_same (get_or rows i no_corner)) rows) (among_at rows i (omega (arith, within)))
-  where
-    or_true : (a b : Bool) → b ≡ true → (a || b) ≡ true
-    or_true true b h = refl
-    or_true false b h = h
+among_at (row ∷ rows) (suc i) within = or_right (is_same (get_or rows i no_corner) row) (list_any (is_same (get_or rows i no_corner)) rows) (among_at rows i (omega (arith, within)))
 
 row_within : (rows : List Corner) (row : ℕ) → row < length rows → number_of_row rows row < length (corners_of rows)
 row_within rows row within =

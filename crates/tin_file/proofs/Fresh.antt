@@ -2,6 +2,7 @@
 use Rattle.std.proofs.Common.{◌≡◌, ℕ, suc, zero, ◌<◌, ◌≤◌, List, [], ◌∷◌, ◌++◌, length, get_or, Bool, true, false, refl, sym, ap, ◌∙◌, arith}
 use Rattle.std.specs.Prelude.{◌||◌, if◌then◌else◌}
 use Rattle.std.specs.List.{list_any, AllByRecursion}
+use Rattle.std.proofs.lemmas.Bool.{or_parts}
 use Rattle.std.proofs.lemmas.List.Folds.{list_any-append}
 use Rattle.tin_base.specs.declared.corners.Corner.{Corner}
 use Rattle.tin_base.specs.Triangulation.{no_corner}
@@ -16,16 +17,12 @@ IsFresh earlier (corner ∷ corners) = (list_any (is_same corner) earlier ≡ fa
 abbrev IsLess : List Corner → List Corner → Type 0
 IsLess less more = (c : Corner) → list_any (is_same c) more ≡ false → list_any (is_same c) less ≡ false
 
-both_false : (a b : Bool) → (a || b) ≡ false → (a ≡ false) × (b ≡ false)
-both_false false b h = (refl, h)
-both_false true b h = cc
-
 front_less : (earlier more : List Corner) → IsLess earlier (earlier ++ more)
-front_less earlier more c h = (both_false (list_any (is_same c) earlier) (list_any (is_same c) more) (sym (list_any-append (is_same c) earlier more) ∙ h)).0
+front_less earlier more c h = (or_parts (list_any (is_same c) earlier) (list_any (is_same c) more) (sym (list_any-append (is_same c) earlier more) ∙ h)).0
 
 with_less : (less more : List Corner) (corner : Corner) → IsLess less more → IsLess (less ++ corner ∷ []) (more ++ corner ∷ [])
 with_less less more corner sub c h =
-    let parts = both_false (list_any (is_same c) more) (list_any (is_same c) (corner ∷ [])) (sym (list_any-append (is_same c) more (corner ∷ [])) ∙ h) in
+    let parts = or_parts (list_any (is_same c) more) (list_any (is_same c) (corner ∷ [])) (sym (list_any-append (is_same c) more (corner ∷ [])) ∙ h) in
     list_any-append (is_same c) less (corner ∷ []) ∙ rw (sub c parts.0) parts.1
 
 weaken : (less more corners : List Corner) → IsLess less more → IsFresh more corners → IsFresh less corners
@@ -54,10 +51,10 @@ number_at earlier [] k h within = absurd (omega (arith, within))
 number_at earlier (corner ∷ corners) zero h within = first_place (is_same corner) corner corners ∙ rw (is_itself corner) refl
 number_at earlier (corner ∷ corners) (suc k) h within =
     let later = get_or corners k no_corner in
-    let other = both_false (list_any (is_same later) earlier) (list_any (is_same later) (corner ∷ []))
+    let other = or_parts (list_any (is_same later) earlier) (list_any (is_same later) (corner ∷ []))
     (sym (list_any-append (is_same later) earlier (corner ∷ [])) ∙ fresh_at (earlier ++ corner ∷ []) corners k h.1 (omega (arith, within))) in
     first_place (is_same later) corner corners
-    ∙ ap (λ test. if test then 0 else suc (corner_number corners later)) (both_false (is_same later corner) false other.1).0
+    ∙ ap (λ test. if test then 0 else suc (corner_number corners later)) (or_parts (is_same later corner) false other.1).0
     ∙ ap suc (number_at (earlier ++ corner ∷ []) corners k h.1 (omega (arith, within)))
 
 pub are_different : (rows : List Corner) (m n : ℕ) → m < length (corners_of rows) → n < length (corners_of rows)

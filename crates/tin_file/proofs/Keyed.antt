@@ -5,15 +5,12 @@ use Rattle.std.specs.Prelude.{◌&&◌, ◌||◌, if◌then◌else◌, not}
 use Rattle.std.specs.List.{list_any, position_or_len, AllByRecursion}
 use Rattle.std.specs.Ordering.{int_eq}
 use Rattle.std.proofs.lemmas.List.Folds.{list_any-append}
+use Rattle.std.proofs.lemmas.Bool.{and_parts, or_right}
 use Rattle.std.proofs.lemmas.Bool.Decides.{Decides-int_eq}
 use Rattle.tin_base.specs.declared.corners.Corner.{Corner}
 use Rattle.tin_file.specs.Corners.{is_same, kept_behind, corners_of, corner_number}
 use Rattle.tin_file.specs.Gathered.{numbers_in}
 use Rattle.tin_file.specs.contracts.vertices.NumbersPartialEq.TheImpl as equality
-
-both : (a b : Bool) → (a && b) ≡ true → (a ≡ true) × (b ≡ true)
-both true b h = (refl, h)
-both false b h = cc
 
 all_four : (a b c d : Bool) → a ≡ true → b ≡ true → c ≡ true → d ≡ true → (a && (b && (c && d))) ≡ true
 all_four a b c d h i j k = rw (h, i, j, k) refl
@@ -21,9 +18,9 @@ all_four a b c d h i j k = rw (h, i, j, k) refl
 -- corners that the test finds equal are the same
 pub same_is : (c d : Corner) → is_same c d ≡ true → c ≡ d
 same_is c d h =
-    let first = both (int_eq c.sx d.sx) _ h in
-    let second = both (int_eq c.sy d.sy) _ first.1 in
-    let third = both (int_eq c.tx d.tx) (int_eq c.ty d.ty) second.1 in
+    let first = and_parts (int_eq c.sx d.sx) _ h in
+    let second = and_parts (int_eq c.sy d.sy) _ first.1 in
+    let third = and_parts (int_eq c.tx d.tx) (int_eq c.ty d.ty) second.1 in
     let a : c.sx ≡ d.sx = (Decides-int_eq c.sx d.sx).0 first.0 in
     let b : c.sy ≡ d.sy = (Decides-int_eq c.sy d.sy).0 second.0 in
     let e : c.tx ≡ d.tx = (Decides-int_eq c.tx d.tx).0 third.0 in
@@ -72,10 +69,6 @@ kept_push earlier (first ∷ rows) row =
 or_none : (a b : Bool) → ((a || (false || false)) || b) ≡ (a || b)
 or_none true b = refl
 or_none false b = refl
-
-or_true : (a b : Bool) → b ≡ true → (a || b) ≡ true
-or_true true b h = refl
-or_true false b h = h
 
 -- a row that equals an earlier one changes no membership
 absorbed : (c row : Corner) (earlier more : List Corner) → list_any (is_same row) earlier ≡ true
@@ -137,7 +130,7 @@ among_more front (row ∷ rows) =
   where
     among : (front : List Corner) (row : Corner) (rows : List Corner) → list_any (is_same row) (front ++ row ∷ rows) ≡ true
     among [] row rows = rw (is_itself row) refl
-    among (first ∷ front) row rows = or_true (is_same row first) (list_any (is_same row) (front ++ row ∷ rows)) (among front row rows)
+    among (first ∷ front) row rows = or_right (is_same row first) (list_any (is_same row) (front ++ row ∷ rows)) (among front row rows)
 
 among_corners : (all rows : List Corner) → AreAmong all rows → AreAmong (corners_of all) rows
 among_corners all [] h = tt

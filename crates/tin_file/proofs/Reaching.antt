@@ -1,5 +1,6 @@
 -- The least and the greatest of the corners' numbers on an axis.
 use Rattle.std.proofs.Common.{◌≡◌, ℕ, suc, zero, ◌+◌, ◌<◌, ◌≤◌, List, [], ◌∷◌, length, get_or, Bool, true, false, refl, sym, ◌∙◌, subst, arith, cond, ◌⊎◌, inl, inr}
+use Rattle.std.proofs.lemmas.Bool.{or_right}
 use Rattle.std.proofs.lemmas.Int.{ints, int_min_is, int_max_is}
 use Rattle.std.specs.Int.Signed.{le_z_yes}
 use Rattle.std.proofs.lemmas.Float.{T_from_true}
@@ -25,10 +26,6 @@ pub record IsReached (coordinate : Corner → ℤ) (corners : List Corner) (i : 
   pub below : (k : ℕ) → k < i → (least ≤ℤ coordinate (at corners k)) × (coordinate (at corners k) ≤ℤ greatest)
   pub low : (m : ℕ) × (m < length corners) × (least ≡ coordinate (at corners m))
   pub high : (m : ℕ) × (m < length corners) × (greatest ≡ coordinate (at corners m))
-
-or_true : (a b : Bool) → b ≡ true → (a || b) ≡ true
-or_true true b h = refl
-or_true false b h = h
 
 or_false : (a b : Bool) → a ≡ false → b ≡ false → (a || b) ≡ false
 or_false a b h i = rw (h, i) refl
@@ -76,7 +73,7 @@ module _ (coordinate : Corner → ℤ) (corners : List Corner) where
 any_at : {A : Type 0} (p : A → Bool) (xs : List A) (i : ℕ) (d : A) → i < length xs → p (get_or xs i d) ≡ true → list_any p xs ≡ true
 any_at p [] i d within h = absurd (omega (arith, within))
 any_at p (x ∷ xs) zero d within h = rw h refl
-any_at p (x ∷ xs) (suc i) d within h = or_true (p x) (list_any p xs) (any_at p xs i d (omega (arith, within)) h)
+any_at p (x ∷ xs) (suc i) d within h = or_right (p x) (list_any p xs) (any_at p xs i d (omega (arith, within)) h)
 
 none_at : {A : Type 0} (p : A → Bool) (xs : List A) (d : A) → ((i : ℕ) → i < length xs → p (get_or xs i d) ≡ false) → list_any p xs ≡ false
 none_at p [] d h = refl

@@ -5,6 +5,7 @@
 mod columns;
 mod elements;
 mod faults;
+mod hashing;
 mod headings;
 mod laws;
 mod orienting;

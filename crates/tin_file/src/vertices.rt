@@ -11,6 +11,7 @@ ghost use Rattle.indexmap.specs.IndexSet.{index_set_len};
 use crate::columns::VertexColumns;
 use crate::elements::{holds_array, holds_number, list_elements, text_at};
 use crate::faults::{Rows, TinFault};
+use crate::hashing::TextHash;
 use indexmap::IndexSet;
 use jtext::Doc;
 use mm_decimal::{MmRead, NumFault, read_mm};
@@ -179,7 +180,7 @@ fn numbers_of(corner: Corner) -> Numbers
 /// Adds a row's corner, where no earlier row has it, and its number.
 fn add(
     vertices: &mut Vertices,
-    seen: &mut IndexSet<Numbers>,
+    seen: &mut IndexSet<Numbers, TextHash>,
     vertex: Vertex,
 ) -> Result<(), TinFault>
     requires few { index_set_len seen.old < MOST_CORNERS }
@@ -219,7 +220,7 @@ pub fn read_vertices(
     ensures { (all : List Json) → AreThere doc.now.nodes bytes.now rows.now all
         → Gives AreGathered result (vertex_rows how columns 0 all) }
 {
-    let mut seen = IndexSet::with_capacity(alloc, rows.len())?;
+    let mut seen = IndexSet::with_capacity_and_hasher(alloc, rows.len(), TextHash::of(bytes))?;
     let mut vertices = Vertices {
         corners: Vec::with_capacity(alloc, rows.len())?,
         numbers: Vec::with_capacity(alloc, rows.len())?,

@@ -1,0 +1,9 @@
+use Rattle.jtext.proofs.Standing.{node_stands}
+use Rattle.jtext.proofs.MemberLoops.{object_there}
+use Rattle.jtext.proofs.lookup.each_node_has_a_value.Goals as goal
+
+pub returns-clause-value : goal.returns-clause-value
+returns-clause-value c doc bytes number (whole, r) below = node_stands whole doc bytes r number below
+
+pub returns-clause-object : goal.returns-clause-object
+returns-clause-object c doc bytes number read kind = (object_there doc bytes number read kind).1
