@@ -12,7 +12,8 @@ build() {
     shift 2
     for crate in "$@"; do :; done
     mkdir -p "$folder/crates/layer_bench/src"
-    names="integer_ring text_places mm_decimal frac128 plane_base jtext tin_base tin_check tin_index sheet_base affine_image
+    names="integer_ring text_places mm_decimal frac128 plane_base number_groups cell_grid jtext tin_base tin_check tin_index sheet_base
+        affine_image
         tin_file seg_walk carry_map $*"
     for name in $names; do
         cp -r "$top/crates/$name" "$folder/crates/$name"
