@@ -12,8 +12,17 @@ build() {
     shift 2
     for crate in "$@"; do :; done
     mkdir -p "$folder/crates/layer_bench/src"
-    names="integer_ring text_places mm_decimal frac128 plane_base jtext tin_base tin_check tin_index sheet_base affine_image
-        tin_file seg_walk carry_map $*"
+    # The crates that these stand on, lowest first.
+    names=$(awk -v wanted="carry_map tin_check tin_file tin_index $*" '
+        function take(name, at, count, parts) {
+            if (!(name in stands_on) || name in taken) return
+            taken[name] = 1
+            count = split(stands_on[name], parts, " ")
+            for (at = 1; at <= count; at++) take(parts[at])
+            printf "%s ", name
+        }
+        /^[a-z]/ { name = $1; sub(":", "", name); $1 = ""; stands_on[name] = $0 }
+        END { count = split(wanted, names, " "); for (at = 1; at <= count; at++) take(names[at]) }' "$top/crates.txt")
     for name in $names; do
         cp -r "$top/crates/$name" "$folder/crates/$name"
         grep "^$name:" "$top/crates.txt" >> "$folder/crates.txt"
@@ -113,27 +122,40 @@ END
     [ -x "$program" ] || { tail -n 40 "$folder/log"; exit 1; }
 }
 
-# run_program TITLE: runs it $rounds times over the layer and the triangulation, and prints megabytes of the layer a second of
-# processor time, of reading (Layer::read), carrying (carry) and writing (Layer::render), one line a run; and the peak of
-# memory as a multiple of the layer. Where all three are done, the pieces are held too.
+# run_program TITLE: runs it $rounds times over the layer and the triangulation, and prints the least processor time of
+# reading (Layer::read), carrying (carry) and writing (Layer::render): in milliseconds, as a multiple of what Python's json.load
+# takes for the triangulation of N = 512 in the same run, and in megabytes of what is read or written a second. Then the peak of
+# memory: of the layer's bytes, and of its points. Where all three are done, the pieces are held too.
 run_program() {
     echo "$1"
     cd "$folder"
+    [ -f yardstick.json ] || python3 "$top/bench/json_text.py" make 512 yardstick.json
     python3 - "$program" "$layer" "$rounds" <<'END'
-import os, resource, subprocess, sys
+import json, os, resource, subprocess, sys, time
 
 program, layer, rounds = sys.argv[1:]
-size = os.path.getsize(layer)
+runs = []
 for _ in range(int(rounds)):
     said = subprocess.run([program], check=True, stdout=subprocess.PIPE).stdout.split()
-    points, images, written, start, first, second, third = [int(word) for word in said]
-    print("points %d images %d written %d" % (points, images, written), end="")
-    for name, time in ("read", first - start), ("carried", second - first), ("written", third - second):
-        if time:
-            print("  %s %.0f MB/s" % (name, size / time), end="")
-    print()
-peak = resource.getrusage(resource.RUSAGE_CHILDREN).ru_maxrss
-print("bytes %d, most memory: %d KiB, %.1f times the layer" % (size, peak, peak * 1024 / size))
+    runs.append([int(word) for word in said])
+peak = resource.getrusage(resource.RUSAGE_CHILDREN).ru_maxrss * 1024
+with open("yardstick.json", "rb") as source:
+    text = source.read()
+times = []
+for _ in range(3):
+    start = time.process_time()
+    json.loads(text)
+    times.append(time.process_time() - start)
+yardstick = min(times) * 1e6
+points, images, written = runs[0][:3]
+size = os.path.getsize(layer)
+print("bytes %d points %d images %d written %d" % (size, points, images, written))
+print("json.load of the triangulation of N = 512: %.0f ms" % (yardstick / 1e3))
+for name, first, last, amount in ("read", 3, 4, size), ("carried", 4, 5, size), ("written", 5, 6, written), ("all", 3, 6, size):
+    least = min(run[last] - run[first] for run in runs)
+    if least:
+        print("%-8s %6.0f ms  %.2f times json.load  %4.0f MB/s" % (name, least / 1e3, least / yardstick, amount / least))
+print("most memory %.0f MiB, %.1f bytes a byte of the layer, %.0f bytes a point" % (peak / 2**20, peak / size, peak / max(points, 1)))
 END
 }
 

@@ -5,6 +5,7 @@
 mod images;
 mod laws;
 mod mixing;
+mod quotients;
 mod weights;
 
 pub use images::{image_cut, image_of};

@@ -6,8 +6,8 @@ ghost use Rattle.plane_base.specs.Plane.{IsShort, IsNearAll};
 ghost use Rattle.plane_base.specs.declared.shapes.TheConstants.{SPAN};
 ghost use Rattle.affine_image.specs.Weights.{numerator};
 
+use crate::quotients::round_half_up;
 use crate::weights::Weights;
-use frac128::half_up;
 use plane_base::{Pt, Tri};
 
 // A weight of a short way: 128 bits hold it, since a weight is below `TURN` and a way below `SPAN`.
@@ -28,7 +28,7 @@ fn offset(w: Weights, to_second: i64, to_third: i64) -> i64
     ensures low { (least : ℤ) → least ≤ℤ pos 0 → least ≤ℤ to_second → least ≤ℤ to_third → least ≤ℤ result }
     ensures high { (most : ℤ) → pos 0 ≤ℤ most → to_second ≤ℤ most → to_third ≤ℤ most → result ≤ℤ most }
 {
-    half_up(part(w.second, to_second) + part(w.third, to_third), w.whole) as i64
+    round_half_up(part(w.second, to_second) + part(w.third, to_third), w.whole) as i64
 }
 
 // The mix of three numbers, rounded.

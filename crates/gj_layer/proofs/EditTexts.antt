@@ -15,7 +15,8 @@ use Rattle.sheet_base.specs.Fitting.{Runs, row_images, path_images, IsWithinReac
 use Rattle.sheet_base.proofs.ListParts.{all_listed}
 use Rattle.sheet_base.proofs.ImageRuns.{all_of}
 use Rattle.gj_layer.specs.Paths.{Part, text_for, rows_from, sheet_of}
-use Rattle.gj_layer.specs.Texts.{box_of, widened, box_text, bounds_text, what_text, edit_text}
+use Rattle.plane_base.specs.Boxes.{box_of_point, widened}
+use Rattle.gj_layer.specs.Texts.{box_text, bounds_text, what_text, edit_text}
 use Rattle.gj_layer.proofs.Redrawing.{kind_text}
 use Rattle.gj_layer.proofs.ImageValues.{number_is}
 use Rattle.gj_layer.proofs.Turns.{IsFlat, DoesSay}
@@ -68,7 +69,7 @@ box_flat box within = record {
 bounds_flat : (images : List Pt) → AllByRecursion IsWithinReach images → IsFlat (bounds_text images)
 bounds_flat [] all = record { value = null; text = refl; valid = λ depth. tt }
 bounds_flat (image ∷ images) all =
-    box_flat (fold widened (box_of image) images) (widened_within (box_of image) images (record { x0 = all.0.0; y0 = all.0.1; x1 = all.0.0; y1 = all.0.1 }) all.1)
+    box_flat (fold widened (box_of_point image) images) (widened_within (box_of_point image) images (record { x0 = all.0.0; y0 = all.0.1; x1 = all.0.0; y1 = all.0.1 }) all.1)
 
 -- ---- all images are within reach
 reach_append : (xs ys : List Pt) → AllByRecursion IsWithinReach xs → AllByRecursion IsWithinReach ys → AllByRecursion IsWithinReach (xs ++ ys)

@@ -3,11 +3,14 @@
 ghost use Rattle.std.specs.Prelude.{◌≡◌, ◌++◌, ◌∷◌, [], Option, codes, flat_map, OnOk};
 ghost use Rattle.plane_base.specs.declared.shapes.Rect.{Rect};
 ghost use Rattle.sheet_base.specs.Fitting.{row_images};
-ghost use Rattle.gj_layer.specs.Texts.{pair_text, image_text, texts_behind, list_text, ring_text, box_of, widened, box_text, bounds_text, edit_text};
+ghost use Rattle.gj_layer.specs.Texts.{pair_text, box_text, bounds_text, edit_text};
 ghost use Rattle.gj_layer.specs.Boxes.{widened_by, bounded_text};
 
 use plane_base::{Pt, Rect};
-use sheet_base::{Edit, EditTexts, Images, PathRow, Sheet, What, between, push_mm};
+use sheet_base::{
+    Edit, EditTexts, ImageText, Images, PathRow, Sheet, What, between, push_list, push_mm,
+    push_ring,
+};
 use std::alloc::AllocError;
 
 /// No image is longer, in bytes, with its brackets and commas.
@@ -30,53 +33,27 @@ fn push_pair(out: &mut Vec<u8>, x: i64, y: i64) -> Result<(), AllocError>
     Ok(())
 }
 
-/// Appends an image as a position.
-fn push_image(out: &mut Vec<u8>, image: Pt) -> Result<(), AllocError>
-    ensures { OnOk result (out.new.items ≡ out.old.items ++ image_text image) }
-{
-    out.push(b'[')?;
-    push_pair(out, image.x, image.y)?;
-    out.push(b']')?;
-    Ok(())
-}
+/// Positions.
+struct PositionText;
 
-/// Appends images, each behind a comma.
-fn push_behind(out: &mut Vec<u8>, images: &[Pt]) -> Result<(), AllocError>
-    ensures { OnOk result (out.new.items ≡ out.old.items ++ texts_behind images.now) }
-{
-    for image in images {
+impl ImageText for PositionText {
+    ghost use Rattle.std.specs.Prelude.{◌∷◌, []};
+    ghost use Rattle.gj_layer.specs.Texts.{image_text};
+
+    ghost separator = { 44 ∷ [] };
+
+    ghost text = { image_text };
+
+    fn push_separator(out: &mut Vec<u8>) -> Result<(), AllocError> {
         out.push(b',')?;
-        push_image(out, *image)?;
+        Ok(())
     }
-    Ok(())
-}
 
-/// Appends images with a comma between them.
-fn push_list(out: &mut Vec<u8>, images: &[Pt]) -> Result<(), AllocError>
-    ensures { OnOk result (out.new.items ≡ out.old.items ++ list_text images.now) }
-{
-    match images {
-        [image, more @ ..] => {
-            push_image(out, *image)?;
-            push_behind(out, more)?;
-            Ok(())
-        }
-        [] => Ok(()),
-    }
-}
-
-/// Appends images with a comma between them, and the first one again.
-fn push_ring(out: &mut Vec<u8>, images: &[Pt]) -> Result<(), AllocError>
-    ensures { OnOk result (out.new.items ≡ out.old.items ++ ring_text images.now) }
-{
-    match images {
-        [image, more @ ..] => {
-            push_image(out, *image)?;
-            push_behind(out, more)?;
-            push_behind(out, &[*image])?;
-            Ok(())
-        }
-        [] => Ok(()),
+    fn push_image(out: &mut Vec<u8>, image: Pt) -> Result<(), AllocError> {
+        out.push(b'[')?;
+        push_pair(out, image.x, image.y)?;
+        out.push(b']')?;
+        Ok(())
     }
 }
 
@@ -110,37 +87,13 @@ fn push_null(out: &mut Vec<u8>) -> Result<(), AllocError>
     Ok(())
 }
 
-/// The least box with this one and the image.
-fn widened(bounds: Rect, image: Pt) -> Rect
-    ensures { result ≡ widened bounds image }
-{
-    Rect {
-        x0: bounds.x0.min(image.x),
-        y0: bounds.y0.min(image.y),
-        x1: bounds.x1.max(image.x),
-        y1: bounds.y1.max(image.y),
-    }
-}
-
-/// The image as a box.
-fn box_of(image: Pt) -> Rect
-    ensures { result ≡ box_of image }
-{
-    Rect {
-        x0: image.x,
-        y0: image.y,
-        x1: image.x,
-        y1: image.y,
-    }
-}
-
 /// The least box with this one, if any, and the image.
 fn widen(bounds: Option<Rect>, image: Pt) -> Rect
     ensures { Option.Some result ≡ widened_by bounds (image ∷ []) }
 {
     match bounds {
-        None => box_of(image),
-        Some(bounds) => widened(bounds, image),
+        None => Rect::of_point(image),
+        Some(bounds) => bounds.with_point(image),
     }
 }
 
@@ -181,8 +134,12 @@ impl<'a> EditTexts for Texts<'a> {
 
     fn push(&self, edit: Edit, out: &mut Vec<u8>) -> Result<(), AllocError> {
         match edit.what {
-            What::GeoList { path } => push_list(out, self.images.of_path(self.sheet.paths(), path)),
-            What::GeoRing { path } => push_ring(out, self.images.of_path(self.sheet.paths(), path)),
+            What::GeoList { path } => {
+                push_list::<PositionText>(out, self.images.of_path(self.sheet.paths(), path))
+            }
+            What::GeoRing { path } => {
+                push_ring::<PositionText>(out, self.images.of_path(self.sheet.paths(), path))
+            }
             What::Bounds { first, past } => push_bounds(
                 out,
                 bounds_of(

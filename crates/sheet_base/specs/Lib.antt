@@ -4,3 +4,4 @@ pub mod Fitting
 pub mod Kept
 pub mod Splices
 pub mod ReadBack
+pub mod ImageLists

@@ -5,6 +5,7 @@
 mod edits;
 mod faults;
 mod flags;
+mod image_lists;
 mod images;
 mod layers;
 mod lists;
@@ -16,6 +17,7 @@ mod splices;
 pub use edits::{Edit, What};
 pub use faults::LayerFault;
 pub use flags::How;
+pub use image_lists::{ImageText, push_list, push_ring};
 pub use images::Images;
 pub use layers::Layer;
 pub use lists::{Listed, between};

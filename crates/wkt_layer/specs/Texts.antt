@@ -8,6 +8,7 @@ use Rattle.sheet_base.specs.declared.edits.What.{What}
 use Rattle.sheet_base.specs.declared.edits.What.TheVariants.{WktList, WktRing}
 use Rattle.sheet_base.specs.Sheets.{Contents}
 use Rattle.sheet_base.specs.Fitting.{Runs, path_images}
+use Rattle.sheet_base.specs.ImageLists as lists
 
 -- two numbers with a space between them
 abbrev pub image_text : Pt → List ℕ
@@ -15,18 +16,15 @@ image_text image = written image.x ++ (32 ∷ written image.y)
 
 -- each of these images behind a comma and a space
 abbrev pub texts_behind : List Pt → List ℕ
-texts_behind [] = []
-texts_behind (image ∷ images) = codes ", " ++ (image_text image ++ texts_behind images)
+texts_behind images = lists.texts_behind (codes ", ") image_text images
 
 -- images with a comma and a space between them
 abbrev pub list_text : List Pt → List ℕ
-list_text [] = []
-list_text (image ∷ images) = image_text image ++ texts_behind images
+list_text images = lists.list_text (codes ", ") image_text images
 
 -- the same, and the first image again
 abbrev pub ring_text : List Pt → List ℕ
-ring_text [] = []
-ring_text (image ∷ images) = list_text (image ∷ images) ++ texts_behind (image ∷ [])
+ring_text images = lists.ring_text (codes ", ") image_text images
 
 abbrev pub what_text : List PathRow → Runs → What → List ℕ
 what_text paths images (WktList number) = list_text (path_images paths images number)

@@ -1,10 +1,9 @@
 //! The texts that take the place of edits.
 
-ghost use Rattle.std.specs.Prelude.{◌≡◌, ◌++◌, OnOk};
-ghost use Rattle.wkt_layer.specs.Texts.{image_text, texts_behind, list_text, ring_text, edit_text};
+ghost use Rattle.wkt_layer.specs.Texts.{edit_text};
 
 use plane_base::Pt;
-use sheet_base::{Edit, EditTexts, Images, Sheet, What, push_mm};
+use sheet_base::{Edit, EditTexts, ImageText, Images, Sheet, What, push_list, push_mm, push_ring};
 use std::alloc::AllocError;
 
 /// No image is longer, in bytes, with the comma and the spaces between two.
@@ -17,53 +16,27 @@ pub struct Texts<'a> {
     pub images: &'a Images,
 }
 
-/// Appends an image.
-fn push_image(out: &mut Vec<u8>, image: Pt) -> Result<(), AllocError>
-    ensures { OnOk result (out.new.items ≡ out.old.items ++ image_text image) }
-{
-    push_mm(out, image.x)?;
-    out.push(b' ')?;
-    push_mm(out, image.y)?;
-    Ok(())
-}
+/// Points of well-known text.
+struct PointText;
 
-/// Appends images, each behind a comma and a space.
-fn push_behind(out: &mut Vec<u8>, images: &[Pt]) -> Result<(), AllocError>
-    ensures { OnOk result (out.new.items ≡ out.old.items ++ texts_behind images.now) }
-{
-    for image in images {
+impl ImageText for PointText {
+    ghost use Rattle.std.specs.Prelude.{codes};
+    ghost use Rattle.wkt_layer.specs.Texts.{image_text};
+
+    ghost separator = { codes ", " };
+
+    ghost text = { image_text };
+
+    fn push_separator(out: &mut Vec<u8>) -> Result<(), AllocError> {
         out.extend_from_slice(b", ")?;
-        push_image(out, *image)?;
+        Ok(())
     }
-    Ok(())
-}
 
-/// Appends images with a comma and a space between them.
-fn push_list(out: &mut Vec<u8>, images: &[Pt]) -> Result<(), AllocError>
-    ensures { OnOk result (out.new.items ≡ out.old.items ++ list_text images.now) }
-{
-    match images {
-        [image, more @ ..] => {
-            push_image(out, *image)?;
-            push_behind(out, more)?;
-            Ok(())
-        }
-        [] => Ok(()),
-    }
-}
-
-/// Appends images with a comma and a space between them, and the first one again.
-fn push_ring(out: &mut Vec<u8>, images: &[Pt]) -> Result<(), AllocError>
-    ensures { OnOk result (out.new.items ≡ out.old.items ++ ring_text images.now) }
-{
-    match images {
-        [image, more @ ..] => {
-            push_image(out, *image)?;
-            push_behind(out, more)?;
-            push_behind(out, &[*image])?;
-            Ok(())
-        }
-        [] => Ok(()),
+    fn push_image(out: &mut Vec<u8>, image: Pt) -> Result<(), AllocError> {
+        push_mm(out, image.x)?;
+        out.push(b' ')?;
+        push_mm(out, image.y)?;
+        Ok(())
     }
 }
 
@@ -82,8 +55,12 @@ impl<'a> EditTexts for Texts<'a> {
 
     fn push(&self, edit: Edit, out: &mut Vec<u8>) -> Result<(), AllocError> {
         match edit.what {
-            What::WktList { path } => push_list(out, self.images.of_path(self.sheet.paths(), path)),
-            What::WktRing { path } => push_ring(out, self.images.of_path(self.sheet.paths(), path)),
+            What::WktList { path } => {
+                push_list::<PointText>(out, self.images.of_path(self.sheet.paths(), path))
+            }
+            What::WktRing { path } => {
+                push_ring::<PointText>(out, self.images.of_path(self.sheet.paths(), path))
+            }
             _ => Ok(()),
         }
     }
