@@ -3,8 +3,8 @@
 ghost use Rattle.std.specs.Prelude.{◌≡◌, ◌<◌, [], true, false, None, IfOk};
 
 use shelf_io::{
-    Failed, FilePress, FileShelf, LoadFault, MemPress, MemShelf, Name, Press, PrintFault, load,
-    print, put,
+    Failed, FilePress, FileShelf, LoadFault, MemPress, MemShelf, Name, Press, PrintFault, SurePress,
+    SureShelf, load, print, put,
 };
 use std::alloc::{AllocError, Global};
 use std::fs;
@@ -14,7 +14,8 @@ use std::test::Fail;
 /// A shelf with a file of five bytes.
 fn shelf_of_one(alloc: Global, most: usize) -> Result<MemShelf, AllocError>
     requires { 0 < most }
-    ensures { IfOk result (λ shelf. shelf.fail ≡ []) }
+    ensures fail { IfOk result (λ shelf. shelf.fail ≡ []) }
+    ensures at_hand { IfOk result (λ shelf. shelf.at_hand ≡ None) }
 {
     let mut shelf = MemShelf::new(alloc, most);
     shelf.add("five.txt", b"12345")?;
@@ -165,6 +166,35 @@ fn real_files_are_written(rt: HostRuntime) -> Result<(), Fail> {
     let mut press = FilePress::new(&rt, alloc)?;
     let folder = print(&mut press, "out/deep", b"6");
     assert_eq!(rt; folder, Err(PrintFault::Failed));
+    Ok(())
+}
+
+#[test]
+fn a_sure_press_tells_what_fits(rt: HostRuntime) -> Result<(), Fail> {
+    let alloc = rt.alloc();
+    // A name of one byte and five bytes of content in one file.
+    for (files, bytes, fits) in [(1, 6, true), (2, 9, true), (1, 5, false), (0, 6, false)] {
+        let mut press = SurePress::new(alloc, files, bytes)?;
+        assert_eq!(rt; print(&mut press, "a", b"12345"), Ok(()));
+        let told = if fits {
+            Some(b"12345".as_slice())
+        } else {
+            None
+        };
+        assert_eq!(rt; press.made_bytes("a"), told, "in {files} files and {bytes} bytes");
+        assert_eq!(rt; press.made_bytes("b"), None);
+    }
+    Ok(())
+}
+
+#[test]
+fn a_sure_shelf_has_the_files_of_its_shelf(rt: HostRuntime) -> Result<(), Fail> {
+    let alloc = rt.alloc();
+    let mut shelf = SureShelf::new(shelf_of_one(alloc, 2)?);
+    let bytes = load(alloc, &mut shelf, "five.txt", 9)?;
+    assert_eq!(rt; bytes.as_slice(), b"12345".as_slice());
+    let missing = load(alloc, &mut shelf, "six.txt", 9);
+    assert_eq!(rt; missing.err(), Some(LoadFault::Missing));
     Ok(())
 }
 
