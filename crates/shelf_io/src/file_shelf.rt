@@ -2,10 +2,10 @@ ghost use Rattle.std.specs.Prelude.{◌≡◌, ◌≤◌, None, false, IfOk};
 ghost use Rattle.shelf_io.specs.Count.{counted};
 ghost use Rattle.shelf_io.specs.RealFiles.{closed_shelf};
 
+use crate::again::read_some;
 use crate::{Failed, Shelf};
 use std::alloc::{AllocError, Global};
 use std::fs;
-use std::io::Read;
 use std::marker::Model;
 use std::rt::Files;
 
@@ -77,7 +77,7 @@ impl<R: Files + Drop> Shelf for FileShelf<R> {
         let Some(file) = &mut self.file else {
             unreachable!()
         };
-        let Ok(count) = file.read(buf) else {
+        let Ok(count) = read_some(file, buf) else {
             return Err(self.fail());
         };
         self.given = self.given.saturating_add(count as u64);

@@ -3,17 +3,19 @@
 ghost use Rattle.std.specs.Prelude.{◌≡◌, ◌<◌, [], true, false, None, IfOk};
 
 use shelf_io::{
-    Failed, FilePress, FileShelf, LoadFault, MemPress, MemShelf, Name, Press, PrintFault, load,
-    print, put,
+    Failed, FilePress, FileShelf, LoadFault, MemPress, MemShelf, Name, Press, PrintFault, SurePress,
+    SureShelf, load, print, put,
 };
 use std::alloc::{AllocError, Global};
 use std::fs;
+use std::os::unix::fs::symlink;
 use std::test::Fail;
 
 /// A shelf with a file of five bytes.
 fn shelf_of_one(alloc: Global, most: usize) -> Result<MemShelf, AllocError>
     requires { 0 < most }
-    ensures { IfOk result (λ shelf. shelf.fail ≡ []) }
+    ensures fail { IfOk result (λ shelf. shelf.fail ≡ []) }
+    ensures at_hand { IfOk result (λ shelf. shelf.at_hand ≡ None) }
 {
     let mut shelf = MemShelf::new(alloc, most);
     shelf.add("five.txt", b"12345")?;
@@ -164,6 +166,84 @@ fn real_files_are_written(rt: HostRuntime) -> Result<(), Fail> {
     let mut press = FilePress::new(&rt, alloc)?;
     let folder = print(&mut press, "out/deep", b"6");
     assert_eq!(rt; folder, Err(PrintFault::Failed));
+    Ok(())
+}
+
+#[test]
+fn a_sure_press_tells_what_fits(rt: HostRuntime) -> Result<(), Fail> {
+    let alloc = rt.alloc();
+    // A name of one byte and five bytes of content in one file.
+    for (files, bytes, fits) in [(1, 6, true), (2, 9, true), (1, 5, false), (0, 6, false)] {
+        let mut press = SurePress::new(alloc, files, bytes)?;
+        assert_eq!(rt; print(&mut press, "a", b"12345"), Ok(()));
+        let told = if fits {
+            Some(b"12345".as_slice())
+        } else {
+            None
+        };
+        assert_eq!(rt; press.made_bytes("a"), told, "in {files} files and {bytes} bytes");
+        assert_eq!(rt; press.made_bytes("b"), None);
+    }
+    Ok(())
+}
+
+#[test]
+fn a_sure_shelf_has_the_files_of_its_shelf(rt: HostRuntime) -> Result<(), Fail> {
+    let alloc = rt.alloc();
+    let mut shelf = SureShelf::new(shelf_of_one(alloc, 2)?);
+    let bytes = load(alloc, &mut shelf, "five.txt", 9)?;
+    assert_eq!(rt; bytes.as_slice(), b"12345".as_slice());
+    let missing = load(alloc, &mut shelf, "six.txt", 9);
+    assert_eq!(rt; missing.err(), Some(LoadFault::Missing));
+    Ok(())
+}
+
+/// How many names are in a folder.
+fn count_in(rt: &HostRuntime, folder: &str) -> Result<usize, Fail> {
+    let mut count = 0usize;
+    for entry in fs::read_dir(rt, folder)? {
+        let _entry = entry?;
+        count = count.saturating_add(1);
+    }
+    Ok(count)
+}
+
+#[test]
+fn a_real_file_is_whole_or_as_before(rt: HostRuntime) -> Result<(), Fail> {
+    let alloc = rt.alloc();
+    let mut press = FilePress::new(&rt, alloc)?;
+    print(&mut press, "whole/a.txt", b"before")?;
+    // While a file is made its name has what it had before, and once it is ended nothing else is there.
+    assert!(rt; press.begin("whole/a.txt").is_ok());
+    assert_eq!(rt; press.write(b"12"), Ok(2));
+    assert_eq!(rt;
+        fs::read(&rt, "whole/a.txt")?.as_slice(),
+        b"before".as_slice()
+    );
+    assert_eq!(rt; count_in(&rt, "whole")?, 2);
+    assert!(rt; press.end().is_ok());
+    assert_eq!(rt; fs::read(&rt, "whole/a.txt")?.as_slice(), b"12".as_slice());
+    assert_eq!(rt; count_in(&rt, "whole")?, 1);
+    // A name that cannot be taken at the end leaves nothing beside it.
+    let mut press = FilePress::new(&rt, alloc)?;
+    assert!(rt; press.begin("whole/b.txt").is_ok());
+    fs::create_dir_all(&rt, "whole/b.txt/c")?;
+    assert_eq!(rt; press.end(), Err(Failed));
+    assert_eq!(rt; count_in(&rt, "whole")?, 2);
+    // Behind a link the file that it leads to is replaced, and the link stays.
+    symlink(&rt, "a.txt", "whole/link.txt")?;
+    let mut press = FilePress::new(&rt, alloc)?;
+    print(&mut press, "whole/link.txt", b"345")?;
+    assert_eq!(rt; fs::read(&rt, "whole/a.txt")?.as_slice(), b"345".as_slice());
+    assert!(rt; fs::symlink_metadata(&rt, "whole/link.txt")?.is_symlink());
+    assert_eq!(rt; count_in(&rt, "whole")?, 3);
+    // A device is written as it is: this one has no room.
+    let mut press = FilePress::new(&rt, alloc)?;
+    print(&mut press, "/dev/null", b"6")?;
+    assert_eq!(rt;
+        print(&mut press, "/dev/full", b"6"),
+        Err(PrintFault::Failed)
+    );
     Ok(())
 }
 
