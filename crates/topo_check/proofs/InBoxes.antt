@@ -48,7 +48,7 @@ high_moved =
     otherwise over 4 ⊠ gap 1 ⊞ over 1 ⊞ eqn 2 (num (pos 1)) ⊞ gap 0 ⊠ gap 3) tt
 
 -- ---- a mix of points in the box
-sum_in : (box : Rect) (ks : List ℕ) (ps : List Point) → AreIn box ps → IsIn box (weighed ks ps)
+pub sum_in : (box : Rect) (ks : List ℕ) (ps : List Point) → AreIn box ps → IsIn box (weighed ks ps)
 sum_in box [] ps h = record { left = omega (arith, ints); right = omega (arith, ints); bottom = omega (arith, ints); top = omega (arith, ints) }
 sum_in box (k ∷ ks) [] h = record { left = omega (arith, ints); right = omega (arith, ints); bottom = omega (arith, ints); top = omega (arith, ints) }
 sum_in box (k ∷ ks) (p ∷ ps) h =
@@ -59,7 +59,7 @@ sum_in box (k ∷ ks) (p ∷ ps) h =
       top = high_more box.y1 p.y p.w (pos k) s.y s.w (nonneg_pos k) here.top rest.top;
     }
 
-moved_in : (box : Rect) (r s : Point) → pos 0 <ℤ r.w → pos 0 <ℤ s.w → Same r s → IsIn box s → IsIn box r
+pub moved_in : (box : Rect) (r s : Point) → pos 0 <ℤ r.w → pos 0 <ℤ s.w → Same r s → IsIn box s → IsIn box r
 moved_in box r s hr hs same h = record {
   left = low_moved box.x0 r.x r.w s.x s.w hr hs same.0 h.left;
   right = high_moved box.x1 r.x r.w s.x s.w hr hs same.0 h.right;
@@ -195,7 +195,7 @@ pub record IsWithin (inner outer : Rect) : Type 0 where
 to_last : (a b c : ℤ) → a ≤ℤ b → b ≤ℤ c → a ≤ℤ c
 to_last a b c h k = omega (arith, ints)
 
-among_within : (tin : Triangulation) (inner outer : Rect) → IsWithin inner outer → IsAmongCorners tin outer → IsAmongCorners tin inner
+pub among_within : (tin : Triangulation) (inner outer : Rect) → IsWithin inner outer → IsAmongCorners tin outer → IsAmongCorners tin inner
 among_within tin inner outer w h = record {
   left = λ m each. to_last m outer.x0 inner.x0 (h.left m each) w.left;
   bottom = λ m each. to_last m outer.y0 inner.y0 (h.bottom m each) w.bottom;

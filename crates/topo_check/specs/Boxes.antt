@@ -1,6 +1,7 @@
 -- Boxes round pieces. Only private functions speak of them.
-use Rattle.std.specs.Prelude.{◌≡◌, ℕ, ◌<◌, ℤ, pos, ◌*ℤ◌, ◌≤ℤ◌, ◌<ℤ◌, List, [], ◌∷◌, length}
+use Rattle.std.specs.Prelude.{◌≡◌, ℕ, ◌<◌, ℤ, pos, ◌+ℤ◌, ◌-ℤ◌, ◌*ℤ◌, ◌≤ℤ◌, ◌<ℤ◌, List, [], ◌∷◌, length}
 use Rattle.std.specs.List.{AllByRecursion}
+use Rattle.frac128.specs.declared.frac.Frac.{Frac}
 use Rattle.plane_base.specs.declared.shapes.Pt.{Pt}
 use Rattle.plane_base.specs.declared.shapes.Rect.{Rect}
 use Rattle.plane_base.specs.Plane.{Point, whole}
@@ -35,6 +36,14 @@ pub record IsAround (ps : List Pt) (box : Rect) : Type 0 where
   pub bottom : (m : ℤ) → AllByRecursion (λ p. m ≤ℤ p.y) ps → m ≤ℤ box.y0
   pub right : (m : ℤ) → AllByRecursion (λ p. p.x ≤ℤ m) ps → box.x1 ≤ℤ m
   pub top : (m : ℤ) → AllByRecursion (λ p. p.y ≤ℤ m) ps → box.y1 ≤ℤ m
+
+-- a number is no greater than the place at a share of the way from one number to another
+abbrev pub IsUpToPlace : ℤ → ℤ → Frac → ℤ → Type 0
+IsUpToPlace from to share low = (low *ℤ share.den) ≤ℤ ((share.den -ℤ share.num) *ℤ from +ℤ share.num *ℤ to)
+
+-- a number is no less
+abbrev pub IsFromPlace : ℤ → ℤ → Frac → ℤ → Type 0
+IsFromPlace from to share high = ((share.den -ℤ share.num) *ℤ from +ℤ share.num *ℤ to) ≤ℤ (high *ℤ share.den)
 
 -- each corner
 abbrev pub EachCorner : Triangulation → (Corner → Type 0) → Type 0

@@ -1,14 +1,31 @@
 ghost use Rattle.std.specs.Prelude.{◌≡◌, ◌↔◌, ◌≤ℤ◌, ◌<ℤ◌, ℤ, ◌⊎◌, [], ◌∷◌, IsTrue};
 ghost use Rattle.cell_grid.specs.Boxes.{AreApart};
-ghost use Rattle.plane_base.specs.Plane.{Point, whole, corners};
+ghost use Rattle.plane_base.specs.Plane.{Point, whole, corners, IsNear};
+ghost use Rattle.plane_base.specs.Slices.{IsParam};
 ghost use Rattle.tin_base.specs.Pieces.{IsPieceInside};
+ghost use Rattle.meet_rel.specs.Clips.{at};
 ghost use Rattle.topo_check.specs.Boxes.{IsIn, AreIn, IsAround, IsExactBox, IsRoundedBox};
 
+use crate::shares::{high_at, low_at};
+use meet_rel::{Span, piece_span};
 use plane_base::{Pt, Rect, Tri};
 use tin_base::{Frame, Piece, SoundTin};
 
-/// A box of whole sides, in millimetres, that the exact piece is in: what the boxes of its segment and of its triangle have in common.
+/// A box of whole sides, in millimetres, that the exact piece is in: rounded outward from the piece's exact ends, and no larger than `outer_box`.
 pub(crate) fn exact_box(tin: &SoundTin, piece: &Piece) -> Rect
+    requires { IsPieceInside tin.now piece.now }
+    ensures { IsExactBox tin.now piece.now result }
+{
+    let outer = outer_box(tin, piece);
+    if piece.a == piece.b {
+        return outer;
+    }
+    let span = piece_span(piece, tin);
+    common(around_span(piece.a, piece.b, span), outer)
+}
+
+/// A box of whole sides, in millimetres, that the exact piece is in: what the boxes of its segment and of its triangle have in common.
+pub(crate) fn outer_box(tin: &SoundTin, piece: &Piece) -> Rect
     requires { IsPieceInside tin.now piece.now }
     ensures { IsExactBox tin.now piece.now result }
 {
@@ -60,6 +77,21 @@ fn around_corners(tri: &Tri) -> Rect
         y0: least(tri.a.y, tri.b.y, tri.c.y),
         x1: greatest(tri.a.x, tri.b.x, tri.c.x),
         y1: greatest(tri.a.y, tri.b.y, tri.c.y),
+    }
+}
+
+// The box of whole sides of two points of the segment from `a` to `b`, by their parameters, rounded outward.
+fn around_span(a: Pt, b: Pt, span: Span) -> Rect
+    requires near { IsNear a b }
+    requires lo { IsParam span.lo.num span.lo.den }
+    requires hi { IsParam span.hi.num span.hi.den }
+    ensures { AreIn result (at a b span.lo ∷ at a b span.hi ∷ []) }
+{
+    Rect {
+        x0: lesser(low_at(a.x, b.x, span.lo), low_at(a.x, b.x, span.hi)),
+        y0: lesser(low_at(a.y, b.y, span.lo), low_at(a.y, b.y, span.hi)),
+        x1: greater(high_at(a.x, b.x, span.lo), high_at(a.x, b.x, span.hi)),
+        y1: greater(high_at(a.y, b.y, span.lo), high_at(a.y, b.y, span.hi)),
     }
 }
 
