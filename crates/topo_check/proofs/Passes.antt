@@ -241,3 +241,14 @@ both_collected tin pieces most boxes grid ys zs law exact rounded first second =
       far_had tin (piece_at pieces i) (piece_at pieces j) (box_at boxes i) (box_at boxes j) (exact.each i (earlier i j less within)) (exact.each j within) apart,
       far_has (piece_at pieces i) (piece_at pieces j) (box_at grid i) (box_at grid j) (rounded.each i (earlier i j less within)) (rounded.each j within) far,
     )
+
+-- more than `most` pairs of the first grid
+pub over_collected : (tin : Triangulation) (pieces : List Piece) (most : ℕ) (AreMeant : ℕ → ℕ → Type 0) (ys : List ChangedPair) → DoesCollect tin pieces most AreMeant [] ys → most < length ys → AreCollected tin pieces most ys
+over_collected tin pieces most AreMeant ys collects more = record {
+  each = λ c h. ⊎_elim (λ none. absurd (nowhere c none)) (λ is. is.0) (collects.only c h);
+  different = collects.once (λ i j d less within. absurd (omega (arith, within))) (λ i j less within m has. nowhere has.0 has.1);
+  all = λ few i j less within. absurd (omega (arith, few, more));
+}
+  where
+    nowhere : (c : ChangedPair) → Contains [] c → ⊥
+    nowhere c h = omega (arith, h.1)

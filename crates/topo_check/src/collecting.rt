@@ -13,7 +13,7 @@ use std::alloc::{AllocError, Global};
 use tin_base::{Frame, Piece, SoundTin};
 
 /// The pairs of pieces that have changed, each once, in no order. It stops once there are more than `most`.
-/// First the pairs whose exact boxes share a point are compared, and then, of those whose rounded boxes share one, the others. One grid is kept at a time.
+/// First the pairs whose exact boxes share a point are compared, and then, where these are not too many, the others whose rounded boxes share one. One grid is kept at a time.
 pub(crate) fn changed_pairs(
     alloc: Global,
     tin: &SoundTin,
@@ -40,6 +40,9 @@ pub(crate) fn changed_pairs(
             most,
             &mut pairs,
         )?;
+    }
+    if pairs.len() > most as usize {
+        return Ok(pairs);
     }
     let grid = rounded_grid(alloc, pieces)?;
     collect(
