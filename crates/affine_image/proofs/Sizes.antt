@@ -1,5 +1,5 @@
 -- How large the numbers on the way to an image are.
-use Rattle.std.proofs.Common.{◌≡◌, ◌≤◌, ◌<◌, ◌^◌, ◌-◌, ℤ, pos, negsuc, ◌+ℤ◌, ◌-ℤ◌, ◌*ℤ◌, ◌≤ℤ◌, ◌<ℤ◌, neg_ℤ, unsigned_abs, SFits, arith, mul-le-mul, subst, sym}
+use Rattle.std.proofs.Common.{◌≡◌, ◌≤◌, ◌<◌, ◌^◌, ◌-◌, ◌*◌, ℤ, pos, negsuc, ◌+ℤ◌, ◌-ℤ◌, ◌*ℤ◌, ◌≤ℤ◌, ◌<ℤ◌, neg_ℤ, unsigned_abs, SFits, arith, mul-le-mul, subst, sym}
 use Rattle.std.proofs.lemmas.Int.{ints, unsigned_abs-mul}
 use mir.Syntax.{w64, w128}
 use Rattle.integer_ring.proofs.Ring.{num, ◌⊕◌}
@@ -9,19 +9,41 @@ use Rattle.frac128.specs.Rounding.{half_up_of}
 use Rattle.frac128.specs.declared.frac.TheConstants.{TURN}
 use Rattle.plane_base.specs.Plane.{IsShort}
 use Rattle.plane_base.specs.declared.shapes.TheConstants.{SPAN}
+use Rattle.affine_image.specs.Laws.{DoubledNumeratorsAreSmall}
 use Rattle.affine_image.proofs.HalfUp.{mix_not_below, mix_not_above}
 
-pub part_size : (w z : ℤ) → IsSmall w → IsShort z → unsigned_abs (w *ℤ z) < 2 ^ 91
+pub part_size : (w z : ℤ) → IsSmall w → IsShort z → pos (unsigned_abs (w *ℤ z)) <ℤ (TURN *ℤ SPAN)
 part_size w z h k =
     let m : unsigned_abs w ≤ unsigned_abs TURN - 1 = omega (arith, ints) in
     let n : unsigned_abs z ≤ unsigned_abs SPAN - 1 = omega (arith, ints) in
     omega (arith, ints, unsigned_abs-mul w z, mul-le-mul m n)
 
-pub part_fits : (z : ℤ) → unsigned_abs z < 2 ^ 91 → SFits w128 z
+pub part_fits : (z : ℤ) → pos (unsigned_abs z) <ℤ (TURN *ℤ SPAN) → SFits w128 z
 part_fits z h = omega (arith, ints)
 
-pub sum_fits : (p q : ℤ) → unsigned_abs p < 2 ^ 91 → unsigned_abs q < 2 ^ 91 → SFits w128 (p +ℤ q)
+pub sum_fits : (p q : ℤ) → pos (unsigned_abs p) <ℤ (TURN *ℤ SPAN) → pos (unsigned_abs q) <ℤ (TURN *ℤ SPAN) → SFits w128 (p +ℤ q)
 sum_fits p q h k = omega (arith, ints)
+
+pub sum_small : (p q : ℤ) → pos (unsigned_abs p) <ℤ (TURN *ℤ SPAN) → pos (unsigned_abs q) <ℤ (TURN *ℤ SPAN) → unsigned_abs (p +ℤ q) < 2 ^ 120
+sum_small p q h k = omega (arith, ints)
+
+-- a share of a small number is small
+share_small : (u v d : ℤ) → pos 0 ≤ℤ u → pos 0 ≤ℤ v → (u +ℤ v) ≤ℤ d → IsSmall d → IsSmall u × IsSmall v
+share_small u v d hu hv hw h = (omega (arith, ints), omega (arith, ints))
+
+part_most : (w z : ℤ) → IsSmall w → IsShort z → unsigned_abs (w *ℤ z) ≤ (unsigned_abs TURN - 1) * (unsigned_abs SPAN - 1)
+part_most w z h k =
+    let m : unsigned_abs w ≤ unsigned_abs TURN - 1 = omega (arith, ints) in
+    let n : unsigned_abs z ≤ unsigned_abs SPAN - 1 = omega (arith, ints) in
+    omega (arith, ints, unsigned_abs-mul w z, mul-le-mul m n)
+
+doubled_small : (p q d : ℤ) → unsigned_abs p ≤ (unsigned_abs TURN - 1) * (unsigned_abs SPAN - 1) → unsigned_abs q ≤ (unsigned_abs TURN - 1) * (unsigned_abs SPAN - 1) → IsSmall d → unsigned_abs (pos 2 *ℤ (p +ℤ q) +ℤ d) < 2 ^ 96
+doubled_small p q d h k l = omega (arith, ints)
+
+pub doubled_numerators_are_small : DoubledNumeratorsAreSmall
+doubled_numerators_are_small u v d s t hu hv hw h hs ht =
+    let small = share_small u v d hu hv hw h in
+    doubled_small (u *ℤ s) (v *ℤ t) d (part_most u s small.0 hs) (part_most v t small.1 ht) h
 
 pub short_fits : (z : ℤ) → IsShort z → SFits w64 z
 short_fits z h = omega (arith, ints)

@@ -1,6 +1,7 @@
 -- The laws of rounded images.
-use Rattle.std.specs.Prelude.{◌≡◌, ℕ, ◌<◌, ℤ, pos, ◌<ℤ◌, true, length}
-use Rattle.plane_base.specs.Plane.{Point, Same, IsNear}
+use Rattle.std.specs.Prelude.{◌≡◌, ℕ, ◌<◌, ◌^◌, ℤ, pos, ◌+ℤ◌, ◌*ℤ◌, ◌≤ℤ◌, ◌<ℤ◌, unsigned_abs, true, length}
+use Rattle.frac128.specs.Sizes.{IsSmall}
+use Rattle.plane_base.specs.Plane.{Point, Same, IsShort, IsNear}
 use Rattle.plane_base.specs.Slices.{IsParam}
 use Rattle.plane_base.specs.declared.shapes.Pt.{Pt}
 use Rattle.tin_base.specs.declared.frames.Frame.TheVariants.{Source, Target}
@@ -29,3 +30,9 @@ RoundedImagesAreInReach = (tin : Triangulation) (p : Point) (image : Pt) → IsW
 abbrev pub RoundedImagesAreNear : Type 0
 RoundedImagesAreNear =
     (tin : Triangulation) (p q : Point) (image also : Pt) → IsWithinLimits tin → IsRoundedImageAt tin p image → IsRoundedImageAt tin q also → IsNear image also
+
+-- u out of d and v out of d are the weights of two corners, and s and t the ways to them on one axis. From the doubled numerator, u·s + v·t twice
+-- and d once, the mix is rounded half up: it is below 2^96 in magnitude, so that 128 bits hold it
+abbrev pub DoubledNumeratorsAreSmall : Type 0
+DoubledNumeratorsAreSmall =
+    (u v d s t : ℤ) → pos 0 ≤ℤ u → pos 0 ≤ℤ v → (u +ℤ v) ≤ℤ d → IsSmall d → IsShort s → IsShort t → unsigned_abs (pos 2 *ℤ (u *ℤ s +ℤ v *ℤ t) +ℤ d) < 2 ^ 96

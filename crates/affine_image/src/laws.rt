@@ -1,4 +1,4 @@
-ghost use Rattle.affine_image.specs.Laws.{RoundedImagesAgree, CutsAreImages, RoundedImagesAreInReach, RoundedImagesAreNear};
+ghost use Rattle.affine_image.specs.Laws.{RoundedImagesAgree, CutsAreImages, RoundedImagesAreInReach, RoundedImagesAreNear, DoubledNumeratorsAreSmall};
 ghost use Rattle.affine_image.specs.SheetLaws.{PieceImagesAreJoined, SheetPiecesArePieces, ImagesFit, ImageSegmentsArePieces};
 
 /// A law: the rounded image of a place is one, whichever triangle gives it.
@@ -42,4 +42,9 @@ pub fn images_fit()
 /// segments those between the rounded images of the ends of its pieces, in order.
 pub fn image_segments_are_pieces()
     ensures { ImageSegmentsArePieces }
+{}
+
+/// A law: the doubled numerator from which a coordinate of an image is rounded is below 2^96 in magnitude: 128 bits hold it.
+pub fn doubled_numerators_are_small()
+    ensures { DoubledNumeratorsAreSmall }
 {}

@@ -1,19 +1,21 @@
-ghost use Rattle.std.specs.Prelude.{◌≡◌, ◌<◌, ◌^◌, ℤ, pos, ◌+ℤ◌, ◌-ℤ◌, ◌*ℤ◌, ◌≤ℤ◌, unsigned_abs};
+ghost use Rattle.std.specs.Prelude.{◌≡◌, ℤ, pos, ◌+ℤ◌, ◌-ℤ◌, ◌*ℤ◌, ◌≤ℤ◌, ◌<ℤ◌, unsigned_abs};
 ghost use Rattle.frac128.specs.Rounding.{half_up_of};
 ghost use Rattle.frac128.specs.Sizes.{IsSmall};
+ghost use Rattle.frac128.specs.declared.frac.TheConstants.{TURN};
 ghost use Rattle.plane_base.specs.Plane.{IsShort, IsNearAll};
+ghost use Rattle.plane_base.specs.declared.shapes.TheConstants.{SPAN};
 ghost use Rattle.affine_image.specs.Weights.{numerator};
 
 use crate::weights::Weights;
 use frac128::half_up;
 use plane_base::{Pt, Tri};
 
-// 92 bits hold a weight of a short way.
+// A weight of a short way: 128 bits hold it, since a weight is below `TURN` and a way below `SPAN`.
 fn part(weight: i128, way: i64) -> i128
     requires weight { IsSmall weight }
     requires way { IsShort way }
     ensures value { result ≡ weight *ℤ way }
-    ensures size { unsigned_abs result < 2 ^ 91 }
+    ensures size { pos (unsigned_abs result) <ℤ (TURN *ℤ SPAN) }
 {
     weight * i128::from(way)
 }

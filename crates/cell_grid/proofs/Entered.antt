@@ -71,7 +71,7 @@ cells_levels boxes levels entries keys cells is laid all are l d within =
     }
 
 -- ---- levels one after another
-pub laid_more : (levels : List Level) (level : Level) (shift base : ℕ) → AreLaid levels → length levels ≡ shift → shift < 31 → All (λ (v : Level). v.base + v.mask < base) levels → level.base ≡ base → level.shift ≡ shift → AreLaid (levels ++ level ∷ [])
+pub laid_more : (levels : List Level) (level : Level) (shift base : ℕ) → AreLaid levels → length levels ≡ shift → shift < 32 → All (λ (v : Level). v.base + v.mask < base) levels → level.base ≡ base → level.shift ≡ shift → AreLaid (levels ++ level ∷ [])
 laid_more levels level shift base laid count few before at is =
     let long = length_push levels level in
     record {

@@ -36,16 +36,16 @@ digits_below n k h small =
     rw e (no_more n k l.0 small l.3)
 
 -- the sides of a box less than the span long
-pub side_short : (rect : Rect) → IsOrdered rect → IsWithinSpan rect rect → longer_side rect < 2 ^ 30
+pub side_short : (rect : Rect) → IsOrdered rect → IsWithinSpan rect rect → longer_side rect < 2 ^ 31
 side_short rect ordered span = omega (arith, ints, ordered.0, ordered.1, span.0, span.1)
 
-pub level_small : (rect : Rect) → IsOrdered rect → IsWithinSpan rect rect → level_of rect < 31
+pub level_small : (rect : Rect) → IsOrdered rect → IsWithinSpan rect rect → level_of rect < 32
 unfolding level_of
 level_small rect ordered span =
     let short = side_short rect ordered span in
-    omega (arith, digits_below (longer_side rect) 30 (omega arith) short)
+    omega (arith, digits_below (longer_side rect) 31 (omega arith) short)
 
-pub levels_small : (boxes : List Rect) → AreOrdered boxes → AreWithinSpan boxes → AreOfLevels 31 boxes
+pub levels_small : (boxes : List Rect) → AreOrdered boxes → AreWithinSpan boxes → AreOfLevels 32 boxes
 levels_small boxes ordered span k d h = level_small (get_or boxes k d) (ordered k d h) (span k d h k d h)
 
 -- a box is smaller than the cells of its level, and of those above

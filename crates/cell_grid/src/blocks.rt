@@ -11,8 +11,8 @@ pub(crate) struct Block {
     columns: u32,
     rows: u32,
     ghost some: { 0 < columns },
-    ghost across: { column + columns ≤ 2 ^ 30 },
-    ghost up: { row + rows ≤ 2 ^ 30 },
+    ghost across: { column + columns ≤ 2 ^ 31 },
+    ghost up: { row + rows ≤ 2 ^ 31 },
 }
 
 impl Block {

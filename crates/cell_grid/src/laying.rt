@@ -11,7 +11,7 @@ use std::alloc::{AllocError, Global};
 
 /// The levels of these boxes, from level 0 to their greatest, with their places one after another.
 pub(crate) fn levels_for(alloc: Global, boxes: &[Rect], low: Pt) -> Result<Vec<Level>, AllocError>
-    requires sizes { AreOfLevels 31 boxes.now }
+    requires sizes { AreOfLevels 32 boxes.now }
     requires count { length boxes.now < LIMIT }
     ensures of_levels { IfOk result (λ levels. AreOfLevels (length levels.items) boxes.now) }
     ensures laid { IfOk result (λ levels. AreLaid levels.items) }
@@ -42,10 +42,10 @@ pub(crate) fn place_count(levels: &[Level]) -> u32
 
 // How many boxes each level has.
 fn counts_of(alloc: Global, boxes: &[Rect]) -> Result<Vec<u32>, AllocError>
-    requires sizes { AreOfLevels 31 boxes.now }
+    requires sizes { AreOfLevels 32 boxes.now }
     requires count { length boxes.now < LIMIT }
     ensures of_levels { IfOk result (λ counts. AreOfLevels (length counts.items) boxes.now) }
-    ensures few { IfOk result (λ counts. vec_len counts ≤ 31) }
+    ensures few { IfOk result (λ counts. vec_len counts ≤ 32) }
 {
     let mut counts = vec![in alloc; 0; level_count(boxes)]?;
     for rect in boxes {
@@ -56,9 +56,9 @@ fn counts_of(alloc: Global, boxes: &[Rect]) -> Result<Vec<u32>, AllocError>
 
 // One more than the greatest level of these boxes, 0 where there are none.
 fn level_count(boxes: &[Rect]) -> usize
-    requires sizes { AreOfLevels 31 boxes.now }
+    requires sizes { AreOfLevels 32 boxes.now }
     ensures of_levels { AreOfLevels result boxes.now }
-    ensures few { result ≤ 31 }
+    ensures few { result ≤ 32 }
 {
     let mut count = 0;
     for rect in boxes {

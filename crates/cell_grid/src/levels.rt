@@ -46,7 +46,7 @@ impl Level {
     pub(crate) fn column(&self, x: i64) -> u32
         requires { IsPast self.now.low.x x }
         ensures column { result ≡ column_of self.now x }
-        ensures within { result < 2 ^ 30 }
+        ensures within { result < 2 ^ 31 }
     {
         stripe(self.low.x, self.shift, x)
     }
@@ -55,7 +55,7 @@ impl Level {
     pub(crate) fn row(&self, y: i64) -> u32
         requires { IsPast self.now.low.y y }
         ensures row { result ≡ row_of self.now y }
-        ensures within { result < 2 ^ 30 }
+        ensures within { result < 2 ^ 31 }
     {
         stripe(self.low.y, self.shift, y)
     }
@@ -75,7 +75,7 @@ fn stripe(low: i64, shift: u32, x: i64) -> u32
     requires past { IsPast low x }
     requires short { shift < 32 }
     ensures stripe { result ≡ stripe_of low shift x }
-    ensures within { result < 2 ^ 30 }
+    ensures within { result < 2 ^ 31 }
 {
     (x.abs_diff(low) as u32) >> shift
 }

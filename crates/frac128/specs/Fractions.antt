@@ -1,5 +1,5 @@
 -- The order of the values of fractions. Denominators are positive, so products across have the order of the values.
-use Rattle.std.specs.Prelude.{◌≡◌, ℤ, ◌*ℤ◌, ◌≤ℤ◌, ◌<ℤ◌}
+use Rattle.std.specs.Prelude.{◌≡◌, ◌<◌, ◌^◌, ℤ, ◌*ℤ◌, ◌≤ℤ◌, ◌<ℤ◌, unsigned_abs}
 use Rattle.std.specs.Ordering.{int_cmp}
 use Rattle.std.specs.declared.cmp.Ordering.{Ordering}
 use Rattle.frac128.specs.declared.frac.Frac.{Frac}
@@ -26,3 +26,7 @@ IsFrom f n d = (f.num *ℤ d) ≤ℤ (n *ℤ f.den)
 -- n/d ≤ f
 abbrev pub IsUpTo : Frac → ℤ → ℤ → Type 0
 IsUpTo f n d = (n *ℤ f.den) ≤ℤ (f.num *ℤ d)
+
+-- both products of a comparison are below 2^126 in magnitude, so that 128 bits hold each
+abbrev pub ComparedProductsAreSmall : Type 0
+ComparedProductsAreSmall = (a b : Frac) → (unsigned_abs (a.num *ℤ b.den) < 2 ^ 126) × (unsigned_abs (b.num *ℤ a.den) < 2 ^ 126)

@@ -1,5 +1,5 @@
 ghost use Rattle.std.specs.Cmp.{IsTotalOrder};
-ghost use Rattle.frac128.specs.Fractions.{order_of};
+ghost use Rattle.frac128.specs.Fractions.{order_of, ComparedProductsAreSmall};
 ghost use Rattle.frac128.specs.Rounding.{HalfUpIsNearest, HalfUpIsWithinHalf};
 
 /// The values of fractions are in a total order, whatever their spelling.
@@ -15,4 +15,9 @@ pub fn half_up_is_nearest()
 /// A fraction is rounded to the one whole number r with r - 1/2 at most the fraction and r + 1/2 above it.
 pub fn half_up_is_within_half()
     ensures { HalfUpIsWithinHalf }
+{}
+
+/// The two products by which two fractions are compared are below 2^126 in magnitude: 128 bits hold them with a bit to spare.
+pub fn compared_products_are_small()
+    ensures { ComparedProductsAreSmall }
 {}

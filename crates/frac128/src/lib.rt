@@ -10,6 +10,9 @@ mod rounding;
 
 pub use choosing::{earlier, later};
 pub use frac::{Frac, TURN};
-pub use laws::{half_up_is_nearest, half_up_is_within_half, values_are_in_total_order};
+pub use laws::{
+    compared_products_are_small, half_up_is_nearest, half_up_is_within_half,
+    values_are_in_total_order,
+};
 pub use ordering::{is_below, order};
 pub use rounding::half_up;

@@ -13,3 +13,4 @@ pub mod Slices
 pub mod Exit
 pub mod Meeting
 pub mod Naming
+pub mod BoxLemmas

@@ -2,4 +2,5 @@ pub mod Plane
 pub mod Slices
 pub mod Courses
 pub mod Sides
+pub mod Boxes
 pub mod Laws

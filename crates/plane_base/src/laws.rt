@@ -1,3 +1,4 @@
+ghost use Rattle.plane_base.specs.Boxes.{ShareAPointOrAreApart};
 ghost use Rattle.plane_base.specs.Laws.{
   MixesMix,
   TrianglesAreConvex,
@@ -41,4 +42,9 @@ pub fn segments_have_parameters()
 /// A closed segment and a triangle of positive turn have no common point, or those of a closed interval of parameters.
 pub fn segments_meet_in_intervals()
     ensures { SegmentsMeetInIntervals }
+{}
+
+/// Two boxes, each with a point, have no common point exactly where on one of the axes the one is behind the other.
+pub fn boxes_share_a_point_or_are_apart()
+    ensures { ShareAPointOrAreApart }
 {}

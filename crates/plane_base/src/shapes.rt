@@ -1,5 +1,5 @@
 /// Points that one call speaks of differ by less than this on each axis, in millimetres.
-pub const SPAN: i64 = 1 << 30;
+pub const SPAN: i64 = 1 << 31;
 
 /// A point of the plane, in whole millimetres.
 #[derive(Clone, Copy, PartialEq, Eq, Debug)]
@@ -17,6 +17,7 @@ pub struct Tri {
 }
 
 /// The box of all points with x from `x0` to `x1` and y from `y0` to `y1`, its border included, in millimetres.
+/// It has no point where `x1` is below `x0` or `y1` below `y0`.
 #[derive(Clone, Copy, PartialEq, Eq, Debug)]
 pub struct Rect {
     pub x0: i64,

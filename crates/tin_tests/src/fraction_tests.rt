@@ -48,8 +48,8 @@ fn rounds_half_up(rt: HostRuntime) {
 #[test]
 fn rounds_the_largest(rt: HostRuntime) {
     let num = (1 << 120) - 1;
-    let den = (1 << 62) - 1;
-    assert_eq!(rt; half_up(num, den), 288_230_376_151_711_744);
+    let den = (1 << 64) - 1;
+    assert_eq!(rt; half_up(num, den), 72_057_594_037_927_936);
     assert_eq!(rt;
         half_up(-num, 2),
         -664_613_997_892_457_936_451_903_530_140_172_287

@@ -66,6 +66,10 @@ const CHECK: [&str; 3] = ["check", "--tin", "t.json"];
 
 const MIGRATE: [&str; 6] = ["migrate", "--tin", "t.json", "--out", "o", "p.wkt"];
 
+/// Three vertices as far apart as they may be on both axes of the source, and each 100 m further on both axes of the target.
+const LARGEST: &str =
+    "[0,0,100,100],[2147483.647,0,2147583.647,100],[0,2147483.647,100,2147583.647]";
+
 /// Vertices and triangles, and how a check of them ends.
 const CHECKED_ROWS: &[(&str, &str, Status, &str)] = &[
     (
@@ -135,25 +139,25 @@ const CHECKED_ROWS: &[(&str, &str, Status, &str)] = &[
         "sound: corners 0 triangles 0 inexact 0\n",
     ),
     (
-        "[0,0,0,0],[1073741.824,0,10,0],[0,10,0,10]",
+        "[0,0,0,0],[2147483.648,0,10,0],[0,10,0,10]",
         "[0,1,2]",
         Status::Tin,
         "triangulation: span source x\n",
     ),
     (
-        "[0,0,0,0],[0,1073741.824,10,0],[10,0,0,10]",
+        "[0,0,0,0],[0,2147483.648,10,0],[10,0,0,10]",
         "[0,1,2]",
         Status::Tin,
         "triangulation: span source y\n",
     ),
     (
-        "[0,0,0,0],[0,10,1073741.824,0],[10,0,0,10]",
+        "[0,0,0,0],[0,10,2147483.648,0],[10,0,0,10]",
         "[0,1,2]",
         Status::Tin,
         "triangulation: span target x\n",
     ),
     (
-        "[0,0,0,0],[0,10,0,-1073741.824],[10,0,0,10]",
+        "[0,0,0,0],[0,10,0,-2147483.648],[10,0,0,10]",
         "[0,1,2]",
         Status::Tin,
         "triangulation: span target y\n",
@@ -310,10 +314,22 @@ fn carries_through_triangulations(rt: HostRuntime) {
             "POINT (105.002 105.002)",
         ),
         (
-            "[0,0,0,0],[1073741.823,0,10,0],[0,10,0,10]",
+            "[0,0,0,0],[2147483.647,0,10,0],[0,10,0,10]",
             "[0,1,2]",
-            "POINT (1073741.823 0)",
+            "POINT (2147483.647 0)",
             "POINT (10.000 0.000)",
+        ),
+        (
+            LARGEST,
+            "[0,1,2]",
+            "LINESTRING (2147483.647 0, 0 2147483.647)",
+            "LINESTRING (2147583.647 100.000, 100.000 2147583.647)",
+        ),
+        (
+            LARGEST,
+            "[0,1,2]",
+            "POINT (1000000 1000000)",
+            "POINT (1000100.000 1000100.000)",
         ),
         (
             "[0,0,100,100],[10,0,110.002,100],[0,10,100,110],[0,0,100,100]",

@@ -3,7 +3,7 @@ use Rattle.std.proofs.lemmas.Int.{to_z-of_z}
 use mir.Syntax.{w64, w128}
 use Rattle.frac128.specs.Rounding.{half_up_of}
 use Rattle.affine_image.proofs.HalfUp.{mix_not_below, mix_not_above}
-use Rattle.affine_image.proofs.Sizes.{sum_fits, offset_fits}
+use Rattle.affine_image.proofs.Sizes.{sum_fits, sum_small, offset_fits}
 use Rattle.affine_image.proofs.mixing.offset.Goals as goal
 
 pub overflow_add-part : goal.overflow_add-part
@@ -11,6 +11,13 @@ overflow_add-part c =
     let u = c.part.result in let v = c.part-2.result in
     let f : SFits w128 u = search rules in let g : SFits w128 v = search rules in
     simp to_z-of_z (sum_fits u v c.part.ensures.size c.part-2.ensures.size)
+
+pub half_up-requires-clause-num_small : goal.half_up-requires-clause-num_small
+half_up-requires-clause-num_small c =
+    let u = c.part.result in let v = c.part-2.result in
+    let f : SFits w128 u = search rules in let g : SFits w128 v = search rules in
+    let h = sum_fits u v c.part.ensures.size c.part-2.ensures.size in
+    simp to_z-of_z (sum_small u v c.part.ensures.size c.part-2.ensures.size)
 
 pub overflow_cast-result : goal.overflow_cast-result
 overflow_cast-result c =

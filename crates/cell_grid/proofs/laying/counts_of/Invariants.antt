@@ -6,6 +6,6 @@ abbrev pub invariant-loop-rect : goal.invariant-loop-rect
 invariant-loop-rect l =
     record {
       of_levels : AreOfLevels (length l.counts.items) l.boxes;
-      few : length l.counts.items ≤ 31;
+      few : length l.counts.items ≤ 32;
       counted : All (λ count. count ≤ l.rect-index) l.counts.items;
     }

@@ -7,5 +7,5 @@ abbrev pub invariant-loop-rect : goal.invariant-loop-rect
 invariant-loop-rect l =
     record {
       of_levels : (k : ℕ) (d : Rect) → k < l.rect-index → level_of (slice_index_or l.boxes k d) < l.count;
-      few : l.count ≤ 31;
+      few : l.count ≤ 32;
     }
