@@ -21,10 +21,6 @@ AreBelow a b c d = int_max a b <ℤ int_min c d
 abbrev pub AreBeside : ℤ → ℤ → ℤ → ℤ → Type 0
 AreBeside a b c d = AreBelow a b c d ⊎ AreBelow c d a b
 
--- on one of the axes the one segment is beside the other
-abbrev pub AreBoxesApart : Pt → Pt → Pt → Pt → Type 0
-AreBoxesApart a b c d = AreBeside a.x b.x c.x d.x ⊎ AreBeside a.y b.y c.y d.y
-
 -- the first number that is between a and b and between c and d, where there is one
 abbrev pub first_of : ℤ → ℤ → ℤ → ℤ → ℤ
 first_of a b c d = int_max (int_min a b) (int_min c d)

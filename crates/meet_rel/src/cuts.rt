@@ -1,5 +1,6 @@
 ghost use Rattle.std.specs.Prelude.{◌≡◌, ◌≢◌, ◌↔◌, ◌⊎◌, pos, ◌-ℤ◌, ◌≤ℤ◌, ◌<ℤ◌, IsTrue};
 ghost use Rattle.plane_base.specs.Plane.{Point, whole, turn_of, IsNear};
+ghost use Rattle.plane_base.specs.Slices.{IsParam};
 ghost use Rattle.plane_base.specs.declared.shapes.TheConstants.{SPAN};
 ghost use Rattle.tin_base.specs.Relations.{HaveRelation};
 ghost use Rattle.meet_rel.specs.Near.{AreNear};
@@ -13,10 +14,10 @@ use std::cmp::Ordering;
 use tin_base::Rel;
 
 /// What lies between two parameters of a segment.
-#[derive(Clone, Copy)]
-pub(crate) struct Span {
-    pub(crate) lo: Frac,
-    pub(crate) hi: Frac,
+#[derive(Clone, Copy, Debug)]
+pub struct Span {
+    pub lo: Frac,
+    pub hi: Frac,
 }
 
 // The way from one point to another.
@@ -30,13 +31,29 @@ struct Way {
 pub(crate) fn own_span(clip: &Clip) -> Span
     requires proper { IsProper clip.now }
     requires differ { clip.now.a ≢ clip.now.b }
-    ensures { IsCut clip.now clip.now.a clip.now.b result.lo result.hi }
+    ensures cut { IsCut clip.now clip.now.a clip.now.b result.lo result.hi }
+    ensures lo { IsParam result.lo.num result.lo.den }
+    ensures hi { IsParam result.hi.num result.hi.den }
 {
     let stretch = slice(clip.a, clip.b, &clip.tri).unwrap();
     Span {
         lo: stretch.lo,
         hi: stretch.hi,
     }
+}
+
+/// Of two clips of one segment: both parts by parameters of the segment.
+pub(crate) fn rel_on_one(p: &Clip, q: &Clip) -> Rel
+    requires p { IsProper p.now }
+    requires q { IsProper q.now }
+    requires a { p.now.a ≡ q.now.a }
+    requires b { p.now.b ≡ q.now.b }
+    requires differ { p.now.a ≢ p.now.b }
+    ensures { (first last start end : Point) → AreEnds p.now first last → AreEnds q.now start end → HaveRelation result first last start end }
+{
+    let on_p = own_span(p);
+    let on_q = own_span(q);
+    rel_of_spans(later(on_p.lo, on_q.lo), earlier(on_p.hi, on_q.hi))
 }
 
 /// Of two segments on one line: both parts by parameters of one way that holds both segments.

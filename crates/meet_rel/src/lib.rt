@@ -12,6 +12,7 @@ mod segments;
 #[cfg(test)]
 mod tests;
 
+pub use cuts::Span;
 pub use laws::{pieces_keep_relations, relations_are_exclusive};
-pub use pieces::piece_rel;
+pub use pieces::{piece_rel, piece_span};
 pub use segments::rel;

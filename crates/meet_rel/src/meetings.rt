@@ -1,11 +1,11 @@
-ghost use Rattle.std.specs.Prelude.{◌≢◌, ◌↔◌, ◌⊎◌, IsTrue};
+ghost use Rattle.std.specs.Prelude.{◌≡◌, ◌≢◌, ◌↔◌, ◌⊎◌, IsTrue};
 ghost use Rattle.frac128.specs.Fractions.{IsBelow, IsSameValue};
 ghost use Rattle.plane_base.specs.Plane.{Point, whole, turn_of};
 ghost use Rattle.tin_base.specs.Relations.{HaveRelation};
 ghost use Rattle.meet_rel.specs.Clips.{AreEnds, IsProper, AreClose};
 
 use crate::clips::Clip;
-use crate::cuts::{Span, own_span, rel_of_cuts};
+use crate::cuts::{Span, own_span, rel_of_cuts, rel_on_one};
 use frac128::{Frac, is_below, order};
 use plane_base::{edge_param, turn};
 use std::cmp::Ordering;
@@ -18,6 +18,9 @@ pub(crate) fn clip_rel(p: &Clip, q: &Clip) -> Rel
     requires close { AreClose p.now q.now }
     ensures { (first last start end : Point) → AreEnds p.now first last → AreEnds q.now start end → HaveRelation result first last start end }
 {
+    if are_of_one(p, q) {
+        return rel_on_one(p, q);
+    }
     let of_start = turn(p.a, p.b, q.a);
     let of_end = turn(p.a, p.b, q.b);
     if of_start != of_end {
@@ -30,6 +33,18 @@ pub(crate) fn clip_rel(p: &Clip, q: &Clip) -> Rel
         return Rel::Apart;
     }
     rel_of_cuts(p, q)
+}
+
+// Whether both are of one segment, from one end to another.
+fn are_of_one(p: &Clip, q: &Clip) -> bool
+    ensures a { IsTrue result → p.now.a ≡ q.now.a }
+    ensures b { IsTrue result → p.now.b ≡ q.now.b }
+    ensures differ { IsTrue result → p.now.a ≢ p.now.b }
+{
+    if p.a == p.b || p.a != q.a || p.b != q.b {
+        return false;
+    }
+    true
 }
 
 // Of two segments on lines that meet in one point.

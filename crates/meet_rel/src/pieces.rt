@@ -1,8 +1,13 @@
+ghost use Rattle.std.specs.Prelude.{◌≢◌, ◌↔◌, pos, ◌<ℤ◌};
+ghost use Rattle.plane_base.specs.Plane.{Point, IsNear};
+ghost use Rattle.plane_base.specs.Slices.{IsParam};
 ghost use Rattle.tin_base.specs.Segments.{Part};
-ghost use Rattle.tin_base.specs.Relations.{HaveRelation};
+ghost use Rattle.tin_base.specs.Relations.{HaveRelation, IsBetween};
 ghost use Rattle.tin_base.specs.Pieces.{first_point, last_point, IsPieceOf, IsPieceInside};
+ghost use Rattle.meet_rel.specs.Clips.{at};
 
 use crate::clips::clip_of;
+use crate::cuts::{Span, own_span};
 use crate::meetings::clip_rel;
 use tin_base::{Piece, Rel, SoundTin};
 
@@ -14,4 +19,17 @@ pub fn piece_rel(p: &Piece, q: &Piece, tin: &SoundTin) -> Rel
         → HaveRelation result (first_point p.now s) (last_point p.now s) (first_point q.now t) (last_point q.now t) }
 {
     clip_rel(&clip_of(p, tin), &clip_of(q, tin))
+}
+
+/// Where the exact first and last point of a piece lie on its segment, whose ends differ: by parameters that are 0 at `a` and 1 at `b`.
+pub fn piece_span(piece: &Piece, tin: &SoundTin) -> Span
+    requires inside { IsPieceInside tin.now piece.now }
+    requires differ { piece.now.a ≢ piece.now.b }
+    ensures points { (part : Part) → IsPieceOf tin.now piece.now part → (r : Point) → pos 0 <ℤ r.w
+        → IsBetween (first_point piece.now part) (last_point piece.now part) r ↔ IsBetween (at piece.now.a piece.now.b result.lo) (at piece.now.a piece.now.b result.hi) r }
+    ensures lo { IsParam result.lo.num result.lo.den }
+    ensures hi { IsParam result.hi.num result.hi.den }
+    ensures near { IsNear piece.now.a piece.now.b }
+{
+    own_span(&clip_of(piece, tin))
 }

@@ -1,8 +1,9 @@
 ghost use Rattle.std.specs.Prelude.{◌↔◌, IsTrue};
+ghost use Rattle.plane_base.specs.Boxes.{AreApart, box_of_segment};
 ghost use Rattle.plane_base.specs.Plane.{whole};
 ghost use Rattle.tin_base.specs.Relations.{HaveRelation};
 ghost use Rattle.meet_rel.specs.Near.{AreNear};
-ghost use Rattle.meet_rel.specs.Signs.{AreOnOneSide, AreBelow, AreBeside, AreBoxesApart, IsSomeZero};
+ghost use Rattle.meet_rel.specs.Signs.{AreOnOneSide, AreBelow, AreBeside, IsSomeZero};
 
 use crate::lines::rel_on_line;
 use plane_base::{Pt, turn};
@@ -36,28 +37,28 @@ pub fn rel(a: Pt, b: Pt, c: Pt, d: Pt) -> Rel
     Rel::Crossing
 }
 
-// Have the boxes of the two segments no common point?
+// Whether the boxes of the two segments have no common point.
 fn are_boxes_apart(a: Pt, b: Pt, c: Pt, d: Pt) -> bool
-    ensures { IsTrue result ↔ AreBoxesApart a b c d }
+    ensures { IsTrue result ↔ AreApart (box_of_segment a b) (box_of_segment c d) }
 {
     are_beside(a.x, b.x, c.x, d.x) || are_beside(a.y, b.y, c.y, d.y)
 }
 
-// Are `a` and `b` both below `c` and `d`, or both above?
+// Whether `a` and `b` are both below `c` and `d`, or both above.
 fn are_beside(a: i64, b: i64, c: i64, d: i64) -> bool
     ensures { IsTrue result ↔ AreBeside a b c d }
 {
     are_below(a, b, c, d) || are_below(c, d, a, b)
 }
 
-// Are `a` and `b` both below `c` and `d`?
+// Whether `a` and `b` are both below `c` and `d`.
 fn are_below(a: i64, b: i64, c: i64, d: i64) -> bool
     ensures { IsTrue result ↔ AreBelow a b c d }
 {
     a.max(b) < c.min(d)
 }
 
-// Are both turns positive, or both negative?
+// Whether both turns are positive, or both negative.
 fn are_on_one_side(u: i128, v: i128) -> bool
     ensures { IsTrue result ↔ AreOnOneSide u v }
 {

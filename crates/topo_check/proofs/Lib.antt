@@ -7,3 +7,4 @@ pub mod OneList
 pub mod Ordered
 pub mod Passes
 pub mod Spans
+pub mod Tight

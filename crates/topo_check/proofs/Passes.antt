@@ -6,8 +6,8 @@ use Rattle.std.proofs.lemmas.Cmp.{nat_eq_equiv}
 use Rattle.std.proofs.lemmas.List.{get_or_default}
 use Rattle.std.proofs.lemmas.Map.Keys.{apart_from_distinct}
 use Rattle.plane_base.specs.declared.shapes.Rect.{Rect}
-use Rattle.plane_base.specs.Boxes.{ShareAPoint, ShareAPointOrAreApart, AreApart}
-use Rattle.cell_grid.specs.Boxes.{box_at}
+use Rattle.plane_base.specs.Boxes.{AreApart}
+use Rattle.cell_grid.specs.Boxes.{ShareAPoint, ShareAPointOrAreApart, box_at}
 use Rattle.cell_grid.specs.Partners.{IsPartner, ArePartners, EachPairIsToldOnce}
 use Rattle.tin_base.specs.declared.frames.Frame.{Frame}
 use Rattle.tin_base.specs.declared.frames.Frame.TheVariants.{Source, Target}
@@ -19,7 +19,8 @@ use Rattle.topo_check.specs.Changes.{piece_at}
 use Rattle.topo_check.specs.declared.comparing.ChangedPair.{ChangedPair}
 use Rattle.topo_check.specs.Pairs.{IsChanged, IsUnchanged, HasPair, AreCollected, DoesCollect, AreComparedIn, IsPairOf, IsPairWith, DoShareIn}
 use Rattle.topo_check.proofs.Collects.{collect_more, collect_as, collect_none, collect_one}
-use Rattle.topo_check.proofs.InBoxes.{far_had, far_has, apart_or_not}
+use Rattle.plane_base.proofs.BoxLemmas.{apart_or_not}
+use Rattle.topo_check.proofs.InBoxes.{far_had, far_has}
 
 no_truth : true ≡ false → ⊥
 no_truth e = cc
@@ -242,3 +243,14 @@ both_collected tin pieces most boxes grid ys zs law exact rounded first second =
       far_had tin (piece_at pieces i) (piece_at pieces j) (box_at boxes i) (box_at boxes j) (exact.each i (earlier i j less within)) (exact.each j within) apart,
       far_has (piece_at pieces i) (piece_at pieces j) (box_at grid i) (box_at grid j) (rounded.each i (earlier i j less within)) (rounded.each j within) far,
     )
+
+-- more than `most` pairs of the first grid
+pub over_collected : (tin : Triangulation) (pieces : List Piece) (most : ℕ) (AreMeant : ℕ → ℕ → Type 0) (ys : List ChangedPair) → DoesCollect tin pieces most AreMeant [] ys → most < length ys → AreCollected tin pieces most ys
+over_collected tin pieces most AreMeant ys collects more = record {
+  each = λ c h. ⊎_elim (λ none. absurd (nowhere c none)) (λ is. is.0) (collects.only c h);
+  different = collects.once (λ i j d less within. absurd (omega (arith, within))) (λ i j less within m has. nowhere has.0 has.1);
+  all = λ few i j less within. absurd (omega (arith, few, more));
+}
+  where
+    nowhere : (c : ChangedPair) → Contains [] c → ⊥
+    nowhere c h = omega (arith, h.1)

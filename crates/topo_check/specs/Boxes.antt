@@ -1,10 +1,11 @@
 -- Boxes round pieces. Only private functions speak of them.
-use Rattle.std.specs.Prelude.{◌≡◌, ℕ, ◌<◌, ℤ, pos, ◌*ℤ◌, ◌≤ℤ◌, ◌<ℤ◌, List, [], ◌∷◌, length}
+use Rattle.std.specs.Prelude.{◌≡◌, ℕ, ◌<◌, ℤ, pos, ◌+ℤ◌, ◌-ℤ◌, ◌*ℤ◌, ◌≤ℤ◌, ◌<ℤ◌, List, [], ◌∷◌, length}
 use Rattle.std.specs.List.{AllByRecursion}
+use Rattle.frac128.specs.declared.frac.Frac.{Frac}
 use Rattle.plane_base.specs.declared.shapes.Pt.{Pt}
 use Rattle.plane_base.specs.declared.shapes.Rect.{Rect}
 use Rattle.plane_base.specs.Plane.{Point, whole}
-use Rattle.plane_base.specs.Boxes.{IsOrdered}
+use Rattle.plane_base.specs.Boxes.{IsIn, IsOrdered}
 use Rattle.cell_grid.specs.Boxes.{box_at}
 use Rattle.tin_base.specs.declared.corners.Corner.{Corner}
 use Rattle.tin_base.specs.declared.pieces.Piece.{Piece}
@@ -14,19 +15,7 @@ use Rattle.tin_base.specs.Relations.{IsBetween}
 use Rattle.tin_base.specs.Pieces.{IsPieceOf, first_point, last_point}
 use Rattle.topo_check.specs.Changes.{piece_at}
 
--- the point is in the box
-pub record IsIn (box : Rect) (r : Point) : Type 0 where
-  pub left : (box.x0 *ℤ r.w) ≤ℤ r.x
-  pub right : r.x ≤ℤ (box.x1 *ℤ r.w)
-  pub bottom : (box.y0 *ℤ r.w) ≤ℤ r.y
-  pub top : r.y ≤ℤ (box.y1 *ℤ r.w)
-
--- the points are
-abbrev pub AreIn : Rect → List Point → Type 0
-AreIn box [] = Unit {0}
-AreIn box (p ∷ ps) = IsIn box p × AreIn box ps
-
--- each point of the segment from p to q is
+-- each point of the segment from p to q is in the box
 abbrev pub HasSegment : Rect → Point → Point → Type 0
 HasSegment box p q = (r : Point) → pos 0 <ℤ r.w → IsBetween p q r → IsIn box r
 
@@ -36,6 +25,14 @@ pub record IsAround (ps : List Pt) (box : Rect) : Type 0 where
   pub bottom : (m : ℤ) → AllByRecursion (λ p. m ≤ℤ p.y) ps → m ≤ℤ box.y0
   pub right : (m : ℤ) → AllByRecursion (λ p. p.x ≤ℤ m) ps → box.x1 ≤ℤ m
   pub top : (m : ℤ) → AllByRecursion (λ p. p.y ≤ℤ m) ps → box.y1 ≤ℤ m
+
+-- a number is no greater than the place at a share of the way from one number to another
+abbrev pub IsUpToPlace : ℤ → ℤ → Frac → ℤ → Type 0
+IsUpToPlace from to share low = (low *ℤ share.den) ≤ℤ ((share.den -ℤ share.num) *ℤ from +ℤ share.num *ℤ to)
+
+-- a number is no less
+abbrev pub IsFromPlace : ℤ → ℤ → Frac → ℤ → Type 0
+IsFromPlace from to share high = ((share.den -ℤ share.num) *ℤ from +ℤ share.num *ℤ to) ≤ℤ (high *ℤ share.den)
 
 -- each corner
 abbrev pub EachCorner : Triangulation → (Corner → Type 0) → Type 0

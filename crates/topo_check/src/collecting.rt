@@ -7,14 +7,13 @@ ghost use Rattle.topo_check.specs.Pairs.{DoesCollect, AreCollected, IsPairOf, Is
 
 use crate::comparing::{ChangedPair, changed_pair};
 use crate::grids::{exact_boxes, rounded_grid};
-use cell_grid::{Grid, each_pair_is_told_once};
-use plane_base::boxes_share_a_point_or_are_apart;
+use cell_grid::{Grid, boxes_share_a_point_or_are_apart, each_pair_is_told_once};
 use plane_base::Rect;
 use std::alloc::{AllocError, Global};
 use tin_base::{Frame, Piece, SoundTin};
 
 /// The pairs of pieces that have changed, each once, in no order. It stops once there are more than `most`.
-/// First the pairs whose exact boxes share a point are compared, and then, of those whose rounded boxes share one, the others. One grid is kept at a time.
+/// First the pairs whose exact boxes share a point are compared, and then, where these are not too many, the others whose rounded boxes share one. One grid is kept at a time.
 pub(crate) fn changed_pairs(
     alloc: Global,
     tin: &SoundTin,
@@ -41,6 +40,9 @@ pub(crate) fn changed_pairs(
             most,
             &mut pairs,
         )?;
+    }
+    if pairs.len() > most as usize {
+        return Ok(pairs);
     }
     let grid = rounded_grid(alloc, pieces)?;
     collect(

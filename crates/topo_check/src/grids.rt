@@ -1,10 +1,12 @@
-ghost use Rattle.std.specs.Prelude.{◌≡◌, ◌≤◌, All, IfOk, length};
+ghost use Rattle.std.specs.Prelude.{◌≡◌, ◌<◌, ◌≤◌, All, IfOk, length};
 ghost use Rattle.tin_base.specs.Pieces.{IsPieceInside};
 ghost use Rattle.meet_rel.specs.Near.{AreNear};
 ghost use Rattle.topo_check.specs.declared.limits.TheConstants.{MOST_COMPARED};
+ghost use Rattle.topo_check.specs.Changes.{piece_at};
 ghost use Rattle.topo_check.specs.Boxes.{AreBoxesOf, IsExactBox, IsRoundedBox};
 
-use crate::boxes::{exact_box, rounded_box};
+use crate::boxes::{exact_box, outer_box, rounded_box};
+use crate::limits::FEW_PIECES;
 use cell_grid::Grid;
 use plane_base::Rect;
 use std::alloc::{AllocError, Global};
@@ -31,10 +33,44 @@ pub(crate) fn exact_boxes(
     ensures { IfOk result (λ boxes. AreBoxesOf (IsExactBox tin.now) pieces.now boxes.items) }
 {
     let mut boxes = Vec::with_capacity(alloc, pieces.len())?;
-    for piece in pieces {
-        boxes.push(exact_box(tin, piece))?;
+    let mut number = 0;
+    while number < pieces.len() {
+        boxes.push(box_at(tin, pieces, number))?;
+        number += 1;
     }
     Ok(boxes)
+}
+
+// A box of the exact piece of a number. Only for a piece of a segment of many pieces are its exact ends asked for: they take a division each.
+fn box_at(tin: &SoundTin, pieces: &[Piece], number: usize) -> Rect
+    requires inside { All (λ piece. IsPieceInside tin.now piece) pieces.now }
+    requires number { number < length pieces.now }
+    ensures { IsExactBox tin.now (piece_at pieces.now number) result }
+{
+    let piece = &pieces[number];
+    if is_of_many(pieces, number) {
+        exact_box(tin, piece)
+    } else {
+        outer_box(tin, piece)
+    }
+}
+
+// Whether the piece is of a segment of many pieces: others come before it, or behind it in the list. It says only which box is worth its time.
+fn is_of_many(pieces: &[Piece], number: usize) -> bool
+    requires { number < length pieces.now }
+{
+    let from = pieces[number].from;
+    if from.piece as usize >= FEW_PIECES {
+        return true;
+    }
+    match pieces.get(number.saturating_add(FEW_PIECES)) {
+        Some(other) => {
+            other.from.layer == from.layer
+                && other.from.path == from.path
+                && other.from.segment == from.segment
+        }
+        None => false,
+    }
 }
 
 // The boxes of the segments between the rounded images of their ends, in their order.

@@ -10,6 +10,7 @@ mod grids;
 mod laws;
 mod limits;
 mod listing;
+mod shares;
 
 pub use faults::ChangesFault;
 pub use laws::{changes_are_by_rounding, changes_are_one, more_stay_more};
