@@ -146,7 +146,7 @@ def texts(name):
         "r11_2": (made_tin(512), "wkt", cells(512)),
         "points": (one_triangle(10), "wkt", points(1000000)),
         "parcels": (made_tin(512), "geojson", parcels(150000)),
-        "drawing": (made_tin(512), "dxf", drawing(165000)),
+        "drawing": (made_tin(512), "dxf", drawing(262000)),
         "villages": (square(400000), "wkt", villages(100000)),
         "fan": (fan(3000), "wkt", fan_lines(20)),
         "equal": (one_triangle(10), "wkt", equal_points(20000)),

@@ -27,7 +27,7 @@ ROWS = [
     ("524,288 lines, 1,048,576 pieces", "r11_2", None, "paths 524288 segments 524288 pieces 1048576 inexact 0", "changes 0"),
     ("1,000,000 points, one triangle", "points", None, "paths 1000000 segments 1000000 pieces 1000000", ""),
     ("150,000 parcels of GeoJSON", "parcels", None, "paths 150000 segments 600000", "inexact 0"),
-    ("165,000 entities of DXF, 30 MB", "drawing", None, "paths 165000", "dropped 0"),
+    ("262,000 entities of DXF, 30 MB", "drawing", None, "paths 262000", "dropped 0"),
     ("two villages of 100,000 lines", "villages", None, "paths 200000 segments 200000", ""),
     ("20 equal lines, fan of 3,000", "fan", None, "paths 20 segments 20", ""),
     ("20,000 equal points", "equal", None, "paths 20000 segments 20000 pieces 20000", "changes 0"),
