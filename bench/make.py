@@ -115,10 +115,10 @@ def drawing(count):
 
 
 def villages(count):
-    """Lines of up to 20 m that cross each other, in two squares of 5 km at the ends of a country of 350 km."""
+    """Lines of up to 20 m that cross each other, in two squares of 1 km at the ends of a country of 350 km."""
     for k in range(2 * count):
         base = 340000000 if k % 2 else 1000000
-        x, y = base + k * 7919 % 5000000, base + k * 104729 % 5000000
+        x, y = base + k * 7919 % 1000000, base + k * 104729 % 1000000
         yield f"LINESTRING ({metres(x)} {metres(y)}, {metres(x + k * 31 % 20000)} {metres(y + k * 17 % 20000)})"
 
 
