@@ -1,7 +1,8 @@
 #!/usr/bin/env bash
 # Whether docs/messages.md has every line that the program prints, and no other.
 # The lines of the document are those between backticks in the first column of its tables. The texts
-# of the program are the string literals of the files below, outside of contracts, comments and tests.
+# of the program are the string literals of the files below, outside of contracts, comments and tests,
+# and those of the launcher.
 # Each literal must be part of a line of the document, and each line must be made of literals, with
 # numbers and names between them. The last line is 'docs/messages.md has every line'; the status is
 # 1 where it has not.
@@ -35,6 +36,16 @@ usage = re.search(r'USAGE: &str =\s*"([^"]*)"', open(help_file, encoding="utf-8"
 if usage:
     literals.add(usage[1])
     home[usage[1]] = help_file
+
+# the launcher: what it fails with, says and shows, between the values that the shell puts in
+launcher = open("tinmove", encoding="utf-8").read().replace("\\\n", " ")
+for verb, text in re.findall(r"""(?m)\b(fail|echo|say_step|taken=|printf)\s*(?:\|\|)?\s*("[^"\n]*"|'[^'\n]*')""", launcher):
+    text = re.sub(r"\$\(\([^)]*\)\)|\$\{?\w+\}?|%s|\\\w(?:\d+\[K)?|\[K", "\0", text[1:-1])
+    text = ("tinmove: " if verb in ("fail", "say_step") else "") + text
+    for it in filter(str.strip, text.split("\0")):
+        literals.add(it)
+        home.setdefault(it, "tinmove")
+literals.add("tinmove: ")
 
 document = []
 for line in open("docs/messages.md", encoding="utf-8"):
