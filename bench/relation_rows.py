@@ -1,5 +1,5 @@
 #!/usr/bin/env python3
-"""Prints the rows of meet_rel's tests: how two segments lie to each other, and how two pieces of segments in triangles do.
+"""Prints the rows of meet_rel's tests: how two segments are related, and two pieces of segments in triangles.
 
 It works in rational numbers and from the definition alone. The common points of two segments are a convex set, so its extreme points
 are ends of the segments or the point where their lines meet: each of these is tried for being on both, and the ones that are counted.

@@ -1,0 +1,44 @@
+#!/usr/bin/env bash
+# Whether the man page, the completion and the launcher say what the program's help says.
+# usage: bench/help.sh [PROGRAM]     with PROGRAM its own texts are compared with the launcher's too
+# The last line is 'the help is the same everywhere'; the status is 1 where it is not.
+set -eu
+top=$(cd -- "$(dirname -- "$0")/.." && pwd)
+program=${1:-}
+bad=0
+differ() { printf 'differs: %s\n' "$1"; bad=1; }
+plain() { tr -s ' \n' ' ' | sed 's/^ //; s/ $//'; }
+
+# The launcher prints the text of the source; so does the program.
+if [ -n "$program" ]; then
+    for words in --help -h help --version -V 'migrate --help' 'check -h' 'make --help'; do
+        read -ra list <<<"$words"
+        cmp -s <("$top/tinmove" "${list[@]}") <("$program" "${list[@]}") || differ "the launcher's text of '$words'"
+    done
+fi
+
+help=$("$top/tinmove" --help)
+man=$(MANWIDTH=500 man -l "$top/recipes/tinmove.1" 2>/dev/null | col -bx)
+
+# Each option and mode of the help is in the man page and in the completion, and no other.
+in_help=$(grep -o -- '--[a-z-]*' <<<"$help" | sort -u)
+in_man=$(grep -o -- '--[a-z-]*[a-z]' <<<"$man" | sort -u)
+in_completion=$(grep -o -- '--[a-z][a-z-]*' "$top/recipes/tinmove.bash" | sort -u)
+[ "$in_help" = "$in_man" ] || differ "the options of the man page"
+[ "$in_help" = "$in_completion" ] || differ "the options of the completion"
+for mode in migrate check make; do
+    grep -q -- "tinmove $mode" <<<"$man" || differ "the mode $mode of the man page"
+    of_mode=$("$top/tinmove" $mode --help | grep -o -- '--[a-z-]*' | sort -u | plain)
+    of_completion=$(sed -n "s/^ *$mode) options='\(.*\)' ;;/\1/p" "$top/recipes/tinmove.bash" | tr ' ' '\n' | sort -u | plain)
+    [ "$of_mode" = "$of_completion" ] || differ "the options of $mode in the completion"
+done
+
+# The version, and each exit status, which begin in the same way.
+version=$("$top/tinmove" --version)
+grep -q "\"$version\"" "$top/recipes/tinmove.1" || differ "the version of the man page"
+for status in 0 1 2 3 4 5 6 7 8 9; do
+    said=$(sed -n "s/^  $status  //p" <<<"$help" | cut -d, -f1 | cut -d';' -f1)
+    grep -qi -- "$said" <<<"$man" || differ "status $status of the man page: $said"
+done
+[ "$bad" -eq 0 ] && echo 'the help is the same everywhere'
+exit $bad

@@ -1,0 +1,220 @@
+#!/usr/bin/env bash
+# Tries the launcher 'tinmove' on a small checkout with an 'rt' that only pretends to prove, in a
+# temporary folder whose name has blanks. It needs bash, and takes some twenty seconds.
+# The last line is 'N passed, M failed'; the status is 1 where one failed.
+set -u
+top=$(cd -- "$(dirname -- "$0")/.." && pwd)
+work=$(mktemp -d "${TMPDIR:-/tmp}/tinmove launcher.XXXXXX") || exit 1
+trap 'chmod -R u+w "$work"; rm -rf "$work"' EXIT
+passed=0
+failed=0
+
+# The words of a fact, and a command that is true where it holds.
+holds() {
+    local fact=$1
+    shift
+    if "$@"; then
+        passed=$((passed + 1))
+    else
+        failed=$((failed + 1))
+        printf 'FAILED: %s\n' "$fact"
+    fi
+}
+has() { grep -q -- "$2" "$1"; }
+lacks() { ! grep -q -- "$2" "$1"; }
+same() { [ "$1" = "$2" ]; }
+
+# A checkout of two libraries, a test crate that the program does not use, and the program.
+checkout() {
+    rm -rf "$work/check out"
+    mkdir -p "$work/check out/crates/low/src" "$work/check out/crates/mid/src" \
+        "$work/check out/crates/some_tests/src" "$work/check out/crates/tinmove/src"
+    cd "$work/check out" || exit 1
+    cp "$top/tinmove" tinmove
+    cp "$top/crates/tinmove/src/help.rt" crates/tinmove/src/help.rt
+    printf '%s\n' '# lowest first' 'low: thiserror' 'mid: low' 'some_tests: mid low' \
+        'tinmove: mid low clap' >crates.txt
+    for name in low mid some_tests; do echo "// $name" >crates/$name/src/lib.rt; done
+    echo 'first' >crates/tinmove/src/main.rt
+    : >"$work/calls"
+}
+
+# The 'rt' that pretends: it writes a line for each call, and a program that prints what its source
+# said when the build began. In 'rt_does' stands what else it is to do.
+mkdir -p "$work/bin" "$work/no rt"
+cat >"$work/bin/rt" <<'END'
+#!/usr/bin/env bash
+here=$PWD
+echo "$*" >>"$WORK/calls"
+case $1 in
+    all)
+        for name in low mid; do
+            sleep 0.2
+            grep -q wrong ../$name/src/lib.rt && echo "error: $name is wrong" && exit 1
+            printf '== %s\nlogic=proved\nrt: %s proved\n' $name $name
+        done
+        echo '== tinmove'
+        ;;
+    run)
+        said=$(cat src/main.rt)
+        [ ! -e "$WORK/rt_does" ] || . "$WORK/rt_does"
+        mkdir -p out
+        cat >out/tinmove <<PROGRAM
+#!/usr/bin/env bash
+[ "\${1-}" != --version ] || exit 0
+echo "said $said in \$PWD"
+printf '<%s>\n' "\$@"
+cat
+exit 5
+PROGRAM
+        chmod +x out/tinmove
+        exec out/tinmove "${@:3}"
+        ;;
+esac
+END
+chmod +x "$work/bin/rt"
+for tool in awk basename bash cat chmod cksum cp cut date dirname env find flock getconf grep kill \
+    mkdir mv nproc printf pwd readlink rm sed sh sha256sum sleep sort tail tr wc; do
+    found=$(command -v "$tool") && [ -x "$found" ] && ln -sf "$found" "$work/no rt/$tool"
+done
+export WORK=$work
+with_rt=$work/bin:$PATH
+calls() { wc -l <"$work/calls" | tr -d ' '; }
+run() { # the words of a command: its output, its errors and its status
+    out=$work/out.txt err=$work/err.txt
+    PATH=$with_rt "$@" >"$out" 2>"$err" </dev/null
+    status=$?
+}
+
+checkout
+# The help stands in the source, and needs no build and no rt.
+for pair in 'WHOLE:--help' 'WHOLE:-h' 'WHOLE:help' 'VERSION:--version' 'VERSION:-V' \
+    'MIGRATE:migrate --help' 'CHECK:check -h' 'MAKE:make -h'; do
+    read -ra words <<<"${pair#*:}"
+    PATH="$work/no rt" ./tinmove "${words[@]}" >"$work/out.txt" 2>"$work/err.txt"
+    holds "help of ${pair#*:}: status" same $? 0
+    python3 - "${pair%%:*}" crates/tinmove/src/help.rt >"$work/wanted.txt" <<'END'
+import re, sys
+text = open(sys.argv[2]).read()
+body = re.search(r'pub const %s: &str =\s*"((?:[^"\\]|\\.|\\\n)*)";' % sys.argv[1], text, re.S)[1]
+body = re.sub(r"\\\n\s*", "", body)
+sys.stdout.write(body.replace("\\n", "\n").replace('\\"', '"'))
+END
+    holds "help of ${pair#*:}: text" cmp -s "$work/wanted.txt" "$work/out.txt"
+    holds "help of ${pair#*:}: nothing on standard error" test ! -s "$work/err.txt"
+done
+./tinmove --help >/dev/full
+holds 'help that cannot be written' same $? 7
+
+# Without rt.
+PATH="$work/no rt" ./tinmove check --tin a >"$work/out.txt" 2>"$work/err.txt"
+holds 'no rt: status' same $? 125
+holds 'no rt: one line' same "$(wc -l <"$work/err.txt" | tr -d ' ')" 1
+holds 'no rt: which names README' has "$work/err.txt" README
+holds 'no rt: nothing on standard output' test ! -s "$work/out.txt"
+
+# The first run builds, says how far it is, and hands on words, input and status.
+mkdir "$work/else where" && cd "$work/else where" || exit 1
+echo 'from the input' | PATH=$with_rt "$work/check out/tinmove" check 'a b' '' >"$work/out.txt" 2>"$work/err.txt"
+holds 'first run: status of the program' same $? 5
+holds 'first run: folder of the caller' has "$work/out.txt" "said first in $work/else where"
+holds 'first run: words' has "$work/out.txt" '<a b>'
+holds 'first run: empty word' has "$work/out.txt" '^<>$'
+holds 'first run: input' has "$work/out.txt" 'from the input'
+holds 'first run: says where it is' has "$work/err.txt" 'crate 1 of 3'
+holds 'first run: says how long it took' has "$work/err.txt" '0 min'
+holds 'first run: side by side, then the program' same "$(calls)" 2
+
+# Nothing changed: no build, whatever the dates say.
+run "$work/check out/tinmove" check
+holds 'second run: no build' same "$(calls)" 2
+holds 'second run: nothing on standard error' test ! -s "$work/err.txt"
+touch -d '2099-01-01' "$work/check out/crates/low/src/lib.rt"
+run "$work/check out/tinmove" check
+holds 'a date to come: no build' same "$(calls)" 2
+echo '// more' >>"$work/check out/crates/some_tests/src/lib.rt"
+run "$work/check out/tinmove" check
+holds 'a crate that the program does not use: no build' same "$(calls)" 2
+PATH="$work/no rt" "$work/check out/tinmove" check >"$work/out.txt" 2>"$work/err.txt" </dev/null
+holds 'built, without rt: runs' same $? 5
+
+# Other ways to call it.
+ln -s "$work/check out/tinmove" "$work/else where/moved"
+ln -s moved "$work/else where/again"
+run "$work/else where/again" check
+holds 'through two links' has "$work/out.txt" "said first in $work/else where"
+cd "$work/check out" || exit 1
+run bash tinmove check
+holds 'as bash tinmove' has "$work/out.txt" 'said first'
+run sh tinmove check
+holds 'as sh tinmove' has "$work/out.txt" 'said first'
+holds 'other ways: no build' same "$(calls)" 2
+
+# A source of an older date is another source.
+echo 'second' >crates/tinmove/src/main.rt
+touch -d '2001-01-01' crates/tinmove/src/main.rt
+run ./tinmove check
+holds 'an edit with an old date: built' has "$work/out.txt" 'said second'
+
+# A source that is edited while it is built.
+echo 'third' >crates/tinmove/src/main.rt
+# shellcheck disable=SC2016
+echo '[ -e "$WORK/once" ] || { : >"$WORK/once"; echo fourth >src/main.rt; }' >"$work/rt_does"
+run ./tinmove check
+holds 'edited while it was built: built again' has "$work/out.txt" 'said fourth'
+holds 'edited while it was built: says so' has "$work/err.txt" 'built again'
+echo 'echo more >>src/main.rt' >"$work/rt_does"
+echo 'fifth' >crates/tinmove/src/main.rt
+run ./tinmove check
+holds 'edited each time: refused' same "$status" 125
+rm "$work/rt_does"
+
+# A crate that is not proved.
+echo '// wrong' >crates/low/src/lib.rt
+run ./tinmove check
+holds 'not proved: status' same "$status" 125
+holds 'not proved: says what rt said' has "$err" 'low is wrong'
+holds 'not proved: nothing on standard output' test ! -s "$out"
+run ./tinmove --version
+holds 'not proved: the version is printed' same "$(cat "$out")" "$(sed -n 's/.*VERSION: &str = "\(.*\)\\n";/\1/p' crates/tinmove/src/help.rt)"
+
+# Two at once.
+checkout
+for n in 1 2; do
+    (PATH=$with_rt ./tinmove check >"$work/out$n.txt" 2>"$work/err$n.txt" </dev/null) &
+done
+wait
+holds 'two at once: both run' same "$(cat "$work/out1.txt" "$work/out2.txt" | grep -c 'said first')" 2
+holds 'two at once: one build' same "$(calls)" 2
+
+# A checkout that cannot be written: what is built of its sources runs, and nothing older.
+echo 'sixth' >crates/tinmove/src/main.rt
+mv crates/tinmove/out "$work/kept"
+: >crates/tinmove/out
+run ./tinmove check
+holds 'not writable: status' same "$status" 125
+holds 'not writable: says so' has "$err" 'cannot be written'
+holds 'not writable: no build' same "$(calls)" 2
+rm crates/tinmove/out
+mv "$work/kept" crates/tinmove/out
+echo 'first' >crates/tinmove/src/main.rt
+chmod -R a-w .
+run ./tinmove check
+holds 'not writable, and built of these sources: runs' has "$out" 'said first'
+chmod -R u+w .
+
+# A build that is ended takes rt with it.
+checkout
+echo 'sleep 77' >"$work/rt_does"
+PATH=$with_rt ./tinmove check >/dev/null 2>&1 </dev/null &
+launched=$!
+for _ in $(seq 50); do has "$work/calls" '^run' && break; sleep 0.1; done
+holds 'ended: rt is there before' pgrep -f "$work/bin/rt run" >/dev/null
+kill "$launched"
+wait "$launched" 2>/dev/null
+holds 'ended: status' same $? 143
+gone() { ! pgrep -f "$work/bin/rt run" >/dev/null; }
+holds 'ended: rt is ended too' gone
+
+echo "$passed passed, $failed failed"
+[ "$failed" -eq 0 ]
