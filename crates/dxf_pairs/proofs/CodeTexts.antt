@@ -1,5 +1,5 @@
 -- Texts of group codes.
-use Rattle.std.proofs.Common.{◌≡◌, ◌==◌, ℕ, ◌≤◌, ℤ, pos, List, [], ◌∷◌, length, drop, Bool, true, false, cond, refl, sym, arith, FitsSigned, w32, nat_lt, nat_le, ◌&&◌, Some, None, neg_ℤ}
+use Rattle.std.proofs.Common.{◌≡◌, ◌==◌, ℕ, ◌≤◌, ℤ, pos, List, [], ◌∷◌, length, drop, Bool, true, false, cond, refl, sym, arith, FitsSigned, w32, nat_lt, nat_le, Some, None, neg_ℤ}
 use Rattle.std.specs.Prelude.{unsigned_abs}
 use Rattle.std.proofs.lemmas.Int.{ints}
 use Rattle.std.specs.Str.{all_ascii_digits, IsUtf8}
@@ -8,41 +8,30 @@ use Rattle.std.specs.Str.Parse.{digits_value, IsNumeral, without_leading_sign, s
 use Rattle.std.proofs.lemmas.Str.{IsUtf8-from_ascii}
 use Rattle.std.proofs.lemmas.Str.Ascii.{IsAscii-nil, IsAscii-cons}
 use Rattle.std.proofs.lemmas.Fmt.{IsAscii-from_digits}
-use Rattle.std.proofs.lemmas.Str.Parse.{IsNumeralModel, numerals_by_value, tells_all_ascii_digits}
 use Rattle.std.proofs.lemmas.Bool.Decides.{nat_tests}
 use Rattle.dxf_pairs.specs.Codes.{are_code_digits, number_of}
 use Rattle.dxf_pairs.specs.declared.codes.TheConstants.{MOST_CODE}
-
-digit_texts : IsNumeralModel (λ ds. all_ascii_digits ds ≡ true) (digits_value 10)
-digit_texts = numerals_by_value (λ ds. all_ascii_digits ds ≡ true) tells_all_ascii_digits
+use Rattle.plain_laws.proofs.Booleans.{and_three, and_three_parts}
+use Rattle.plain_laws.proofs.Digits.{digit_texts}
 
 -- the digits of a group code, as the number's reading says them
 pub record AreCodeDigits (digits : List ℕ) : Type 0 where
   pub numeral : IsNumeral 10 digits
   pub small : digits_value 10 digits ≤ MOST_CODE
 
-both : (a b c : Bool) → (a && b && c) ≡ true → (a ≡ true) × (b ≡ true) × (c ≡ true)
-both true true true h = (refl, refl, refl)
-both true true false h = absurd (cc)
-both true false c h = absurd (cc)
-both false b c h = absurd (cc)
-
 pub are_digits : (digits : List ℕ) → are_code_digits digits ≡ true → AreCodeDigits digits
 are_digits digits h =
-    let parts = both (nat_lt 0 (length digits)) (all_ascii_digits digits) (nat_le (digits_value 10 digits) MOST_CODE) h in
+    let parts = and_three_parts (nat_lt 0 (length digits)) (all_ascii_digits digits) (nat_le (digits_value 10 digits) MOST_CODE) h in
     let first = parts.0 in let last = parts.2 in
     record {
       numeral = (grind (arith, nat_tests, first), digit_texts.to digits parts.1);
       small = grind (arith, nat_tests, last);
     }
 
-all_of : (a b c : Bool) → a ≡ true → b ≡ true → c ≡ true → (a && b && c) ≡ true
-all_of a b c h i j = rw (h, i, j) refl
-
 pub digits_are : (digits : List ℕ) → AreCodeDigits digits → are_code_digits digits ≡ true
 digits_are digits h =
     let some = h.numeral.0 in let small = h.small in
-    all_of (nat_lt 0 (length digits)) (all_ascii_digits digits) (nat_le (digits_value 10 digits) MOST_CODE)
+    and_three (nat_lt 0 (length digits)) (all_ascii_digits digits) (nat_le (digits_value 10 digits) MOST_CODE)
     (grind (arith, nat_tests, some)) (digit_texts.from digits h.numeral.1) (grind (arith, nat_tests, small))
 
 -- a sign and digits have the digits' magnitude

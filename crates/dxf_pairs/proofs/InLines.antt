@@ -23,7 +23,7 @@ two_lines : (first second more : List ℕ) → IsOneLine first → IsOneLine sec
 two_lines first second more one two =
     ap groups_of_lines (line_before_text first (second ++ LINE_FEED ∷ more) one ∙ ap (λ (lines : List (List ℕ)). first ∷ lines) (line_before_text second more two))
 
-blank_no_feed : (byte : ℕ) → is_blank byte ≡ true → (byte == LINE_FEED) ≡ false
+pub blank_no_feed : (byte : ℕ) → is_blank byte ≡ true → (byte == LINE_FEED) ≡ false
 blank_no_feed byte blank = by_test (byte == LINE_FEED) refl where
   by_test : (feed : Bool) → (byte == LINE_FEED) ≡ feed → feed ≡ false
   by_test false feed = refl
@@ -32,7 +32,7 @@ blank_no_feed byte blank = by_test (byte == LINE_FEED) refl where
       let no : is_blank byte ≡ false = rw same refl in
       absurd (cc)
 
-blanks_one_line : (blanks : List ℕ) → AllPass is_blank blanks → IsOneLine blanks
+pub blanks_one_line : (blanks : List ℕ) → AllPass is_blank blanks → IsOneLine blanks
 blanks_one_line blanks all = λ i d within. blank_no_feed (get_or blanks i d) (all i d within)
 
 pub groups_follow : GroupsFollow

@@ -20,27 +20,15 @@ use Rattle.dxf_pairs.specs.Codes.{code_of}
 use Rattle.dxf_pairs.specs.InLines.{IsOneLine}
 use Rattle.dxf_pairs.proofs.FirstLines.{line_before_text}
 use Rattle.dxf_pairs.proofs.Between.{whole_numbers}
+use Rattle.dxf_pairs.proofs.InLines.{blanks_one_line}
 
--- neither a blank nor a digit ends a line
-blank_stays : (byte : ℕ) → is_blank byte ≡ true → (byte == LINE_FEED) ≡ false
-blank_stays byte blank = by (byte == LINE_FEED) refl
-  where
-    by : (feed : Bool) → (byte == LINE_FEED) ≡ feed → (byte == LINE_FEED) ≡ false
-    by true is =
-        let same : byte ≡ LINE_FEED = grind (arith, nat_tests, is) in
-        let never : is_blank LINE_FEED ≡ true = subst (λ (b : ℕ). is_blank b ≡ true) same blank in
-        absurd (cc)
-    by false is = is
-
+-- no digit ends a line
 digit_stays : (byte : ℕ) → IsInRange 48 57 byte → (byte == LINE_FEED) ≡ false
 digit_stays byte (low, high) = by (byte == LINE_FEED) refl
   where
     by : (feed : Bool) → (byte == LINE_FEED) ≡ feed → (byte == LINE_FEED) ≡ false
     by true is = absurd (grind (arith, nat_tests, is))
     by false is = is
-
-blanks_stay : (text : List ℕ) → AllPass is_blank text → IsOneLine text
-blanks_stay text blanks = λ k d below. blank_stays (get_or text k d) (blanks k d below)
 
 digits_stay : (text : List ℕ) → AllDigits 10 text → IsOneLine text
 digits_stay text digits = λ k d below. rw (get_or_default text k d 0 below) (digit_stays (get_or text k 0) (digit_at text k digits below))
@@ -102,8 +90,8 @@ module _ (text : List ℕ) (before digits behind : ℕ) (is : IsPlain text befor
   one : IsOneLine (take (before + digits + behind) text)
   one =
       subst IsOneLine (sym parts)
-      (All-append (λ byte. (byte == LINE_FEED) ≡ false) front (middle ++ back) (blanks_stay front blank_front)
-      (All-append (λ byte. (byte == LINE_FEED) ≡ false) middle back (digits_stay middle is.all_digits) (blanks_stay back blank_back)))
+      (All-append (λ byte. (byte == LINE_FEED) ≡ false) front (middle ++ back) (blanks_one_line front blank_front)
+      (All-append (λ byte. (byte == LINE_FEED) ≡ false) middle back (digits_stay middle is.all_digits) (blanks_one_line back blank_back)))
 
   pub plain_line : lines_of text ≡ take (before + digits + behind) text ∷ lines_of (drop (before + digits + behind + 1) text)
   plain_line =

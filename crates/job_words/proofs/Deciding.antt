@@ -1,5 +1,5 @@
 -- Truth values of tests.
-use Rattle.std.proofs.Common.{◌≡◌, ◌≢◌, ◌↔◌, ◌≤◌, ◌||◌, ℕ, List, Bool, not, true, false, refl, sym}
+use Rattle.std.proofs.Common.{◌≡◌, ◌≢◌, ◌↔◌, ◌≤◌, ℕ, List, Bool, not, true, false, refl, sym}
 use Rattle.std.specs.Prelude.{nat_le}
 use Rattle.std.specs.Str.{bytes_eq}
 use Rattle.std.proofs.lemmas.Bool.{leb-true}
@@ -32,8 +32,3 @@ not-false false is = is
 pub not-true : (test : Bool) → true ≡ not test → test ≡ false
 not-true true is = is
 not-true false is = refl
-
--- neither of two tests passes
-pub neither : (test other : Bool) → (test || other) ≡ false → (test ≡ false) × (other ≡ false)
-neither true other fails = absurd (cc)
-neither false other fails = (refl, fails)

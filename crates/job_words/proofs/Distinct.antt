@@ -8,7 +8,7 @@ use Rattle.std.proofs.lemmas.List.{length-append}
 use Rattle.std.proofs.lemmas.Slice.Eq.{bytes_eq-Decides}
 use Rattle.job_words.specs.Names.{first_again, stands_before}
 use Rattle.job_words.specs.Kept.{AreDistinct}
-use Rattle.job_words.proofs.Deciding.{neither}
+use Rattle.std.proofs.lemmas.Bool.{or_parts}
 
 -- each text is none of those before it
 abbrev AreFresh : List (List ℕ) → List (List ℕ) → Type 0
@@ -37,7 +37,7 @@ fresh-behind before (text ∷ texts) all is none =
 differs-from : (text : List ℕ) (before : List (List ℕ)) → list_any (bytes_eq text) before ≡ false → AllByRecursion (λ other. text ≢ other) before
 differs-from text [] none = tt
 differs-from text (other ∷ before) none =
-    let parts = neither (bytes_eq text other) (list_any (bytes_eq text) before) none in
+    let parts = or_parts (bytes_eq text other) (list_any (bytes_eq text) before) none in
     (λ same. true≢false (sym ((bytes_eq-Decides text other).1 same) ∙ parts.0), differs-from text before parts.1)
 
 -- what holds of all holds of one that stands among others

@@ -27,8 +27,3 @@ pub record IsLet {A : Type 0} (test : Bool) (value last : A) : Type 0 where
 pub let_through : {A : Type 0} (test : Bool) (value last : A) → cond test (Some value) None ≡ Some last → IsLet test value last
 let_through true value last is = record { passes = refl; same = some_is value last is }
 let_through false value last is = absurd (none-some last is)
-
-pub both_true : (a b : Bool) → (a && b) ≡ true → (a ≡ true) × (b ≡ true)
-both_true true true is = (refl, refl)
-both_true true false is = absurd cc
-both_true false b is = absurd cc

@@ -10,9 +10,10 @@ use Rattle.report_text.specs.Fields.{long_at, short_at, name_at}
 use Rattle.report_text.specs.LineKinds.{row_at, layer_of, is_end_of_extents, is_extents, count_of}
 use Rattle.report_text.specs.ReportText.{field, sizes, losses, layer_line, extents_line, count_line}
 use Rattle.report_text.specs.Reports.{IsPrintable, IsLayerHeld}
-use Rattle.report_text.proofs.Binding.{bound, some_is, let_through, both_true}
+use Rattle.report_text.proofs.Binding.{bound, some_is, let_through}
 use Rattle.report_text.proofs.FieldLaws.{long_again, long_takes, short_again, short_takes}
 use Rattle.report_text.proofs.Words.{name_again, name_takes, equals_itself}
+use Rattle.std.proofs.lemmas.Bool.{and_parts}
 
 abbrev row_text : LayerRow → List ℕ
 row_text row = concat (sizes row ∷ losses row ∷ codes " name " ∷ row.name ∷ [])
@@ -130,7 +131,7 @@ extents_again number small =
 extents_told : (number : ℕ) (line : List ℕ) (read : Option (ℕ × List ℕ)) → long_at (codes "extents ") line ≡ read → is_end_of_extents number read ≡ true → line ≡ field (codes "extents ") number ++ as_were
 extents_told number line None read is = absurd cc
 extents_told number line (Some found) read is =
-    let tests = both_true (found.0 == number) (bytes_eq found.1 as_were) is in
+    let tests = and_parts (found.0 == number) (bytes_eq found.1 as_were) is in
     let taken = long_takes (codes "extents ") line found read in
     let passes = tests.0 in
     let same : found.0 ≡ number = grind (arith, nat_tests, passes) in

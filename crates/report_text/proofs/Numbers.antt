@@ -12,11 +12,10 @@ use Rattle.std.proofs.lemmas.Fmt.{decimal_is_IsNumeral, decimal-digits_value, fi
 use Rattle.std.proofs.lemmas.List.{take_at, drop_at, take-append-drop}
 use Rattle.std.proofs.lemmas.Str.{IsUtf8-from_ascii}
 use Rattle.std.proofs.lemmas.Str.Parse.{IsNumeralModel, numerals_by_value, tells_all_ascii_digits, parse_digits}
-use Rattle.report_text.proofs.Binding.{both_true, bound, some_is}
+use Rattle.report_text.proofs.Binding.{bound, some_is}
 use Rattle.report_text.specs.Fields.{has_leading_zero, number_of, number_at}
-
-pub digit_texts : IsNumeralModel (λ ds. all_ascii_digits ds ≡ true) (digits_value 10)
-digit_texts = numerals_by_value (λ ds. all_ascii_digits ds ≡ true) tells_all_ascii_digits
+use Rattle.std.proofs.lemmas.Bool.{and_parts}
+use Rattle.plain_laws.proofs.Digits.{digit_texts}
 
 pub digits_utf8 : (digits : List ℕ) → all_ascii_digits digits ≡ true → IsUtf8 digits
 digits_utf8 digits all = IsUtf8-from_ascii digits (IsAscii-from_digits digits (digit_texts.to digits all))
@@ -147,7 +146,7 @@ pub digits_end : (digits rest : List ℕ) → all_ascii_digits digits ≡ true �
 digits_end [] [] all stops = refl
 digits_end [] (byte ∷ rest) all stops = rw stops refl
 digits_end (digit ∷ digits) rest all stops =
-    let parts = both_true (is_ascii_digit digit) (all_ascii_digits digits) all in
+    let parts = and_parts (is_ascii_digit digit) (all_ascii_digits digits) all in
     let later = digits_end digits rest parts.1 stops in
     rw (parts.0, later) (omega arith)
 

@@ -6,9 +6,10 @@ use Rattle.std.specs.Str.{is_utf8, bytes_eq}
 use Rattle.std.proofs.lemmas.Bool.Decides.{nat_tests}
 use Rattle.std.proofs.lemmas.List.{take_at, drop_at, take-append-drop}
 use Rattle.std.proofs.lemmas.Str.{IsUtf8-from_is_utf8, is_utf8-from_IsUtf8}
-use Rattle.report_text.proofs.Binding.{bound, let_through, both_true}
+use Rattle.report_text.proofs.Binding.{bound, let_through}
 use Rattle.report_text.specs.Fields.{after, is_printable, name_at}
 use Rattle.report_text.specs.Reports.{IsPrintable}
+use Rattle.std.proofs.lemmas.Bool.{and_parts}
 
 pub equals_itself : (text : List ℕ) → bytes_eq text text ≡ true
 equals_itself [] = refl
@@ -29,7 +30,7 @@ after_takes word text rest is =
 pub printable_is : (name : List ℕ) → is_printable name ≡ true → IsPrintable name
 printable_is [] is = tt
 printable_is (byte ∷ name) is =
-    let parts = both_true (nat_le 32 byte) (is_printable name) is in
+    let parts = and_parts (nat_le 32 byte) (is_printable name) is in
     let first = parts.0 in
     (grind (arith, nat_tests, first), printable_is name parts.1)
 
@@ -54,7 +55,7 @@ unfolding name_at
 name_takes text name is =
     let read = bound (after (codes " name ") text) (λ n. cond (is_printable n && is_utf8 n) (Some n) None) name is in
     let found = let_through (is_printable read.found && is_utf8 read.found) read.found name read.goes_on in
-    let tests = both_true (is_printable read.found) (is_utf8 read.found) found.passes in
+    let tests = and_parts (is_printable read.found) (is_utf8 read.found) found.passes in
     record {
       parts = after_takes (codes " name ") text read.found read.is ∙ ap (λ n. codes " name " ++ n) found.same;
       printable = subst IsPrintable found.same (printable_is read.found tests.0);

@@ -17,6 +17,7 @@ use Rattle.tin_base.specs.Segments.{Spot, spot_at, IsPart}
 use Rattle.tin_base.proofs.Spots.{spot-w}
 use Rattle.tin_base.proofs.Ends.{IsSpot, out_z}
 use Rattle.plain_laws.proofs.Weights.{share_some, share_axis}
+pub use Rattle.plain_laws.proofs.Weights.{share_axis as one_axis}
 
 -- the spot at n/d
 pub record IsSpotAt (n d : ℤ) (s : Spot) : Type 0 where

@@ -7,7 +7,7 @@ use Rattle.integer_ring.proofs.Ring.{num, ◌⊕◌, ◌⊗◌}
 use Rattle.integer_ring.proofs.Claims.{◌≐◌, eqn, ◌because◌, ◌⇒◌, follows}
 use Rattle.plane_base.specs.Plane.{Point, weighed}
 use Rattle.tin_base.specs.Soundness.{has, common}
-use Rattle.plain_laws.proofs.Weights.{sum-cons}
+pub use Rattle.plain_laws.proofs.Weights.{sum-cons}
 
 -- the sum of a value over numbers, each as often as its weight says
 abbrev pub total : (ℕ → ℤ) → List ℕ → List ℕ → ℤ
