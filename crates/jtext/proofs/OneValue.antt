@@ -5,7 +5,7 @@ use Rattle.jtext.specs.Characters.{from_to, hexadecimal, Fits, Form, classes, Ch
 use Rattle.jtext.specs.Numbers.{IsDigit, IsMinus, IsInt, IsFraction, IsMark, IsSign, IsExponent, IsNumber}
 use Rattle.jtext.specs.Values.{Json, Elements, Members, null, truth, numeral, quoted, array, object, no_element, element, no_member, member, quoted_text, spelling, elements_text, elements_behind, members_text, members_behind, IsBlank, AreBlank, IsArrayBlank, IsObjectBlank, IsValue, AreElements, AreMembers}
 use Rattle.jtext.specs.Texts.{Whole, mark_text, IsWhole}
-use Rattle.jtext.proofs.UnitLaws.{one_byte, two_bytes, three_bytes, four_bytes}
+use Rattle.jtext.proofs.UnitLaws.{same_rest, one_byte, two_bytes, three_bytes, four_bytes}
 
 -- the text does not go on with a byte of the class
 abbrev pub StopsAt : (ℕ → Type 0) → List ℕ → Type 0
@@ -360,9 +360,6 @@ same_member a b k l c d e f v w g h ms ns p q x y keys parts rest =
 bracketed : (blank text r : List ℕ) (close : ℕ) → (blank ++ (text ++ close ∷ [])) ++ r ≡ blank ++ (text ++ close ∷ r)
 bracketed blank text r close = append_assoc blank (text ++ close ∷ []) r ∙ ap (λ z. blank ++ z) (append_assoc text (close ∷ []) r)
 
-same_tail : (p q : ℕ) (x y : List ℕ) → p ∷ x ≡ q ∷ y → x ≡ y
-same_tail p q x y e = cc
-
 -- white space and a bracket that closes are not white space and a value
 no_closed : (a c r x : List ℕ) → AreBlank a → AreBlank c → Begins x → a ++ 93 ∷ r ≡ c ++ x → ⊥
 no_closed a c r [] ba cs begins same = absurd begins
@@ -446,7 +443,7 @@ mutual
   elements_one : (es fs : Elements) (m n : ℕ) (a b r s : List ℕ) → IsArrayBlank a es → IsArrayBlank b fs → AreElements m es → AreElements n fs
       → a ++ (elements_text es ++ 93 ∷ r) ≡ b ++ (elements_text fs ++ 93 ∷ s) → (a ≡ b) × (es ≡ fs) × (r ≡ s)
   elements_one no_element no_element m n a b r s ba bb p q same =
-      let cut = blank_cut a b (93 ∷ r) (93 ∷ s) ba bb (other_byte 93 r (omega arith)) (other_byte 93 s (omega arith)) same in (cut.0, refl, same_tail 93 93 r s cut.1)
+      let cut = blank_cut a b (93 ∷ r) (93 ∷ s) ba bb (other_byte 93 r (omega arith)) (other_byte 93 s (omega arith)) same in (cut.0, refl, same_rest 93 93 r s cut.1)
   elements_one no_element (element d w h fs) m n a b r s ba bb p q same = absurd (no_closed a d r (spelling w ++ (h ++ (elements_behind fs ++ 93 ∷ s))) ba q.0 (value_begins w n _ q.1)
       (same ∙ (ap (λ z. z ++ (elements_text (element d w h fs) ++ 93 ∷ s)) bb ∙ four_texts d (spelling w) h (elements_behind fs) (93 ∷ s))))
   elements_one (element c v g es) no_element m n a b r s ba bb p q same = absurd (no_closed b c s (spelling v ++ (g ++ (elements_behind es ++ 93 ∷ r))) bb p.0 (value_begins v m _ p.1)
@@ -460,12 +457,12 @@ mutual
       (ba ∙ sym bb, same_element c d v w g h es fs _ _ parts more.0, more.1)
 
   behind_one : (es fs : Elements) (m n : ℕ) (r s : List ℕ) → AreElements m es → AreElements n fs → elements_behind es ++ 93 ∷ r ≡ elements_behind fs ++ 93 ∷ s → (es ≡ fs) × (r ≡ s)
-  behind_one no_element no_element m n r s p q same = (refl, same_tail 93 93 r s same)
+  behind_one no_element no_element m n r s p q same = (refl, same_rest 93 93 r s same)
   behind_one no_element (element d w h fs) m n r s p q same = let e : ◌≡◌ {A = ℕ} 93 44 = cc in absurd (omega (arith, e))
   behind_one (element c v g es) no_element m n r s p q same = let e : ◌≡◌ {A = ℕ} 44 93 = cc in absurd (omega (arith, e))
   behind_one (element c v g es) (element d w h fs) m n r s p q same =
       let texts : c ++ (spelling v ++ (g ++ (elements_behind es ++ 93 ∷ r))) ≡ d ++ (spelling w ++ (h ++ (elements_behind fs ++ 93 ∷ s))) =
-      sym (four_texts c (spelling v) g (elements_behind es) (93 ∷ r)) ∙ (same_tail 44 44 _ _ same ∙ four_texts d (spelling w) h (elements_behind fs) (93 ∷ s)) in
+      sym (four_texts c (spelling v) g (elements_behind es) (93 ∷ r)) ∙ (same_rest 44 44 _ _ same ∙ four_texts d (spelling w) h (elements_behind fs) (93 ∷ s)) in
       let parts = valued v w m n c d g h _ _ p.1 q.1 p.0 q.0 p.2 q.2 (behind_ends es r) (behind_ends fs s) (value_one v w m n p.1 q.1) texts in
       let more = behind_one es fs m n r s p.3 q.3 parts.rest in
       (same_element c d v w g h es fs _ _ parts more.0, more.1)
@@ -473,7 +470,7 @@ mutual
   members_one : (ms ns : Members) (m n : ℕ) (a b r s : List ℕ) → IsObjectBlank a ms → IsObjectBlank b ns → AreMembers m ms → AreMembers n ns
       → a ++ (members_text ms ++ 125 ∷ r) ≡ b ++ (members_text ns ++ 125 ∷ s) → (a ≡ b) × (ms ≡ ns) × (r ≡ s)
   members_one no_member no_member m n a b r s ba bb p q same =
-      let cut = blank_cut a b (125 ∷ r) (125 ∷ s) ba bb (other_byte 125 r (omega arith)) (other_byte 125 s (omega arith)) same in (cut.0, refl, same_tail 125 125 r s cut.1)
+      let cut = blank_cut a b (125 ∷ r) (125 ∷ s) ba bb (other_byte 125 r (omega arith)) (other_byte 125 s (omega arith)) same in (cut.0, refl, same_rest 125 125 r s cut.1)
   members_one no_member (member d l e f w h ns) m n a b r s ba bb p q same = absurd (no_key a d r (chars_text l ++ 34 ∷ []) (e ++ 58 ∷ (f ++ (spelling w ++ (h ++ (members_behind ns ++ 125 ∷ s))))) ba q.0
       (same ∙ (ap (λ z. z ++ (members_text (member d l e f w h ns) ++ 125 ∷ s)) bb ∙ seven_texts d (quoted_text l) e f (spelling w) h (members_behind ns) (125 ∷ s))))
   members_one (member c k e f v g ms) no_member m n a b r s ba bb p q same = absurd (no_key b c s (chars_text k ++ 34 ∷ []) (e ++ 58 ∷ (f ++ (spelling v ++ (g ++ (members_behind ms ++ 125 ∷ r))))) bb p.0
@@ -487,11 +484,11 @@ mutual
       (ba ∙ sym bb, same_member c d k l i e j f v w g h ms ns _ _ _ _ keys parts more.0, more.1)
 
   others_one : (ms ns : Members) (m n : ℕ) (r s : List ℕ) → AreMembers m ms → AreMembers n ns → members_behind ms ++ 125 ∷ r ≡ members_behind ns ++ 125 ∷ s → (ms ≡ ns) × (r ≡ s)
-  others_one no_member no_member m n r s p q same = (refl, same_tail 125 125 r s same)
+  others_one no_member no_member m n r s p q same = (refl, same_rest 125 125 r s same)
   others_one no_member (member d l e f w h ns) m n r s p q same = let e : ◌≡◌ {A = ℕ} 125 44 = cc in absurd (omega (arith, e))
   others_one (member c k i j v g ms) no_member m n r s p q same = let e : ◌≡◌ {A = ℕ} 44 125 = cc in absurd (omega (arith, e))
   others_one (member c k i j v g ms) (member d l e f w h ns) m n r s p q same =
-      let texts = sym (seven_texts c (quoted_text k) i j (spelling v) g (members_behind ms) (125 ∷ r)) ∙ (same_tail 44 44 _ _ same ∙ seven_texts d (quoted_text l) e f (spelling w) h (members_behind ns) (125 ∷ s)) in
+      let texts = sym (seven_texts c (quoted_text k) i j (spelling v) g (members_behind ms) (125 ∷ r)) ∙ (same_rest 44 44 _ _ same ∙ seven_texts d (quoted_text l) e f (spelling w) h (members_behind ns) (125 ∷ s)) in
       let keys = keyed c d i e (j ++ (spelling v ++ (g ++ (members_behind ms ++ 125 ∷ r)))) (f ++ (spelling w ++ (h ++ (members_behind ns ++ 125 ∷ s)))) k l p.0 q.0 p.1 q.1 p.2 q.2 texts in
       let parts = valued v w m n j f g h _ _ p.4 q.4 p.3 q.3 p.5 q.5 (members_end ms r) (members_end ns s) (value_one v w m n p.4 q.4) keys.rest in
       let more = others_one ms ns m n r s p.6 q.6 parts.rest in

@@ -83,7 +83,7 @@ alone_or_wide Form.four_last bytes fits = inr (wide_four 0xF4 0xF4 0x80 0x8F byt
 same_first : (a b : ℕ) (xs ys : List ℕ) → a ∷ xs ≡ b ∷ ys → a ≡ b
 same_first a b xs ys h = cc
 
-same_rest : (a b : ℕ) (xs ys : List ℕ) → a ∷ xs ≡ b ∷ ys → xs ≡ ys
+pub same_rest : (a b : ℕ) (xs ys : List ℕ) → a ∷ xs ≡ b ∷ ys → xs ≡ ys
 same_rest a b xs ys h = cc
 
 outside_point : (point : ℕ) → 128 ≤ point → (unit : ℕ) × (more : List ℕ) × (units_of_point point ≡ unit ∷ more) × (128 ≤ unit)

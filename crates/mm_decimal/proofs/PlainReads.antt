@@ -16,7 +16,8 @@ use Rattle.mm_decimal.proofs.Values.{number_after, number_after-is, number_after
 use Rattle.mm_decimal.proofs.Scales.{whole_rounds}
 use Rattle.mm_decimal.proofs.Floors.{value_read_so}
 
-all_behind : (xs ys : List ℕ) → AllByRecursion IsDigit xs → AllByRecursion IsDigit ys → AllByRecursion IsDigit (xs ++ ys)
+-- what holds of all digits of both parts
+pub all_behind : (xs ys : List ℕ) → AllByRecursion IsDigit xs → AllByRecursion IsDigit ys → AllByRecursion IsDigit (xs ++ ys)
 all_behind [] ys a b = b
 all_behind (x ∷ xs) ys a b = (a.0, all_behind xs ys a.1 b)
 

@@ -1,38 +1,40 @@
 //! Hashes of rows that no row can foresee.
 
-ghost use Rattle.std.specs.Prelude.{◌≡◌, ◌%◌, length, drop, replicate};
+ghost use Rattle.std.specs.Prelude.{◌≡◌, fold};
+ghost use Rattle.std.specs.Hash as fed;
 ghost use Rattle.std.specs.Hash.DefaultHasher as sip;
+ghost use Rattle.std.specs.Hash.FoldHasher as folding;
 
-use std::hash::{BuildHasher, DefaultHasher, Hasher};
+use std::hash::{BuildHasher, DefaultHasher, FoldHasher, Hasher};
 
-/// Hashes a row as SipHash of the whole text of the file with the row behind it. Which rows collide
-/// follows from every byte of the file, so rows that collide are not found beforehand.
+/// Hashes rows by the quick hasher of maps, with SipHash of the whole text of the file for its
+/// seed. Which rows collide follows from every byte of the file, so rows that collide are not found
+/// beforehand.
 #[derive(Clone, Copy)]
 pub struct TextHash {
-    pub behind: DefaultHasher,
+    pub seeded: FoldHasher,
 }
 
 impl BuildHasher for TextHash {
-    type Hasher = DefaultHasher;
+    type Hasher = FoldHasher;
 
-    ghost build_hasher = { λ hash. hash.behind };
+    ghost build_hasher = { λ hash. hash.seeded };
 
     #[inline(always)]
-    fn build_hasher(&self) -> DefaultHasher {
-        self.behind
+    fn build_hasher(&self) -> FoldHasher {
+        self.seeded
     }
 }
 
 impl TextHash {
-    /// The hash of rows of this text. Zeros fill up the text to a whole word, so that the numbers of
-    /// rows go in as words.
+    /// The hash of rows of this text.
     pub fn of(text: &[u8]) -> TextHash
-        ensures { result.behind ≡ sip.write (sip.write sip.initial text.now) (drop (length text.now % 8) (replicate 8 0)) }
+        ensures { result.seeded ≡ fold folding.write folding.initial (fed.u64 (sip.finish (sip.write sip.initial text.now))) }
     {
-        let zeros = [0; 8];
-        let mut behind = DefaultHasher::new();
-        behind.write(text);
-        behind.write(&zeros[text.len() % 8..]);
-        TextHash { behind }
+        let mut whole = DefaultHasher::new();
+        whole.write(text);
+        let mut seeded = FoldHasher::default();
+        seeded.write_u64(whole.finish());
+        TextHash { seeded }
     }
 }
