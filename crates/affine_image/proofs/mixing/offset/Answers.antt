@@ -12,8 +12,8 @@ overflow_add-part c =
     let f : SFits w128 u = search rules in let g : SFits w128 v = search rules in
     simp to_z-of_z (sum_fits u v c.part.ensures.size c.part-2.ensures.size)
 
-pub half_up-requires-clause-num_small : goal.half_up-requires-clause-num_small
-half_up-requires-clause-num_small c =
+pub round_half_up-requires-clause-num_small : goal.round_half_up-requires-clause-num_small
+round_half_up-requires-clause-num_small c =
     let u = c.part.result in let v = c.part-2.result in
     let f : SFits w128 u = search rules in let g : SFits w128 v = search rules in
     let h = sum_fits u v c.part.ensures.size c.part-2.ensures.size in
