@@ -6,7 +6,8 @@ use Rattle.std.proofs.lemmas.Cmp.{nat_eq_equiv}
 use Rattle.std.proofs.lemmas.List.{get_or_default}
 use Rattle.std.proofs.lemmas.Map.Keys.{apart_from_distinct}
 use Rattle.plane_base.specs.declared.shapes.Rect.{Rect}
-use Rattle.cell_grid.specs.Boxes.{ShareAPoint, ShareAPointOrAreApart, AreApart, box_at}
+use Rattle.plane_base.specs.Boxes.{AreApart}
+use Rattle.cell_grid.specs.Boxes.{ShareAPoint, ShareAPointOrAreApart, box_at}
 use Rattle.cell_grid.specs.Partners.{IsPartner, ArePartners, EachPairIsToldOnce}
 use Rattle.tin_base.specs.declared.frames.Frame.{Frame}
 use Rattle.tin_base.specs.declared.frames.Frame.TheVariants.{Source, Target}
@@ -18,7 +19,8 @@ use Rattle.topo_check.specs.Changes.{piece_at}
 use Rattle.topo_check.specs.declared.comparing.ChangedPair.{ChangedPair}
 use Rattle.topo_check.specs.Pairs.{IsChanged, IsUnchanged, HasPair, AreCollected, DoesCollect, AreComparedIn, IsPairOf, IsPairWith, DoShareIn}
 use Rattle.topo_check.proofs.Collects.{collect_more, collect_as, collect_none, collect_one}
-use Rattle.topo_check.proofs.InBoxes.{far_had, far_has, apart_or_not}
+use Rattle.plane_base.proofs.BoxLemmas.{apart_or_not}
+use Rattle.topo_check.proofs.InBoxes.{far_had, far_has}
 
 no_truth : true ≡ false → ⊥
 no_truth e = cc

@@ -1,5 +1,5 @@
 -- Boxes of whole sides round points at parameters of a segment, and round a piece's exact ends.
-use Rattle.std.proofs.Common.{◌≡◌, ◌↔◌, ℤ, pos, negsuc, ◌+ℤ◌, ◌-ℤ◌, ◌*ℤ◌, ◌≤ℤ◌, ◌<ℤ◌, ◌^◌, ◌-◌, ◌≤◌, neg_ℤ, unsigned_abs, List, [], ◌∷◌, SFits, arith, mul-le-mul}
+use Rattle.std.proofs.Common.{◌≡◌, ◌↔◌, ℤ, pos, negsuc, ◌+ℤ◌, ◌-ℤ◌, ◌*ℤ◌, ◌≤ℤ◌, ◌<ℤ◌, ◌^◌, ◌-◌, ◌≤◌, neg_ℤ, unsigned_abs, [], ◌∷◌, SFits, arith, mul-le-mul}
 use Rattle.std.proofs.lemmas.Int.{ints, unsigned_abs-mul}
 use mir.Syntax.{w64, w128}
 use Rattle.integer_ring.proofs.Ring.{num, ◌⊕◌, ◌⊖◌, ◌⊗◌}
@@ -9,13 +9,13 @@ use Rattle.integer_ring.proofs.Floor.{floor-≤, floor-<}
 use Rattle.frac128.specs.Sizes.{IsSmall}
 use Rattle.frac128.specs.declared.frac.Frac.{Frac}
 use Rattle.frac128.specs.declared.frac.TheConstants.{TURN}
-use Rattle.plane_base.specs.Plane.{Point, IsMix, IsShort, weighed}
+use Rattle.plane_base.specs.Plane.{Point, IsShort}
 use Rattle.plane_base.specs.Slices.{IsParam}
 use Rattle.plane_base.specs.declared.shapes.Pt.{Pt}
 use Rattle.plane_base.specs.declared.shapes.Rect.{Rect}
 use Rattle.plane_base.specs.declared.shapes.TheConstants.{SPAN}
-use Rattle.plane_base.specs.Laws.{ArePlaces}
-use Rattle.plane_base.proofs.Mixes.{weighed-place}
+use Rattle.plane_base.specs.Boxes.{IsIn, AreIn, common_of}
+use Rattle.plane_base.proofs.BoxLemmas.{mix_in, common_within, common_has, ordered_by}
 use Rattle.tin_base.specs.declared.pieces.Piece.{Piece}
 use Rattle.tin_base.specs.Triangulation.{Triangulation}
 use Rattle.tin_base.specs.Segments.{Part}
@@ -25,8 +25,8 @@ use Rattle.meet_rel.specs.Clips.{at}
 use Rattle.meet_rel.proofs.Ending.{has_ends}
 use Rattle.meet_rel.proofs.Scale.{mix_first}
 use Rattle.meet_rel.proofs.Ways.{at-w}
-use Rattle.topo_check.specs.Boxes.{IsIn, AreIn, IsExactBox, IsUpToPlace, IsFromPlace}
-use Rattle.topo_check.proofs.InBoxes.{sum_in, moved_in, ordered_by, IsWithin, among_within}
+use Rattle.topo_check.specs.Boxes.{IsExactBox, IsUpToPlace, IsFromPlace}
+use Rattle.topo_check.proofs.InBoxes.{among_within}
 
 -- ---- a share of a way
 pub product_fits : (n z : ℤ) → IsSmall n → IsShort z → SFits w128 (n *ℤ z)
@@ -114,22 +114,22 @@ place_in box a b f left bottom right top param l o r t hl ho hr ht = record {
 }
 
 -- ---- the box of a piece's exact ends
-mix_placed : (box : Rect) (ps : List Point) → ArePlaces ps → AreIn box ps → (r : Point) → pos 0 <ℤ r.w → IsMix r ps → IsIn box r
-mix_placed box ps places h r hr mix = moved_in box r (weighed mix.0 ps) hr (weighed-place mix.0 ps mix.1 places mix.2) mix.3 (sum_in box mix.0 ps h)
-
-pub tightened : (tin : Triangulation) (piece : Piece) (lo hi : Frac) (ends outer box : Rect) → IsPieceInside tin piece → IsExactBox tin piece outer
+pub tightened : (tin : Triangulation) (piece : Piece) (lo hi : Frac) (ends outer : Rect) → IsPieceInside tin piece → IsExactBox tin piece outer
     → ((part : Part) → IsPieceOf tin piece part → (r : Point) → pos 0 <ℤ r.w → IsBetween (first_point piece part) (last_point piece part) r ↔ IsBetween (at piece.a piece.b lo) (at piece.a piece.b hi) r)
-    → AreIn ends (at piece.a piece.b lo ∷ at piece.a piece.b hi ∷ []) → ((r : Point) → IsIn ends r → IsIn outer r → IsIn box r) → IsWithin box outer → IsExactBox tin piece box
-tightened tin piece lo hi ends outer box inside is points in_ends common within =
+    → AreIn ends (at piece.a piece.b lo ∷ at piece.a piece.b hi ∷ []) → IsExactBox tin piece (common_of ends outer)
+tightened tin piece lo hi ends outer inside is points in_ends =
     let part = inside.is_piece.0 in let of = inside.is_piece.1 in
     let first = (has_ends tin piece part of).first_positive in record {
       ordered = ordered_by box (first_point piece part) first (each part of (first_point piece part) first (mix_first (first_point piece part) (last_point piece part)));
       encloses = each;
-      among = among_within tin box outer within is.among;
+      among = among_within tin outer box (common_within ends outer).1 is.among;
     }
   where
-    each : (part : Part) → IsPieceOf tin piece part → (r : Point) → pos 0 <ℤ r.w → IsBetween (first_point piece part) (last_point piece part) r → IsIn box r
+    box : Rect
+    box = common_of ends outer
+
+    each : (part : Part) → IsPieceOf tin piece part → (r : Point) → pos 0 <ℤ r.w → IsBetween (first_point piece part) (last_point piece part) r → IsIn (common_of ends outer) r
     each part of r hr between =
-        common r
-        (mix_placed ends (at piece.a piece.b lo ∷ at piece.a piece.b hi ∷ []) (at-w piece.a piece.b lo, (at-w piece.a piece.b hi, tt)) in_ends r hr ((points part of r hr).0 between))
+        common_has ends outer r
+        (mix_in ends (at piece.a piece.b lo ∷ at piece.a piece.b hi ∷ []) (at-w piece.a piece.b lo, (at-w piece.a piece.b hi, tt)) in_ends r hr ((points part of r hr).0 between))
         (is.encloses part of r hr between)

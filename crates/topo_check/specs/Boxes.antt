@@ -5,7 +5,8 @@ use Rattle.frac128.specs.declared.frac.Frac.{Frac}
 use Rattle.plane_base.specs.declared.shapes.Pt.{Pt}
 use Rattle.plane_base.specs.declared.shapes.Rect.{Rect}
 use Rattle.plane_base.specs.Plane.{Point, whole}
-use Rattle.cell_grid.specs.Boxes.{IsOrdered, box_at}
+use Rattle.plane_base.specs.Boxes.{IsIn, IsOrdered}
+use Rattle.cell_grid.specs.Boxes.{box_at}
 use Rattle.tin_base.specs.declared.corners.Corner.{Corner}
 use Rattle.tin_base.specs.declared.pieces.Piece.{Piece}
 use Rattle.tin_base.specs.Triangulation.{Triangulation, corner_at}
@@ -14,19 +15,7 @@ use Rattle.tin_base.specs.Relations.{IsBetween}
 use Rattle.tin_base.specs.Pieces.{IsPieceOf, first_point, last_point}
 use Rattle.topo_check.specs.Changes.{piece_at}
 
--- the point is in the box
-pub record IsIn (box : Rect) (r : Point) : Type 0 where
-  pub left : (box.x0 *ℤ r.w) ≤ℤ r.x
-  pub right : r.x ≤ℤ (box.x1 *ℤ r.w)
-  pub bottom : (box.y0 *ℤ r.w) ≤ℤ r.y
-  pub top : r.y ≤ℤ (box.y1 *ℤ r.w)
-
--- the points are
-abbrev pub AreIn : Rect → List Point → Type 0
-AreIn box [] = Unit {0}
-AreIn box (p ∷ ps) = IsIn box p × AreIn box ps
-
--- each point of the segment from p to q is
+-- each point of the segment from p to q is in the box
 abbrev pub HasSegment : Rect → Point → Point → Type 0
 HasSegment box p q = (r : Point) → pos 0 <ℤ r.w → IsBetween p q r → IsIn box r
 

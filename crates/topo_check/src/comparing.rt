@@ -4,7 +4,6 @@ ghost use Rattle.topo_check.specs.Boxes.{AreBoxesOf, IsExactBox};
 ghost use Rattle.topo_check.specs.Changes.{AreAllComparable, HadRelation, piece_at};
 ghost use Rattle.topo_check.specs.Pairs.{AreComparedIn, IsChanged, IsUnchanged};
 
-use crate::boxes::are_apart;
 use meet_rel::{piece_rel, rel};
 use plane_base::Rect;
 use tin_base::{Frame, Piece, Rel, SoundTin};
@@ -71,7 +70,7 @@ fn relation_before(
     match frame {
         Frame::Source => Some(piece_rel(&pieces[first as usize], &pieces[second as usize], tin)),
         Frame::Target => {
-            if are_apart(&boxes[first as usize], &boxes[second as usize]) {
+            if boxes[first as usize].is_apart_from(&boxes[second as usize]) {
                 Some(Rel::Apart)
             } else {
                 None

@@ -1,4 +1,5 @@
-ghost use Rattle.std.specs.Prelude.{ℤ, pos, ◌-ℤ◌, ◌*ℤ◌, ◌≤ℤ◌};
+ghost use Rattle.std.specs.Int.{int_div_euclid};
+ghost use Rattle.std.specs.Prelude.{◌≡◌, ℤ, pos, ◌-ℤ◌, ◌*ℤ◌, ◌≤ℤ◌};
 ghost use Rattle.plane_base.specs.Plane.{IsShort};
 ghost use Rattle.plane_base.specs.Slices.{IsParam};
 ghost use Rattle.topo_check.specs.Boxes.{IsUpToPlace, IsFromPlace};
@@ -31,5 +32,13 @@ fn down(way: i64, share: Frac) -> i64
     ensures low { (m : ℤ) → m ≤ℤ pos 0 → m ≤ℤ way → m ≤ℤ result }
     ensures high { (m : ℤ) → pos 0 ≤ℤ m → way ≤ℤ m → result ≤ℤ m }
 {
-    (share.num * i128::from(way)).div_euclid(share.den) as i64
+    quotient(way, share) as i64
+}
+
+// The same in the wide type that the product takes.
+fn quotient(way: i64, share: Frac) -> i128
+    requires { IsShort way }
+    ensures { result ≡ int_div_euclid (share.num *ℤ way) share.den }
+{
+    (share.num * i128::from(way)).div_euclid(share.den)
 }

@@ -1,8 +1,11 @@
+use Rattle.std.proofs.Common.{sym, subst}
+use Rattle.plane_base.specs.declared.shapes.Rect.{Rect}
+use Rattle.topo_check.specs.Boxes.{IsExactBox}
 use Rattle.topo_check.proofs.Tight.{tightened}
 use Rattle.topo_check.proofs.boxes.exact_box.Goals as goal
 
 pub returns : goal.returns
 returns c =
-    let x = c.common.ensures.x in let y = c.common.ensures.y in
-    tightened c.args.tin.now c.args.piece.now c.piece_span-span.result.lo c.piece_span-span.result.hi c.around_span.result c.outer_box-outer.result c.common.result c.requires c.outer_box-outer.ensures c.piece_span-span.ensures.points
-    c.around_span.ensures c.common.ensures.points (record { left = x.0; bottom = y.0; right = x.1; top = y.1 })
+    let tin = c.args.tin.now in let piece = c.args.piece.now in let span = c.piece_span-span.result in
+    subst (λ (box : Rect). IsExactBox tin piece box) (sym c.common.ensures)
+    (tightened tin piece span.lo span.hi c.around_span.result c.outer_box-outer.result c.requires c.outer_box-outer.ensures c.piece_span-span.ensures.points c.around_span.ensures)

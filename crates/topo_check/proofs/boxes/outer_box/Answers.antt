@@ -1,8 +1,12 @@
+use Rattle.std.proofs.Common.{◌≡◌, sym, subst, ◌∙◌, ap₂}
+use Rattle.plane_base.specs.Boxes.{box_of_segment, box_of_triangle, common_of}
+use Rattle.plane_base.specs.declared.shapes.Rect.{Rect}
+use Rattle.topo_check.specs.Boxes.{IsExactBox}
 use Rattle.topo_check.proofs.InBoxes.{exact_boxed}
 use Rattle.topo_check.proofs.boxes.outer_box.Goals as goal
 
 pub returns : goal.returns
 returns c =
-    let x = c.common.ensures.x in let y = c.common.ensures.y in
-    exact_boxed c.args.tin.now c.args.piece.now c.tri.result c.around-segment.result c.around_corners-triangle.result c.common.result c.requires c.tri.ensures.limits c.tri.ensures.corners
-    c.around-segment.ensures.inside c.around_corners-triangle.ensures.inside c.around_corners-triangle.ensures.no_larger c.common.ensures.points (record { left = x.0; bottom = y.0; right = x.1; top = y.1 })
+    let piece = c.args.piece.now in let t = c.tri.result in
+    let is : c.common.result ≡ common_of (box_of_segment piece.a piece.b) (box_of_triangle t) = c.common.ensures ∙ ap₂ (λ (p q : Rect). common_of p q) c.of_segment-segment.ensures c.of_triangle-triangle.ensures in
+    subst (λ (box : Rect). IsExactBox c.args.tin.now piece box) (sym is) (exact_boxed c.args.tin.now piece t c.requires c.tri.ensures.limits c.tri.ensures.corners)

@@ -10,8 +10,8 @@ piece_rel-requires-clause-p c = (c.requires.comparable c.args.first no_piece (om
 pub piece_rel-requires-clause-q : goal.piece_rel-requires-clause-q
 piece_rel-requires-clause-q c = (c.requires.comparable c.args.first no_piece (omega (arith, c.requires.earlier, c.requires.second)) c.args.second no_piece c.requires.second).second
 
-pub returns-then-are_apart-clause-some : goal.returns-then-are_apart-clause-some
-returns-then-are_apart-clause-some c =
+pub returns-then-is_apart_from-clause-some : goal.returns-then-is_apart_from-clause-some
+returns-then-is_apart_from-clause-some c =
     let first : c.args.first < length c.args.pieces.now = omega (arith, c.requires.earlier, c.requires.second) in
     far_had c.args.tin.now (piece_at c.args.pieces.now c.args.first) (piece_at c.args.pieces.now c.args.second) (box_at c.args.boxes.now c.args.first) (box_at c.args.boxes.now c.args.second) (c.requires.boxes.each c.args.first first)
-    (c.requires.boxes.each c.args.second c.requires.second) (c.are_apart.ensures.0 c.if-are_apart.true)
+    (c.requires.boxes.each c.args.second c.requires.second) (c.is_apart_from.ensures.0 c.if-is_apart_from.true)
