@@ -3,8 +3,8 @@
 ghost use Rattle.std.specs.Prelude.{◌≡◌, ◌<◌, [], true, false, None, IfOk};
 
 use shelf_io::{
-    Failed, FilePress, FileShelf, LoadFault, MemPress, MemShelf, Name, Press, PrintFault, SurePress,
-    SureShelf, load, print, put,
+    Failed, FilePress, FileShelf, LoadFault, MemPress, MemShelf, Name, Press, PrintFault,
+    SurePress, SureShelf, load, print, put,
 };
 use std::alloc::{AllocError, Global};
 use std::fs;
@@ -181,7 +181,11 @@ fn a_sure_press_tells_what_fits(rt: HostRuntime) -> Result<(), Fail> {
         } else {
             None
         };
-        assert_eq!(rt; press.made_bytes("a"), told, "in {files} files and {bytes} bytes");
+        assert_eq!(rt;
+            press.made_bytes("a"),
+            told,
+            "in {files} files and {bytes} bytes"
+        );
         assert_eq!(rt; press.made_bytes("b"), None);
     }
     Ok(())

@@ -41,12 +41,12 @@ wanted rose lacks some (inr h) = inr (inr h)
 pub layers_causes : (tin out : List ℕ) (how : How) (inverse : Bool) (layers : List (List ℕ)) (told : Option Files) (rose passed : Type 0) (refusal : Refusal) → IsOfLayers refusal
     → (status_of refusal ≡ ReadStatus → rose ⊎ LacksSome layers told) → (refusal ≡ LayersLong → passed) → HasCauses (Migrate tin out how inverse layers) told rose passed refusal
 layers_causes tin out how inverse layers told rose passed refusal of read long = record {
-    understood = understood refusal of;
-    read = λ e. wanted rose (LacksName told tin) (LacksSome layers told) (read e);
-    tin_long = λ e. absurd (subst IsOfLayers e of);
-    layers_long = long;
-    may_end = tt;
-  }
+  understood = understood refusal of;
+  read = λ e. wanted rose (LacksName told tin) (LacksSome layers told) (read e);
+  tin_long = λ e. absurd (subst IsOfLayers e of);
+  layers_long = long;
+  may_end = tt;
+}
 
 -- what was handed out before counts too
 pub passed_since : (start given more after : ℕ) → start ≤ given → counted given more ≤ after → counted start more ≤ after
