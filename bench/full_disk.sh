@@ -11,7 +11,7 @@ top=$(CDPATH='' cd -- "$(dirname -- "$0")/.." && pwd)
 program=${1:-}
 if [ -z "$program" ]; then
     program=$top/crates/tinmove/out/tinmove
-    "$top/tinmove" --version > /dev/null
+    "$top/tinmove" make 1 > /dev/null
 fi
 folder=$(mktemp -d)
 mkdir "$folder/disk"

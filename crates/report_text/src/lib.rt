@@ -1,5 +1,5 @@
-//! The report of a run as text, both ways: what was carried, and which pieces lie to each other in
-//! another way after rounding.
+//! The report of a run as text, both ways: what was carried, and which pairs of pieces have another
+//! relation after rounding.
 #![tactic(auto)]
 
 mod drafts;

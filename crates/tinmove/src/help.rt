@@ -38,7 +38,7 @@ LAYER ends in .wkt, .geojson, .json or .dxf. The report goes to standard output.
 
 exit status:
   0  all is written and nothing changed; or the triangulation is sound
-  1  all is written, and pieces that lie to each other in another way are listed
+  1  all is written, and the report lists at least one changed pair of pieces
   2  the words are not understood
   3  the triangulation is refused
   4  a layer is refused
@@ -60,8 +60,8 @@ usage: tinmove migrate --tin FILE --out FOLDER [--inverse] [--exact] [--inside-o
 Carries each layer from the source frame to the target frame of a triangulation,
 writes it to FOLDER under its own name, and prints a report. Segments are split
 where they cross an edge, and points are rounded to the millimetre. The report
-lists the pieces that lie to each other in another way than before. A layer in
-FOLDER itself is overwritten.
+lists the pairs of pieces that touch, cross or overlap in another way than
+before. A layer in FOLDER itself is overwritten.
 
 options:
   --tin FILE     the triangulation, a tinshift file of format 1.0 or 1.1
