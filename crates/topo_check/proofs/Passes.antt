@@ -6,8 +6,8 @@ use Rattle.std.proofs.lemmas.Cmp.{nat_eq_equiv}
 use Rattle.std.proofs.lemmas.List.{get_or_default}
 use Rattle.std.proofs.lemmas.Map.Keys.{apart_from_distinct}
 use Rattle.plane_base.specs.declared.shapes.Rect.{Rect}
-use Rattle.plane_base.specs.Boxes.{AreApart}
-use Rattle.cell_grid.specs.Boxes.{ShareAPoint, ShareAPointOrAreApart, box_at}
+use Rattle.plane_base.specs.Boxes.{ShareAPoint, ShareAPointOrAreApart, AreApart}
+use Rattle.cell_grid.specs.Boxes.{box_at}
 use Rattle.cell_grid.specs.Partners.{IsPartner, ArePartners, EachPairIsToldOnce}
 use Rattle.tin_base.specs.declared.frames.Frame.{Frame}
 use Rattle.tin_base.specs.declared.frames.Frame.TheVariants.{Source, Target}

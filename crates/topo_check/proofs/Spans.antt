@@ -5,7 +5,8 @@ use Rattle.std.proofs.lemmas.Int.{ints}
 use Rattle.plane_base.specs.declared.shapes.Pt.{Pt}
 use Rattle.plane_base.specs.declared.shapes.Rect.{Rect}
 use Rattle.plane_base.specs.declared.shapes.TheConstants.{SPAN}
-use Rattle.cell_grid.specs.Boxes.{IsOrdered, AreOrdered, IsWithinSpan, AreWithinSpan, box_at, no_box}
+use Rattle.plane_base.specs.Boxes.{IsOrdered}
+use Rattle.cell_grid.specs.Boxes.{AreOrdered, IsWithinSpan, AreWithinSpan, box_at, no_box}
 use Rattle.tin_base.specs.declared.frames.Frame.TheVariants.{Source}
 use Rattle.tin_base.specs.declared.pieces.Piece.{Piece}
 use Rattle.tin_base.specs.Triangulation.{Triangulation, corner_at}

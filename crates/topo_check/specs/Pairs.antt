@@ -2,8 +2,8 @@
 use Rattle.std.specs.Prelude.{◌≡◌, ◌≢◌, ◌⊎◌, ℕ, ◌<◌, ◌≤◌, List, length, All, Contains, None, Bool, false, ◌&&◌, nat_eq}
 use Rattle.std.specs.List.{AllPairs}
 use Rattle.plane_base.specs.declared.shapes.Rect.{Rect}
-use Rattle.plane_base.specs.Boxes.{AreApart}
-use Rattle.cell_grid.specs.Boxes.{ShareAPoint, box_at}
+use Rattle.plane_base.specs.Boxes.{AreApart, ShareAPoint}
+use Rattle.cell_grid.specs.Boxes.{box_at}
 use Rattle.tin_base.specs.declared.frames.Frame.{Frame}
 use Rattle.tin_base.specs.declared.frames.Frame.TheVariants.{Source, Target}
 use Rattle.tin_base.specs.declared.pieces.Piece.{Piece}

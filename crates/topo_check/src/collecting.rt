@@ -7,8 +7,8 @@ ghost use Rattle.topo_check.specs.Pairs.{DoesCollect, AreCollected, IsPairOf, Is
 
 use crate::comparing::{ChangedPair, changed_pair};
 use crate::grids::{exact_boxes, rounded_grid};
-use cell_grid::{Grid, boxes_share_a_point_or_are_apart, each_pair_is_told_once};
-use plane_base::Rect;
+use cell_grid::{Grid, each_pair_is_told_once};
+use plane_base::{Rect, boxes_share_a_point_or_are_apart};
 use std::alloc::{AllocError, Global};
 use tin_base::{Frame, Piece, SoundTin};
 
