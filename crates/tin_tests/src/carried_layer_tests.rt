@@ -90,6 +90,7 @@ fn carries_a_layer(rt: HostRuntime) -> Result<(), Fail> {
             ]
         )
     );
+    assert_eq!(rt; pieces.len(), 2);
     let again = carry_layer::<Diagonal>(rt.alloc(), &index, b"kept", how(), 4, 3, &mut pieces);
     assert_eq!(rt; again.err(), Some(CarryFault::TooMany));
     assert_eq!(rt; pieces.len(), 2);
