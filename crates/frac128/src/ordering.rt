@@ -1,3 +1,5 @@
+//! The order of two fractions by value.
+
 ghost use Rattle.std.specs.Prelude.{◌≡◌, ◌↔◌, IsTrue};
 ghost use Rattle.std.specs.Ordering.{MatchOrdering};
 ghost use Rattle.frac128.specs.Fractions.{order_of, IsBelow, IsSameValue};

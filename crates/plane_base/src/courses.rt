@@ -1,3 +1,5 @@
+//! A turn that changes evenly along a segment: where it is 0, and where it is not negative.
+
 ghost use Rattle.std.specs.Prelude.{◌≡◌, ◌≢◌, ◌↔◌, ℤ, pos, ◌≤ℤ◌, ◌-ℤ◌, ◌*ℤ◌, IsTrue};
 ghost use Rattle.frac128.specs.Sizes.{IsSmall};
 ghost use Rattle.plane_base.specs.Plane.{whole, turn_of, IsNear, IsNearAll};
