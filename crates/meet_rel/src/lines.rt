@@ -1,3 +1,5 @@
+//! The relation of two segments that are on one line.
+
 ghost use Rattle.std.specs.Prelude.{◌≡◌, ◌↔◌, IsTrue};
 ghost use Rattle.plane_base.specs.Plane.{whole};
 ghost use Rattle.tin_base.specs.Relations.{HaveRelation};

@@ -1,3 +1,5 @@
+//! The relation of the parts of two segments that their triangles have, by the turns of the segments.
+
 ghost use Rattle.std.specs.Prelude.{◌≡◌, ◌≢◌, ◌↔◌, ◌⊎◌, IsTrue};
 ghost use Rattle.frac128.specs.Fractions.{IsBelow, IsSameValue};
 ghost use Rattle.plane_base.specs.Plane.{Point, whole, turn_of};

@@ -1,3 +1,5 @@
+//! The relation of two pieces in the source frame, and the parameters of a piece's exact ends.
+
 ghost use Rattle.std.specs.Prelude.{◌≢◌, ◌↔◌, pos, ◌<ℤ◌};
 ghost use Rattle.plane_base.specs.Plane.{Point, IsNear};
 ghost use Rattle.plane_base.specs.Slices.{IsParam};

@@ -1,3 +1,5 @@
+//! The relation of two segments between whole points.
+
 ghost use Rattle.std.specs.Prelude.{◌↔◌, IsTrue};
 ghost use Rattle.plane_base.specs.Boxes.{AreApart, box_of_segment};
 ghost use Rattle.plane_base.specs.Plane.{whole};

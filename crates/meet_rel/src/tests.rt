@@ -1,3 +1,5 @@
+//! Tests of the relations of segments and of clips, in tables of rows.
+
 ghost use Rattle.std.specs.Prelude.{IsTrue};
 ghost use Rattle.meet_rel.specs.Clips.{IsProper};
 ghost use Rattle.meet_rel.specs.Small.{IsSmall, IsSmallClip};
