@@ -13,7 +13,7 @@ use crate::cuts::{Span, own_span};
 use crate::meetings::clip_rel;
 use tin_base::{Piece, Rel, SoundTin};
 
-/// How two pieces lie to each other in the source frame: the segments between their exact first and last points.
+/// The relation of two pieces in the source frame: of the segments between their exact first and last points.
 pub fn piece_rel(p: &Piece, q: &Piece, tin: &SoundTin) -> Rel
     requires p { IsPieceInside tin.now p.now }
     requires q { IsPieceInside tin.now q.now }
