@@ -15,7 +15,7 @@ pub fn order(a: Frac, b: Frac) -> Ordering
     (a.num * b.den).cmp(&(b.num * a.den))
 }
 
-/// Is the value of `a` below that of `b`?
+/// Whether the value of `a` is below that of `b`.
 pub fn is_below(a: Frac, b: Frac) -> bool
     ensures { IsTrue result ↔ IsBelow a b }
 {

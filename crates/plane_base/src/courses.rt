@@ -81,7 +81,7 @@ pub(crate) fn where_left(course: Course) -> Range
     }
 }
 
-/// Does a number change, and is it 0 at this parameter?
+/// Whether a number changes and is 0 at this parameter.
 pub(crate) fn is_zero_at(course: Course, at: Frac) -> bool
     ensures { IsTrue result ↔ IsZeroAt course.start course.end at }
 {
