@@ -1,3 +1,4 @@
+-- The files of lemmas of affine_image.
 pub mod HalfUp
 pub mod Sizes
 pub mod Near

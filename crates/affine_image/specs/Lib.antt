@@ -1,3 +1,4 @@
+-- The files of definitions of affine_image.
 pub mod Rounded
 pub mod Cuts
 pub mod Laws

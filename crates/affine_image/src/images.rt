@@ -1,3 +1,5 @@
+//! The rounded image of a point of a triangle, and that of a point of a side.
+
 ghost use Rattle.std.specs.Prelude.{◌≡◌, ◌<◌, length};
 ghost use Rattle.plane_base.specs.Plane.{whole};
 ghost use Rattle.plane_base.specs.Slices.{IsParam};

@@ -1,3 +1,5 @@
+//! Laws of rounded images: each point has one, the images of pieces are joined, and 128 bits hold the numbers.
+
 ghost use Rattle.affine_image.specs.Laws.{RoundedImagesAgree, CutsAreImages, RoundedImagesAreInReach, RoundedImagesAreNear, DoubledNumeratorsAreSmall};
 ghost use Rattle.affine_image.specs.SheetLaws.{PieceImagesAreJoined, SheetPiecesArePieces, ImagesFit, ImageSegmentsArePieces};
 

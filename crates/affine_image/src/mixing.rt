@@ -1,3 +1,5 @@
+//! The mix of a triangle's corners by weights, rounded half up on each axis.
+
 ghost use Rattle.std.specs.Prelude.{◌≡◌, ℤ, pos, ◌+ℤ◌, ◌-ℤ◌, ◌*ℤ◌, ◌≤ℤ◌, ◌<ℤ◌, unsigned_abs};
 ghost use Rattle.frac128.specs.Rounding.{half_up_of};
 ghost use Rattle.frac128.specs.Sizes.{IsSmall};

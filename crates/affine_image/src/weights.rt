@@ -1,3 +1,5 @@
+//! The weights of a triangle's corners: those of a point in it, and those of a point of its first side.
+
 ghost use Rattle.std.specs.Prelude.{◌≡◌, pos, ◌+ℤ◌, ◌≤ℤ◌, ◌<ℤ◌};
 ghost use Rattle.frac128.specs.Sizes.{IsSmall};
 ghost use Rattle.plane_base.specs.Slices.{IsParam};

@@ -1,3 +1,4 @@
+-- The files of lemmas of carry_map.
 pub mod Crossing
 pub mod Leaving
 pub mod Telling

@@ -1,3 +1,4 @@
+-- The files of definitions of carry_map.
 pub mod Sides
 pub mod Carried
 pub mod Causes

@@ -1,3 +1,5 @@
+//! One call carries a sheet: it gives the images of its points and crossings, and appends its pieces in order.
+
 ghost use Rattle.std.specs.Prelude.{◌≡◌, ℕ, ◌*◌, ◌≤◌, [], ◌++◌, List, drop, vec_len, IfOk, IfErr, OnOk, OnErr, IsErrOf};
 ghost use Rattle.tin_base.specs.declared.pieces.Piece.{Piece};
 ghost use Rattle.sheet_base.specs.declared.faults.LayerFault.{LayerFault};

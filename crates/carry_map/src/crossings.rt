@@ -1,3 +1,5 @@
+//! The image of the last point of a step: of the segment's end, or of a crossing with a side.
+
 ghost use Rattle.std.specs.Prelude.{◌≡◌, ◌≢◌, ◌<◌, ℤ, pos, ◌*ℤ◌, length};
 ghost use Rattle.plane_base.specs.Plane.{whole, turn_of, along};
 ghost use Rattle.seg_walk.specs.Steps.{spot_of, IsSliceIn};

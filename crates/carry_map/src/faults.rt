@@ -1,3 +1,5 @@
+//! Why a layer is not carried.
+
 ghost use Rattle.std.specs.Prelude.{◌≡◌};
 ghost use Rattle.carry_map.specs.declared.faults.CarryFault.TheVariants.{NoMemory};
 

@@ -1,3 +1,5 @@
+//! One call carries a segment: it cuts it, and appends its pieces and the images of its crossings.
+
 ghost use Rattle.std.specs.Prelude.{◌≡◌, ◌+◌, ◌<◌, ◌≤◌, ◌++◌, map, length, vec_len, IfOk, IfErr, OnOk};
 ghost use Rattle.seg_walk.specs.Steps.{AreSteps};
 ghost use Rattle.tin_base.specs.Limits.{IsWithinLimits};

@@ -1,3 +1,4 @@
+-- The files of lemmas of cell_grid.
 pub mod Finds
 pub mod Spans
 pub mod Stripes

@@ -1,3 +1,4 @@
+-- The files of definitions of cell_grid, and those of lower crates that its clauses cite.
 pub use Rattle.number_groups.specs.Groups
 pub mod Boxes
 pub mod Sizes

@@ -1,3 +1,5 @@
+//! The block of cells of a level that a box meets.
+
 ghost use Rattle.std.specs.Prelude.{◌≡◌, ◌+◌, ◌-◌, ◌*◌, ◌^◌, ◌<◌, ◌≤◌};
 
 use crate::levels::Level;

@@ -1,3 +1,5 @@
+//! The table of cells: each box's number in each cell of its level that the box meets.
+
 ghost use Rattle.std.specs.Prelude.{◌≡◌, ◌^◌, ◌<◌, ◌++◌, length, map, All, IfOk, OnOk};
 ghost use Rattle.cell_grid.specs.declared.grids.TheConstants.{LIMIT};
 ghost use Rattle.cell_grid.specs.Sizes.{longer_side, AreOfLevels};

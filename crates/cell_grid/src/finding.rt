@@ -1,3 +1,5 @@
+//! The search for the boxes of a level that share a point with a box.
+
 ghost use Rattle.std.specs.Prelude.{◌≡◌, ℕ, ◌<◌, ◌*◌, ◌+◌, ◌^◌, length, Contains, OnOk};
 ghost use Rattle.plane_base.specs.Boxes.{IsOrdered};
 ghost use Rattle.cell_grid.specs.Boxes.{AreOrdered};

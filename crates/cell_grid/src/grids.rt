@@ -1,3 +1,5 @@
+//! The grid over boxes, and its queries: boxes near a box, in the cell of a point, and partners of a box.
+
 ghost use Rattle.std.specs.Prelude.{◌≡◌, ◌↔◌, ℕ, ◌<◌, length, All, Contains, IfOk, OnOk, slice_index};
 ghost use Rattle.std.specs.List.Sorted.{IsStrictlyIncreasing};
 ghost use Rattle.plane_base.specs.Boxes.{IsOrdered};

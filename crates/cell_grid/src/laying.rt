@@ -1,3 +1,5 @@
+//! The levels of a grid: how many boxes each has, how wide its cells are, and where its places begin.
+
 ghost use Rattle.std.specs.Prelude.{◌≡◌, ◌+◌, ◌^◌, ◌<◌, ◌≤◌, ℕ, [], ◌∷◌, ◌++◌, length, All, Contains, IfOk, OnOk, slice_index};
 ghost use Rattle.std.specs.List.Sorted.{IsStrictlyIncreasing};
 ghost use Rattle.cell_grid.specs.declared.grids.TheConstants.{LIMIT};

@@ -1,3 +1,5 @@
+//! A level of a grid, with the columns, rows and places of its cells.
+
 ghost use Rattle.std.specs.Prelude.{◌≡◌, ◌+◌, ◌*◌, ◌^◌, ◌<◌, ◌≤◌};
 ghost use Rattle.cell_grid.specs.Stripes.{IsPast, stripe_of};
 

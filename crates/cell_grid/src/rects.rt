@@ -1,3 +1,5 @@
+//! Boxes as a grid needs them: the level of a box, a box round all, and boxes and points moved into a box.
+
 ghost use Rattle.std.specs.Prelude.{◌≡◌, ◌≤◌};
 ghost use Rattle.cell_grid.specs.Around.{IsAround, cut_of, put_of};
 ghost use Rattle.plane_base.specs.Boxes.{IsOrdered};

@@ -1,3 +1,4 @@
+-- The files of lemmas of dxf_pairs.
 mod CodeTexts
 mod Cuts
 mod LineLists

@@ -1,3 +1,4 @@
+-- The files of definitions of dxf_pairs.
 pub mod Lines
 pub mod Values
 pub mod Codes

@@ -1,3 +1,5 @@
+//! Why bytes are not read as pairs of group codes and values.
+
 use std::alloc::{AllocError, AllocFailed};
 use thiserror::Error;
 

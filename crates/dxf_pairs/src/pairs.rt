@@ -1,3 +1,5 @@
+//! A group code and its value, with their places in the bytes.
+
 /// A group code and its value, which stand on two lines. Places are in bytes from 0.
 #[derive(Clone, Copy, Debug, PartialEq, Eq)]
 pub struct Pair {

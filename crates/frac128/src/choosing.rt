@@ -1,3 +1,5 @@
+//! The greater and the lesser of two fractions.
+
 ghost use Rattle.std.specs.Prelude.{◌≡◌, ◌↔◌, ◌⊎◌, ℤ, pos, ◌<ℤ◌};
 ghost use Rattle.frac128.specs.Fractions.{IsAtMost, IsFrom, IsUpTo};
 

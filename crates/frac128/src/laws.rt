@@ -1,3 +1,5 @@
+//! Laws of fractions: their order, their rounding, and the size of the products that compare them.
+
 ghost use Rattle.std.specs.Cmp.{IsTotalOrder};
 ghost use Rattle.frac128.specs.Fractions.{order_of, ComparedProductsAreSmall};
 ghost use Rattle.frac128.specs.Rounding.{HalfUpIsNearest, HalfUpIsWithinHalf};

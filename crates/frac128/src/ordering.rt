@@ -1,3 +1,5 @@
+//! The order of two fractions by value.
+
 ghost use Rattle.std.specs.Prelude.{◌≡◌, ◌↔◌, IsTrue};
 ghost use Rattle.std.specs.Ordering.{MatchOrdering};
 ghost use Rattle.frac128.specs.Fractions.{order_of, IsBelow, IsSameValue};
@@ -13,7 +15,7 @@ pub fn order(a: Frac, b: Frac) -> Ordering
     (a.num * b.den).cmp(&(b.num * a.den))
 }
 
-/// Is the value of `a` below that of `b`?
+/// Whether the value of `a` is below that of `b`.
 pub fn is_below(a: Frac, b: Frac) -> bool
     ensures { IsTrue result ↔ IsBelow a b }
 {

@@ -1,3 +1,5 @@
+//! Rounding of a fraction half up to a whole number.
+
 ghost use Rattle.std.specs.Prelude.{◌≡◌, ◌<◌, ◌^◌, pos, ◌<ℤ◌, ◌*ℤ◌, unsigned_abs};
 ghost use Rattle.frac128.specs.Rounding.{half_up_of};
 ghost use Rattle.frac128.specs.declared.frac.TheConstants.{TURN};

@@ -1,3 +1,4 @@
+-- The files of lemmas of gj_layer.
 pub mod There
 pub mod Naming
 pub mod Pairs

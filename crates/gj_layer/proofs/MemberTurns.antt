@@ -1,4 +1,4 @@
--- How the members of an object turn: a box, a reference system and the content give way, and all others stay.
+-- How the members of an object turn: a box, a reference system and the content are replaced, and all others stay.
 use Rattle.std.proofs.Common.{◌≡◌, ℕ, suc, ◌+◌, ◌⊎◌, inl, inr, Bool, true, false, ◌&&◌, List, [], ◌∷◌, ◌++◌, length, refl, sym, ap, ◌∙◌, subst, arith}
 use Rattle.std.specs.Prelude.{codes, flat_map, if◌then◌else◌}
 use Rattle.jtext.specs.Characters.{Char, units_of}

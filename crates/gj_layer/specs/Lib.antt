@@ -1,3 +1,4 @@
+-- The files of definitions of gj_layer.
 pub mod Faults
 pub mod Members
 pub mod Positions

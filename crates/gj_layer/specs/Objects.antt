@@ -98,7 +98,7 @@ object_type holder start members =
     and_then (λ type. and_then (with_content type start) (find_member (content_key type) members))
     (type_in holder start told)) (find_crs holder members)) (find_member (codes "bbox") members)) (find_member (codes "type") members)
 
--- the member's value gives way to this
+-- the edit that puts this in place of the member's value
 abbrev pub value_edit : Member → What → Edit
 value_edit one what = record { start = one.start; end = one.start + length (spelling one.value); what = what }
 

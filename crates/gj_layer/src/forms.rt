@@ -97,7 +97,7 @@ impl Holder {
     ghost use Rattle.std.specs.Prelude.{◌≡◌};
     ghost use Rattle.gj_layer.specs.Objects.{is_allowed, has_crs};
 
-    /// May an object of this type stand there?
+    /// Whether an object of this type may be there.
     pub fn allows(self, kind: GeoType) -> bool
         ensures { result ≡ is_allowed self kind }
     {
@@ -115,7 +115,7 @@ impl Holder {
         }
     }
 
-    /// May the object tell a reference system?
+    /// Whether the object may have a reference system.
     pub fn has_crs(self) -> bool
         ensures { result ≡ has_crs self }
     {

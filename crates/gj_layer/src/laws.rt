@@ -1,3 +1,5 @@
+//! A law of GeoJSON layers: bytes have one sheet or one fault.
+
 ghost use Rattle.std.specs.Prelude.{◌≡◌, ℕ, List, Bool};
 ghost use Rattle.sheet_base.specs.Sheets.{Contents};
 ghost use Rattle.sheet_base.specs.declared.faults.LayerFault.{LayerFault};

@@ -20,7 +20,7 @@ pub fn node_at(doc: &Doc, number: u32) -> Node
     doc.nodes.items()[number as usize]
 }
 
-/// Is the node of this kind?
+/// Whether the node is of this kind.
 pub fn is_kind(node: Node, kind: Kind) -> bool
     ensures { IsTrue result ↔ (node.kind ≡ kind) }
 {

@@ -31,7 +31,7 @@ pub struct Looked {
     pub content: Option<u32>,
 }
 
-/// Does the text say this?
+/// Whether the text at this node, with its escapes resolved, is the other one.
 fn tells(doc: &Doc, bytes: &[u8], value: u32, text: &[u8]) -> bool
     requires read { IsReadFrom doc.now bytes.now }
     requires node { value < length doc.now.nodes }

@@ -1,3 +1,4 @@
+-- The files of lemmas of job_words.
 pub mod Deciding
 pub mod LastParts
 pub mod Flags

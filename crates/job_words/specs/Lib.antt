@@ -1,3 +1,4 @@
+-- The files of definitions of job_words.
 pub mod Modes
 pub mod Faults
 pub mod Commands

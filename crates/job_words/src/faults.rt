@@ -1,4 +1,4 @@
-//! Why words give no job.
+//! Why the words of a command are refused.
 
 ghost use Rattle.std.specs.Prelude.{◌≡◌};
 ghost use Rattle.clap.specs.Values.{kind_of};
@@ -21,7 +21,7 @@ pub enum Which {
     Layer(u32),
 }
 
-/// Why words give no job. Layers are counted from 0.
+/// Why the words of a command are refused. Layers are counted from 0.
 #[derive(Clone, Copy, Debug, PartialEq, Eq, Drop, Error)]
 pub enum WordsFault {
     /// There is no word, or the first word is none of the modes.

@@ -1,3 +1,5 @@
+//! The most layers of a migration, and the greatest size of a made triangulation.
+
 /// The greatest number of layers of a migration.
 pub const MOST_LAYERS: usize = 1024;
 

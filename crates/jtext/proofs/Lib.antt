@@ -1,3 +1,4 @@
+-- The files of lemmas of jtext.
 pub mod Pieces
 pub mod Tokens
 pub mod ByteSigns

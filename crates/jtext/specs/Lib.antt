@@ -1,3 +1,4 @@
+-- The files of definitions of jtext.
 pub mod Numbers
 pub mod Characters
 pub mod Values

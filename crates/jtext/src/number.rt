@@ -23,7 +23,7 @@ pub enum NumberPlace {
 }
 
 impl NumberPlace {
-    /// Can a number end here?
+    /// Whether a number can end here.
     pub fn is_last(self) -> bool
         ensures { result ≡ is_last_place self }
     {
@@ -37,7 +37,7 @@ impl NumberPlace {
         }
     }
 
-    /// Was a digit read last, behind which any number of digits may stand?
+    /// Whether a digit was read last, behind which any number of digits may come.
     #[inline(always)]
     fn is_in_digits(self) -> bool
         ensures { IsTrue result ↔ IsDigits self }

@@ -83,7 +83,7 @@ fn unit_at(raw: &[u8], at: usize) -> Option<(u32, usize)>
     }
 }
 
-/// Do the characters, with their escapes resolved, say this text of ASCII?
+/// Whether the characters, with their escapes resolved, are this text of ASCII.
 pub fn says(raw: &[u8], text: &[u8]) -> bool
     requires { IsAscii text.now }
     ensures { (chars : List Char) → AreChars chars → raw.now ≡ chars_text chars

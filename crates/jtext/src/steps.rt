@@ -404,7 +404,7 @@ fn is_nonzero_digit(byte: u8) -> bool
     byte >= b'1' && byte <= b'9'
 }
 
-/// Can the text end here?
+/// Whether the text can end here.
 pub fn is_end(pass: &Pass, place: Place) -> bool
     ensures { IsTrue result ↔ (IsBehind place × (pass.now.stack ≡ [])) }
 {

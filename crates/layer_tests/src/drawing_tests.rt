@@ -271,7 +271,8 @@ fn refuses_pairs_first(rt: HostRuntime) {
     }
 }
 
-/// Is the drawing read as these paths, points and edits, with so many numbers that lose digits and so many dropped?
+/// Whether the drawing is read as these paths, points and edits, with so many numbers that lose digits and so many
+/// entities that are left out.
 fn is_read_as(
     alloc: Global,
     (text, how): (&[u8], How),
@@ -389,7 +390,7 @@ const LOOP_CARRIED: &[u8] =
 const LOOP_OF_LINE_FEEDS_CARRIED: &[u8] =
     b"0\nSECTION\n2\nENTITIES\n0\nLWPOLYLINE\n90\n4\n70\n1\n10\n110.000\n20\n100.000\n10\n105.002\n20\n105.002\n10\n100.000\n20\n110.000\n10\n105.002\n20\n105.002\n0\nENDSEC\n0\nEOF\n";
 
-/// Is the drawing, carried through the square, written as the other?
+/// Whether the drawing, carried through the square, is written as the other.
 fn is_written_as(alloc: Global, text: &[u8], how: How, wanted: &[u8]) -> bool {
     is_moved_to::<Dxf>(alloc, SQUARE, text, how, wanted)
 }

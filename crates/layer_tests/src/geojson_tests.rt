@@ -370,7 +370,7 @@ fn refuses_lost_digits_where_that_is_asked(rt: HostRuntime) {
     }
 }
 
-/// Is the text, carried through this triangulation, written as the other?
+/// Whether the text, carried through this triangulation, is written as the other.
 fn is_written_as(alloc: Global, tin: &str, text: &str, wanted: &str) -> bool {
     is_moved_to::<GeoJson>(alloc, tin, text.as_bytes(), how(false), wanted.as_bytes())
 }
@@ -469,7 +469,7 @@ fn keeps_the_layout_of_ogr2ogr(rt: HostRuntime) {
 const NESTED: &str =
     r#"{"type":"FeatureCollection","features":[{"bbox":1,"type":"Feature","geometry":{"type":"GeometryCollection","geometries":[{"type":"Point","coordinates":[1,2]},{"type":"MultiLineString","coordinates":[[],[[3,4]],[[5,6],[7,8]]],"bbox":2}]}},{"type":"Feature"}],"bbox":3,"crs":4}"#;
 
-/// Is the text read as these paths, points and edits, with so many numbers that lose digits?
+/// Whether the text is read as these paths, points and edits, with so many numbers that lose digits.
 fn is_read_as(
     alloc: Global,
     text: &str,

@@ -32,7 +32,7 @@ fn index_of(alloc: Global, tin: &str) -> Option<TinIndex> {
     TinIndex::build(alloc, check_tin(alloc, tin).ok()?).ok()
 }
 
-/// Is the layer, carried through this triangulation, written as the other?
+/// Whether the layer, carried through this triangulation, is written as the other.
 pub fn is_moved_to<L: Layer>(
     alloc: Global,
     tin: &str,

@@ -13,23 +13,28 @@ pub const PLAIN: How = How {
 /// No layer and no triangulation here is longer.
 pub const LONGEST: usize = 1 << 16;
 
+/// As `PLAIN`; where `exact` is true, lost digits are refused.
 pub fn how(exact: bool) -> How {
     How { exact, ..PLAIN }
 }
 
+/// The path of this kind, of the points from the number `first` to before the number `past`.
 pub fn row(kind: PathKind, first: u32, past: u32) -> PathRow {
     PathRow { kind, first, past }
 }
 
+/// The point of these coordinates, in millimetres.
 pub fn pt(x: i64, y: i64) -> Pt {
     Pt { x, y }
 }
 
+/// The edit of the bytes from `start` to before `end`.
 pub fn edit(start: u32, end: u32, what: What) -> Edit {
     Edit { start, end, what }
 }
 
-/// Was a sheet read, of these paths, points and edits, with so many numbers that lose digits and so many dropped?
+/// Whether a sheet was read, of these paths, points and edits: `inexact` numbers lost digits, and `dropped` entities are
+/// left out.
 pub fn is_sheet(
     read: Result<Sheet, LayerFault>,
     paths: &[PathRow],

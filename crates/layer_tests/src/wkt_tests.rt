@@ -199,7 +199,7 @@ fn list(path: u32, start: u32, end: u32) -> Edit {
     }
 }
 
-/// Is the text read as these paths, points and edits?
+/// Whether the text is read as these paths, points and edits.
 fn is_read_as(alloc: Global, text: &str, paths: &[PathRow], points: &[Pt], edits: &[Edit]) -> bool {
     let read = read(alloc, text.as_bytes(), false);
     is_sheet(read, paths, points, edits, (0, 0))

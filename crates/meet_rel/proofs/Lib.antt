@@ -1,3 +1,4 @@
+-- The files of lemmas of meet_rel.
 pub mod Boxes
 pub mod Alike
 pub mod Exclusive

@@ -1,3 +1,4 @@
+-- The files of definitions of meet_rel.
 pub mod Near
 pub mod Signs
 pub mod Laws

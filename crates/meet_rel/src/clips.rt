@@ -1,3 +1,5 @@
+//! A segment with a triangle that has some of its points: the two that make a piece.
+
 ghost use Rattle.std.specs.Prelude.{◌≡◌};
 ghost use Rattle.plane_base.specs.Plane.{corners};
 ghost use Rattle.tin_base.specs.Triangulation.{places, numbers_of};

@@ -1,3 +1,5 @@
+//! The part of a segment that a triangle has, by parameters, and the relation of two such parts on one line.
+
 ghost use Rattle.std.specs.Prelude.{◌≡◌, ◌≢◌, ◌↔◌, ◌⊎◌, pos, ◌-ℤ◌, ◌≤ℤ◌, ◌<ℤ◌, IsTrue};
 ghost use Rattle.plane_base.specs.Plane.{Point, whole, turn_of, IsNear};
 ghost use Rattle.plane_base.specs.Slices.{IsParam};

@@ -1,3 +1,5 @@
+//! Laws of relations: two segments have one, and exact images keep that of two pieces.
+
 ghost use Rattle.meet_rel.specs.Laws.{RelationsAreExclusive, PiecesKeepRelations};
 
 /// A law: two segments have one relation and no other.

@@ -1,4 +1,4 @@
-//! How two segments lie to each other: segments between whole points, and pieces of segments in a sound triangulation.
+//! The relation of two segments between whole points, and of two pieces of segments in a sound triangulation.
 //! Signs of turns and comparisons of fractions decide; no crossing's coordinates are formed.
 #![tactic(auto)]
 

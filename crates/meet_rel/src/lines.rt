@@ -1,3 +1,5 @@
+//! The relation of two segments that are on one line.
+
 ghost use Rattle.std.specs.Prelude.{◌≡◌, ◌↔◌, IsTrue};
 ghost use Rattle.plane_base.specs.Plane.{whole};
 ghost use Rattle.tin_base.specs.Relations.{HaveRelation};
@@ -6,7 +8,7 @@ ghost use Rattle.meet_rel.specs.Signs.{first_of, last_of, DoSpansMeet, AreOnOneL
 use plane_base::Pt;
 use tin_base::Rel;
 
-/// How two segments of one line lie to each other: by their numbers on the first axis on which not all four are the same.
+/// The relation of two segments of one line, by their coordinates on the first axis on which not all four are the same.
 pub(crate) fn rel_on_line(a: Pt, b: Pt, c: Pt, d: Pt) -> Rel
     requires { AreOnOneLine a b c d }
     ensures { HaveRelation result (whole a) (whole b) (whole c) (whole d) }
@@ -24,7 +26,7 @@ fn are_same(a: i64, b: i64, c: i64, d: i64) -> bool
     a == b && b == c && c == d
 }
 
-// How the numbers from `a` to `b` and those from `c` to `d` lie to each other.
+// The relation of the numbers from `a` to `b` and those from `c` to `d`.
 fn rel_of_spans(a: i64, b: i64, c: i64, d: i64) -> Rel
     ensures { DoSpansMeet result a b c d }
 {

@@ -1,3 +1,5 @@
+//! The relation of the parts of two segments that their triangles have, by the turns of the segments.
+
 ghost use Rattle.std.specs.Prelude.{◌≡◌, ◌≢◌, ◌↔◌, ◌⊎◌, IsTrue};
 ghost use Rattle.frac128.specs.Fractions.{IsBelow, IsSameValue};
 ghost use Rattle.plane_base.specs.Plane.{Point, whole, turn_of};
@@ -11,7 +13,7 @@ use plane_base::{edge_param, turn};
 use std::cmp::Ordering;
 use tin_base::Rel;
 
-/// How the parts of two segments lie to each other that their triangles have.
+/// The relation of the parts of two segments that are in their triangles.
 pub(crate) fn clip_rel(p: &Clip, q: &Clip) -> Rel
     requires p { IsProper p.now }
     requires q { IsProper q.now }

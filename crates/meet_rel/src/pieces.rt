@@ -1,3 +1,5 @@
+//! The relation of two pieces in the source frame, and the parameters of a piece's exact ends.
+
 ghost use Rattle.std.specs.Prelude.{◌≢◌, ◌↔◌, pos, ◌<ℤ◌};
 ghost use Rattle.plane_base.specs.Plane.{Point, IsNear};
 ghost use Rattle.plane_base.specs.Slices.{IsParam};
@@ -11,7 +13,7 @@ use crate::cuts::{Span, own_span};
 use crate::meetings::clip_rel;
 use tin_base::{Piece, Rel, SoundTin};
 
-/// How two pieces lie to each other in the source frame: the segments between their exact first and last points.
+/// The relation of two pieces in the source frame: of the segments between their exact first and last points.
 pub fn piece_rel(p: &Piece, q: &Piece, tin: &SoundTin) -> Rel
     requires p { IsPieceInside tin.now p.now }
     requires q { IsPieceInside tin.now q.now }

@@ -1,3 +1,5 @@
+//! The relation of two segments between whole points.
+
 ghost use Rattle.std.specs.Prelude.{◌↔◌, IsTrue};
 ghost use Rattle.plane_base.specs.Boxes.{AreApart, box_of_segment};
 ghost use Rattle.plane_base.specs.Plane.{whole};
@@ -9,7 +11,7 @@ use crate::lines::rel_on_line;
 use plane_base::{Pt, turn};
 use tin_base::Rel;
 
-/// How the closed segment from `a` to `b` and the closed segment from `c` to `d` lie to each other, by their common points.
+/// The relation of the closed segments from `a` to `b` and from `c` to `d`, in millimetres, by their common points.
 /// A segment may be a point. Two segments have no second relation (`relations_are_exclusive`).
 pub fn rel(a: Pt, b: Pt, c: Pt, d: Pt) -> Rel
     requires { AreNear a b c d }

@@ -1,3 +1,5 @@
+//! Tests of the relations of segments and of clips, in tables of rows.
+
 ghost use Rattle.std.specs.Prelude.{IsTrue};
 ghost use Rattle.meet_rel.specs.Clips.{IsProper};
 ghost use Rattle.meet_rel.specs.Small.{IsSmall, IsSmallClip};
@@ -182,7 +184,7 @@ const PIECES: [([i16; 4], [i16; 6], [i16; 4], [i16; 6], Rel); 34] = [
     ([10, 2, 10, 2], RIGHT, [0, 1, 20, 3], LOWER, Rel::Touching),
 ];
 
-// How the parts of two segments lie to each other that two triangles have, where they have some.
+// The relation of the parts of two segments that are in their triangles, where both have one.
 fn pieces_met(p: &Clip, q: &Clip) -> Option<Rel>
     requires p { IsSmallClip p.now }
     requires q { IsSmallClip q.now }
@@ -210,7 +212,7 @@ fn clip(ends: [i16; 4], corners: [i16; 6]) -> Clip
     }
 }
 
-// Has the triangle a positive turn, and some point of the segment?
+// Whether the triangle has a positive turn, and some point of the segment.
 fn is_proper(clip: &Clip) -> bool
     requires { IsSmallClip clip.now }
     ensures { IsTrue result → IsProper clip.now }

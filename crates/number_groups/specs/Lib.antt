@@ -1,3 +1,4 @@
+-- The files of definitions of number_groups.
 pub mod Groups
 pub mod Sorting
 pub mod Listed

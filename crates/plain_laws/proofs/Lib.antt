@@ -1,3 +1,4 @@
+-- The files of lemmas of plain_laws.
 pub mod Booleans
 pub mod Order
 pub mod Lists

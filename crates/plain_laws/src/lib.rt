@@ -1,2 +1,2 @@
-// Plain lemmas on tests, orders, lists and weights: no code.
+//! Plain lemmas on tests, orders, lists and weights. The crate has no code.
 #![tactic(auto)]

@@ -1,3 +1,4 @@
+-- The files of lemmas of plane_base.
 pub mod Points
 pub mod Turns
 pub mod Mixes

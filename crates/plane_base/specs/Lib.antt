@@ -1,3 +1,4 @@
+-- The files of definitions of plane_base.
 pub mod Plane
 pub mod Slices
 pub mod Courses

@@ -1,3 +1,5 @@
+//! A turn that changes evenly along a segment: where it is 0, and where it is not negative.
+
 ghost use Rattle.std.specs.Prelude.{◌≡◌, ◌≢◌, ◌↔◌, ℤ, pos, ◌≤ℤ◌, ◌-ℤ◌, ◌*ℤ◌, IsTrue};
 ghost use Rattle.frac128.specs.Sizes.{IsSmall};
 ghost use Rattle.plane_base.specs.Plane.{whole, turn_of, IsNear, IsNearAll};
@@ -79,7 +81,7 @@ pub(crate) fn where_left(course: Course) -> Range
     }
 }
 
-/// Does a number change, and is it 0 at this parameter?
+/// Whether a number changes and is 0 at this parameter.
 pub(crate) fn is_zero_at(course: Course, at: Frac) -> bool
     ensures { IsTrue result ↔ IsZeroAt course.start course.end at }
 {

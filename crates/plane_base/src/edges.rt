@@ -1,3 +1,5 @@
+//! The parameter of the point where two lines meet.
+
 ghost use Rattle.std.specs.Prelude.{◌≡◌, ◌≢◌, ℤ, pos, ◌*ℤ◌};
 ghost use Rattle.plane_base.specs.Plane.{whole, turn_of, along, IsNear, IsNearAll};
 

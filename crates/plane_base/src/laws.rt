@@ -1,3 +1,5 @@
+//! Laws of mixes, triangles, segments and boxes of the plane.
+
 ghost use Rattle.plane_base.specs.Boxes.{ShareAPointOrAreApart};
 ghost use Rattle.plane_base.specs.Laws.{
   MixesMix,

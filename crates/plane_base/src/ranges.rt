@@ -1,3 +1,5 @@
+//! Ranges of parameters, and the common part of two.
+
 ghost use Rattle.std.specs.Prelude.{◌≡◌, ◌↔◌, ◌⊎◌, ℤ, pos, ◌<ℤ◌, ◌≤ℤ◌};
 ghost use Rattle.plane_base.specs.Slices.{IsWithin};
 

@@ -1,3 +1,5 @@
+//! Points, triangles and boxes of whole millimetres, and the limit of their differences.
+
 /// Points that one call speaks of differ by less than this on each axis, in millimetres.
 pub const SPAN: i64 = 1 << 31;
 

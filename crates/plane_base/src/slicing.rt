@@ -1,3 +1,5 @@
+//! The part of a segment that is in a triangle.
+
 ghost use Rattle.std.specs.Prelude.{◌≡◌, ◌↔◌, ℤ, pos, ◌<ℤ◌, IsTrue, IfSome};
 ghost use Rattle.plane_base.specs.Plane.{whole, turn_of, IsNear, IsNearAll, IsNearTri};
 ghost use Rattle.plane_base.specs.Slices.{IsWithin, AreEnds, IsWholeWay, slice_of};

@@ -1,3 +1,5 @@
+//! The turn of three points, and whether a triangle has a point.
+
 ghost use Rattle.std.specs.Prelude.{◌≡◌, ◌↔◌, pos, ◌<ℤ◌, ◌≤ℤ◌, ◌-ℤ◌, ◌*ℤ◌, unsigned_abs, IsTrue};
 ghost use Rattle.frac128.specs.Sizes.{IsSmall};
 ghost use Rattle.plane_base.specs.Plane.{whole, turn_of, IsShort, IsNear, IsNearAll, IsNearTri, holds_of};

@@ -1,3 +1,4 @@
+-- The files of lemmas of report_text.
 pub mod Appending
 pub mod Binding
 pub mod Words

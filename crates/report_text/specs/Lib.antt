@@ -1,3 +1,4 @@
+-- The files of definitions of report_text.
 pub mod Reports
 pub mod ReportText
 pub mod Beginnings

@@ -1,3 +1,5 @@
+//! A report as far as it is read, and the step that one line of its text makes.
+
 ghost use Rattle.report_text.specs.LineKinds.{tin_of};
 ghost use Rattle.report_text.specs.Steps.{Leads, seen, step, behind_tin, step_of_layers, step_of_row, step_of_changes};
 

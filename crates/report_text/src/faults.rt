@@ -1,3 +1,5 @@
+//! Why bytes are not read as a report.
+
 ghost use Rattle.std.specs.Prelude.{◌≡◌};
 ghost use Rattle.report_text.specs.declared.faults.ReportFault.TheVariants.{NoMemory};
 

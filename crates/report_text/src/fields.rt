@@ -1,3 +1,5 @@
+//! Fields of a report's line: a word and the number or the name behind it.
+
 ghost use Rattle.std.specs.Prelude.{◌≡◌, true};
 ghost use Rattle.std.specs.Char.{is_ascii_digit};
 ghost use Rattle.std.specs.List.{prefix_len};

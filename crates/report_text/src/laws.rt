@@ -1,3 +1,5 @@
+//! Laws of reports: no two have one text, and bad bytes have one bad line.
+
 ghost use Rattle.report_text.specs.Laws.{BadLinesAreOne, TextsAreOne};
 
 /// A law: no two reports have one text. So what is read of the text that was written of a report is that report.

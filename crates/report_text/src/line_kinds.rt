@@ -1,3 +1,5 @@
+//! The kinds of lines of a report's text, each read into its numbers and names.
+
 ghost use Rattle.std.specs.Prelude.{◌≡◌};
 ghost use Rattle.report_text.specs.Fields.{Gives};
 ghost use Rattle.report_text.specs.LineKinds.{tin_of, layer_of, layer_named, row_at as row_front, tin_named, is_extents as is_line_of_extents, count_of, place_at as place_front, relation_at as relation_front, change_of};

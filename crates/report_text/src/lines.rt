@@ -1,2 +1,4 @@
+//! The byte that ends each line of a report.
+
 /// The byte that ends each line.
 pub const LINE_FEED: u8 = b'\n';

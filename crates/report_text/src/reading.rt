@@ -1,3 +1,5 @@
+//! The reader of a report's text, line by line.
+
 ghost use Rattle.std.specs.Prelude.{◌≡◌, ◌∷◌, ◌++◌, IfOk, IfErr, IfSome, IfNone};
 ghost use Rattle.report_text.specs.declared.lines.TheConstants.{LINE_FEED};
 ghost use Rattle.report_text.specs.Beginnings.{IsLine, IsReportText, IsFaultOf};

@@ -1,3 +1,5 @@
+//! The report of a run.
+
 ghost use Rattle.std.specs.Prelude.{◌≡◌};
 ghost use Rattle.report_text.specs.Reports.{Contents, IsReport};
 

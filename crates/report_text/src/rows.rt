@@ -1,3 +1,5 @@
+//! What a report says of one layer.
+
 use shelf_io::Name;
 
 /// What a report says of one layer.

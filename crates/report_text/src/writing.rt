@@ -1,3 +1,5 @@
+//! The text of a report.
+
 ghost use Rattle.std.specs.Prelude.{◌≡◌, ◌++◌, IfOk, OnOk, codes, map};
 ghost use Rattle.report_text.specs.ReportText.{field, tin_counts, tin_line, sizes, losses, layer_line, extents_lines, layer_lines, place_text, relation_word, change_line, count_line, text_of_lines, report_text};
 

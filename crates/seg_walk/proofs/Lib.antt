@@ -1,3 +1,4 @@
+-- The files of lemmas of seg_walk.
 pub mod Standing
 pub mod Spots
 pub mod Apart

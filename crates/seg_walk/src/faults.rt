@@ -1,3 +1,5 @@
+//! Why a segment has no pieces.
+
 ghost use Rattle.std.specs.Prelude.{◌≡◌};
 ghost use Rattle.seg_walk.specs.declared.faults.WalkFault.TheVariants.{NoMemory};
 

@@ -1,3 +1,5 @@
+//! The part of a segment in a triangle, and the least triangle with a part that begins at a parameter.
+
 ghost use Rattle.std.specs.Prelude.{◌≡◌, ◌↔◌, ℕ, ◌<◌, length, All, Contains, IsTrue, IfSome, IfNone};
 ghost use Rattle.std.specs.List.Sorted.{IsStrictlyIncreasing};
 ghost use Rattle.frac128.specs.Fractions.{IsSameValue, IsBelow};

@@ -1,3 +1,5 @@
+//! A piece of a segment with its triangle, and the list of the pieces of one segment.
+
 use frac128::Frac;
 use plane_base::{End, Stretch};
 use smallvec::SmallVec;

@@ -1,3 +1,5 @@
+//! The first step of a segment through the triangles, and the step after each other one.
+
 ghost use Rattle.std.specs.Prelude.{◌≡◌, ◌≢◌, ◌↔◌, ℕ, ◌<◌, ◌<ℤ◌, length, IsTrue};
 ghost use Rattle.plane_base.specs.Plane.{whole};
 ghost use Rattle.plane_base.specs.Slices.{IsParam};
@@ -79,7 +81,7 @@ fn step_over(index: &TinIndex, a: Pt, b: Pt, triangle: u32, side: u8, at: Frac) 
     step_in(tin, other, a, b, at)
 }
 
-// The next step after one that is not the last.
+/// The next step after one that is not the last, or none where no triangle has a part that begins where this one ends.
 pub fn step_after(index: &TinIndex, a: Pt, b: Pt, step: Step) -> Option<Step>
     requires differ { a ≢ b }
     requires has_a { IsInSome index.now Source (whole a) }
@@ -96,7 +98,8 @@ pub fn step_after(index: &TinIndex, a: Pt, b: Pt, step: Step) -> Option<Step>
     }
 }
 
-// The first step, where the triangle is the least that has the first point.
+/// The first step, where `triangle` is the least that has the first point, or none where no triangle has a part that
+/// begins at this point.
 pub fn first_step(index: &TinIndex, a: Pt, b: Pt, triangle: u32) -> Option<Step>
     requires differ { a ≢ b }
     requires near_b { IsNearCorners index.now b }

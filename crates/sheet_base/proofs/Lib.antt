@@ -1,3 +1,4 @@
+-- The files of lemmas of sheet_base.
 pub mod ListParts
 pub mod Splicing
 pub mod Swaps

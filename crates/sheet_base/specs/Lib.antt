@@ -1,3 +1,4 @@
+-- The files of definitions of sheet_base.
 pub mod Sheets
 pub mod Segments
 pub mod Fitting

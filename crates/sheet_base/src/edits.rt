@@ -1,3 +1,5 @@
+//! The changes of a layer's bytes: places, and what takes the place of the bytes there.
+
 /// The text that takes the place of an edit's bytes. Paths and points are told by their numbers in the sheet.
 /// A path's image list has the images of its points, each with those of the crossings behind it.
 #[derive(Clone, Copy, Debug, PartialEq, Eq)]

@@ -1,3 +1,5 @@
+//! The options by which a file is read.
+
 /// How a file is read: what is refused, left out or passed over.
 #[derive(Clone, Copy, Debug, PartialEq, Eq)]
 pub struct How {

@@ -1,3 +1,5 @@
+//! The text of a list of images, open or as a ring, for any format.
+
 ghost use Rattle.std.specs.Prelude.{◌≡◌, ◌++◌, List, ℕ, OnOk};
 ghost use Rattle.plane_base.specs.declared.shapes.Pt.{Pt};
 ghost use Rattle.sheet_base.specs.ImageLists.{texts_behind, list_text, ring_text};

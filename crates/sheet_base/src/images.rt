@@ -1,3 +1,5 @@
+//! The images of a layer's points and crossings.
+
 ghost use Rattle.std.specs.Prelude.{◌≡◌};
 ghost use Rattle.sheet_base.specs.Fitting.{run_begin, images_of, row_images, path_images};
 

@@ -1,3 +1,5 @@
+//! What a format of layers is: how its bytes are read and written, and what is read back.
+
 ghost use Rattle.std.specs.Prelude.{◌≡◌, ◌≢◌, ◌≤◌, ◌^◌, List, ℕ, length, IfOk, IsErrOf};
 ghost use Rattle.sheet_base.specs.declared.edits.Edit.{Edit};
 ghost use Rattle.sheet_base.specs.declared.faults.LayerFault.{LayerFault};

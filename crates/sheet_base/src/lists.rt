@@ -1,3 +1,5 @@
+//! A list that contracts see as a list, and a part of a slice.
+
 ghost use Rattle.std.specs.Prelude.{◌≡◌, ◌-◌, take, drop};
 
 use std::marker::Model;

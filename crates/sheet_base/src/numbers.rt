@@ -1,3 +1,5 @@
+//! Millimetres written as metres.
+
 ghost use Rattle.std.specs.Prelude.{◌≡◌, ◌++◌, OnOk};
 ghost use Rattle.mm_decimal.specs.Writing.{written};
 

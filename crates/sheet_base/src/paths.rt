@@ -1,3 +1,5 @@
+//! The kinds of paths of a sheet, and the points of a path.
+
 /// What the points of a path are.
 #[derive(Clone, Copy, Debug, PartialEq, Eq)]
 pub enum PathKind {

@@ -1,3 +1,5 @@
+//! The sheet of a layer: its paths, its points, and the edits of its bytes.
+
 ghost use Rattle.std.specs.Prelude.{◌≡◌};
 ghost use Rattle.sheet_base.specs.Sheets.{Contents, IsSheet};
 

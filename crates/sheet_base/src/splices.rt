@@ -1,3 +1,5 @@
+//! The bytes of a layer with the text of each edit in place of its bytes.
+
 ghost use Rattle.std.specs.Prelude.{◌≡◌, ◌++◌, List, ℕ, length, IfOk, OnOk};
 ghost use Rattle.sheet_base.specs.declared.edits.Edit.{Edit};
 ghost use Rattle.sheet_base.specs.Splices.{AreInOrder, spliced, SplicesKeep};

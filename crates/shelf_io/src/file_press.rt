@@ -1,3 +1,5 @@
+//! The press over real files and standard output.
+
 ghost use Rattle.std.specs.Prelude.{◌≡◌, ◌≤◌, length, None, IfOk};
 ghost use Rattle.shelf_io.specs.Count.{counted};
 ghost use Rattle.shelf_io.specs.RealFiles.{closed_press};

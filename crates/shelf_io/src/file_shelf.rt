@@ -1,3 +1,5 @@
+//! The shelf over real files.
+
 ghost use Rattle.std.specs.Prelude.{◌≡◌, ◌≤◌, None, false, IfOk};
 ghost use Rattle.shelf_io.specs.Count.{counted};
 ghost use Rattle.shelf_io.specs.RealFiles.{closed_shelf};

@@ -1,3 +1,5 @@
+//! One call loads a whole file of limited size from a shelf.
+
 ghost use Rattle.std.specs.Prelude.{◌≡◌, ◌≤◌, ◌<◌, ◌+◌, ◌^◌, length, vec_len, IfOk, IfSome, IsErrOf, IsTrue};
 ghost use Rattle.shelf_io.specs.declared.loading.LoadFault.TheVariants.{NoMemory};
 ghost use Rattle.shelf_io.specs.Count.{Rose, counted};

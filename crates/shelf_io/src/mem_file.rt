@@ -1,3 +1,5 @@
+//! A file in memory, and the calls that are to fail.
+
 ghost use Rattle.std.specs.Prelude.{◌≡◌, ◌↔◌, if◌then◌else◌, Contains, IsTrue, position, bytes_eq, string_bytes};
 ghost use Rattle.shelf_io.specs.Count.{counted};
 

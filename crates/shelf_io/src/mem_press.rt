@@ -1,3 +1,5 @@
+//! A press in memory, for tests: calls of chosen numbers fail.
+
 ghost use Rattle.std.specs.Prelude.{◌≡◌, ◌↔◌, ◌<◌, ◌≤◌, [], ◌∷◌, ◌++◌, length, map, min, take, true, false, Some, Contains, IsErr, IsTrue, IfOk, OnOk, OnErr, option_copied};
 ghost use Rattle.shelf_io.specs.Count.{HasCause};
 ghost use Rattle.shelf_io.specs.Files.{bytes_of};

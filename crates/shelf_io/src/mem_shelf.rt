@@ -1,3 +1,5 @@
+//! A shelf in memory, for tests: calls of chosen numbers fail.
+
 ghost use Rattle.std.specs.Prelude.{◌≡◌, ◌↔◌, ◌<◌, ◌≤◌, [], ◌∷◌, ◌++◌, length, Contains, IsTrue, IsErr, IfOk, OnOk, OnErr, is_some, Some, None, true, false};
 ghost use Rattle.shelf_io.specs.Count.{HasCause, counted};
 ghost use Rattle.shelf_io.specs.Files.{bytes_of, AreDistinct};

@@ -1,3 +1,5 @@
+//! The name of a file.
+
 ghost use Rattle.std.specs.Prelude.{◌≡◌, IfOk, IsUtf8};
 
 use std::alloc::{AllocError, Global};

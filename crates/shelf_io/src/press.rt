@@ -1,3 +1,5 @@
+//! What a press is: files made one after the other, with a count of the calls that failed.
+
 ghost use Rattle.std.specs.Prelude.{◌≡◌, ◌<◌, ◌≤◌, ℕ, Bool, true, false, Option, length, take, IfOk, OnOk, OnErr, IsTrue};
 ghost use Rattle.shelf_io.specs.Files.{Files};
 ghost use Rattle.shelf_io.specs.Count.{HasCause};

@@ -1,3 +1,5 @@
+//! One call makes a whole file through a press.
+
 ghost use Rattle.std.specs.Prelude.{◌≡◌, false, OnOk, OnErr};
 ghost use Rattle.shelf_io.specs.Count.{HasCause};
 ghost use Rattle.shelf_io.specs.Made.{Becomes, Lacks, PrintsFront, with_whole};

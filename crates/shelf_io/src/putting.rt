@@ -1,3 +1,5 @@
+//! One call writes all bytes of a piece at the end of a press's file.
+
 ghost use Rattle.std.specs.Prelude.{◌≡◌, true, OnOk, OnErr, IsTrue};
 ghost use Rattle.shelf_io.specs.Count.{HasCause};
 ghost use Rattle.shelf_io.specs.Made.{Appends, AppendsFront};

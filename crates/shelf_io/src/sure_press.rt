@@ -1,3 +1,5 @@
+//! A press in memory of a fixed size, of which no call fails.
+
 ghost use Rattle.std.specs.Prelude.{◌≡◌, ◌<◌, ◌≤◌, length, take, IsTrue, IfOk, IfSome, OnOk, OnErr, Ok, Some, None, true, false, option_copied};
 ghost use Rattle.shelf_io.specs.Count.{HasCause};
 ghost use Rattle.shelf_io.specs.Files.{bytes_of};

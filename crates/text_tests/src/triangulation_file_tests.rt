@@ -94,7 +94,7 @@ fn corners() -> [Corner; 3] {
     ]
 }
 
-/// Is the text read as these corners and triangles, with so many numbers that lose digits?
+/// Whether the text is read as these corners and triangles, with so many numbers that lose digits.
 fn is_read(
     alloc: Global,
     text: &str,
@@ -111,7 +111,8 @@ fn is_read(
     }
 }
 
-/// Is the file, with a stretch replaced, read as these corners and triangles, with so many numbers that lose digits?
+/// Whether the file, with a stretch replaced, is read as these corners and triangles, with so many numbers that lose
+/// digits.
 fn is_changed_to(
     alloc: Global,
     (part, by): (&str, &str),

@@ -1,4 +1,4 @@
--- How two segments lie to each other, by their common points. A segment is given by its ends, and its points are their mixes.
+-- The relation of two segments, by their common points. A segment is given by its ends, and its points are their mixes.
 use Rattle.std.specs.Prelude.{◌⊎◌, pos, ◌<ℤ◌, [], ◌∷◌}
 use Rattle.plane_base.specs.Plane.{Point, Same, IsMix}
 use Rattle.tin_base.specs.declared.relations.Rel.{Rel}

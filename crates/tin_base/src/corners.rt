@@ -1,3 +1,5 @@
+//! A corner of a triangulation, with its place in each frame.
+
 ghost use Rattle.std.specs.Prelude.{◌≡◌};
 ghost use Rattle.plane_base.specs.Plane.{whole};
 

@@ -1,3 +1,5 @@
+//! Laws of sound triangulations: images are one-to-one, segments and relations are kept, and pieces follow.
+
 ghost use Rattle.tin_base.specs.Laws.{EachPairOnceIsEnough, NoTrianglesAreSound, OneTriangleIsSound, PointsHaveOneImage, PointsInsideAreNear, DifferentPointsDiffer, TargetPointsAreImages, ConverseIsSound, SoundIsOneToOne};
 ghost use Rattle.tin_base.specs.Carried.{SegmentsGoToSegments, RelationsAreKept, PiecesFollow};
 

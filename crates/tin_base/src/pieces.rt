@@ -1,3 +1,5 @@
+//! Pieces of segments with their places in a layer, and the change of the relation of two pieces.
+
 use crate::Rel;
 use plane_base::Pt;
 

@@ -1,3 +1,5 @@
+//! A triangulation that is sound, as a type that keeps this fact.
+
 ghost use Rattle.std.specs.Prelude.{◌≡◌, ◌<◌, pos, ◌<ℤ◌, length};
 ghost use Rattle.plane_base.specs.Plane.{whole, turn_of, corners as corners_of, IsNearAll};
 ghost use Rattle.tin_base.specs.Triangulation.{place, places, corner_at, numbers_of};

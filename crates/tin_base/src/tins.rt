@@ -1,3 +1,5 @@
+//! A triangulation: corners with a place in each frame, and triangles over them.
+
 ghost use Rattle.std.specs.Prelude.{◌≡◌, ◌<◌, length, map};
 ghost use Rattle.plane_base.specs.Plane.{whole, turn_of, corners as corners_of, IsNearAll};
 ghost use Rattle.tin_base.specs.Triangulation.{triangulation, place, places, corner_at, numbers_of};

@@ -1,3 +1,4 @@
+-- The files of lemmas of tin_check.
 pub mod Places
 pub mod Sides
 pub mod AtCorner

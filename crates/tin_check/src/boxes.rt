@@ -1,3 +1,5 @@
+//! The box of a triangle in a frame, and the grid over the boxes of all.
+
 ghost use Rattle.std.specs.Prelude.{◌<◌, length, IfOk};
 ghost use Rattle.tin_check.specs.Boxes.{IsBoxIn, AreBoxesIn};
 

@@ -1,3 +1,5 @@
+//! The check of a triangulation, with its first fault.
+
 ghost use Rattle.std.specs.Prelude.{◌≡◌, ◌↔◌, ◌<◌, ◌+◌, length, IsTrue, IfOk, IfErr, OnOk};
 ghost use Rattle.tin_base.specs.Soundness.{turn_in, IsSound};
 ghost use Rattle.tin_base.specs.declared.frames.Frame.TheVariants.{Source, Target};

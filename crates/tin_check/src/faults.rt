@@ -1,3 +1,5 @@
+//! Why a triangulation is not known to be sound.
+
 ghost use Rattle.std.specs.Prelude.{◌≡◌};
 ghost use Rattle.tin_check.specs.declared.faults.CheckFault.TheVariants.{NoMemory};
 

@@ -1,3 +1,5 @@
+//! Whether two triangles meet in their common corners and nowhere else.
+
 ghost use Rattle.std.specs.Prelude.{◌≡◌, ◌↔◌, ◌≤◌, pos, ◌<ℤ◌, IsTrue, [], ◌∷◌, map, length};
 ghost use Rattle.plane_base.specs.Plane.{whole, corners, turn_of, IsNear, IsNearAll, IsNearTri};
 ghost use Rattle.tin_check.specs.Meeting.{HaveCommonPoint, MeetOnlyIn};

@@ -1,3 +1,5 @@
+//! Laws of the check: a triangulation has one first fault at most, and with a fault it is not sound.
+
 ghost use Rattle.tin_check.specs.Faults.{FirstFaultIsOne, FaultsAreUnsound};
 
 /// A law: a triangulation has one first fault at most.

@@ -1,3 +1,5 @@
+//! The corners that two triangles have in common, and a triangle counted from one of them.
+
 ghost use Rattle.std.specs.Prelude.{◌≡◌, ◌↔◌, IsTrue};
 ghost use Rattle.tin_check.specs.Marks.{points_of, marked_of, IsAmong, next_of, IsCounted, IsMarked};
 

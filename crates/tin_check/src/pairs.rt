@@ -1,3 +1,5 @@
+//! Whether a pair of triangles of a triangulation fits, by the numbers of their corners.
+
 ghost use Rattle.std.specs.Prelude.{◌≡◌, ◌↔◌, ◌<◌, pos, ◌<ℤ◌, IsTrue, IfSome, map, length};
 ghost use Rattle.tin_base.specs.Soundness.{turn_in, has, DoFit};
 ghost use Rattle.tin_check.specs.Numbers.{IsMarkedSide};

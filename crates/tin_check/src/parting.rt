@@ -1,3 +1,5 @@
+//! Quick tests by turns, which show that two triangles have no common point, or none but a common corner.
+
 ghost use Rattle.std.specs.Prelude.{◌≡◌, pos, ◌<ℤ◌, IsTrue, [], ◌∷◌};
 ghost use Rattle.plane_base.specs.Plane.{whole, corners, turn_of, IsNear, IsNearTri};
 ghost use Rattle.tin_check.specs.Meeting.{HaveCommonPoint, MeetOnlyIn};

@@ -1,3 +1,5 @@
+//! The search for the first pair of triangles that does not fit, by a grid of their boxes.
+
 ghost use Rattle.std.specs.Prelude.{◌≡◌, ◌+◌, ◌<◌, ◌≤◌, false, length, All, IfOk, IsTrue};
 ghost use Rattle.std.specs.List.Sorted.{IsStrictlyIncreasing};
 ghost use Rattle.tin_base.specs.Soundness.{DoFit};

@@ -1,3 +1,4 @@
+-- The files of lemmas of tin_file.
 pub mod There
 pub mod Walks
 pub mod Found

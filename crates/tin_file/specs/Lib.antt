@@ -1,3 +1,4 @@
+-- The files of definitions of tin_file.
 pub mod Keys
 pub mod Headings
 pub mod Vertices

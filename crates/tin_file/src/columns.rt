@@ -35,7 +35,7 @@ pub struct TriangleColumns {
     pub third: usize,
 }
 
-/// Are all values texts?
+/// Whether all values are texts.
 fn are_texts(doc: &Doc, bytes: &[u8], values: &[u32]) -> bool
     requires { AreNodes doc.now.nodes bytes.now values.now }
     ensures { (all : List Json) → AreThere doc.now.nodes bytes.now values.now all
@@ -49,7 +49,7 @@ fn are_texts(doc: &Doc, bytes: &[u8], values: &[u32]) -> bool
     true
 }
 
-/// Does one of the values say this?
+/// Whether one of the values is this text.
 pub fn any_says(doc: &Doc, bytes: &[u8], values: &[u32], text: &[u8]) -> bool
     requires read { IsReadFrom doc.now bytes.now }
     requires nodes { AreNodes doc.now.nodes bytes.now values.now }

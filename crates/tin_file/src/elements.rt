@@ -21,7 +21,7 @@ pub fn node_at(doc: &Doc, number: u32) -> Node
     doc.nodes.items()[number as usize]
 }
 
-/// Is the value an object?
+/// Whether the value is an object.
 pub fn holds_object(doc: &Doc, value: u32) -> bool
     requires { value < length doc.now.nodes }
     ensures { (bytes : List ℕ) (is : Json) → IsThere doc.now.nodes bytes value is
@@ -33,7 +33,7 @@ pub fn holds_object(doc: &Doc, value: u32) -> bool
     }
 }
 
-/// Is the value an array?
+/// Whether the value is an array.
 pub fn holds_array(doc: &Doc, value: u32) -> bool
     requires { value < length doc.now.nodes }
     ensures { (bytes : List ℕ) (is : Json) → IsThere doc.now.nodes bytes value is
@@ -45,7 +45,7 @@ pub fn holds_array(doc: &Doc, value: u32) -> bool
     }
 }
 
-/// Is the value a text?
+/// Whether the value is a text.
 pub fn holds_text(doc: &Doc, value: u32) -> bool
     requires { value < length doc.now.nodes }
     ensures { (bytes : List ℕ) (is : Json) → IsThere doc.now.nodes bytes value is
@@ -57,7 +57,7 @@ pub fn holds_text(doc: &Doc, value: u32) -> bool
     }
 }
 
-/// Is the value a number?
+/// Whether the value is a number.
 pub fn holds_number(doc: &Doc, value: u32) -> bool
     requires { value < length doc.now.nodes }
     ensures { (bytes : List ℕ) (is : Json) → IsThere doc.now.nodes bytes value is
@@ -87,7 +87,7 @@ pub fn text_at<'a>(doc: &Doc, bytes: &'a [u8], value: u32) -> &'a [u8]
     part(bytes, node.start, node.end)
 }
 
-/// Is the value a text that says this?
+/// Whether the value is this text, with its escapes resolved.
 pub fn tells(doc: &Doc, bytes: &[u8], value: u32, text: &[u8]) -> bool
     requires read { IsReadFrom doc.now bytes.now }
     requires node { value < length doc.now.nodes }

@@ -1,3 +1,5 @@
+//! Why bytes are not read as a triangulation.
+
 use mm_decimal::NumFault;
 use std::alloc::{AllocError, AllocFailed};
 use thiserror::Error;

@@ -25,7 +25,7 @@ pub struct Heading {
     pub triangles: TriangleColumns,
 }
 
-/// Is the value of `file_type` the text `triangulation_file`?
+/// Refuses a value of `file_type` that is not the text `triangulation_file`.
 fn check_file_type_value(doc: &Doc, bytes: &[u8], value: u32) -> Result<(), TinFault>
     requires read { IsReadFrom doc.now bytes.now }
     requires node { value < length doc.now.nodes }
@@ -51,7 +51,7 @@ fn check_file_type(doc: &Doc, bytes: &[u8]) -> Result<(), TinFault>
     check_file_type_value(doc, bytes, value)
 }
 
-/// Is the value of `format_version` one of both versions?
+/// Refuses a value of `format_version` that is neither of the two versions.
 fn check_version_value(doc: &Doc, bytes: &[u8], value: u32) -> Result<(), TinFault>
     requires read { IsReadFrom doc.now bytes.now }
     requires node { value < length doc.now.nodes }
@@ -130,7 +130,7 @@ fn check_strategy(doc: &Doc, bytes: &[u8], how: How) -> Result<(), TinFault>
     }
 }
 
-/// Is the value one of the two components?
+/// Whether the value is one of the two components.
 fn tells_component(doc: &Doc, bytes: &[u8], value: u32) -> bool
     requires read { IsReadFrom doc.now bytes.now }
     requires node { value < length doc.now.nodes }
@@ -142,7 +142,7 @@ fn tells_component(doc: &Doc, bytes: &[u8], value: u32) -> bool
     tells(doc, bytes, value, b"vertical".as_slice())
 }
 
-/// Is each value one of the two components?
+/// Whether each value is one of the two components.
 fn are_components(doc: &Doc, bytes: &[u8], values: &[u32]) -> bool
     requires read { IsReadFrom doc.now bytes.now }
     requires nodes { AreNodes doc.now.nodes bytes.now values.now }

@@ -24,7 +24,7 @@ fn coordinate(corner: Corner, frame: Frame, axis: Axis) -> i64
     }
 }
 
-/// Are two corners `SPAN` or more apart on this axis?
+/// Whether two corners are `SPAN` or more apart on this axis.
 fn is_too_wide(corners: &[Corner], frame: Frame, axis: Axis) -> bool
     requires { AreInReach corners.now }
     ensures { result ≡ is_wide (coordinate_of frame axis) corners.now }

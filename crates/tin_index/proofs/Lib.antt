@@ -1,3 +1,4 @@
+-- The files of lemmas of tin_index.
 pub mod InBox
 pub mod Boxing
 pub mod Round

@@ -1,3 +1,4 @@
+-- The files of definitions of tin_index.
 pub mod Boxes
 pub mod Sides
 pub mod Stars

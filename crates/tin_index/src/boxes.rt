@@ -1,3 +1,5 @@
+//! Boxes of source triangles, and whether a triangle has a point that may be anywhere.
+
 ghost use Rattle.std.specs.Prelude.{◌≡◌, ◌↔◌, pos, ◌<ℤ◌, length, IsTrue, IfOk};
 ghost use Rattle.std.specs.Int.{int_min, int_max};
 ghost use Rattle.plane_base.specs.Plane.{whole, turn_of, IsNearAll, IsNearTri, holds_of};

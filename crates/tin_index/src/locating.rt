@@ -1,3 +1,5 @@
+//! The least source triangle that has a point.
+
 ghost use Rattle.std.specs.Prelude.{◌↔◌, ℕ, ◌<◌, ◌≤◌, length, All, Contains, IsTrue, IfSome, IfNone};
 ghost use Rattle.std.specs.List.Sorted.{IsStrictlyIncreasing};
 ghost use Rattle.plane_base.specs.Plane.{whole};

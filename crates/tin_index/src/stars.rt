@@ -1,3 +1,5 @@
+//! The triangles of each corner.
+
 ghost use Rattle.std.specs.Prelude.{◌≡◌, ◌∷◌, [], ◌++◌, length, IfOk, OnOk};
 ghost use Rattle.tin_index.specs.Stars.{AreStarsTo};
 

@@ -1,3 +1,5 @@
+//! Tests of a layer that is read, carried and written, in a format of one line.
+
 ghost use Rattle.std.specs.Prelude.{◌≡◌, []};
 
 use crate::carrying_tests::are_pieces;

@@ -1,3 +1,5 @@
+//! Tests of paths that are carried: images, runs, pieces and refusals.
+
 ghost use Rattle.std.specs.Prelude.{IsTrue};
 ghost use Rattle.sheet_base.specs.Sheets.{IsPathFrom, AreTiled};
 

@@ -1,3 +1,5 @@
+//! Tests of the list of changes by rounding, and of its limit.
+
 ghost use Rattle.std.specs.Prelude.{◌≡◌, All, pos, ◌<ℤ◌, length, IsTrue, IfOk};
 ghost use Rattle.plane_base.specs.Plane.{whole, turn_of, IsNear, holds_of};
 ghost use Rattle.tin_base.specs.Pieces.{IsPieceInside};

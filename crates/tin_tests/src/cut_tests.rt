@@ -1,3 +1,5 @@
+//! Tests of the pieces of a segment: across sides, through corners, and outside.
+
 use crate::made_tins::{at, bow, notched, six, square};
 use frac128::{Frac, order};
 use plane_base::End;

@@ -1,3 +1,5 @@
+//! Tests of the order and the rounding of fractions, up to the largest.
+
 use frac128::{Frac, TURN, half_up, order};
 use std::cmp::Ordering;
 

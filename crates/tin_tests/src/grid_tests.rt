@@ -1,3 +1,5 @@
+//! Tests of a grid of boxes: boxes near a box, in the cell of a point, and partners of a box.
+
 ghost use Rattle.std.specs.Prelude.{◌≡◌, ◌≤◌, ◌<◌, length, All, IfOk, IsTrue};
 ghost use Rattle.plane_base.specs.Boxes.{IsOrdered};
 ghost use Rattle.cell_grid.specs.declared.grids.TheConstants.{LIMIT};

@@ -1,3 +1,5 @@
+//! Tests of the rounded images of points and of points of sides.
+
 ghost use Rattle.std.specs.Prelude.{◌<◌, length};
 
 use crate::made_tins::{corner, sound_of, tin_of};

@@ -1,3 +1,5 @@
+//! Tests of the limits of a triangulation, at each limit and one past it.
+
 use crate::made_tins::corner;
 use crate::within::are_within_limits;
 use tin_base::Corner;

@@ -1,3 +1,5 @@
+//! Tests of the triangle that has a point, of neighbours across sides, and of the triangles round a corner.
+
 use crate::made_tins::{bow, same, six, sound_of, square, tin_of};
 use plane_base::Pt;
 use std::test::Fail;

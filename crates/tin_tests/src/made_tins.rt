@@ -1,3 +1,5 @@
+//! Triangulations for tests: a square, six triangles round a point, a bow and a square with a notch.
+
 ghost use Rattle.std.specs.Prelude.{◌≡◌, length, IfSome};
 ghost use Rattle.tin_base.specs.Triangulation.{triangulation};
 

@@ -1,3 +1,5 @@
+//! Whether two points are near enough for the calls of the plane.
+
 ghost use Rattle.std.specs.Prelude.{◌-ℤ◌, ◌<ℤ◌, IsTrue};
 ghost use Rattle.plane_base.specs.Plane.{IsNear};
 ghost use Rattle.plane_base.specs.declared.shapes.TheConstants.{SPAN};

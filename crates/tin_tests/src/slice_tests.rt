@@ -1,3 +1,5 @@
+//! Tests of the part of a segment in a triangle, of points in triangles, and of lines that meet.
+
 ghost use Rattle.std.specs.Prelude.{pos, ◌<ℤ◌, IsTrue};
 ghost use Rattle.plane_base.specs.Plane.{whole, turn_of, IsNearAll, IsNearTri};
 

@@ -1,3 +1,5 @@
+//! Tests of the check of a triangulation: sound ones, and the first fault of others.
+
 use crate::made_tins::{corner, same, square_corners, tin_of};
 use std::alloc::Global;
 use std::test::Fail;

@@ -1,3 +1,5 @@
+//! Whether corners and triangles are within the limits of a triangulation.
+
 ghost use Rattle.std.specs.Prelude.{◌≡◌, ◌↔◌, ◌<◌, ℕ, ◌-ℤ◌, ◌<ℤ◌, IsTrue, All, length};
 ghost use Rattle.plane_base.specs.Plane.{IsNear};
 ghost use Rattle.plane_base.specs.declared.shapes.TheConstants.{SPAN};

@@ -1,3 +1,4 @@
+-- The files of lemmas of topo_check.
 pub mod ByRounding
 pub mod Cases
 pub mod Collects

@@ -1,3 +1,4 @@
+-- The files of definitions of topo_check.
 pub mod Changes
 pub mod Laws
 pub mod Boxes

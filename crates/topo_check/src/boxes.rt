@@ -1,3 +1,5 @@
+//! Boxes round a piece: of the exact piece, and of the segment between its rounded ends.
+
 ghost use Rattle.std.specs.Prelude.{◌≡◌, ◌≤ℤ◌, ℤ, ◌⊎◌, [], ◌∷◌};
 ghost use Rattle.plane_base.specs.Boxes.{AreIn};
 ghost use Rattle.plane_base.specs.Plane.{IsNear};

@@ -1,3 +1,5 @@
+//! The search for the pairs of pieces that have changed, by grids of their boxes.
+
 ghost use Rattle.std.specs.Prelude.{◌≡◌, ◌≢◌, ◌≤◌, ℕ, ◌<◌, List, length, Contains, OnOk, IfOk, nat_eq};
 ghost use Rattle.std.specs.List.{IsDistinct};
 ghost use Rattle.topo_check.specs.declared.limits.TheConstants.{MOST_COMPARED};

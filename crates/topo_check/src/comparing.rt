@@ -1,3 +1,5 @@
+//! Two pieces whose relation is another after rounding, and the test of one pair.
+
 ghost use Rattle.std.specs.Prelude.{◌≡◌, ◌<◌, length, IfSome, IfNone};
 ghost use Rattle.tin_base.specs.declared.relations.Rel.{Rel};
 ghost use Rattle.topo_check.specs.Boxes.{AreBoxesOf, IsExactBox};

@@ -1,3 +1,5 @@
+//! Why the changes of some pieces are not listed.
+
 ghost use Rattle.std.specs.Prelude.{◌≡◌};
 ghost use Rattle.topo_check.specs.declared.faults.ChangesFault.TheVariants.{NoMemory};
 

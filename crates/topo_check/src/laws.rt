@@ -1,3 +1,5 @@
+//! Laws of changes: pieces have one list of them, and each is by rounding alone.
+
 ghost use Rattle.topo_check.specs.Laws.{ChangesAreOne, MoreStayMore, ChangesAreByRounding};
 
 /// A law: pieces have one list of changes.

@@ -1,3 +1,5 @@
+//! The most pieces that one call compares, and how many pieces a segment needs for boxes by exact ends.
+
 /// The most pieces that can be compared in one call.
 pub const MOST_COMPARED: usize = 1 << 22;
 

@@ -1,3 +1,5 @@
+//! The list of the changes of pieces, in order.
+
 ghost use Rattle.std.specs.Prelude.{◌≡◌, ◌<◌, ◌≤◌, map, All, IfOk, IsErrOf, length, vec_len};
 ghost use Rattle.std.specs.List.Sorted.{IsPermutation};
 ghost use Rattle.topo_check.specs.declared.limits.TheConstants.{MOST_COMPARED};

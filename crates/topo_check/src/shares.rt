@@ -1,3 +1,5 @@
+//! A share of the way between two numbers, rounded down or up.
+
 ghost use Rattle.std.specs.Int.{int_div_euclid};
 ghost use Rattle.std.specs.Prelude.{◌≡◌, ℤ, pos, ◌-ℤ◌, ◌*ℤ◌, ◌≤ℤ◌};
 ghost use Rattle.plane_base.specs.Plane.{IsShort};

@@ -1,3 +1,4 @@
+-- The files of lemmas of wkt_layer.
 pub mod Rests
 pub mod Items
 pub mod Rings

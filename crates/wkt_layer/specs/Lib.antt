@@ -1,3 +1,4 @@
+-- The files of definitions of wkt_layer.
 pub mod Tokens
 pub mod Numbers
 pub mod Geometries

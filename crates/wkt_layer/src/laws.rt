@@ -1,3 +1,5 @@
+//! Laws of layers of well-known text: bytes have one sheet or one first fault.
+
 ghost use Rattle.std.specs.Prelude.{◌≡◌, ℕ, List, Bool};
 ghost use Rattle.sheet_base.specs.Sheets.{Contents};
 ghost use Rattle.sheet_base.specs.declared.faults.LayerFault.{LayerFault};

@@ -1,3 +1,4 @@
+-- The proof of the law `cuts_are_images` in src/laws.rt.
 use Rattle.affine_image.proofs.Cutting.{cuts_are_images}
 use Rattle.affine_image.proofs.laws.cuts_are_images.Goals as goal
 

@@ -1,3 +1,4 @@
+-- The proof of the law `rounded_images_agree` in src/laws.rt.
 use Rattle.affine_image.proofs.Rounding.{rounded_images_agree}
 use Rattle.affine_image.proofs.laws.rounded_images_agree.Goals as goal
 

@@ -1,3 +1,4 @@
+-- The proof of the law `rounded_images_are_in_reach` in src/laws.rt.
 use Rattle.affine_image.proofs.Reach.{rounded_images_are_in_reach}
 use Rattle.affine_image.proofs.laws.rounded_images_are_in_reach.Goals as goal
 

@@ -1,3 +1,4 @@
+-- The proof of the law `sheet_pieces_are_pieces` in src/laws.rt.
 use Rattle.affine_image.proofs.Bearing.{sheet_pieces_are_pieces}
 use Rattle.affine_image.proofs.laws.sheet_pieces_are_pieces.Goals as goal
 

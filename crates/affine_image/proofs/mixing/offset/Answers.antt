@@ -1,3 +1,4 @@
+-- Answers to the goals of `offset` in src/mixing.rt.
 use Rattle.std.proofs.Common.{rules, ◌≡◌, ◌∙◌, ap₂, sym, subst, ℤ, ◌+ℤ◌, ◌*ℤ◌, ◌≤ℤ◌, SFits}
 use Rattle.std.proofs.lemmas.Int.{to_z-of_z}
 use mir.Syntax.{w64, w128}

@@ -1,3 +1,4 @@
+-- Answers to the goals of `part` in src/mixing.rt.
 use Rattle.std.proofs.Common.{◌≡◌, to_z, of_z, ◌*ℤ◌, SFits, arith}
 use Rattle.std.proofs.lemmas.Int.{ints, to_z-of_z}
 use mir.Syntax.{w128}

@@ -1,3 +1,4 @@
+-- Answers to the goals of `round_short` in src/quotients.rt.
 use Rattle.std.proofs.Common.{rules, FitsSigned, pos, ◌+ℤ◌, ◌*ℤ◌, arith}
 use Rattle.std.proofs.lemmas.Int.{to_z-of_z, ints}
 use mir.Syntax.{w64}

@@ -1,3 +1,4 @@
+-- Answers to the goals of `weights_at` in src/weights.rt.
 use Rattle.std.proofs.Common.{rules, SFits}
 use Rattle.std.proofs.lemmas.Int.{to_z-of_z}
 use mir.Syntax.{w128}

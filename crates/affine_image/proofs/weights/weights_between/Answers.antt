@@ -1,3 +1,4 @@
+-- Answers to the goals of `weights_between` in src/weights.rt.
 use Rattle.std.proofs.Common.{rules, ◌≡◌, to_z, of_z, SFits}
 use Rattle.std.proofs.lemmas.Int.{to_z-of_z}
 use mir.Syntax.{w128}

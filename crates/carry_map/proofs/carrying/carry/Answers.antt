@@ -1,3 +1,4 @@
+-- Answers to the goals of `carry` in src/carrying.rt.
 use Rattle.std.proofs.Common.{◌≡◌, ◌<◌, ◌^◌, length, vec_len, List, ap, ◌∙◌, subst, arith}
 use Rattle.plane_base.specs.declared.shapes.Pt.{Pt}
 use Rattle.tin_base.specs.Triangulation.{Triangulation}

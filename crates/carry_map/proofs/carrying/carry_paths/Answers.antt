@@ -1,3 +1,4 @@
+-- Answers to the goals of `carry_paths` in src/carrying.rt.
 use Rattle.std.proofs.Common.{◌≡◌, ℕ, ◌<◌, length, vec_len, get_or, List, sym, ap, subst, arith}
 use Rattle.plane_base.specs.declared.shapes.Pt.{Pt}
 use Rattle.sheet_base.specs.declared.paths.PathRow.{PathRow}

@@ -1,3 +1,4 @@
+-- The invariant of the loop of `carry_paths` in src/carrying.rt.
 use Rattle.carry_map.proofs.Sheeting.{IsSheetCarried}
 use Rattle.carry_map.proofs.carrying.carry_paths.Given as goal
 

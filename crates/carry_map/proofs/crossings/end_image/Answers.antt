@@ -1,3 +1,4 @@
+-- Answers to the goals of `end_image` in src/crossings.rt.
 use Rattle.seg_walk.proofs.Taking.{first_inside, last_inside}
 use Rattle.carry_map.proofs.Leaving.{has_last, last_image, side_told, side_differs, on_side, side_image}
 use Rattle.carry_map.proofs.crossings.end_image.Goals as goal

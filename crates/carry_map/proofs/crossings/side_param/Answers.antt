@@ -1,3 +1,4 @@
+-- Answers to the goals of `side_param` in src/crossings.rt.
 use Rattle.tin_base.specs.declared.frames.Frame.TheVariants.{Source}
 use Rattle.tin_base.proofs.Standing.{near_points}
 use Rattle.carry_map.proofs.Leaving.{near_one}

@@ -1,3 +1,4 @@
+-- Answers to the goals of `path_count` in src/layers.rt.
 use Rattle.std.proofs.Common.{◌≡◌, length, ap, List, arith}
 use Rattle.sheet_base.specs.declared.paths.PathRow.{PathRow}
 use Rattle.carry_map.proofs.Sheeting.{few_paths}

@@ -1,3 +1,4 @@
+-- Answers to the goals of `segment_total` in src/layers.rt.
 use Rattle.std.proofs.Common.{◌≡◌, ℕ, ◌+◌, ◌-◌, ◌≤◌, length, ap, List, ◌∙◌, arith}
 use Rattle.std.specs.List.{count_by}
 use Rattle.plane_base.specs.declared.shapes.Pt.{Pt}

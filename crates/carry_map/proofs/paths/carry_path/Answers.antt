@@ -1,3 +1,4 @@
+-- Answers to the goals of `carry_path` in src/paths.rt.
 use Rattle.std.proofs.Common.{◌≡◌, ◌++◌, ◌∷◌, [], ℕ, ◌<◌, ◌≤◌, length, vec_len, sym, ap, ◌∙◌, subst, arith}
 use Rattle.affine_image.specs.Rounded.{IsRoundedImage}
 use Rattle.affine_image.specs.SheetSegments.{path_vertices, segments_begun}

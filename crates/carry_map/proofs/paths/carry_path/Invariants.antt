@@ -1,3 +1,4 @@
+-- The invariant of the loop of `carry_path` in src/paths.rt.
 use Rattle.carry_map.proofs.Pathing.{IsPathCarried}
 use Rattle.carry_map.proofs.paths.carry_path.Given as goal
 

@@ -1,3 +1,4 @@
+-- Answers to the goals of `find` in src/paths.rt.
 use Rattle.std.proofs.Common.{subst}
 use Rattle.tin_base.specs.Triangulation.{Triangulation}
 use Rattle.affine_image.specs.Rounded.{IsRoundedImage}

@@ -1,3 +1,4 @@
+-- Answers to the goals of `carry_segment` in src/segments.rt.
 use Rattle.std.proofs.Common.{◌≡◌, ◌++◌, List, ap, length, ◌∙◌, arith}
 use Rattle.tin_base.specs.declared.pieces.Piece.{Piece}
 use Rattle.carry_map.specs.Carried.{inner_images}

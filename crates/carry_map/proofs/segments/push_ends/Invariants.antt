@@ -1,3 +1,4 @@
+-- The invariant of the loop of `push_ends` in src/segments.rt.
 use Rattle.std.proofs.Common.{◌≡◌, ◌++◌, map, take}
 use Rattle.carry_map.proofs.segments.push_ends.Given as goal
 

@@ -1,3 +1,4 @@
+-- Answers to the goals of `tell_pieces` in src/segments.rt.
 use Rattle.std.proofs.Common.{arith}
 use Rattle.carry_map.proofs.Telling.{told_none, told_next, told_all, step_told}
 use Rattle.carry_map.proofs.segments.tell_pieces.Goals as goal

@@ -1,3 +1,4 @@
+-- The invariant of the loop of `tell_pieces` in src/segments.rt.
 use Rattle.carry_map.proofs.Telling.{AreToldSoFar}
 use Rattle.carry_map.proofs.segments.tell_pieces.Given as goal
 

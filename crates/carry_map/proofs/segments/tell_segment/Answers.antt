@@ -1,3 +1,4 @@
+-- Answers to the goals of `tell_segment` in src/segments.rt.
 use Rattle.std.proofs.Common.{ap, length, List, sym, subst, arith}
 use Rattle.tin_base.specs.Triangulation.{Triangulation}
 use Rattle.tin_base.specs.Segments.{IsInside}

@@ -1,3 +1,4 @@
+-- Answers to the goals of `add_once` in src/entering.rt.
 use Rattle.std.proofs.Common.{◌≡◌, ℕ, List, false, nat_eq, sym, subst, ap, ◌∙◌}
 use Rattle.std.specs.List.{list_any}
 use Rattle.cell_grid.specs.Entering.{DoesKeep}

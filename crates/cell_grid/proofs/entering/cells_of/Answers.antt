@@ -1,3 +1,4 @@
+-- Answers to the goals of `cells_of` in src/entering.rt.
 use Rattle.std.proofs.Common.{subst}
 use Rattle.cell_grid.proofs.Entered.{AreGroups, cells_ascend, cells_below, cells_levels}
 use Rattle.cell_grid.proofs.entering.cells_of.Goals as goal

@@ -1,3 +1,4 @@
+-- Answers to the goals of `collect` in src/entering.rt.
 use Rattle.std.proofs.Common.{arith}
 use Rattle.cell_grid.proofs.Indices.{few}
 use Rattle.cell_grid.proofs.Collects.{first_none, first_more, first_all}

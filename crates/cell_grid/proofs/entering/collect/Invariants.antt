@@ -1,3 +1,4 @@
+-- The invariant of the loop of `collect` in src/entering.rt.
 use Rattle.cell_grid.proofs.Collects.{AreFirst}
 use Rattle.cell_grid.proofs.entering.collect.Given as goal
 

@@ -1,3 +1,4 @@
+-- The invariant of the loop of `enter` in src/entering.rt.
 use Rattle.std.proofs.Common.{◌≡◌, ◌++◌, map, take}
 use Rattle.cell_grid.specs.Entering.{entered}
 use Rattle.cell_grid.proofs.entering.enter.Given as goal

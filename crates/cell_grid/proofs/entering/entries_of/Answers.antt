@@ -1,3 +1,4 @@
+-- Answers to the goals of `entries_of` in src/entering.rt.
 use Rattle.std.proofs.Common.{◌≡◌, ◌+◌, ◌++◌, map, List, ℕ, sym, subst, ap, ◌∙◌}
 use Rattle.number_groups.specs.declared.groups.Entry.{Entry}
 use Rattle.cell_grid.specs.Entering.{AreEntered, entered}

@@ -1,3 +1,4 @@
+-- The invariant of the loop of `entries_of` in src/entering.rt.
 use Rattle.cell_grid.specs.Entering.{AreEntered}
 use Rattle.cell_grid.proofs.entering.entries_of.Given as goal
 

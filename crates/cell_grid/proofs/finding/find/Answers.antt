@@ -1,3 +1,4 @@
+-- Answers to the goals of `find` in src/finding.rt.
 use Rattle.cell_grid.proofs.Found.{everywhere_found, block_found}
 use Rattle.cell_grid.proofs.finding.find.Goals as goal
 

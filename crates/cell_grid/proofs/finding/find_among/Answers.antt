@@ -1,3 +1,4 @@
+-- Answers to the goals of `find_among` in src/finding.rt.
 use Rattle.std.proofs.Common.{◌≡◌, ◌+◌, ℕ, get_or, Contains, inl, inr, ⊎_elim, sym, ap, ◌∙◌, arith}
 use Rattle.std.proofs.lemmas.Bool.{cases_lt}
 use Rattle.std.proofs.lemmas.Grind.{get_or_default_zero}

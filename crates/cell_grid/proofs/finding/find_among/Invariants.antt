@@ -1,3 +1,4 @@
+-- The invariant of the loop of `find_among` in src/finding.rt.
 use Rattle.cell_grid.specs.Finding.{DoesFind, IsOneOf}
 use Rattle.cell_grid.proofs.finding.find_among.Given as goal
 

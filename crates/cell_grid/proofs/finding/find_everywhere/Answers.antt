@@ -1,3 +1,4 @@
+-- Answers to the goals of `find_everywhere` in src/finding.rt.
 use Rattle.std.proofs.Common.{◌+◌, ℕ, List, Contains, subst, arith}
 use Rattle.cell_grid.proofs.Found.{stands_more, stands_all}
 use Rattle.cell_grid.proofs.finding.find_everywhere.Goals as goal

@@ -1,3 +1,4 @@
+-- The invariant of the loop of `find_everywhere` in src/finding.rt.
 use Rattle.std.proofs.Common.{◌+◌}
 use Rattle.cell_grid.specs.Finding.{DoesFind, StandsBefore}
 use Rattle.cell_grid.proofs.finding.find_everywhere.Given as goal

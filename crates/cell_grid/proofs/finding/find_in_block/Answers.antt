@@ -1,3 +1,4 @@
+-- Answers to the goals of `find_in_block` in src/finding.rt.
 use Rattle.std.proofs.Common.{◌*◌, ℕ, List, Contains, subst, ap, ◌∙◌, arith}
 use Rattle.cell_grid.specs.Cells.{numbers_at}
 use Rattle.cell_grid.specs.Blocks.{place_at}

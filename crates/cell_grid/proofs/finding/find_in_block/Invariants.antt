@@ -1,3 +1,4 @@
+-- The invariant of the loop of `find_in_block` in src/finding.rt.
 use Rattle.cell_grid.specs.Blocks.{place_at}
 use Rattle.cell_grid.specs.Finding.{DoesFind, StandsBefore}
 use Rattle.cell_grid.proofs.finding.find_in_block.Given as goal

@@ -1,3 +1,4 @@
+-- Answers to the goals of `find_one` in src/finding.rt.
 use Rattle.std.proofs.Common.{refl}
 use Rattle.cell_grid.proofs.Finds.{find_one}
 use Rattle.cell_grid.proofs.finding.find_one.Goals as goal

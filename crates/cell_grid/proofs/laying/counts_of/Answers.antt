@@ -1,3 +1,4 @@
+-- Answers to the goals of `counts_of` in src/laying.rt.
 use Rattle.std.proofs.Common.{◌+◌, arith}
 use Rattle.std.proofs.lemmas.Grind.{common_steps}
 use Rattle.std.proofs.lemmas.List.{length-set}

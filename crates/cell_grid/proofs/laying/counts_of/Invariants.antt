@@ -1,3 +1,4 @@
+-- The invariant of the loop of `counts_of` in src/laying.rt.
 use Rattle.std.proofs.Common.{◌≤◌, ◌<◌, ℕ, length, All, slice_index, slice_index_or}
 use Rattle.plane_base.specs.declared.shapes.Rect.{Rect}
 use Rattle.cell_grid.specs.Sizes.{level_of, AreOfLevels}

@@ -1,3 +1,4 @@
+-- Answers to the goals of `even_levels` in src/laying.rt.
 use Rattle.std.proofs.Common.{◌≡◌, ◌<◌, ◌+◌, List, length, sym, subst, ap, ◌∙◌, arith}
 use Rattle.std.proofs.lemmas.List.{length_push}
 use Rattle.cell_grid.specs.Laying.{AreLaid}

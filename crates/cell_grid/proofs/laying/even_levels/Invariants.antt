@@ -1,3 +1,4 @@
+-- The invariant of the loop of `even_levels` in src/laying.rt.
 use Rattle.std.proofs.Common.{◌≡◌, ◌≤◌, ◌+◌, ◌*◌, ◌^◌, ◌<◌, length, All}
 use Rattle.cell_grid.specs.Laying.{AreLaid}
 use Rattle.cell_grid.proofs.laying.even_levels.Given as goal

@@ -1,3 +1,4 @@
+-- The invariant of the loop of `level_count` in src/laying.rt.
 use Rattle.std.proofs.Common.{◌≤◌, ◌<◌, ℕ, slice_index_or}
 use Rattle.plane_base.specs.declared.shapes.Rect.{Rect}
 use Rattle.cell_grid.specs.Sizes.{level_of}

@@ -1,3 +1,4 @@
+-- Answers to the goals of `levels_for` in src/laying.rt.
 use Rattle.std.proofs.Common.{◌≡◌, ◌∙◌, ℕ, get_or, All, sym, subst, rules}
 use Rattle.std.specs.Prelude.{FitsSigned}
 use Rattle.std.proofs.lemmas.Int.{to_z-of_z}

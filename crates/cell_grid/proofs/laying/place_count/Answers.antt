@@ -1,3 +1,4 @@
+-- Answers to the goals of `place_count` in src/laying.rt.
 use Rattle.cell_grid.proofs.Entered.{last_all}
 use Rattle.cell_grid.proofs.laying.place_count.Goals as goal
 

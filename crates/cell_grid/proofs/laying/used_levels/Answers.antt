@@ -1,3 +1,4 @@
+-- Answers to the goals of `used_levels` in src/laying.rt.
 use Rattle.std.proofs.Common.{◌+◌, List, ℕ, get_or, ⊎_elim, subst, sym, arith}
 use Rattle.std.proofs.lemmas.Bool.{cases_eq}
 use Rattle.cell_grid.proofs.UsedLevels.{AreUsedTo, used_push, used_skip, used_below}

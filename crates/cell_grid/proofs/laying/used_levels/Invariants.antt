@@ -1,3 +1,4 @@
+-- The invariant of the loop of `used_levels` in src/laying.rt.
 use Rattle.cell_grid.proofs.UsedLevels.{AreUsedTo}
 use Rattle.cell_grid.proofs.laying.used_levels.Given as goal
 

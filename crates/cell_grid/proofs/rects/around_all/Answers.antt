@@ -1,3 +1,4 @@
+-- Answers to the goals of `around_all` in src/rects.rt.
 use Rattle.cell_grid.proofs.Spans.{first_next}
 use Rattle.cell_grid.proofs.rects.around_all.Goals as goal
 

@@ -1,3 +1,4 @@
+-- The invariant of the loop of `around_all` in src/rects.rt.
 use Rattle.cell_grid.proofs.Spans.{IsAroundFirst}
 use Rattle.cell_grid.proofs.rects.around_all.Given as goal
 

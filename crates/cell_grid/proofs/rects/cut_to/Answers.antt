@@ -1,3 +1,4 @@
+-- Answers to the goals of `cut_to` in src/rects.rt.
 use Rattle.std.proofs.Common.{refl, rules}
 use Rattle.std.specs.Prelude.{FitsSigned}
 use Rattle.std.proofs.lemmas.Int.{to_z-of_z}

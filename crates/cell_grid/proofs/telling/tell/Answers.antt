@@ -1,3 +1,4 @@
+-- Answers to the goals of `tell` in src/telling.rt.
 use Rattle.std.proofs.Common.{ℕ, List, Contains, refl, ap, ◌∙◌, subst, arith}
 use Rattle.cell_grid.specs.Boxes.{box_at, no_box}
 use Rattle.cell_grid.specs.Cells.{numbers_at, IsPlaceOf}

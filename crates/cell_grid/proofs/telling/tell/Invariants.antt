@@ -1,3 +1,4 @@
+-- The invariant of the loop of `tell` in src/telling.rt.
 use Rattle.cell_grid.specs.Telling.{DoesTell, IsToldBefore}
 use Rattle.cell_grid.proofs.telling.tell.Given as goal
 

@@ -1,3 +1,4 @@
+-- Answers to the goals of `narrow_crowded` in src/widths.rt.
 use Rattle.cell_grid.proofs.Entered.{same_none, same_then, same_laid, same_past}
 use Rattle.cell_grid.proofs.widths.narrow_crowded.Goals as goal
 

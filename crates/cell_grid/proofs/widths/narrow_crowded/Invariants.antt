@@ -1,3 +1,4 @@
+-- The invariant of the loop of `narrow_crowded` in src/widths.rt.
 use Rattle.cell_grid.specs.Laying.{HaveSamePlaces}
 use Rattle.cell_grid.proofs.widths.narrow_crowded.Given as goal
 

@@ -1,3 +1,4 @@
+-- The invariant and the measure of the loop of `blanks_before` in src/blanks.rt.
 use Rattle.std.proofs.Common.{◌≡◌, ◌+◌, ◌-◌, ◌≤◌, length, drop}
 use Rattle.std.specs.List.{prefix_len}
 use Rattle.dxf_pairs.specs.Values.{is_blank}

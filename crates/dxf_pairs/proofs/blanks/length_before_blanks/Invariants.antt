@@ -1,3 +1,4 @@
+-- The invariant and the measure of the loop of `length_before_blanks` in src/blanks.rt.
 use Rattle.std.proofs.Common.{◌≡◌, ◌+◌, ◌≤◌, length, take}
 use Rattle.std.specs.List.{suffix_len}
 use Rattle.dxf_pairs.specs.Values.{is_blank}

@@ -1,3 +1,4 @@
+-- Answers to the goals of `code_in` in src/codes.rt.
 use Rattle.std.proofs.Common.{◌≤◌, FitsSigned, w32, arith, subst, sym}
 use Rattle.std.specs.Prelude.{unsigned_abs}
 use Rattle.std.proofs.lemmas.Int.{to_z-of_z}

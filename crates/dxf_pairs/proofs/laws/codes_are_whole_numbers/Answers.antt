@@ -1,3 +1,4 @@
+-- The proof of the law `codes_are_whole_numbers` in src/laws.rt.
 use Rattle.dxf_pairs.proofs.Between.{between_blanks, whole_numbers}
 use Rattle.dxf_pairs.proofs.laws.codes_are_whole_numbers.Goals as goal
 

@@ -1,3 +1,4 @@
+-- The proof of the law `pairs_are_in_lines` in src/laws.rt.
 use Rattle.dxf_pairs.proofs.InLines.{in_lines, groups_follow}
 use Rattle.dxf_pairs.proofs.laws.pairs_are_in_lines.Goals as goal
 

@@ -1,3 +1,4 @@
+-- The proof of the law `pairs_tile` in src/laws.rt.
 use Rattle.dxf_pairs.proofs.Standing.{tiles, within}
 use Rattle.dxf_pairs.proofs.laws.pairs_tile.Goals as goal
 

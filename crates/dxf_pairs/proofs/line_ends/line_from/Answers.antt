@@ -1,3 +1,4 @@
+-- Answers to the goals of `line_from` in src/line_ends.rt.
 use Rattle.std.proofs.lemmas.List.{take_rest}
 use Rattle.dxf_pairs.proofs.LineLists.{first_ended, first_alone}
 use Rattle.dxf_pairs.proofs.line_ends.line_from.Goals as goal

@@ -1,3 +1,4 @@
+-- Answers to the goals of `front_of` in src/plain_codes.rt.
 use Rattle.std.proofs.Common.{◌≡◌, ◌+◌, get_or, arith}
 use Rattle.std.specs.Int.{IsInRange}
 use Rattle.std.specs.Char.{digit_value}

@@ -1,3 +1,4 @@
+-- The invariant and the measure of the loop of `front_of` in src/plain_codes.rt.
 use Rattle.std.proofs.Common.{◌≡◌, ◌-◌, ◌≤◌, length, take}
 use Rattle.std.specs.Str.Parse.{AllDigits, digits_value}
 use Rattle.dxf_pairs.proofs.plain_codes.front_of.Given as goal

@@ -1,3 +1,4 @@
+-- Answers to the goals of `plain_code` in src/plain_codes.rt.
 use Rattle.std.proofs.Common.{◌≡◌, ◌+◌, ◌<◌, length, drop, arith, ℤ, pos, to_z, w32, Some, sym, ap, ◌∙◌}
 use Rattle.std.proofs.lemmas.List.{take_rest, length-drop}
 use Rattle.std.proofs.lemmas.Int.{ints}

@@ -1,3 +1,4 @@
+-- Answers to the goals of `code_line` in src/reading.rt.
 use Rattle.std.proofs.Common.{◌≡◌, ◌+◌, ◌-◌, FitsSigned, w32, rules, arith, sym, ◌∙◌, ap, take, drop, ℕ}
 use Rattle.std.proofs.lemmas.Int.{to_z-of_z}
 use Rattle.std.proofs.lemmas.List.{take_rest}

@@ -1,3 +1,4 @@
+-- Answers to the goals of `read_lines` in src/reading.rt.
 use Rattle.std.proofs.Common.{arith, ◌+◌}
 use Rattle.dxf_pairs.specs.Lines.{lines, lines_from}
 use Rattle.dxf_pairs.specs.Pairs.{reading, is_last}

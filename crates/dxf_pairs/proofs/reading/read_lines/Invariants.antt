@@ -1,3 +1,4 @@
+-- The invariant and the measure of the loop of `read_lines` in src/reading.rt.
 use Rattle.std.proofs.Common.{◌≡◌, ◌+◌, ◌-◌, ◌≤◌, length}
 use Rattle.dxf_pairs.specs.Lines.{lines, lines_from}
 use Rattle.dxf_pairs.specs.Pairs.{reading, behind}

@@ -1,3 +1,4 @@
+-- Answers to the goals of `read_pair` in src/reading.rt.
 use Rattle.std.proofs.Common.{FitsSigned, w32, rules, sym, ◌∙◌, ◌+◌}
 use Rattle.std.proofs.lemmas.Int.{to_z-of_z}
 use Rattle.dxf_pairs.proofs.PairSteps.{pair_read}

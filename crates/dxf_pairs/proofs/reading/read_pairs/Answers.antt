@@ -1,3 +1,4 @@
+-- Answers to the goals of `read_pairs` in src/reading.rt.
 use Rattle.std.proofs.Common.{◌≡◌, Ok}
 use Rattle.dxf_pairs.specs.Pairs.{drawing}
 use Rattle.dxf_pairs.proofs.PairSteps.{text_form}

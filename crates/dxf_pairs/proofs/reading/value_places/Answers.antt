@@ -1,3 +1,4 @@
+-- Answers to the goals of `value_places` in src/reading.rt.
 use Rattle.std.proofs.Common.{◌≤◌, ◌+◌, ◌-◌, ◌∙◌, arith}
 use Rattle.dxf_pairs.proofs.Cuts.{part_between, length-between}
 use Rattle.dxf_pairs.proofs.reading.value_places.Goals as goal

@@ -1,3 +1,4 @@
+-- Answers to the goals of `earlier` in src/choosing.rt.
 use Rattle.std.proofs.Common.{refl}
 use Rattle.frac128.proofs.Fracs.{up_to_less, at_most_of_below, at_most_of_not_below, swap_right}
 use Rattle.frac128.proofs.choosing.earlier.Goals as goal

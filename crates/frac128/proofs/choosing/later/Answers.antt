@@ -1,3 +1,4 @@
+-- Answers to the goals of `later` in src/choosing.rt.
 use Rattle.std.proofs.Common.{refl}
 use Rattle.frac128.proofs.Fracs.{from_less, at_most_of_below, at_most_of_not_below, swap_right}
 use Rattle.frac128.proofs.choosing.later.Goals as goal

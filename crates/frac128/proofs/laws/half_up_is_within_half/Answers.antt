@@ -1,3 +1,4 @@
+-- The proof of the law `half_up_is_within_half` in src/laws.rt.
 use Rattle.frac128.proofs.Nearest.{half_up_is_within_half}
 use Rattle.frac128.proofs.laws.half_up_is_within_half.Goals as goal
 

@@ -1,3 +1,4 @@
+-- Answers to the goals of `order` in src/ordering.rt.
 use Rattle.std.proofs.Common.{rules, SFits, ◌*ℤ◌}
 use Rattle.std.proofs.lemmas.Int.{to_z-of_z}
 use Rattle.std.proofs.lemmas.Cmp.{int_ranked}

@@ -1,3 +1,4 @@
+-- Answers to the goals of `end_object` in src/frames.rt.
 use Rattle.std.proofs.Common.{◌≡◌, ◌++◌, length, vec_len, refl, ◌∙◌, arith}
 use Rattle.gj_layer.specs.Opening.{fronts, behinds, listed}
 use Rattle.gj_layer.proofs.Endings.{end_holds}

@@ -1,3 +1,4 @@
+-- Answers to the goals of `content_at` in src/objects.rt.
 use Rattle.gj_layer.proofs.Finding.{found_within, content_found}
 use Rattle.gj_layer.proofs.objects.content_at.Goals as goal
 

@@ -1,3 +1,4 @@
+-- Answers to the goals of `look` in src/objects.rt.
 use Rattle.std.proofs.Common.{◌+◌, sym, ap, ◌∙◌}
 use Rattle.jtext.specs.Values.{object}
 use Rattle.jtext.specs.Nodes.{node_count, inner_place}

@@ -1,3 +1,4 @@
+-- Answers to the goals of `open_object` in src/objects.rt.
 use Rattle.std.proofs.Common.{◌≡◌, ◌+◌, length, vec_len, sym, ap, subst, ◌∙◌, arith}
 use Rattle.std.specs.Prelude.{Err}
 use Rattle.jtext.specs.Values.{object}

@@ -1,3 +1,4 @@
+-- Answers to the goals of `type_in` in src/objects.rt.
 use Rattle.std.proofs.Common.{sym, ap, ◌∙◌}
 use Rattle.std.specs.Prelude.{Err}
 use Rattle.jtext.specs.declared.document.Node.{Node}

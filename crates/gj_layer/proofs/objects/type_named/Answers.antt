@@ -1,3 +1,4 @@
+-- Answers to the goals of `type_named` in src/objects.rt.
 use Rattle.std.proofs.Common.{refl, sym, ◌∙◌}
 use Rattle.gj_layer.proofs.objects.type_named.Goals as goal
 

@@ -1,3 +1,4 @@
+-- Answers to the goals of `type_of` in src/objects.rt.
 use Rattle.std.proofs.Common.{sym, ap, subst, ◌∙◌}
 use Rattle.std.specs.Prelude.{Err}
 use Rattle.jtext.specs.Places.{Stands}

@@ -1,3 +1,4 @@
+-- Answers to the goals of `read_dot` in src/paths.rt.
 use Rattle.std.proofs.Common.{◌≡◌, ◌∷◌, [], length, vec_len, refl, sym, ap, ◌∙◌, arith, length-append}
 use Rattle.std.specs.Prelude.{Ok}
 use Rattle.gj_layer.proofs.There.{node_there, seen}

@@ -1,3 +1,4 @@
+-- Answers to the goals of `read_line` in src/paths.rt.
 use Rattle.std.proofs.Common.{◌≡◌, ◌<◌, [], length, vec_len, map, refl, sym, ap, ◌∙◌, subst, arith, length-append}
 use Rattle.std.specs.Prelude.{Ok, Err}
 use Rattle.std.proofs.lemmas.List.{length-map}

@@ -1,3 +1,4 @@
+-- Answers to the goals of `read_path` in src/paths.rt.
 use Rattle.std.proofs.Common.{◌≡◌, ◌<◌, ◌≤◌, length, sym, ap, ◌∙◌, subst, arith}
 use Rattle.std.specs.Prelude.{Err}
 use Rattle.jtext.specs.Nodes.{node_count}

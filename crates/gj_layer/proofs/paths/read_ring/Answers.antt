@@ -1,3 +1,4 @@
+-- Answers to the goals of `read_ring` in src/paths.rt.
 use Rattle.std.proofs.Common.{◌≡◌, ◌<◌, ◌∷◌, ◌++◌, ◌-◌, [], length, take, true, append_assoc, vec_len, map, refl, sym, ap, ◌∙◌, subst, arith}
 use Rattle.std.specs.Prelude.{Ok, Err}
 use Rattle.std.proofs.lemmas.List.{length-map}

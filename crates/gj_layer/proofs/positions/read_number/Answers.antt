@@ -1,3 +1,4 @@
+-- Answers to the goals of `read_number` in src/positions.rt.
 use Rattle.std.proofs.Common.{ap, ◌∙◌}
 use Rattle.std.specs.Prelude.{Err}
 use Rattle.jtext.specs.declared.document.Kind.TheVariants as kinds

@@ -1,3 +1,4 @@
+-- Answers to the goals of `read_pair` in src/positions.rt.
 use Rattle.std.proofs.Common.{◌+◌, length, ap, ◌∙◌, arith}
 use Rattle.std.specs.Prelude.{Err}
 use Rattle.jtext.specs.Values.{array, spelling}

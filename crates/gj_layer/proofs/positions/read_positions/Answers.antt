@@ -1,3 +1,4 @@
+-- Answers to the goals of `read_positions` in src/positions.rt.
 use Rattle.std.proofs.Common.{◌+◌, [], ◌∷◌, length-append, refl, arith}
 use Rattle.std.specs.Prelude.{Ok, Err}
 use Rattle.std.proofs.lemmas.Bool.{eqb-true, eq-eqb}

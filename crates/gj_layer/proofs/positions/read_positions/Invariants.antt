@@ -1,3 +1,4 @@
+-- The invariant and the measure of the loop of `read_positions` in src/positions.rt.
 use Rattle.std.proofs.Common.{ℕ, ◌+◌, ◌-◌, ◌*◌, ◌≤◌, List, length}
 use Rattle.jtext.specs.Values.{Elements, array}
 use Rattle.jtext.specs.Nodes.{inner_place}

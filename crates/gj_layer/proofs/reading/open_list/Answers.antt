@@ -1,3 +1,4 @@
+-- Answers to the goals of `open_list` in src/reading.rt.
 use Rattle.std.proofs.Common.{length, sym, ap, subst, ◌∙◌, arith}
 use Rattle.std.specs.Prelude.{Err}
 use Rattle.std.proofs.lemmas.Option.{same_Some}

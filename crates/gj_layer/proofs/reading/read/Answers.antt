@@ -1,3 +1,4 @@
+-- Answers to the goals of `read` in src/reading.rt.
 use Rattle.gj_layer.proofs.Documents.{order_given}
 use Rattle.gj_layer.proofs.reading.read.Goals as goal
 

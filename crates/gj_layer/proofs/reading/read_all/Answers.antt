@@ -1,3 +1,4 @@
+-- Answers to the goals of `read_all` in src/reading.rt.
 use Rattle.std.proofs.Common.{◌∷◌, subst, List, arith}
 use Rattle.gj_layer.specs.declared.frames.Frame.{Frame}
 use Rattle.gj_layer.specs.Standing.{HasRoom}

@@ -1,3 +1,4 @@
+-- The invariant and the measure of the loop of `read_all` in src/reading.rt.
 use Rattle.std.proofs.Common.{◌+◌, ◌*◌, length}
 use Rattle.std.specs.Prelude.{Result}
 use Rattle.sheet_base.specs.declared.faults.LayerFault.{LayerFault}

@@ -1,3 +1,4 @@
+-- Answers to the goals of `read_document` in src/reading.rt.
 use Rattle.std.proofs.Common.{◌≡◌, ◌∙◌, arith}
 use Rattle.jtext.specs.Places.{whole_start}
 use Rattle.jtext.proofs.Standing.{reading_stands}

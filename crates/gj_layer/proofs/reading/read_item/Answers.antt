@@ -1,3 +1,4 @@
+-- Answers to the goals of `read_item` in src/reading.rt.
 use Rattle.std.proofs.Common.{length, ap, ◌∙◌, arith}
 use Rattle.gj_layer.specs.Reading.{reading}
 use Rattle.gj_layer.proofs.There.{node_there}

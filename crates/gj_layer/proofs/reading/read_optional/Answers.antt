@@ -1,3 +1,4 @@
+-- Answers to the goals of `read_optional` in src/reading.rt.
 use Rattle.std.proofs.Common.{length, ◌∙◌}
 use Rattle.jtext.specs.declared.document.Kind.TheVariants as kinds
 use Rattle.gj_layer.specs.declared.forms.Form.TheVariants as forms

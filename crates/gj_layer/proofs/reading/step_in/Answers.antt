@@ -1,3 +1,4 @@
+-- Answers to the goals of `step_in` in src/reading.rt.
 use Rattle.std.proofs.Common.{◌-◌, ◌∷◌, length, arith}
 use Rattle.gj_layer.specs.Reading.{reading}
 use Rattle.gj_layer.specs.Opening.{left_in}

@@ -1,3 +1,4 @@
+-- Answers to the goals of `step_out` in src/reading.rt.
 use Rattle.std.proofs.Common.{length, sym, ap, subst, arith}
 use Rattle.gj_layer.specs.Paths.{Part, joined}
 use Rattle.gj_layer.specs.Standing.{Holds}

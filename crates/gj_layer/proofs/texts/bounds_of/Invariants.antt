@@ -1,3 +1,4 @@
+-- The invariant of the loop of `bounds_of` in src/texts.rt.
 use Rattle.std.proofs.Common.{◌≡◌, drop}
 use Rattle.std.specs.Prelude.{None, flat_map}
 use Rattle.sheet_base.specs.Fitting.{row_images}

@@ -1,3 +1,4 @@
+-- Answers to the goals of `push_box` in src/texts.rt.
 use Rattle.std.proofs.Common.{◌≡◌, ◌++◌, ◌∷◌, [], List, ℕ, append_assoc, ap, ◌∙◌, rules}
 use Rattle.std.specs.Prelude.{FitsSigned}
 use Rattle.std.proofs.lemmas.Int.{to_z-of_z}

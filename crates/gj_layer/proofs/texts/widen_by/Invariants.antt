@@ -1,3 +1,4 @@
+-- The invariant of the loop of `widen_by` in src/texts.rt.
 use Rattle.std.proofs.Common.{◌≡◌, drop}
 use Rattle.gj_layer.specs.Boxes.{widened_by}
 use Rattle.gj_layer.proofs.texts.widen_by.Given as goal

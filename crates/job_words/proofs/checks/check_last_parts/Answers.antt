@@ -1,3 +1,4 @@
+-- Answers to the goals of `check_last_parts` in src/checks.rt.
 use Rattle.std.proofs.Common.{◌≡◌, ◌<◌, inr, ap, sym, ◌∙◌, subst, List, ℕ, length, map, option_map, true, false, ◌+◌}
 use Rattle.std.specs.List.{list_any}
 use Rattle.std.specs.Str.{bytes_eq}

@@ -1,3 +1,4 @@
+-- The invariant of the loop of `check_last_parts` in src/checks.rt.
 use Rattle.std.proofs.Common.{map}
 use Rattle.job_words.specs.Names.{last_part}
 use Rattle.job_words.proofs.Again.{Scanned}

@@ -1,3 +1,4 @@
+-- Answers to the goals of `check_layers` in src/checks.rt.
 use Rattle.std.proofs.Common.{ℕ, List, Bor, inr, ap, sym, ◌∙◌, option_map, not}
 use Rattle.job_words.specs.declared.faults.Which.TheVariants.{Layer}
 use Rattle.job_words.specs.declared.faults.WordsFault.TheVariants.{Name}

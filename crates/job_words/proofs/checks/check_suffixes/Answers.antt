@@ -1,3 +1,4 @@
+-- Answers to the goals of `check_suffixes` in src/checks.rt.
 use Rattle.std.proofs.Common.{ℕ, List, Bor, inr, ap, sym, ◌∙◌, option_map, not, is_some}
 use Rattle.job_words.specs.declared.faults.WordsFault.TheVariants.{Suffix}
 use Rattle.job_words.specs.Formats.{format_of}

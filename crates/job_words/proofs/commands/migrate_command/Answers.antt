@@ -1,3 +1,4 @@
+-- Answers to the goals of `migrate_command` in src/commands.rt.
 use Rattle.std.proofs.Common.{true, ap, ap₂, ◌∙◌}
 use Rattle.clap.specs.Simple.{Shape, app_of_fields, on_top, with_rule}
 use Rattle.job_words.proofs.commands.migrate_command.Goals as goal

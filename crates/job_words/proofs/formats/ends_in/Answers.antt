@@ -1,3 +1,4 @@
+-- Answers to the goals of `ends_in` in src/formats.rt.
 use Rattle.std.proofs.Common.{◌≡◌, ap₂, ◌∙◌, drop, map, subst, true, ◌↔◌, List, ℕ}
 use Rattle.std.specs.Char.{to_ascii_lowercase}
 use Rattle.std.specs.Str.{str_eq_ignore_ascii_case}

@@ -1,3 +1,4 @@
+-- Answers to the goals of `is_set` in src/matching.rt.
 use Rattle.std.proofs.Common.{ap, false, ◌∙◌, codes}
 use Rattle.std.specs.Option.{option_map_or}
 use Rattle.std.specs.Str.{bytes_eq}

@@ -1,3 +1,4 @@
+-- Answers to the goals of `read_matches` in src/matching.rt.
 use Rattle.std.proofs.Common.{inl, inr, ap, ◌∙◌, Some, None, subst, map, string_bytes, Result, Ok, Err, IfErr}
 use Rattle.std.specs.Prelude.{if◌then◌else◌}
 use Rattle.std.specs.Result.{IsErrAnd}

@@ -1,3 +1,4 @@
+-- Answers to the goals of `text_in` in src/matching.rt.
 use Rattle.std.proofs.Common.{ap, [], ◌∙◌, unwrap_or}
 use Rattle.clap.specs.Matches.{found_of}
 use Rattle.clap.proofs.WalkLemmas.{first_value-rows}

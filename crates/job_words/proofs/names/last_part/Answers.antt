@@ -1,3 +1,4 @@
+-- Answers to the goals of `last_part` in src/names.rt.
 use Rattle.job_words.proofs.LastParts.{behind-slash, no-slash}
 use Rattle.job_words.proofs.names.last_part.Goals as goal
 

@@ -1,3 +1,4 @@
+-- Answers to the goals of `migration_in` in src/reading.rt.
 use Rattle.std.proofs.Common.{refl, sym, ap, ◌∙◌, subst, [], codes, unwrap_or, Result}
 use Rattle.clap.specs.Matches.{found_of}
 use Rattle.clap.specs.Walk.{rows_of}

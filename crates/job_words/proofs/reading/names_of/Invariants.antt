@@ -1,3 +1,4 @@
+-- The invariant of the loop of `names_of` in src/reading.rt.
 use Rattle.std.proofs.Common.{◌≡◌, take, map}
 use Rattle.job_words.proofs.reading.names_of.Given as goal
 

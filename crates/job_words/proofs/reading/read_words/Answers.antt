@@ -1,3 +1,4 @@
+-- Answers to the goals of `read_words` in src/reading.rt.
 use Rattle.clap.specs.Matches.{found_of}
 use Rattle.clap.specs.Walk.{rows_of}
 use Rattle.job_words.specs.declared.modes.Mode.TheVariants.{Migrate, Check}

@@ -1,3 +1,4 @@
+-- Answers to the goals of `size_of` in src/sizes.rt.
 use Rattle.std.proofs.Common.{sym, ◌∙◌}
 use Rattle.job_words.proofs.SizesRead.{size-unread}
 use Rattle.job_words.proofs.sizes.size_of.Goals as goal

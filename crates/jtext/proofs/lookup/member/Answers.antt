@@ -1,3 +1,4 @@
+-- Answers to the goals of `member` in src/lookup.rt.
 use Rattle.std.proofs.Common.{◌≡◌, ℕ, ◌+◌, ◌∙◌, sym, ap, arith}
 use Rattle.std.specs.Prelude.{Err}
 use Rattle.jtext.specs.Values.{Json}

@@ -1,3 +1,4 @@
+-- The invariant and the measure of the loop of `member` in src/lookup.rt.
 use Rattle.std.proofs.Common.{◌≡◌, ℕ, ◌+◌, ◌-◌, List}
 use Rattle.jtext.specs.Values.{Json, Members}
 use Rattle.jtext.specs.Nodes.{inner_place}

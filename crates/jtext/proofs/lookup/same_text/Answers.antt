@@ -1,3 +1,4 @@
+-- Answers to the goals of `same_text` in src/lookup.rt.
 use Rattle.std.proofs.Common.{◌≡◌, ◌+◌, ◌-◌, ◌∙◌, get_or}
 use Rattle.std.specs.Prelude.{slice_range}
 use Rattle.jtext.specs.declared.document.Kind.TheVariants.{Text}

@@ -1,3 +1,4 @@
+-- Answers to the goals of `digits_behind` in src/number.rt.
 use Rattle.std.specs.Prelude.{slice_range}
 use Rattle.jtext.proofs.NumberTexts.{digits_read}
 use Rattle.jtext.proofs.number.digits_behind.Goals as goal

@@ -1,3 +1,4 @@
+-- Answers to the goals of `digits_end` in src/number.rt.
 use Rattle.std.proofs.Common.{arith}
 use Rattle.jtext.specs.Numbers.{IsDigit}
 use Rattle.jtext.proofs.Pieces.{all_more}

@@ -1,3 +1,4 @@
+-- The proof of the law `answers_exclude_each_other` in src/reading.rt.
 use Rattle.jtext.proofs.Exclusion.{bad_once, deep_once, bad_or_deep}
 use Rattle.jtext.proofs.reading.answers_exclude_each_other.Goals as goal
 

@@ -1,3 +1,4 @@
+-- Answers to the goals of `mark_end` in src/reading.rt.
 use Rattle.std.proofs.Common.{arith}
 use Rattle.jtext.proofs.Reaches.{start_reached, mark_reached, mark_bad}
 use Rattle.jtext.proofs.reading.mark_end.Goals as goal

@@ -1,3 +1,4 @@
+-- Answers to the goals of `read_json` in src/reading.rt.
 use Rattle.std.proofs.Common.{◌≡◌, ◌∙◌, sym, subst, true, false}
 use Rattle.jtext.specs.Texts.{IsBad}
 use Rattle.jtext.proofs.Reaches.{end_read, end_bad}

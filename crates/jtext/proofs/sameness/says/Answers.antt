@@ -1,3 +1,4 @@
+-- Answers to the goals of `says` in src/sameness.rt.
 use Rattle.std.proofs.Common.{◌≡◌, ◌∙◌, sym, arith, length}
 use Rattle.std.proofs.lemmas.Bool.{eqb-true, eq-eqb}
 use Rattle.jtext.specs.Characters.{units_of}

@@ -1,3 +1,4 @@
+-- The invariant and the measure of the loop of `says` in src/sameness.rt.
 use Rattle.std.proofs.Common.{◌≤◌, length, ◌-◌}
 use Rattle.jtext.specs.Units.{IsLeft}
 use Rattle.jtext.proofs.sameness.says.Given as goal

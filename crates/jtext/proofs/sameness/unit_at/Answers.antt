@@ -1,3 +1,4 @@
+-- Answers to the goals of `unit_at` in src/sameness.rt.
 use Rattle.std.proofs.Common.{◌+◌, ◌∙◌, sym, arith, drop, get_or}
 use Rattle.std.proofs.lemmas.List.{drop_more}
 use Rattle.jtext.proofs.UnitLaws.{wide_unit}

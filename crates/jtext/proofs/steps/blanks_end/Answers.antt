@@ -1,3 +1,4 @@
+-- Answers to the goals of `blanks_end` in src/steps.rt.
 use Rattle.std.proofs.Common.{arith}
 use Rattle.jtext.specs.Values.{IsBlank}
 use Rattle.jtext.proofs.Pieces.{all_more}

@@ -1,3 +1,4 @@
+-- The invariant and the measure of the loop of `blanks_end` in src/steps.rt.
 use Rattle.std.proofs.Common.{◌≤◌, length, ◌-◌}
 use Rattle.std.specs.Prelude.{slice_range}
 use Rattle.std.specs.List.{AllByRecursion}

@@ -1,3 +1,4 @@
+-- Answers to the goals of `read_number` in src/steps.rt.
 use Rattle.std.proofs.Common.{◌∙◌, sym, arith}
 use Rattle.jtext.specs.declared.document.Kind.TheVariants.{Number}
 use Rattle.jtext.proofs.Reaches.{number_reached, number_bad}

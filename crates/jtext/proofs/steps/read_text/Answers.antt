@@ -1,3 +1,4 @@
+-- Answers to the goals of `read_text` in src/steps.rt.
 use Rattle.std.proofs.Common.{arith}
 use Rattle.jtext.specs.States.{Role}
 use Rattle.jtext.specs.declared.document.Kind.TheVariants.{Text}

@@ -1,3 +1,4 @@
+-- Answers to the goals of `read_token` in src/steps.rt.
 use Rattle.std.proofs.Common.{refl, arith}
 use Rattle.jtext.specs.States.{stand_step, anywhere}
 use Rattle.jtext.specs.declared.steps.Place.TheVariants as places

@@ -1,3 +1,4 @@
+-- Answers to the goals of `read_word` in src/steps.rt.
 use Rattle.std.proofs.Common.{◌+◌, arith}
 use Rattle.std.specs.Prelude.{Ok, Err}
 use Rattle.jtext.specs.Signs.{word_kind, word_rest}

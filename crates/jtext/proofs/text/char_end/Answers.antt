@@ -1,3 +1,4 @@
+-- Answers to the goals of `char_end` in src/text.rt.
 use Rattle.std.proofs.Common.{◌+◌, ◌∙◌, ap, sym}
 use Rattle.jtext.specs.Tokens.{Inner, after_text_sign, needing, lead_needs}
 use Rattle.jtext.proofs.Tokens.{goes_one, ends_on}

@@ -1,3 +1,4 @@
+-- Answers to the goals of `needs_end` in src/text.rt.
 use Rattle.std.proofs.Common.{◌+◌, ◌∙◌, sym, arith, drop, get_or}
 use Rattle.jtext.specs.Tokens.{inner_step, needing}
 use Rattle.jtext.specs.declared.text.Need.TheVariants.{Tail}

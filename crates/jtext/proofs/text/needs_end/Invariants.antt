@@ -1,3 +1,4 @@
+-- The invariant of the loop of `needs_end` in src/text.rt.
 use Rattle.std.proofs.Common.{◌≤◌, length, ◌≡◌, ◌+◌, drop}
 use Rattle.std.specs.Prelude.{slice_range, Some}
 use Rattle.text_places.specs.Machine.{run}

@@ -1,3 +1,4 @@
+-- Answers to the goals of `text_end` in src/text.rt.
 use Rattle.std.proofs.Common.{◌∙◌, ap, sym, arith}
 use Rattle.std.specs.Prelude.{Ok, Err}
 use Rattle.jtext.specs.Tokens.{Inner, inner_step, after_text_sign, GoesOn}

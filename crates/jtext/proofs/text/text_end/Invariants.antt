@@ -1,3 +1,4 @@
+-- The invariant and the measure of the loop of `text_end` in src/text.rt.
 use Rattle.std.proofs.Common.{◌≤◌, length, ◌≡◌, ◌-◌}
 use Rattle.std.specs.Prelude.{slice_range, Some}
 use Rattle.text_places.specs.Machine.{run}

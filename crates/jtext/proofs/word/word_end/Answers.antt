@@ -1,3 +1,4 @@
+-- Answers to the goals of `word_end` in src/word.rt.
 use Rattle.std.proofs.Common.{◌+◌, arith, drop, get_or}
 use Rattle.jtext.specs.Tokens.{word_step}
 use Rattle.jtext.proofs.Pieces.{passes_more}

@@ -1,3 +1,4 @@
+-- Answers to the goals of `clip_of` in src/clips.rt.
 use Rattle.std.proofs.Common.{refl}
 use Rattle.meet_rel.specs.declared.clips.Clip.{Clip}
 use Rattle.meet_rel.proofs.Clipping.{range_of, proper_of}

@@ -1,3 +1,4 @@
+-- Answers to the goals of `own_span` in src/cuts.rt.
 use Rattle.meet_rel.proofs.Ending.{different_of}
 use Rattle.meet_rel.proofs.Cutting.{own_cut}
 use Rattle.meet_rel.proofs.Sliced.{own_some, common_of}

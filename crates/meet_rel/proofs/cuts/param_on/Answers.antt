@@ -1,3 +1,4 @@
+-- Answers to the goals of `param_on` in src/cuts.rt.
 use Rattle.std.proofs.Common.{◌<ℤ◌, rules, arith, SFits}
 use Rattle.std.proofs.lemmas.Int.{ints, to_z-of_z}
 use mir.Syntax.{w64}

@@ -1,3 +1,4 @@
+-- Answers to the goals of `rel_of_cuts` in src/cuts.rt.
 use Rattle.std.proofs.Common.{inl, inr, refl}
 use Rattle.meet_rel.specs.Clips.{IsBefore}
 use Rattle.meet_rel.proofs.Told.{not_told}

@@ -1,3 +1,4 @@
+-- Answers to the goals of `rel_on_one` in src/cuts.rt.
 use Rattle.std.proofs.Common.{sym, subst, ◌∙◌}
 use Rattle.plane_base.specs.declared.shapes.Pt.{Pt}
 use Rattle.meet_rel.specs.Clips.{IsCut}

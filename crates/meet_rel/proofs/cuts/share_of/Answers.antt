@@ -1,3 +1,4 @@
+-- Answers to the goals of `share_of` in src/cuts.rt.
 use Rattle.std.proofs.Common.{arith}
 use Rattle.std.proofs.lemmas.Int.{ints}
 use Rattle.meet_rel.proofs.cuts.share_of.Goals as goal

@@ -1,3 +1,4 @@
+-- Answers to the goals of `span_on` in src/cuts.rt.
 use Rattle.meet_rel.proofs.Picking.{different_before}
 use Rattle.meet_rel.proofs.Cutting.{cut_on}
 use Rattle.meet_rel.proofs.Sliced.{way_some, common_of}

@@ -1,3 +1,4 @@
+-- Answers to the goals of `way_of` in src/cuts.rt.
 use Rattle.meet_rel.proofs.Picking.{one_of, not_after_trans}
 use Rattle.meet_rel.proofs.cuts.way_of.Goals as goal
 

@@ -1,3 +1,4 @@
+-- Answers to the goals of `first_of` in src/lines.rt.
 use Rattle.std.proofs.Common.{rules, SFits, ◌∙◌, ap₂}
 use Rattle.std.proofs.lemmas.Int.{to_z-of_z}
 use Rattle.std.specs.Int.{int_max}

@@ -1,3 +1,4 @@
+-- Answers to the goals of `rel_of_spans` in src/lines.rt.
 use Rattle.std.proofs.Common.{◌≤ℤ◌, arith, sym, ◌∙◌}
 use Rattle.std.proofs.lemmas.Int.{ints, to_z-of_z}
 use Rattle.integer_ring.proofs.Order.{≤_antisymm}

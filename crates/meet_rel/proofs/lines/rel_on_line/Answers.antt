@@ -1,3 +1,4 @@
+-- Answers to the goals of `rel_on_line` in src/lines.rt.
 use Rattle.std.proofs.Common.{rules, SFits, sym, ◌∙◌}
 use Rattle.std.proofs.lemmas.Bool.{false≢true}
 use Rattle.std.proofs.lemmas.Int.{to_z-of_z}

@@ -1,3 +1,4 @@
+-- Answers to the goals of `clip_rel` in src/meetings.rt.
 use Rattle.std.proofs.Common.{◌≡◌, pos, rules, SFits, sym, ◌∙◌, ap, to_z, of_z}
 use Rattle.std.proofs.lemmas.Int.{to_z-of_z}
 use mir.Syntax.{w128}

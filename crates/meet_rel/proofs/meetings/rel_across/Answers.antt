@@ -1,3 +1,4 @@
+-- Answers to the goals of `rel_across` in src/meetings.rt.
 use Rattle.std.proofs.Common.{inl, inr}
 use Rattle.meet_rel.proofs.Told.{not_told}
 use Rattle.meet_rel.proofs.Crossings.{also_across}

@@ -1,3 +1,4 @@
+-- Answers to the goals of `piece_rel` in src/pieces.rt.
 use Rattle.meet_rel.proofs.Ending.{piece_ends}
 use Rattle.meet_rel.proofs.Clipping.{close_of}
 use Rattle.tin_base.specs.Pieces.{first_point, last_point}

@@ -1,3 +1,4 @@
+-- Answers to the goals of `piece_span` in src/pieces.rt.
 use Rattle.std.proofs.Common.{sym, subst, ◌∙◌}
 use Rattle.plane_base.specs.Plane.{IsNear}
 use Rattle.plane_base.specs.declared.shapes.Pt.{Pt}

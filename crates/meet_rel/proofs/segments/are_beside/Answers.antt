@@ -1,3 +1,4 @@
+-- Answers to the goals of `are_beside` in src/segments.rt.
 use Rattle.std.proofs.lemmas.Int.{to_z-of_z}
 use Rattle.meet_rel.specs.Signs.{AreBelow}
 use Rattle.meet_rel.proofs.Told.{second_tells}

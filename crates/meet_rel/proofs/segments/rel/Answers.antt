@@ -1,3 +1,4 @@
+-- Answers to the goals of `rel` in src/segments.rt.
 use Rattle.std.proofs.Common.{◌≡◌, rules, SFits, sym, ◌∙◌, ap, to_z, of_z}
 use Rattle.std.proofs.lemmas.Int.{to_z-of_z}
 use mir.Syntax.{w128}

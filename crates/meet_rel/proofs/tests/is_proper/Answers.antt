@@ -1,3 +1,4 @@
+-- Answers to the goals of `is_proper` in src/tests.rt.
 use Rattle.std.proofs.Common.{pos, ◌<ℤ◌, ℤ, rules, SFits, sym, ◌∙◌, subst, arith}
 use Rattle.std.proofs.lemmas.Int.{ints}
 use mir.Syntax.{w128}

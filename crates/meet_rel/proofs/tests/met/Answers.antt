@@ -1,3 +1,4 @@
+-- Answers to the goals of `met` in src/tests.rt.
 use Rattle.meet_rel.proofs.SmallClips.{near_four}
 use Rattle.meet_rel.proofs.tests.met.Goals as goal
 

@@ -1,3 +1,4 @@
+-- Answers to the goals of `pieces_met` in src/tests.rt.
 use Rattle.meet_rel.proofs.SmallClips.{close}
 use Rattle.meet_rel.proofs.tests.pieces_met.Goals as goal
 

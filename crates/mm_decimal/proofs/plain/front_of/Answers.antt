@@ -1,3 +1,4 @@
+-- Answers to the goals of `front_of` in src/plain.rt.
 use Rattle.std.proofs.Common.{◌-◌, ◌≤◌, get_or, arith}
 use Rattle.mm_decimal.specs.Numerals.{IsDigit}
 use Rattle.mm_decimal.proofs.PlainReads.{writes_more, less_than, stays_small}

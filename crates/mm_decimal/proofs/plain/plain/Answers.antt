@@ -1,3 +1,4 @@
+-- Answers to the goals of `plain` in src/plain.rt.
 use Rattle.std.proofs.Common.{refl, ◌-◌, take, drop, length, true, false}
 use Rattle.std.proofs.lemmas.List.{take_rest}
 use Rattle.mm_decimal.proofs.PlainReads.{some_read, reads_bare, reads_minus}

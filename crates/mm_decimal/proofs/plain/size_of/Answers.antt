@@ -1,3 +1,4 @@
+-- Answers to the goals of `size_of` in src/plain.rt.
 use Rattle.std.proofs.Common.{arith}
 use Rattle.mm_decimal.proofs.PlainReads.{below}
 use Rattle.mm_decimal.proofs.plain.size_of.Goals as goal

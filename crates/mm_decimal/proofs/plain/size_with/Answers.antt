@@ -1,3 +1,4 @@
+-- Answers to the goals of `size_with` in src/plain.rt.
 use Rattle.std.proofs.Common.{refl, ◌-◌, take, drop, length, arith}
 use Rattle.std.proofs.lemmas.List.{take_rest}
 use Rattle.mm_decimal.proofs.PlainReads.{plain_with}

@@ -1,3 +1,4 @@
+-- The proof of the law `measured_is_the_answer` in src/reading.rt.
 use Rattle.mm_decimal.proofs.MeasuredAnswers.{measured_answers, answer_is_measured}
 use Rattle.mm_decimal.proofs.reading.measured_is_the_answer.Goals as goal
 

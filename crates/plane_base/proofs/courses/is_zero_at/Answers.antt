@@ -1,3 +1,4 @@
+-- Answers to the goals of `is_zero_at` in src/courses.rt.
 use Rattle.std.proofs.Common.{ap, of_z}
 use mir.Syntax.{w128}
 use Rattle.plane_base.proofs.Parts.{zero_by_order}

@@ -1,3 +1,4 @@
+-- Answers to the goals of `where_left` in src/courses.rt.
 use Rattle.std.proofs.Common.{rules, arith, SFits, pos, ◌≡◌, ◌<ℤ◌, ◌≤ℤ◌}
 use Rattle.std.proofs.lemmas.Int.{ints}
 use mir.Syntax.{w128}

@@ -1,3 +1,4 @@
+-- Answers to the goals of `zero_of` in src/courses.rt.
 use Rattle.std.proofs.Common.{rules, arith, SFits, pos, ◌-ℤ◌, refl}
 use Rattle.std.proofs.lemmas.Int.{ints, to_z-of_z}
 use mir.Syntax.{w128}

@@ -1,3 +1,4 @@
+-- Answers to the goals of `edge_param` in src/edges.rt.
 use Rattle.std.proofs.Common.{sym, ◌∙◌}
 use Rattle.plane_base.proofs.Slices.{along_is}
 use Rattle.plane_base.proofs.edges.edge_param.Goals as goal

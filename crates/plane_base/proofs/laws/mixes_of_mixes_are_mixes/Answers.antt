@@ -1,3 +1,4 @@
+-- The proof of the law `mixes_of_mixes_are_mixes` in src/laws.rt.
 use Rattle.plane_base.proofs.Mixes.{mixes_mix}
 use Rattle.plane_base.proofs.laws.mixes_of_mixes_are_mixes.Goals as goal
 

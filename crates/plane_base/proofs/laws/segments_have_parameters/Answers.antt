@@ -1,3 +1,4 @@
+-- The proof of the law `segments_have_parameters` in src/laws.rt.
 use Rattle.plane_base.proofs.Parameters.{segments_have_parameters}
 use Rattle.plane_base.proofs.laws.segments_have_parameters.Goals as goal
 

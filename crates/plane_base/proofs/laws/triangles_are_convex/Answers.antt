@@ -1,3 +1,4 @@
+-- The proof of the law `triangles_are_convex` in src/laws.rt.
 use Rattle.plane_base.proofs.Mixes.{triangles_are_convex}
 use Rattle.plane_base.proofs.laws.triangles_are_convex.Goals as goal
 

@@ -1,3 +1,4 @@
+-- Answers to the goals of `common_of` in src/slicing.rt.
 use Rattle.plane_base.proofs.Slices.{all_of}
 use Rattle.plane_base.proofs.slicing.common_of.Goals as goal
 

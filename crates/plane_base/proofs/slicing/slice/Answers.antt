@@ -1,3 +1,4 @@
+-- Answers to the goals of `slice` in src/slicing.rt.
 use Rattle.std.proofs.Common.{◌≡◌, pos, IsTrue, refl}
 use Rattle.frac128.specs.Fractions.{IsAtMost}
 use Rattle.frac128.proofs.Fracs.{at_most_of_not_below}

@@ -1,3 +1,4 @@
+-- Answers to the goals of `cross` in src/turning.rt.
 use Rattle.std.proofs.Common.{rules, SFits, ◌-ℤ◌}
 use Rattle.std.proofs.lemmas.Int.{to_z-of_z}
 use mir.Syntax.{w64}

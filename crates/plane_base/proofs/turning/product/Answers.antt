@@ -1,3 +1,4 @@
+-- Answers to the goals of `product` in src/turning.rt.
 use Rattle.std.proofs.Common.{◌*ℤ◌}
 use Rattle.std.proofs.lemmas.Int.{to_z-of_z}
 use Rattle.plane_base.proofs.Sizes.{product_size, product_fits}

@@ -1,3 +1,4 @@
+-- Answers to the goals of `number_at` in src/fields.rt.
 use Rattle.std.specs.Char.{is_ascii_digit}
 use Rattle.std.proofs.lemmas.List.Sums.{prefix_len-le-length}
 use Rattle.report_text.proofs.Numbers.{are_front_digits}

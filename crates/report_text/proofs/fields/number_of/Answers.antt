@@ -1,3 +1,4 @@
+-- Answers to the goals of `number_of` in src/fields.rt.
 use Rattle.std.proofs.Common.{◌∙◌, sym, subst}
 use Rattle.std.specs.Str.Parse.{ParsesUnsigned}
 use Rattle.report_text.proofs.Numbers.{digits_utf8, parsed}

@@ -1,3 +1,4 @@
+-- Answers to the goals of `read_report` in src/reading.rt.
 use Rattle.std.proofs.Common.{◌<◌, ◌^◌, length, arith, rules, sym, ◌∙◌}
 use Rattle.std.proofs.lemmas.Bool.{eqb-true}
 use Rattle.std.proofs.lemmas.List.{nil_from_length}

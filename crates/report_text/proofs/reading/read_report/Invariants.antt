@@ -1,3 +1,4 @@
+-- The invariant and the measure of the loop of `read_report` in src/reading.rt.
 use Rattle.std.proofs.Common.{length}
 use Rattle.report_text.specs.Steps.{seen}
 use Rattle.report_text.proofs.Reaching.{Reached}

@@ -1,3 +1,4 @@
+-- The invariant of the loop of `put_changes` in src/writing.rt.
 use Rattle.std.proofs.Common.{◌≡◌, ◌++◌, map, take}
 use Rattle.report_text.specs.ReportText.{change_line, text_of_lines}
 use Rattle.report_text.proofs.writing.put_changes.Given as goal

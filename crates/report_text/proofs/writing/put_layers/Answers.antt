@@ -1,3 +1,4 @@
+-- Answers to the goals of `put_layers` in src/writing.rt.
 use Rattle.report_text.proofs.Appending.{one_more_layer}
 use Rattle.report_text.proofs.writing.put_layers.Goals as goal
 

@@ -1,3 +1,4 @@
+-- The invariant of the loop of `put_layers` in src/writing.rt.
 use Rattle.std.proofs.Common.{◌≡◌, ◌++◌, take}
 use Rattle.report_text.specs.ReportText.{layer_lines, text_of_lines}
 use Rattle.report_text.proofs.writing.put_layers.Given as goal

@@ -1,3 +1,4 @@
+-- Answers to the goals of `put_tin_counts` in src/writing.rt.
 use Rattle.std.proofs.Common.{◌≡◌, ◌++◌, codes, rules}
 use Rattle.report_text.specs.ReportText.{field}
 use Rattle.report_text.proofs.Appending.{three}

@@ -1,3 +1,4 @@
+-- Answers to the goals of `write_report` in src/writing.rt.
 use Rattle.std.proofs.Common.{◌≡◌, ◌++◌, ◌∷◌, [], length, map, rules}
 use Rattle.report_text.specs.declared.lines.TheConstants.{LINE_FEED}
 use Rattle.report_text.specs.ReportText.{title, tin_line, layer_lines, count_line, change_line, end_line, text_of_lines}

@@ -1,3 +1,4 @@
+-- Answers to the goals of `cut_from` in src/cutting.rt.
 use Rattle.std.proofs.Common.{ℕ, ◌<◌, Bool, false, IsTrue, IfOk, Result, Ok, Err, subst, sym}
 use Rattle.plane_base.specs.Plane.{whole}
 use Rattle.plane_base.specs.declared.shapes.Pt.{Pt}

@@ -1,3 +1,4 @@
+-- Answers to the goals of `cut_point` in src/cutting.rt.
 use Rattle.std.proofs.Common.{◌≡◌, List, [], ◌∷◌, ◌++◌, subst, sym}
 use Rattle.seg_walk.specs.declared.steps.Step.{Step}
 use Rattle.seg_walk.specs.Steps.{AreSteps}

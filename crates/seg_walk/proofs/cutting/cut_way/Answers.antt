@@ -1,3 +1,4 @@
+-- Answers to the goals of `cut_way` in src/cutting.rt.
 use Rattle.std.proofs.Common.{subst}
 use Rattle.tin_base.specs.Soundness.{IsSound}
 use Rattle.tin_base.specs.Triangulation.{Triangulation}

@@ -1,3 +1,4 @@
+-- The invariant and the measure of the loop of `cut_way` in src/cutting.rt.
 use Rattle.std.proofs.Common.{map, length}
 use Rattle.seg_walk.specs.Steps.{part_of}
 use Rattle.seg_walk.proofs.Unused.{unused}

@@ -1,3 +1,4 @@
+-- Answers to the goals of `least_from` in src/slicing.rt.
 use Rattle.std.proofs.Common.{◌≡◌, ℕ, ◌<◌, get_or, Option, Some, None, IfSome, IfNone, subst}
 use borrow.Author.Count.{below_more}
 use Rattle.seg_walk.specs.declared.steps.Step.{Step}

@@ -1,3 +1,4 @@
+-- The invariant of the loop of `least_from` in src/slicing.rt.
 use Rattle.std.proofs.Common.{ℕ, ◌<◌, get_or}
 use Rattle.seg_walk.specs.Steps.{spot_of}
 use Rattle.seg_walk.specs.Beginning.{HasNoPartFrom}

@@ -1,3 +1,4 @@
+-- Answers to the goals of `slice_in` in src/slicing.rt.
 use Rattle.std.proofs.Common.{◌≡◌, ℕ, Option, Some, None, IfSome, sym, ◌∙◌}
 use Rattle.plane_base.specs.Plane.{corners}
 use Rattle.plane_base.specs.Slices.{IsCommon, AreEnds, IsWholeWay, slice_of}

@@ -1,3 +1,4 @@
+-- Answers to the goals of `step_in` in src/slicing.rt.
 use Rattle.std.proofs.Common.{◌≡◌, Option, Some, None, IfSome, IfNone, subst}
 use Rattle.tin_base.proofs.Telling.{told, denied}
 use Rattle.seg_walk.specs.Steps.{IsSliceIn}

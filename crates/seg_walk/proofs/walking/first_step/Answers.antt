@@ -1,3 +1,4 @@
+-- Answers to the goals of `first_step` in src/walking.rt.
 use Rattle.std.proofs.Common.{◌≡◌, refl, subst}
 use Rattle.tin_base.specs.Limits.{IsWithinLimits}
 use Rattle.tin_base.specs.Segments.{at_a}

@@ -1,3 +1,4 @@
+-- Answers to the goals of `step_after` in src/walking.rt.
 use Rattle.std.proofs.Common.{subst}
 use Rattle.tin_base.specs.Limits.{IsWithinLimits}
 use Rattle.tin_base.specs.Triangulation.{Triangulation}

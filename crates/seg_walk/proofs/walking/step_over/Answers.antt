@@ -1,3 +1,4 @@
+-- Answers to the goals of `step_over` in src/walking.rt.
 use Rattle.std.proofs.Common.{◌≡◌, ℕ, length, ap, ◌∙◌, sym, subst}
 use Rattle.plane_base.specs.Plane.{whole}
 use Rattle.tin_base.specs.declared.frames.Frame.TheVariants.{Source}

@@ -1,3 +1,4 @@
+-- The invariant of the loop of `push_behind` in src/image_lists.rt.
 use Rattle.std.proofs.Common.{◌≡◌, ◌++◌, drop}
 use Rattle.sheet_base.specs.ImageLists.{texts_behind}
 use Rattle.sheet_base.proofs.image_lists.push_behind.Given as goal

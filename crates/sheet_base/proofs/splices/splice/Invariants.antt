@@ -1,3 +1,4 @@
+-- The invariant of the loop of `splice` in src/splices.rt.
 use Rattle.std.proofs.Common.{drop}
 use Rattle.sheet_base.proofs.Splicing.{IsSpliced}
 use Rattle.sheet_base.proofs.splices.splice.Given as goal

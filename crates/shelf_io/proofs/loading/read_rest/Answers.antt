@@ -1,3 +1,4 @@
+-- Answers to the goals of `read_rest` in src/loading.rt.
 use Rattle.std.proofs.Common.{refl, arith}
 use Rattle.shelf_io.proofs.Rest.{Taken-start}
 use Rattle.shelf_io.proofs.loading.read_rest.Goals as goal

@@ -1,3 +1,4 @@
+-- The invariant and the measure of the loop of `read_rest` in src/loading.rt.
 use Rattle.std.proofs.Common.{◌≡◌, ◌+◌, ◌-◌, ◌≤◌, vec_len, IsTrue}
 use Rattle.shelf_io.specs.Count.{counted}
 use Rattle.shelf_io.specs.Load.{Taken}

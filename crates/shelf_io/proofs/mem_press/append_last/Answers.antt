@@ -1,3 +1,4 @@
+-- Answers to the goals of `append_last` in src/mem_press.rt.
 use Rattle.std.proofs.Common.{arith, ap, List, ℕ, ◌-◌, length, string_bytes, slice_index_or}
 use Rattle.std.proofs.Math.Seq.{map-set_same}
 use Rattle.shelf_io.specs.MemoryFile.{named_bytes}

@@ -1,3 +1,4 @@
+-- Answers to the goals of `print` in src/printing.rt.
 use Rattle.std.proofs.Common.{length, inr}
 use Rattle.std.proofs.Math.Seq.{take-length}
 use Rattle.shelf_io.proofs.Made.{printed, kept-refl, on_err_always}

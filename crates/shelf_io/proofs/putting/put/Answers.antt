@@ -1,3 +1,4 @@
+-- Answers to the goals of `put` in src/putting.rt.
 use Rattle.std.proofs.Common.{◌+◌, ◌≤◌, ◌∙◌, refl, arith, length-take}
 use Rattle.shelf_io.proofs.Made.{Appends-nothing, Appends-more, front-more}
 use Rattle.shelf_io.proofs.putting.put.Goals as goal

@@ -1,3 +1,4 @@
+-- The invariant and the measure of the loop of `put` in src/putting.rt.
 use Rattle.std.proofs.Common.{◌≡◌, ◌-◌, ◌≤◌, length, take, IsTrue}
 use Rattle.shelf_io.specs.Made.{Appends}
 use Rattle.shelf_io.proofs.putting.put.Given as goal

@@ -1,3 +1,4 @@
+-- The proof of the law `each_pair_once_is_enough` in src/laws.rt.
 use Rattle.tin_base.proofs.InOrder.{sound_of_pairs}
 use Rattle.tin_base.proofs.laws.each_pair_once_is_enough.Goals as goal
 

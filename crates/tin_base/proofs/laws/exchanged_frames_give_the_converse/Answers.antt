@@ -1,3 +1,4 @@
+-- The proof of the law `exchanged_frames_give_the_converse` in src/laws.rt.
 use Rattle.tin_base.proofs.Converse.{turned_sound, converse}
 use Rattle.tin_base.proofs.laws.exchanged_frames_give_the_converse.Goals as goal
 

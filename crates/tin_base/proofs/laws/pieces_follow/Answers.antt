@@ -1,3 +1,4 @@
+-- The proof of the law `pieces_follow` in src/laws.rt.
 use Rattle.tin_base.proofs.Chain.{chain, covered}
 use Rattle.tin_base.proofs.laws.pieces_follow.Goals as goal
 

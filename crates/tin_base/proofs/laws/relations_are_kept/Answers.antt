@@ -1,3 +1,4 @@
+-- The proof of the law `relations_are_kept` in src/laws.rt.
 use Rattle.tin_base.proofs.Carrying.{relation_kept}
 use Rattle.tin_base.proofs.laws.relations_are_kept.Goals as goal
 

@@ -1,3 +1,4 @@
+-- Answers to the goals of `turned` in src/sound_tins.rt.
 use Rattle.std.proofs.Common.{sym, subst}
 use Rattle.tin_base.specs.Triangulation.{Triangulation}
 use Rattle.tin_base.specs.Soundness.{IsSound}

@@ -1,3 +1,4 @@
+-- Answers to the goals of `box_in` in src/boxes.rt.
 use Rattle.std.proofs.Common.{sym, subst}
 use Rattle.plane_base.specs.declared.shapes.Rect.{Rect}
 use Rattle.tin_check.specs.Boxes.{IsBoxOf}

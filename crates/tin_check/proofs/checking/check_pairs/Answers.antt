@@ -1,3 +1,4 @@
+-- Answers to the goals of `check_pairs` in src/checking.rt.
 use Rattle.tin_check.proofs.checking.check_pairs.Goals as goal
 
 pub returns-in-Some-clause-first : goal.returns-in-Some-clause-first

@@ -1,3 +1,4 @@
+-- Answers to the goals of `check_tin` in src/checking.rt.
 use Rattle.std.proofs.Common.{subst, sym}
 use Rattle.std.proofs.lemmas.Result.{err_from_is_err_and}
 use Rattle.tin_base.specs.Triangulation.{Triangulation}

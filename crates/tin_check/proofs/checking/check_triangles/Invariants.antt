@@ -1,3 +1,4 @@
+-- The invariant of the loop of `check_triangles` in src/checking.rt.
 use Rattle.tin_check.specs.Progress.{ArePositive}
 use Rattle.tin_check.proofs.checking.check_triangles.Given as goal
 

@@ -1,3 +1,4 @@
+-- Answers to the goals of `check_turns` in src/checking.rt.
 use Rattle.std.proofs.Common.{◌≡◌, pos, ◌<ℤ◌, arith}
 use Rattle.std.proofs.lemmas.Int.{ints}
 use Rattle.tin_base.specs.Soundness.{turn_in}

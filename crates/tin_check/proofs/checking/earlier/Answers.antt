@@ -1,3 +1,4 @@
+-- Answers to the goals of `earlier` in src/checking.rt.
 use Rattle.std.proofs.Common.{sym, subst, refl}
 use Rattle.tin_base.proofs.Telling.{denied}
 use Rattle.tin_check.specs.Faults.{IsCause}

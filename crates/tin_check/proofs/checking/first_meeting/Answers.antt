@@ -1,3 +1,4 @@
+-- Answers to the goals of `first_meeting` in src/checking.rt.
 use Rattle.std.proofs.Common.{◌+◌, Option, sym, subst}
 use Rattle.tin_base.specs.declared.frames.Frame.TheVariants.{Target}
 use Rattle.tin_check.specs.Faults.{IsCause}

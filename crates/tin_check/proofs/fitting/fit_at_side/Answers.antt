@@ -1,3 +1,4 @@
+-- Answers to the goals of `fit_at_side` in src/fitting.rt.
 use Rattle.std.proofs.Common.{[], ◌∷◌}
 use Rattle.plane_base.specs.Plane.{whole}
 use Rattle.tin_check.proofs.Counting.{counted_same, second_meet, through}

@@ -1,3 +1,4 @@
+-- Answers to the goals of `fits` in src/fitting.rt.
 use Rattle.std.proofs.Common.{[], ◌∷◌, arith}
 use Rattle.plane_base.specs.Plane.{whole}
 use Rattle.tin_check.specs.Marks.{points_of, marked_of}

@@ -1,3 +1,4 @@
+-- Answers to the goals of `meet_at_side` in src/fitting.rt.
 use Rattle.tin_check.proofs.Tests.{side_tells}
 use Rattle.tin_check.proofs.fitting.meet_at_side.Goals as goal
 

@@ -1,3 +1,4 @@
+-- Answers to the goals of `meets_side` in src/fitting.rt.
 use Rattle.tin_check.proofs.BySlice.{slice_tells}
 use Rattle.tin_check.proofs.fitting.meets_side.Goals as goal
 

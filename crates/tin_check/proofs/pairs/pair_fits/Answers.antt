@@ -1,3 +1,4 @@
+-- Answers to the goals of `pair_fits` in src/pairs.rt.
 use Rattle.tin_check.proofs.Marking.{all_near, marks_read, same_read, told_read}
 use Rattle.tin_check.proofs.BySides.{sides_tell, side_read}
 use Rattle.tin_check.proofs.pairs.pair_fits.Goals as goal

@@ -1,3 +1,4 @@
+-- Answers to the goals of `are_parted` in src/parting.rt.
 use Rattle.std.proofs.Common.{FitsSigned, rules}
 use Rattle.std.proofs.lemmas.Int.{to_z-of_z}
 use mir.Syntax.{w128}

@@ -1,3 +1,4 @@
+-- Answers to the goals of `is_beyond` in src/parting.rt.
 use Rattle.std.proofs.Common.{refl}
 use Rattle.tin_check.proofs.Parted.{beyond_first, beyond_second, beyond_third}
 use Rattle.tin_check.proofs.parting.is_beyond.Goals as goal

@@ -1,3 +1,4 @@
+-- Answers to the goals of `do_all_fit` in src/searching.rt.
 use Rattle.std.proofs.Common.{refl, arith}
 use Rattle.tin_check.proofs.Partners.{partners_in_range, more_partners, all_partners_fit}
 use Rattle.tin_check.proofs.searching.do_all_fit.Goals as goal

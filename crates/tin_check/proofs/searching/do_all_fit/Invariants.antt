@@ -1,3 +1,4 @@
+-- The invariant of the loop of `do_all_fit` in src/searching.rt.
 use Rattle.tin_check.proofs.Partners.{DoPartnersFit}
 use Rattle.tin_check.proofs.searching.do_all_fit.Given as goal
 

@@ -1,3 +1,4 @@
+-- Answers to the goals of `first_in_order` in src/searching.rt.
 use Rattle.std.proofs.Common.{arith}
 use Rattle.tin_check.proofs.Partners.{near_in_range, others_fit}
 use Rattle.tin_check.proofs.InBoxes.{box_ordered}

@@ -1,3 +1,4 @@
+-- The invariant of the loop of `first_in_order` in src/searching.rt.
 use Rattle.tin_check.specs.Progress.{DoFitBefore}
 use Rattle.tin_check.proofs.searching.first_in_order.Given as goal
 

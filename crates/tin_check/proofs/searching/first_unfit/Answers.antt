@@ -1,3 +1,4 @@
+-- Answers to the goals of `first_unfit` in src/searching.rt.
 use Rattle.std.proofs.Common.{refl}
 use Rattle.tin_check.proofs.Progress.{first_of_list, one_more_listed, one_more_first}
 use Rattle.tin_check.proofs.searching.first_unfit.Goals as goal

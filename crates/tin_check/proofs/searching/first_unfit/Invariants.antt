@@ -1,3 +1,4 @@
+-- The invariant of the loop of `first_unfit` in src/searching.rt.
 use Rattle.tin_check.proofs.Progress.{DoListedFit}
 use Rattle.tin_check.proofs.searching.first_unfit.Given as goal
 

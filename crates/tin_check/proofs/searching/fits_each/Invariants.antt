@@ -1,3 +1,4 @@
+-- The invariant of the loop of `fits_each` in src/searching.rt.
 use Rattle.tin_check.proofs.Partners.{DoFirstOthersFit}
 use Rattle.tin_check.proofs.searching.fits_each.Given as goal
 

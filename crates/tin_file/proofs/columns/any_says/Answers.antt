@@ -1,3 +1,4 @@
+-- Answers to the goals of `any_says` in src/columns.rt.
 use Rattle.std.proofs.Common.{sym, ◌∙◌}
 use Rattle.jtext.specs.Values.{Json, null}
 use Rattle.tin_file.specs.Keys.{says}

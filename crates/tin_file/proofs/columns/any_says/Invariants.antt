@@ -1,3 +1,4 @@
+-- The invariant of the loop of `any_says` in src/columns.rt.
 use Rattle.std.proofs.Common.{◌≡◌, List, drop}
 use Rattle.std.specs.List.{list_any}
 use Rattle.jtext.specs.Values.{Json}

@@ -1,3 +1,4 @@
+-- Answers to the goals of `are_texts` in src/columns.rt.
 use Rattle.std.proofs.Common.{sym, ◌∙◌}
 use Rattle.tin_file.specs.Keys.{is_text}
 use Rattle.tin_file.proofs.There.{node_within, node_at_place, there_at}

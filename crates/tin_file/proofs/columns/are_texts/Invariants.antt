@@ -1,3 +1,4 @@
+-- The invariant of the loop of `are_texts` in src/columns.rt.
 use Rattle.std.proofs.Common.{◌≡◌, List, drop}
 use Rattle.std.specs.List.{list_all}
 use Rattle.jtext.specs.Values.{Json}

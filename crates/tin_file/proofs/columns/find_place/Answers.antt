@@ -1,3 +1,4 @@
+-- Answers to the goals of `find_place` in src/columns.rt.
 use Rattle.std.proofs.Common.{◌≡◌, ◌++◌, ◌∷◌, true, false, sym, ap, ◌∙◌, drop, get_or, append-nil}
 use Rattle.jtext.specs.Values.{null}
 use Rattle.tin_file.specs.Keys.{says}

@@ -1,3 +1,4 @@
+-- The invariant of the loop of `find_place` in src/columns.rt.
 use Rattle.std.proofs.Common.{◌≡◌, ◌++◌, List, drop}
 use Rattle.jtext.specs.Values.{Json}
 use Rattle.tin_file.specs.Headings.{places_of}

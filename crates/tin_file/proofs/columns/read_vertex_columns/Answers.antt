@@ -1,3 +1,4 @@
+-- Answers to the goals of `read_vertex_columns` in src/columns.rt.
 use Rattle.std.proofs.Common.{◌∙◌, sym}
 use Rattle.std.specs.Prelude.{codes, length}
 use Rattle.tin_file.proofs.There.{as_many}

@@ -1,3 +1,4 @@
+-- Answers to the goals of `find` in src/elements.rt.
 use Rattle.std.specs.Prelude.{Ok, Err, Some, None}
 use Rattle.tin_file.specs.Keys.{key_of, values_of}
 use Rattle.tin_file.proofs.Found.{look_finds, found_value, found_no_value, found_two}

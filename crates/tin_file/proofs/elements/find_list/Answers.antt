@@ -1,3 +1,4 @@
+-- Answers to the goals of `find_list` in src/elements.rt.
 use Rattle.std.proofs.Common.{sym, ◌∙◌}
 use Rattle.tin_file.specs.Keys.{needed}
 use Rattle.tin_file.proofs.There.{node_within, members_there}

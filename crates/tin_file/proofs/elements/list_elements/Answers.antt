@@ -1,3 +1,4 @@
+-- Answers to the goals of `list_elements` in src/elements.rt.
 use Rattle.std.proofs.Common.{◌+◌, arith}
 use Rattle.tin_file.specs.Standing.{element_numbers}
 use Rattle.tin_file.proofs.There.{node_within}

@@ -1,3 +1,4 @@
+-- The invariant and the measure of the loop of `list_elements` in src/elements.rt.
 use Rattle.std.proofs.Common.{◌+◌, ◌-◌, List, ℕ}
 use Rattle.jtext.specs.Values.{Elements, array}
 use Rattle.tin_file.specs.Standing.{IsThere, element_numbers}

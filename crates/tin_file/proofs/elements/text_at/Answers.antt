@@ -1,3 +1,4 @@
+-- Answers to the goals of `text_at` in src/elements.rt.
 use Rattle.std.proofs.Common.{◌∙◌}
 use Rattle.tin_file.proofs.There.{node_within}
 use Rattle.tin_file.proofs.SpelledTexts.{text_is, text_begins, text_ends}

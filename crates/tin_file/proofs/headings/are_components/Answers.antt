@@ -1,3 +1,4 @@
+-- Answers to the goals of `are_components` in src/headings.rt.
 use Rattle.std.proofs.Common.{sym, ◌∙◌}
 use Rattle.tin_file.specs.Headings.{is_component}
 use Rattle.tin_file.proofs.There.{node_within, node_at_place, there_at}

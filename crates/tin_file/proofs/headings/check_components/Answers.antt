@@ -1,3 +1,4 @@
+-- Answers to the goals of `check_components` in src/headings.rt.
 use Rattle.std.proofs.Common.{◌≡◌, List, subst, sym}
 use Rattle.jtext.specs.Values.{Json}
 use Rattle.tin_file.specs.Headings.{components, components_in}

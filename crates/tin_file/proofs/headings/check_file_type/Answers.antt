@@ -1,3 +1,4 @@
+-- Answers to the goals of `check_file_type` in src/headings.rt.
 use Rattle.tin_file.specs.Headings.{file_type_of, file_type}
 use Rattle.tin_file.specs.Keys.{needed}
 use Rattle.tin_file.specs.Standing.{IsThere}

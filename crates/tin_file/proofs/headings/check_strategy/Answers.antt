@@ -1,3 +1,4 @@
+-- Answers to the goals of `check_strategy` in src/headings.rt.
 use Rattle.std.proofs.Common.{[], ◌∷◌, ap, ◌∙◌, sym}
 use Rattle.std.specs.Prelude.{Ok, Err, Some, None}
 use Rattle.tin_file.specs.Headings.{strategy, strategy_of}

@@ -1,3 +1,4 @@
+-- Answers to the goals of `check_strategy_value` in src/headings.rt.
 use Rattle.std.proofs.Common.{◌≡◌, ◌∙◌, true, false}
 use Rattle.std.specs.Prelude.{codes}
 use Rattle.tin_file.specs.Keys.{says}

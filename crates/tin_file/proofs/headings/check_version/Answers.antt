@@ -1,3 +1,4 @@
+-- Answers to the goals of `check_version` in src/headings.rt.
 use Rattle.tin_file.specs.Headings.{version_of, version}
 use Rattle.tin_file.specs.Keys.{needed}
 use Rattle.tin_file.specs.Standing.{IsThere}

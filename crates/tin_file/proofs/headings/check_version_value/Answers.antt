@@ -1,3 +1,4 @@
+-- Answers to the goals of `check_version_value` in src/headings.rt.
 use Rattle.std.proofs.Common.{arith}
 use Rattle.std.proofs.lemmas.Grind.{common_steps}
 use Rattle.tin_file.proofs.headings.check_version_value.Goals as goal

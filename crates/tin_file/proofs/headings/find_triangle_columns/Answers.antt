@@ -1,3 +1,4 @@
+-- Answers to the goals of `find_triangle_columns` in src/headings.rt.
 use Rattle.std.proofs.Common.{◌≡◌, List, subst, sym}
 use Rattle.jtext.specs.Values.{Json}
 use Rattle.tin_file.specs.Headings.{triangle_columns, triangle_columns_in}

@@ -1,3 +1,4 @@
+-- Answers to the goals of `find_vertex_columns` in src/headings.rt.
 use Rattle.std.proofs.Common.{◌≡◌, List, subst, sym}
 use Rattle.jtext.specs.Values.{Json}
 use Rattle.tin_file.specs.Headings.{vertex_columns, vertex_columns_in}

@@ -1,3 +1,4 @@
+-- The proof of the law `answer_is_one` in src/laws.rt.
 use Rattle.tin_file.proofs.OneAnswer.{answer_is_one}
 use Rattle.tin_file.proofs.laws.answer_is_one.Goals as goal
 

@@ -1,3 +1,4 @@
+-- The invariant of the loop of `orient` in src/orienting.rt.
 use Rattle.std.proofs.Common.{◌≡◌, ◌++◌, take, drop, map}
 use Rattle.tin_file.specs.Corners.{oriented}
 use Rattle.tin_file.proofs.orienting.orient.Given as goal

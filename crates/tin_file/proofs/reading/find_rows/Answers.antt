@@ -1,3 +1,4 @@
+-- Answers to the goals of `find_rows` in src/reading.rt.
 use Rattle.std.proofs.Common.{arith}
 use Rattle.tin_file.specs.Keys.{needed_list, and_then}
 use Rattle.tin_file.specs.Vertices.{few}

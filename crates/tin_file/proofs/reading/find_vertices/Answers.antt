@@ -1,3 +1,4 @@
+-- Answers to the goals of `find_vertices` in src/reading.rt.
 use Rattle.std.proofs.Common.{List, ℕ, sym, subst, Vec, Global}
 use Rattle.jtext.specs.Values.{Json}
 use Rattle.tin_base.specs.declared.limits.TheConstants.{MOST_CORNERS}

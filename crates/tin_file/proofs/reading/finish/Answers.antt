@@ -1,3 +1,4 @@
+-- Answers to the goals of `finish` in src/reading.rt.
 use Rattle.std.proofs.Common.{◌≡◌, ◌∙◌, List, ℕ, length, map, ap, sym, subst}
 use Rattle.std.specs.Prelude.{Ok}
 use Rattle.std.proofs.lemmas.List.{with_items_is, length-map}

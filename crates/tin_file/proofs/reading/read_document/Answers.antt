@@ -1,3 +1,4 @@
+-- Answers to the goals of `read_document` in src/reading.rt.
 use Rattle.std.proofs.Common.{◌≡◌, sym, ap, ◌∙◌, subst}
 use Rattle.tin_file.specs.Headings.{heading}
 use Rattle.tin_file.specs.Reading.{rows_of, reading}

@@ -1,3 +1,4 @@
+-- Answers to the goals of `read_rows` in src/reading.rt.
 use Rattle.std.proofs.Common.{◌≡◌, List, ℕ, map, length, sym, ap, ◌∙◌, Vec, Global}
 use Rattle.tin_file.specs.Keys.{and_then}
 use Rattle.tin_file.specs.Vertices.{vertices}

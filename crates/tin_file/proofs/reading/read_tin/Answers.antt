@@ -1,3 +1,4 @@
+-- Answers to the goals of `read_tin` in src/reading.rt.
 use Rattle.tin_file.proofs.ValueFaults.{answer_of}
 use Rattle.tin_file.proofs.reading.read_tin.Goals as goal
 

@@ -1,3 +1,4 @@
+-- Answers to the goals of `is_too_wide` in src/spans.rt.
 use Rattle.std.proofs.Common.{◌≡◌, rules}
 use Rattle.std.specs.Prelude.{FitsSigned, ◌-ℤ◌}
 use Rattle.std.specs.Int.{int_min, int_max}

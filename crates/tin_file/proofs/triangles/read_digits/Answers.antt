@@ -1,3 +1,4 @@
+-- Answers to the goals of `read_digits` in src/triangles.rt.
 use Rattle.std.proofs.Common.{◌+◌, ◌*◌, sym, ap, ◌∙◌}
 use Rattle.std.specs.Prelude.{min}
 use Rattle.tin_base.specs.declared.limits.TheConstants.{MOST_CORNERS}

@@ -1,3 +1,4 @@
+-- The invariant of the loop of `read_digits` in src/triangles.rt.
 use Rattle.std.proofs.Common.{◌≡◌, take, drop}
 use Rattle.std.specs.Prelude.{min}
 use Rattle.std.specs.Char.{is_ascii_digit}

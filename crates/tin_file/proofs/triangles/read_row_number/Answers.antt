@@ -1,3 +1,4 @@
+-- Answers to the goals of `read_row_number` in src/triangles.rt.
 use Rattle.std.proofs.Common.{sym, ap, ◌∙◌}
 use Rattle.tin_file.specs.Gathered.{at_most}
 use Rattle.tin_file.proofs.There.{node_within}

@@ -1,3 +1,4 @@
+-- Answers to the goals of `read_triangle` in src/triangles.rt.
 use Rattle.std.proofs.Common.{length, sym, ◌∙◌, refl, subst}
 use Rattle.tin_file.specs.Standing.{AreThere, AreNodes}
 use Rattle.tin_file.specs.Triangles.{triangle_of, triangle_in}

@@ -1,3 +1,4 @@
+-- Answers to the goals of `read_triangles` in src/triangles.rt.
 use Rattle.std.proofs.Common.{◌≡◌, ◌+◌, ◌∷◌, ◌++◌, [], ℕ, List, length, map, drop, get_or, refl, sym, ap, ◌∙◌, subst, Vec, Global}
 use Rattle.std.proofs.lemmas.List.{map-append}
 use Rattle.jtext.specs.Values.{null}

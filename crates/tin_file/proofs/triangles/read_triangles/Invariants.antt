@@ -1,3 +1,4 @@
+-- The invariant of the loop of `read_triangles` in src/triangles.rt.
 use Rattle.std.proofs.Common.{◌≡◌, ℕ, List, drop, length, map}
 use Rattle.jtext.specs.Values.{Json}
 use Rattle.tin_file.specs.Triangles.{triangle_of, triangle_rows}

@@ -1,3 +1,4 @@
+-- Answers to the goals of `read_elements` in src/vertices.rt.
 use Rattle.std.proofs.Common.{◌≡◌, ◌<◌, ℕ, length, sym, ap, ◌∙◌, arith}
 use Rattle.jtext.specs.Values.{null}
 use Rattle.tin_file.specs.Vertices.{number_at, vertex_from}

@@ -1,3 +1,4 @@
+-- Answers to the goals of `read_number` in src/vertices.rt.
 use Rattle.std.proofs.Common.{sym, ap, ◌∙◌}
 use Rattle.tin_file.specs.Vertices.{accepted}
 use Rattle.tin_file.proofs.There.{node_within}

@@ -1,3 +1,4 @@
+-- Answers to the goals of `read_vertex` in src/vertices.rt.
 use Rattle.std.proofs.Common.{sym, ◌∙◌, refl, subst}
 use Rattle.tin_file.specs.Standing.{AreThere, AreNodes}
 use Rattle.tin_file.specs.Vertices.{vertex_of, vertex_in}

@@ -1,3 +1,4 @@
+-- Answers to the goals of `read_vertices` in src/vertices.rt.
 use Rattle.std.proofs.Common.{◌+◌, ◌∷◌, ◌++◌, [], drop, get_or, arith, refl, sym, subst}
 use Rattle.std.specs.Prelude.{Ok}
 use Rattle.jtext.specs.Values.{null}

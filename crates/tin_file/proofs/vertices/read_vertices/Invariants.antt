@@ -1,3 +1,4 @@
+-- The invariant of the loop of `read_vertices` in src/vertices.rt.
 use Rattle.std.proofs.Common.{◌*◌, ◌≤◌, List, drop}
 use Rattle.indexmap.specs.IndexSet.{index_set_len}
 use Rattle.jtext.specs.Values.{Json}

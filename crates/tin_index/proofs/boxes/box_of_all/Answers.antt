@@ -1,3 +1,4 @@
+-- Answers to the goals of `box_of_all` in src/boxes.rt.
 use Rattle.std.proofs.Common.{ℕ, length, subst, ap, ◌∙◌, arith}
 use Rattle.tin_index.specs.Boxes.{IsRound}
 use Rattle.tin_index.proofs.Round.{round_none, at_corner, round_first, round_more}

@@ -1,3 +1,4 @@
+-- Answers to the goals of `boxes_of` in src/boxes.rt.
 use Rattle.tin_index.proofs.Boxing.{no_boxes, boxes_more}
 use Rattle.tin_index.proofs.boxes.boxes_of.Goals as goal
 

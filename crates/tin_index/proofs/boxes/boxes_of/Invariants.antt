@@ -1,3 +1,4 @@
+-- The invariant of the loop of `boxes_of` in src/boxes.rt.
 use Rattle.tin_index.specs.Boxes.{AreBoxesOf}
 use Rattle.tin_index.proofs.boxes.boxes_of.Given as goal
 

@@ -1,3 +1,4 @@
+-- Answers to the goals of `has_inside` in src/boxes.rt.
 use Rattle.std.proofs.Common.{refl}
 use Rattle.tin_index.proofs.InBox.{near_box}
 use Rattle.tin_index.proofs.boxes.has_inside.Goals as goal

@@ -1,3 +1,4 @@
+-- Answers to the goals of `is_left_of_all` in src/boxes.rt.
 use Rattle.std.proofs.Common.{rules}
 use Rattle.std.specs.Prelude.{FitsSigned}
 use Rattle.std.proofs.lemmas.Int.{to_z-of_z}

@@ -1,3 +1,4 @@
+-- Answers to the goals of `is_in` in src/locating.rt.
 use Rattle.std.proofs.Common.{◌↔◌, subst, IsTrue, List}
 use Rattle.plane_base.specs.Plane.{Point, IsMix, whole}
 use Rattle.tin_index.proofs.locating.is_in.Goals as goal

@@ -1,3 +1,4 @@
+-- Answers to the goals of `is_inside` in src/locating.rt.
 use Rattle.std.proofs.Common.{arith}
 use Rattle.tin_index.proofs.Inside.{only_in}
 use Rattle.tin_index.proofs.locating.is_inside.Goals as goal

@@ -1,3 +1,4 @@
+-- Answers to the goals of `least_of` in src/locating.rt.
 use Rattle.std.proofs.Common.{ℕ, get_or, arith}
 use borrow.Author.Count.{below_more}
 use Rattle.plane_base.specs.Plane.{whole}

@@ -1,3 +1,4 @@
+-- The invariant of the loop of `least_of` in src/locating.rt.
 use Rattle.tin_index.proofs.Least.{NoneBefore}
 use Rattle.tin_index.proofs.locating.least_of.Given as goal
 

@@ -1,3 +1,4 @@
+-- Answers to the goals of `locate_in` in src/locating.rt.
 use Rattle.std.proofs.Common.{ℕ, subst, sym, arith}
 use Rattle.tin_index.proofs.Least.{IsLeastSoFar, least_start, least_more, least_of_all}
 use Rattle.tin_index.proofs.locating.locate_in.Goals as goal

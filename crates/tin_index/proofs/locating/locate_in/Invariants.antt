@@ -1,3 +1,4 @@
+-- The invariant of the loop of `locate_in` in src/locating.rt.
 use Rattle.tin_index.proofs.Least.{IsLeastSoFar}
 use Rattle.tin_index.proofs.locating.locate_in.Given as goal
 

@@ -1,3 +1,4 @@
+-- The invariant of the loop of `stars_of` in src/stars.rt.
 use Rattle.tin_index.specs.Stars.{AreEntriesTo}
 use Rattle.tin_index.proofs.stars.stars_of.Given as goal
 

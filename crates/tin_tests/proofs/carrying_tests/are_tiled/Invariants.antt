@@ -1,3 +1,4 @@
+-- The invariant of the loop of `are_tiled` in src/carrying_tests.rt.
 use Rattle.std.proofs.Common.{take}
 use Rattle.sheet_base.specs.Sheets.{AreTiled}
 use Rattle.tin_tests.proofs.carrying_tests.are_tiled.Given as goal

@@ -1,3 +1,4 @@
+-- Answers to the goals of `line_and_dots` in src/change_tests.rt.
 use Rattle.std.proofs.Common.{All, List, sym, subst}
 use Rattle.std.proofs.lemmas.List.Elements.{All-push}
 use Rattle.tin_base.specs.declared.pieces.Piece.{Piece}

@@ -1,3 +1,4 @@
+-- The invariant of the loop of `line_and_dots` in src/change_tests.rt.
 use Rattle.std.proofs.Common.{All}
 use Rattle.tin_tests.specs.Small.{IsTried}
 use Rattle.tin_tests.proofs.change_tests.line_and_dots.Given as goal

@@ -1,3 +1,4 @@
+-- Answers to the goals of `piece` in src/change_tests.rt.
 use Rattle.std.proofs.Common.{◌<◌, List, length, refl, subst, arith}
 use Rattle.plane_base.specs.Plane.{Point, IsMix, whole}
 use Rattle.tin_base.specs.declared.pieces.Piece.{Piece}

@@ -1,3 +1,4 @@
+-- The invariant of the loop of `are_small` in src/grid_tests.rt.
 use Rattle.std.proofs.Common.{◌<◌, ℕ, slice_index_or}
 use Rattle.plane_base.specs.declared.shapes.Rect.{Rect}
 use Rattle.tin_tests.specs.SmallBoxes.{IsSmall}

@@ -1,3 +1,4 @@
+-- Answers to the goals of `is_small` in src/grid_tests.rt.
 use Rattle.std.proofs.Common.{refl, rules, arith}
 use Rattle.std.specs.Prelude.{FitsSigned}
 use Rattle.std.proofs.lemmas.Int.{to_z-of_z, ints}

@@ -1,3 +1,4 @@
+-- Answers to the goals of `image` in src/image_tests.rt.
 use Rattle.std.proofs.Common.{subst, List}
 use Rattle.plane_base.specs.Plane.{Point, IsMix, whole}
 use Rattle.tin_base.proofs.Telling.{told}

@@ -1,3 +1,4 @@
+-- Answers to the goals of `sound_of` in src/made_tins.rt.
 use Rattle.std.proofs.Common.{pos, ◌<ℤ◌, arith}
 use Rattle.std.proofs.lemmas.Int.{ints}
 use Rattle.tin_base.specs.declared.frames.Frame.TheVariants.{Source, Target}

@@ -1,3 +1,4 @@
+-- Answers to the goals of `tin_of` in src/made_tins.rt.
 use Rattle.std.proofs.Common.{List, ℕ, subst}
 use Rattle.tin_base.specs.declared.corners.Corner.{Corner}
 use Rattle.tin_base.specs.Triangulation.{triangulation}

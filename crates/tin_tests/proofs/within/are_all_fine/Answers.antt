@@ -1,3 +1,4 @@
+-- Answers to the goals of `are_all_fine` in src/within.rt.
 use Rattle.std.proofs.Common.{ℕ, get_or}
 use borrow.Author.Count.{below_more}
 use Rattle.tin_base.specs.declared.frames.Frame.{Frame}

@@ -1,3 +1,4 @@
+-- The invariant of the loop of `are_all_fine` in src/within.rt.
 use Rattle.tin_tests.specs.Within.{AreFirstFine}
 use Rattle.tin_tests.proofs.within.are_all_fine.Given as goal
 

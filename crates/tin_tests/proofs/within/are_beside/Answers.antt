@@ -1,3 +1,4 @@
+-- Answers to the goals of `are_beside` in src/within.rt.
 use Rattle.tin_base.specs.declared.frames.Frame.TheVariants.{Source}
 use Rattle.tin_base.proofs.Telling.{no, denied, told}
 use Rattle.tin_tests.proofs.LimitsTold.{beside_told}

@@ -1,3 +1,4 @@
+-- Answers to the goals of `are_near` in src/within.rt.
 use Rattle.tin_tests.proofs.LimitsTold.{near_told}
 use Rattle.tin_tests.proofs.within.are_near.Goals as goal
 

@@ -1,3 +1,4 @@
+-- The invariant of the loop of `are_rows_below` in src/within.rt.
 use Rattle.tin_tests.specs.Within.{AreRowsBelow}
 use Rattle.tin_tests.proofs.within.are_rows_below.Given as goal
 

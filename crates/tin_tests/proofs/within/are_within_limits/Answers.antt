@@ -1,3 +1,4 @@
+-- Answers to the goals of `are_within_limits` in src/within.rt.
 use Rattle.tin_base.proofs.Telling.{told}
 use Rattle.tin_tests.proofs.LimitsTold.{all_told}
 use Rattle.tin_tests.proofs.within.are_within_limits.Goals as goal

@@ -1,3 +1,4 @@
+-- Answers to the goals of `is_beside_earlier` in src/within.rt.
 use Rattle.std.proofs.Common.{ℕ, get_or}
 use borrow.Author.Count.{below_more}
 use Rattle.tin_base.specs.Triangulation.{no_corner}

@@ -1,3 +1,4 @@
+-- The invariant of the loop of `is_beside_earlier` in src/within.rt.
 use Rattle.tin_tests.specs.Within.{IsBesideFirst}
 use Rattle.tin_tests.proofs.within.is_beside_earlier.Given as goal
 

@@ -1,3 +1,4 @@
+-- Answers to the goals of `is_corner_in_reach` in src/within.rt.
 use Rattle.tin_base.specs.declared.frames.Frame.TheVariants.{Source}
 use Rattle.tin_base.specs.Limits.{IsCornerInReach}
 use Rattle.tin_base.proofs.Telling.{no, denied, told}

@@ -1,3 +1,4 @@
+-- Answers to the goals of `is_near` in src/within.rt.
 use Rattle.std.proofs.Common.{rules, FitsSigned}
 use Rattle.std.proofs.lemmas.Int.{to_z-of_z}
 use mir.Syntax.{w64}

@@ -1,3 +1,4 @@
+-- Answers to the goals of `around_span` in src/boxes.rt.
 use Rattle.std.proofs.Common.{rules, SFits, arith}
 use Rattle.std.proofs.lemmas.Int.{ints, to_z-of_z}
 use mir.Syntax.{w64}

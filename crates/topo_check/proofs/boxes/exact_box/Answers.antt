@@ -1,3 +1,4 @@
+-- Answers to the goals of `exact_box` in src/boxes.rt.
 use Rattle.std.proofs.Common.{sym, subst}
 use Rattle.plane_base.specs.declared.shapes.Rect.{Rect}
 use Rattle.topo_check.specs.Boxes.{IsExactBox}

@@ -1,3 +1,4 @@
+-- Answers to the goals of `outer_box` in src/boxes.rt.
 use Rattle.std.proofs.Common.{◌≡◌, sym, subst, ◌∙◌, ap₂}
 use Rattle.plane_base.specs.Boxes.{box_of_segment, box_of_triangle, common_of}
 use Rattle.plane_base.specs.declared.shapes.Rect.{Rect}

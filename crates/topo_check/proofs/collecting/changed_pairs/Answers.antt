@@ -1,3 +1,4 @@
+-- Answers to the goals of `changed_pairs` in src/collecting.rt.
 use Rattle.std.proofs.Common.{◌<◌, List, length, subst, arith}
 use Rattle.plane_base.specs.declared.shapes.Rect.{Rect}
 use Rattle.tin_base.specs.declared.frames.Frame.TheVariants.{Source, Target}

@@ -1,3 +1,4 @@
+-- Answers to the goals of `collect` in src/collecting.rt.
 use Rattle.std.proofs.Common.{ℕ, ◌≤◌, List, length, Contains, subst, arith}
 use Rattle.topo_check.specs.Pairs.{DoesCollect, IsPairWith}
 use Rattle.topo_check.proofs.Passes.{not_own, before_more, before_all}

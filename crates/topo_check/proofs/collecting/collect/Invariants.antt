@@ -1,3 +1,4 @@
+-- The invariant and the measure of the loop of `collect` in src/collecting.rt.
 use Rattle.std.proofs.Common.{length, ◌-◌}
 use Rattle.topo_check.specs.Pairs.{DoesCollect}
 use Rattle.topo_check.proofs.Passes.{IsPairBefore}

@@ -1,3 +1,4 @@
+-- Answers to the goals of `collect_with` in src/collecting.rt.
 use Rattle.std.proofs.Common.{◌<◌, length, get_or, refl, arith}
 use Rattle.std.proofs.lemmas.List.{get_or_default}
 use Rattle.topo_check.proofs.Passes.{with_more, with_all}

@@ -1,3 +1,4 @@
+-- Answers to the goals of `compare` in src/collecting.rt.
 use Rattle.topo_check.proofs.Passes.{pair_collected, pair_unchanged}
 use Rattle.topo_check.proofs.collecting.compare.Goals as goal
 

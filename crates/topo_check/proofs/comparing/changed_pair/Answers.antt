@@ -1,3 +1,4 @@
+-- Answers to the goals of `changed_pair` in src/comparing.rt.
 use Rattle.std.proofs.Common.{◌≡◌, rules, sym, subst}
 use Rattle.tin_base.specs.declared.relations.Rel.{Rel}
 use Rattle.topo_check.specs.Changes.{HasRelation, piece_at}

@@ -1,3 +1,4 @@
+-- Answers to the goals of `relation_before` in src/comparing.rt.
 use Rattle.std.proofs.Common.{◌<◌, length, arith}
 use Rattle.cell_grid.specs.Boxes.{box_at}
 use Rattle.topo_check.specs.Changes.{piece_at, no_piece}

@@ -1,3 +1,4 @@
+-- Answers to the goals of `rounded_grid` in src/grids.rt.
 use Rattle.topo_check.proofs.Spans.{rounded_spans}
 use Rattle.topo_check.proofs.grids.rounded_grid.Goals as goal
 

@@ -1,3 +1,4 @@
+-- The proof of the law `changes_are_by_rounding` in src/laws.rt.
 use Rattle.topo_check.proofs.ByRounding.{changes_are_by_rounding}
 use Rattle.topo_check.proofs.laws.changes_are_by_rounding.Goals as goal
 

@@ -1,3 +1,4 @@
+-- The proof of the law `changes_are_one` in src/laws.rt.
 use Rattle.topo_check.proofs.OneList.{changes_are_one}
 use Rattle.topo_check.proofs.laws.changes_are_one.Goals as goal
 

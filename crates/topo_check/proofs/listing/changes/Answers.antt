@@ -1,3 +1,4 @@
+-- Answers to the goals of `changes` in src/listing.rt.
 use Rattle.std.proofs.Common.{◌≡◌, ◌<◌, ◌≤◌, map, List, length, subst, arith}
 use Rattle.topo_check.specs.declared.comparing.ChangedPair.{ChangedPair}
 use Rattle.topo_check.specs.Pairs.{change_of}

@@ -1,3 +1,4 @@
+-- Answers to the goals of `down` in src/shares.rt.
 use Rattle.std.proofs.Common.{◌≡◌, ℤ, ◌*ℤ◌, ◌≤ℤ◌, rules, SFits, sym, subst}
 use Rattle.std.proofs.lemmas.Int.{to_z-of_z}
 use Rattle.std.specs.Int.{int_div_euclid}

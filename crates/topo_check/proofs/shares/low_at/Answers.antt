@@ -1,3 +1,4 @@
+-- Answers to the goals of `low_at` in src/shares.rt.
 use Rattle.std.proofs.Common.{◌+ℤ◌, ◌-ℤ◌, rules, SFits, refl}
 use Rattle.std.proofs.lemmas.Int.{to_z-of_z}
 use mir.Syntax.{w64}

@@ -1,3 +1,4 @@
+-- Answers to the goals of `quotient` in src/shares.rt.
 use Rattle.std.proofs.Common.{◌≡◌, ◌*ℤ◌, rules, SFits, to_z, of_z, arith}
 use Rattle.std.proofs.lemmas.Int.{ints, to_z-of_z}
 use Rattle.std.specs.Int.{int_div_euclid}

@@ -1,3 +1,4 @@
+-- The proof of the law `fault_is_one` in src/laws.rt.
 use Rattle.wkt_layer.proofs.OneFault.{fault_one}
 use Rattle.wkt_layer.proofs.laws.fault_is_one.Goals as goal
 

@@ -1,3 +1,4 @@
+-- Answers to the goals of `first_line` in src/reading.rt.
 use Rattle.std.proofs.Common.{◌+◌}
 use Rattle.wkt_layer.proofs.FirstLines.{one_line, line_before, rest_to_end}
 use Rattle.wkt_layer.proofs.reading.first_line.Goals as goal

@@ -1,3 +1,4 @@
+-- Answers to the goals of `read` in src/reading.rt.
 use Rattle.std.proofs.Common.{◌≡◌, ◌+◌, ◌<◌, ◌^◌, ◌++◌, length, ap, ◌∙◌, subst, arith}
 use Rattle.std.specs.Prelude.{Some}
 use Rattle.wkt_layer.specs.Layers.{lines_of}

@@ -1,3 +1,4 @@
+-- The invariant and the measure of the loop of `read` in src/reading.rt.
 use Rattle.std.proofs.Common.{◌≡◌, ℕ, ◌+◌, ◌≤◌, List, [], length}
 use Rattle.std.specs.Prelude.{flat_map}
 use Rattle.wkt_layer.specs.Paths.{Path}

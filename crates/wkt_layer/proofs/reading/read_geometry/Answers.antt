@@ -1,3 +1,4 @@
+-- Answers to the goals of `read_geometry` in src/reading.rt.
 use Rattle.std.proofs.Common.{◌≡◌, ◌≤◌, ◌+◌, ◌++◌, [], length, sym, ◌∙◌, subst, append-nil, arith, true, false}
 use Rattle.wkt_layer.specs.States.{start}
 use Rattle.wkt_layer.specs.Passes.{Held, HasRoom}

@@ -1,3 +1,4 @@
+-- The invariant and the measure of the loop of `read_geometry` in src/reading.rt.
 use Rattle.std.proofs.Common.{◌≡◌, ◌+◌, ◌-◌, ◌≤◌, List, [], length}
 use Rattle.wkt_layer.specs.Tokens.{Placed}
 use Rattle.wkt_layer.specs.Paths.{Path}

@@ -1,3 +1,4 @@
+-- Answers to the goals of `read_line` in src/reading.rt.
 use Rattle.std.proofs.Common.{[], sym, ◌∙◌, subst, append-nil}
 use Rattle.wkt_layer.specs.Passes.{Held}
 use Rattle.wkt_layer.proofs.Lexing.{blank_line}

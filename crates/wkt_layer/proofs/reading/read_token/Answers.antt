@@ -1,3 +1,4 @@
+-- Answers to the goals of `read_token` in src/reading.rt.
 use Rattle.std.proofs.Common.{◌≡◌, ◌+◌, ◌-◌, take, drop, length, sym, ap, subst, arith}
 use Rattle.sheet_base.proofs.HandedOn.{passed_on}
 use Rattle.wkt_layer.specs.Passes.{Reads}

@@ -1,3 +1,4 @@
+-- Answers to the goals of `bare_second` in src/steps.rt.
 use Rattle.std.proofs.Common.{◌∙◌, subst, ◌++◌, ◌∷◌, [], append_assoc}
 use Rattle.sheet_base.specs.declared.paths.PathKind.TheVariants.{Dot}
 use Rattle.wkt_layer.specs.Paths.{path_of}

@@ -1,3 +1,4 @@
+-- Answers to the goals of `behind_item` in src/steps.rt.
 use Rattle.std.proofs.Common.{refl}
 use Rattle.wkt_layer.specs.States.{state, item, behind}
 use Rattle.wkt_layer.proofs.Going.{item_goes, close_goes, opened_comma, opened_closing}

@@ -1,3 +1,4 @@
+-- Answers to the goals of `behind_point` in src/steps.rt.
 use Rattle.std.proofs.Common.{refl, sym, ◌∙◌, subst, [], ◌∷◌, ◌++◌, append_assoc}
 use Rattle.wkt_layer.specs.States.{state, first, behind, kind_of}
 use Rattle.wkt_layer.specs.Paths.{path_of}

@@ -1,3 +1,4 @@
+-- Answers to the goals of `dot_item` in src/steps.rt.
 use Rattle.std.proofs.Common.{refl, subst}
 use Rattle.wkt_layer.specs.States.{state, bare_second}
 use Rattle.wkt_layer.specs.Passes.{Goes, token_for}

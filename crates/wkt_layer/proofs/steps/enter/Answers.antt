@@ -1,3 +1,4 @@
+-- Answers to the goals of `enter` in src/steps.rt.
 use Rattle.std.proofs.Common.{refl, [], ◌∷◌}
 use Rattle.wkt_layer.specs.States.{state, first, item, behind}
 use Rattle.wkt_layer.proofs.Going.{enter_empty, opened_empty, enter_listing, enter_group, opened_here}

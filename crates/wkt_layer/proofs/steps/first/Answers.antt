@@ -1,3 +1,4 @@
+-- Answers to the goals of `first` in src/steps.rt.
 use Rattle.std.proofs.Common.{refl}
 use Rattle.wkt_layer.specs.States.{state, second}
 use Rattle.wkt_layer.proofs.Going.{number_goes, opened_number}

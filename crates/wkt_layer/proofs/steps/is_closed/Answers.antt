@@ -1,3 +1,4 @@
+-- Answers to the goals of `is_closed` in src/steps.rt.
 use Rattle.std.proofs.Common.{◌≤◌, ◌-◌, length, get_or, ◌∷◌, sym, ap, ◌∙◌, arith, pos}
 use Rattle.std.specs.Prelude.{◌&&◌}
 use Rattle.std.proofs.lemmas.Bool.{le-leb}

@@ -1,3 +1,4 @@
+-- Answers to the goals of `item` in src/steps.rt.
 use Rattle.std.proofs.Common.{◌≡◌, Some, refl, subst, sym, ◌∙◌}
 use Rattle.wkt_layer.specs.States.{state, content, item_step}
 use Rattle.wkt_layer.specs.Passes.{Goes, token_for}

@@ -1,3 +1,4 @@
+-- Answers to the goals of `next` in src/steps.rt.
 use Rattle.std.proofs.Common.{◌++◌, subst}
 use Rattle.wkt_layer.specs.States.{Spot, second, bare_second, step_at}
 use Rattle.wkt_layer.specs.Passes.{Goes, Held, Shows, points_at, token_for}

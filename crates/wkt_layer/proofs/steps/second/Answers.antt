@@ -1,3 +1,4 @@
+-- Answers to the goals of `second` in src/steps.rt.
 use Rattle.std.proofs.Common.{refl, ◌∙◌, ◌++◌, ◌∷◌, []}
 use Rattle.wkt_layer.specs.Tokens.{Number}
 use Rattle.wkt_layer.specs.States.{state, whole, pair}

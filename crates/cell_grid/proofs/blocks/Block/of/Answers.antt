@@ -1,3 +1,4 @@
+-- Answers to the goals of `Block::of` in src/blocks.rt.
 use Rattle.std.proofs.Common.{◌≡◌, rules, arith}
 use Rattle.std.specs.Prelude.{FitsSigned}
 use Rattle.std.proofs.lemmas.Int.{to_z-of_z}

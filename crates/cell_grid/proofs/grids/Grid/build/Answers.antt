@@ -1,3 +1,4 @@
+-- Answers to the goals of `Grid::build` in src/grids.rt.
 use Rattle.std.proofs.Common.{◌≡◌, ◌<◌, ◌≤◌, ℕ, List, length, get_or, All, Contains, sym, ap, ◌∙◌, subst}
 use Rattle.plane_base.specs.declared.shapes.Rect.{Rect}
 use Rattle.cell_grid.specs.Boxes.{AreOrdered}

@@ -1,3 +1,4 @@
+-- Answers to the goals of `Grid::cell` in src/grids.rt.
 use Rattle.std.proofs.Common.{◌≡◌, ◌↔◌, ◌<◌, ℕ, List, length, get_or, Contains, refl, ap, sym, subst, ◌∙◌, rules}
 use Rattle.std.specs.Prelude.{FitsSigned}
 use Rattle.std.proofs.lemmas.Int.{to_z-of_z}

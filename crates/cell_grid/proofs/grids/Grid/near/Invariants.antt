@@ -1,3 +1,4 @@
+-- The invariant of the loop of `Grid::near` in src/grids.rt.
 use Rattle.std.proofs.Common.{[]}
 use Rattle.cell_grid.specs.Finding.{DoesFind, IsOnFirst}
 use Rattle.cell_grid.proofs.grids.Grid.near.Given as goal

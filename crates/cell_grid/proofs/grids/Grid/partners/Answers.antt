@@ -1,3 +1,4 @@
+-- Answers to the goals of `Grid::partners` in src/grids.rt.
 use Rattle.std.proofs.Common.{◌≡◌, ◌<◌, ◌≤◌, ℕ, List, [], length, All, Contains, ap, sym, subst, arith}
 use Rattle.std.specs.List.Sorted.{IsStrictlyIncreasing}
 use Rattle.plane_base.specs.declared.shapes.Rect.{Rect}

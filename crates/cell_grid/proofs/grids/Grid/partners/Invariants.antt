@@ -1,3 +1,4 @@
+-- The invariant of the loop of `Grid::partners` in src/grids.rt.
 use Rattle.std.proofs.Common.{[]}
 use Rattle.cell_grid.specs.Telling.{DoesTell, IsPartnerOnFirst}
 use Rattle.cell_grid.proofs.grids.Grid.partners.Given as goal

@@ -1,3 +1,4 @@
+-- Answers to the goals of `Grid::tell_on` in src/grids.rt.
 use Rattle.std.proofs.Common.{◌≡◌, ◌<◌, ℕ, List, length, get_or, ap, ◌∙◌, sym, subst, arith}
 use Rattle.std.proofs.lemmas.List.{get_or_default}
 use Rattle.plane_base.specs.declared.shapes.Rect.{Rect}

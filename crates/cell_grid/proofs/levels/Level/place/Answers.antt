@@ -1,3 +1,4 @@
+-- Answers to the goals of `Level::place` in src/levels.rt.
 use Rattle.std.proofs.Common.{refl}
 use Rattle.cell_grid.specs.Cells.{place_of}
 use Rattle.cell_grid.proofs.levels.Level.place.Goals as goal

@@ -1,3 +1,4 @@
+-- Answers to the goals of `Asked::index_with` in src/telling.rt.
 use Rattle.std.proofs.Common.{rules, refl}
 use Rattle.std.specs.Prelude.{FitsSigned}
 use Rattle.std.proofs.lemmas.Int.{to_z-of_z}

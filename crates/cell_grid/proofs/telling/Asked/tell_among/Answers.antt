@@ -1,3 +1,4 @@
+-- Answers to the goals of `Asked::tell_among` in src/telling.rt.
 use Rattle.std.proofs.Common.{get_or}
 use Rattle.std.proofs.lemmas.List.Elements.{Contains-get_or}
 use Rattle.cell_grid.proofs.Tells.{among_more}

@@ -1,3 +1,4 @@
+-- The invariant of the loop of `Asked::tell_among` in src/telling.rt.
 use Rattle.cell_grid.specs.Telling.{DoesTell, IsToldAmong}
 use Rattle.cell_grid.proofs.telling.Asked.tell_among.Given as goal
 

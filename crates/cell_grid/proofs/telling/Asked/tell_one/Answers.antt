@@ -1,3 +1,4 @@
+-- Answers to the goals of `Asked::tell_one` in src/telling.rt.
 use Rattle.std.proofs.Common.{◌≡◌, ℕ, List, refl, sym, subst}
 use Rattle.std.proofs.lemmas.Bool.{false≢true}
 use Rattle.cell_grid.specs.Telling.{IsTellable, DoesTell}

@@ -1,3 +1,4 @@
+-- Answers to the goals of `Pass::end_path` in src/pass.rt.
 use Rattle.std.proofs.Common.{◌≡◌, ◌++◌, ◌∷◌, [], refl, ap, ◌∙◌, arith, length, vec_len}
 use Rattle.sheet_base.specs.declared.edits.Edit.{Edit}
 use Rattle.gj_layer.proofs.Holding.{held_end}

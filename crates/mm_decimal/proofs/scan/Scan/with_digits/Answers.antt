@@ -1,3 +1,4 @@
+-- Answers to the goals of `Scan::with_digits` in src/scan.rt.
 use Rattle.std.proofs.Common.{◌≡◌, ◌+◌, ◌-◌, take, get_or, arith, subst, sym}
 use Rattle.std.proofs.lemmas.List.{take_more}
 use Rattle.mm_decimal.specs.Numerals.{IsDigit}

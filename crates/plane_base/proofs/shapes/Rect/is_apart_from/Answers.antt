@@ -1,3 +1,4 @@
+-- Answers to the goals of `Rect::is_apart_from` in src/boxes.rt.
 use Rattle.std.proofs.Common.{rules}
 use Rattle.std.specs.Prelude.{FitsSigned}
 use Rattle.std.proofs.lemmas.Int.{to_z-of_z}

@@ -1,3 +1,4 @@
+-- Answers to the goals of `MemPress::made_bytes` in src/mem_press.rt.
 use Rattle.std.proofs.Common.{rules, ◌≡◌, sym, ◌∙◌, ap, refl, subst, map, Some, None, List, ℕ}
 use Rattle.std.proofs.lemmas.Option.{slice_get_read}
 use Rattle.shelf_io.specs.Files.{bytes_of}

@@ -1,3 +1,4 @@
+-- Answers to the goals of `MemShelf::add` in src/mem_shelf.rt.
 use Rattle.std.proofs.Common.{rules, ◌≡◌, map, None, subst, sym}
 use Rattle.std.proofs.lemmas.List.{map-append}
 use Rattle.shelf_io.specs.Files.{bytes_of}

@@ -1,3 +1,4 @@
+-- Answers to the goals of `MemShelf::begin`, a call of the trait `Shelf`, in src/mem_shelf.rt.
 use Rattle.std.proofs.Common.{rules, ◌≡◌, sym, ◌∙◌, Some, Ok, subst, Bool, Option, ℕ, map, is_some}
 use Rattle.shelf_io.specs.Files.{number_of}
 use Rattle.shelf_io.specs.MemoryFile.{named_bytes}

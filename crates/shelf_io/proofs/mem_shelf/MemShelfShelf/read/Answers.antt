@@ -1,3 +1,4 @@
+-- Answers to the goals of `MemShelf::read`, a call of the trait `Shelf`, in src/mem_shelf.rt.
 use Rattle.std.proofs.Common.{◌≡◌, ◌↔◌, ◌+◌, ◌++◌, length, take, drop, map, Option, Some, ℕ, [], arith, refl, sym, ◌∙◌, subst, slice_get}
 use Rattle.std.proofs.lemmas.Option.{slice_get_read}
 use Rattle.std.proofs.lemmas.List.{length-take-le}

@@ -1,3 +1,4 @@
+-- Answers to the goals of `Store::append` in src/store.rt.
 use Rattle.std.proofs.Common.{rules, ◌≡◌, ◌+◌, ◌-◌, ◌≤◌, ◌<◌, ◌^◌, ◌++◌, length, arith, subst, vec_len, IsOk, ap, sym, suc, List, slice_set}
 use Rattle.std.proofs.lemmas.List.{length-append}
 use Rattle.shelf_io.specs.FileStore.{FileStore, store_with_bytes}

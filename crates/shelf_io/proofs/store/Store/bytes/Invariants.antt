@@ -1,3 +1,4 @@
+-- The invariant of the loop of `Store::bytes` in src/store.rt.
 use Rattle.std.proofs.Common.{◌≡◌, length, drop}
 use Rattle.shelf_io.specs.Files.{bytes_of}
 use Rattle.shelf_io.specs.FileStoreFields.{files_in, length_of}

@@ -1,3 +1,4 @@
+-- Answers to the goals of `Tin::tri` in src/tins.rt.
 use Rattle.std.proofs.Common.{rules, lit<, ◌≡◌, List, [], ◌∷◌, ap, arith}
 use Rattle.std.proofs.lemmas.Grind.{common_steps}
 use Rattle.plane_base.specs.Plane.{Point, whole}

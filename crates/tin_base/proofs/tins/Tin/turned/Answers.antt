@@ -1,3 +1,4 @@
+-- Answers to the goals of `Tin::turned` in src/tins.rt.
 use Rattle.std.proofs.Common.{List, ap, subst, sym, length, ◌∙◌, ◌≡◌}
 use Rattle.std.proofs.lemmas.List.{with_items_is}
 use Rattle.tin_base.specs.declared.corners.Corner.{Corner}

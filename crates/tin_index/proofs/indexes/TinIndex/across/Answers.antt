@@ -1,3 +1,4 @@
+-- Answers to the goals of `TinIndex::across` in src/indexes.rt.
 use Rattle.std.proofs.Common.{ℕ, ap, ◌∙◌, subst, arith}
 use Rattle.tin_base.specs.Limits.{IsWithinLimits}
 use Rattle.tin_base.specs.Soundness.{IsSound}

@@ -1,3 +1,4 @@
+-- The invariant of the loop of `TinIndex::across` in src/indexes.rt.
 use Rattle.std.proofs.Common.{◌≢◌, ℕ, ◌<◌, get_or}
 use Rattle.tin_index.specs.Sides.{HasCorner}
 use Rattle.tin_index.proofs.indexes.TinIndex.across.Given as goal

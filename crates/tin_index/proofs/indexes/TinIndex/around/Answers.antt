@@ -1,3 +1,4 @@
+-- Answers to the goals of `TinIndex::around` in src/indexes.rt.
 use Rattle.std.proofs.Common.{◌<◌, length, subst, sym, ◌∙◌}
 use Rattle.tin_base.specs.Triangulation.{Triangulation}
 use Rattle.tin_index.specs.Sides.{IsStar}

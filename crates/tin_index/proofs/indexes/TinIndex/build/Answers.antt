@@ -1,3 +1,4 @@
+-- Answers to the goals of `TinIndex::build` in src/indexes.rt.
 use Rattle.std.proofs.Common.{List, subst, sym, length}
 use Rattle.plane_base.specs.declared.shapes.Rect.{Rect}
 use Rattle.cell_grid.specs.Boxes.{AreOrdered, AreWithinSpan}

@@ -1,3 +1,4 @@
+-- Answers to the goals of `TinIndex::locate` in src/indexes.rt.
 use Rattle.std.proofs.Common.{ℕ, ◌<◌, IfSome, subst}
 use Rattle.plane_base.specs.Plane.{whole}
 use Rattle.tin_base.specs.declared.frames.Frame.TheVariants.{Source}

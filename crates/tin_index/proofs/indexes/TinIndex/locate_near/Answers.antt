@@ -1,3 +1,4 @@
+-- Answers to the goals of `TinIndex::locate_near` in src/indexes.rt.
 use Rattle.std.proofs.Common.{refl, subst, arith}
 use Rattle.tin_base.specs.Triangulation.{Triangulation}
 use Rattle.tin_index.specs.Locating.{IsOnlyIn}

@@ -1,3 +1,4 @@
+-- Answers to the goals of `Wkt::render`, a call of the trait `Layer`, in src/layer.rt.
 use Rattle.std.proofs.Common.{◌≡◌, List, length, ap, sym, ◌∙◌, subst}
 use Rattle.sheet_base.specs.declared.edits.Edit.{Edit}
 use Rattle.sheet_base.specs.Splices.{AreInOrder, spliced, DoKeep}

@@ -1,3 +1,4 @@
+-- Answers to the goals of `Pass::add_point` in src/pass.rt.
 use Rattle.std.proofs.Common.{◌≡◌, refl, ap, ◌∙◌, ◌+◌, ◌++◌, ◌∷◌, [], ◌==◌, arith, length, vec_len}
 use Rattle.std.specs.Prelude.{if◌then◌else◌, Ok}
 use Rattle.wkt_layer.specs.Numbers.{lost_in}
