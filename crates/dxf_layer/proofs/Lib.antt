@@ -1,3 +1,4 @@
+-- The files of lemmas of dxf_layer.
 pub mod Rows
 pub mod Lists
 pub mod Vertices

@@ -1,3 +1,4 @@
+-- The files of lemmas of tinmove.
 pub mod HandedOn
 pub mod Faults
 pub mod OnePieces

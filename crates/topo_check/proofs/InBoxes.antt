@@ -3,7 +3,7 @@ use Rattle.std.proofs.Common.{◌≡◌, ℕ, ◌<◌, ℤ, pos, ◌≤ℤ◌, �
 use Rattle.std.specs.Prelude.{All}
 use Rattle.std.specs.List.{AllByRecursion}
 use Rattle.std.proofs.lemmas.Int.{ints}
-use Rattle.plane_base.specs.Boxes.{IsIn, AreApart, HasBox, box_of_segment, box_of_triangle, common_of}
+use Rattle.plane_base.specs.Boxes.{IsIn, IsOrdered, AreApart, HasBox, box_of_segment, box_of_triangle, common_of}
 use Rattle.plane_base.specs.Plane.{Point, whole, corners}
 use Rattle.plane_base.specs.declared.shapes.Pt.{Pt}
 use Rattle.plane_base.specs.declared.shapes.Rect.{Rect}
@@ -21,16 +21,16 @@ use Rattle.meet_rel.proofs.Clipping.{range_of}
 use Rattle.meet_rel.proofs.Ending.{piece_ends}
 use Rattle.meet_rel.proofs.Scale.{mix_first}
 use Rattle.topo_check.specs.Changes.{HadRelation, HasRelation}
-use Rattle.topo_check.specs.Boxes.{IsAround, EachCorner, IsAmongCorners, IsExactBox, IsRoundedBox}
+use Rattle.topo_check.specs.Boxes.{IsAround, EachCorner, IsAmongCorners, IsExactBox, rounded_box_of}
 
 -- ---- pieces whose boxes are apart are apart
 pub far_had : (tin : Triangulation) (p q : Piece) (r s : Rect) → IsExactBox tin p r → IsExactBox tin q s → AreApart r s → HadRelation tin Apart p q
 far_had tin p q r s i j apart part other h k = λ point common.
     none_in_both r s apart point common.positive (i.encloses part h point common.positive common.first) (j.encloses other k point common.positive common.second)
 
-pub far_has : (p q : Piece) (r s : Rect) → IsRoundedBox p r → IsRoundedBox q s → AreApart r s → HasRelation Apart p q
-far_has p q r s i j apart = λ point common.
-    none_in_both r s apart point common.positive (i.encloses point common.positive common.first) (j.encloses point common.positive common.second)
+pub far_has : (p q : Piece) → AreApart (rounded_box_of p) (rounded_box_of q) → HasRelation Apart p q
+far_has p q apart = λ point common.
+    none_in_both (rounded_box_of p) (rounded_box_of q) apart point common.positive (between_in p.ia p.ib point common.positive common.first) (between_in q.ia q.ib point common.positive common.second)
 
 -- ---- the box of an exact piece
 abbrev IsCorner : Triangulation → Pt → Type 0
@@ -112,10 +112,13 @@ exact_boxed tin piece t inside limits is =
         common_has (box_of_segment piece.a piece.b) (box_of_triangle t) r (between_in piece.a piece.b r hr it.between) (inside_in t r hr it.inside)
 
 -- ---- the box of a rounded segment
-pub rounded_boxed : (piece : Piece) → IsRoundedBox piece (box_of_segment piece.ia piece.ib)
+pub record IsRoundImages (p : Piece) (box : Rect) : Type 0 where
+  pub ordered : IsOrdered box
+  pub around : IsAround (p.ia ∷ p.ib ∷ []) box
+
+pub rounded_boxed : (piece : Piece) → IsRoundImages piece (rounded_box_of piece)
 rounded_boxed piece = record {
   ordered = segment_ordered piece.ia piece.ib;
-  encloses = λ r hr between. between_in piece.ia piece.ib r hr between;
   around = record {
     left = λ m h. lesser_greatest m piece.ia.x piece.ib.x h.0 h.1.0;
     bottom = λ m h. lesser_greatest m piece.ia.y piece.ib.y h.0 h.1.0;

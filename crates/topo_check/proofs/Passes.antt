@@ -14,42 +14,42 @@ use Rattle.tin_base.specs.declared.frames.Frame.TheVariants.{Source, Target}
 use Rattle.tin_base.specs.declared.pieces.Piece.{Piece}
 use Rattle.tin_base.specs.declared.relations.Rel.TheVariants.{Apart}
 use Rattle.tin_base.specs.Triangulation.{Triangulation}
-use Rattle.topo_check.specs.Boxes.{AreBoxesOf, IsExactBox, IsRoundedBox}
+use Rattle.topo_check.specs.Boxes.{AreBoxesOf, IsExactBox, IsRoundedBox, rounded_box_of}
 use Rattle.topo_check.specs.Changes.{piece_at}
 use Rattle.topo_check.specs.declared.comparing.ChangedPair.{ChangedPair}
-use Rattle.topo_check.specs.Pairs.{IsChanged, IsUnchanged, HasPair, AreCollected, DoesCollect, AreComparedIn, IsPairOf, IsPairWith, DoShareIn}
+use Rattle.topo_check.specs.Pairs.{IsChanged, IsUnchanged, HasPair, AreCollected, DoesCollect, IsComparedIn, IsPairOf, IsPairWith, DoShareIn}
 use Rattle.topo_check.proofs.Collects.{collect_more, collect_as, collect_none, collect_one}
 use Rattle.plane_base.proofs.BoxLemmas.{apart_or_not}
-use Rattle.topo_check.proofs.InBoxes.{far_had, far_has}
+use Rattle.topo_check.proofs.InBoxes.{far_had, far_has, rounded_boxed}
 
 no_truth : true ≡ false → ⊥
 no_truth e = cc
 
 -- ---- one pair
-pub pair_collected : (tin : Triangulation) (pieces : List Piece) (most : ℕ) (frame : Frame) (boxes : List Rect) (first second : ℕ) (xs ys : List ChangedPair) (c : ChangedPair) → (c.first ≡ first) × (c.second ≡ second) → IsChanged tin pieces c
-    → AreComparedIn frame boxes first second → ys ≡ xs ++ c ∷ [] → DoesCollect tin pieces most (IsPairOf frame boxes first second) xs ys
-pair_collected tin pieces most frame boxes first second xs ys c numbers changed compared items =
-    subst (λ (zs : List ChangedPair). DoesCollect tin pieces most (IsPairOf frame boxes first second) xs zs) (sym items)
-    (collect_one tin pieces most (IsPairOf frame boxes first second) xs c changed
-    (subst (λ (n : ℕ). AreComparedIn frame boxes n c.second) (sym numbers.0) (subst (λ (n : ℕ). AreComparedIn frame boxes first n) (sym numbers.1) compared), numbers.0, numbers.1)
+pub pair_collected : (tin : Triangulation) (pieces : List Piece) (most : ℕ) (frame : Frame) (first second : ℕ) (xs ys : List ChangedPair) (c : ChangedPair) → (c.first ≡ first) × (c.second ≡ second) → IsChanged tin pieces c
+    → IsComparedIn frame pieces first second → ys ≡ xs ++ c ∷ [] → DoesCollect tin pieces most (IsPairOf frame pieces first second) xs ys
+pair_collected tin pieces most frame first second xs ys c numbers changed compared items =
+    subst (λ (zs : List ChangedPair). DoesCollect tin pieces most (IsPairOf frame pieces first second) xs zs) (sym items)
+    (collect_one tin pieces most (IsPairOf frame pieces first second) xs c changed
+    (subst (λ (n : ℕ). IsComparedIn frame pieces n c.second) (sym numbers.0) (subst (λ (n : ℕ). IsComparedIn frame pieces first n) (sym numbers.1) compared), numbers.0, numbers.1)
     (λ i j m. (numbers.0 ∙ sym m.1, numbers.1 ∙ sym m.2)))
 
-pub pair_unchanged : (tin : Triangulation) (pieces : List Piece) (most : ℕ) (frame : Frame) (boxes : List Rect) (first second : ℕ) (xs : List ChangedPair) → (AreComparedIn frame boxes first second → IsUnchanged tin pieces first second)
-    → DoesCollect tin pieces most (IsPairOf frame boxes first second) xs xs
-pair_unchanged tin pieces most frame boxes first second xs same =
-    collect_none tin pieces most (IsPairOf frame boxes first second) xs
+pub pair_unchanged : (tin : Triangulation) (pieces : List Piece) (most : ℕ) (frame : Frame) (first second : ℕ) (xs : List ChangedPair) → (IsComparedIn frame pieces first second → IsUnchanged tin pieces first second)
+    → DoesCollect tin pieces most (IsPairOf frame pieces first second) xs xs
+pair_unchanged tin pieces most frame first second xs same =
+    collect_none tin pieces most (IsPairOf frame pieces first second) xs
     (λ i j less within m.
     subst (λ (n : ℕ). IsUnchanged tin pieces n j) (sym m.1)
-    (subst (λ (n : ℕ). IsUnchanged tin pieces first n) (sym m.2) (same (subst (λ (n : ℕ). AreComparedIn frame boxes n second) m.1 (subst (λ (n : ℕ). AreComparedIn frame boxes i n) m.2 m.0)))))
+    (subst (λ (n : ℕ). IsUnchanged tin pieces first n) (sym m.2) (same (subst (λ (n : ℕ). IsComparedIn frame pieces n second) m.1 (subst (λ (n : ℕ). IsComparedIn frame pieces i n) m.2 m.0)))))
 
 -- ---- the pairs of one piece
 -- one of the first numbers of a list
 abbrev pub IsOneOf : List ℕ → ℕ → ℕ → Type 0
 IsOneOf others count other = (k : ℕ) × (k < count) × (get_or others k 0 ≡ other)
 
-pub with_none : (tin : Triangulation) (pieces : List Piece) (most : ℕ) (frame : Frame) (boxes : List Rect) (number : ℕ) (others : List ℕ) (xs : List ChangedPair) → DoesCollect tin pieces most (IsPairWith frame boxes number (IsOneOf others 0)) xs xs
-with_none tin pieces most frame boxes number others xs =
-    collect_none tin pieces most (IsPairWith frame boxes number (IsOneOf others 0)) xs
+pub with_none : (tin : Triangulation) (pieces : List Piece) (most : ℕ) (frame : Frame) (number : ℕ) (others : List ℕ) (xs : List ChangedPair) → DoesCollect tin pieces most (IsPairWith frame pieces number (IsOneOf others 0)) xs xs
+with_none tin pieces most frame number others xs =
+    collect_none tin pieces most (IsPairWith frame pieces number (IsOneOf others 0)) xs
     (λ i j less within m. absurd (⊎_elim (λ h. no_place h.1.1) (λ h. no_place h.1.1) m.1))
   where
     no_place : {k : ℕ} → k < 0 → ⊥
@@ -60,11 +60,11 @@ one_place : (others : List ℕ) (k place : ℕ) → IsDistinct nat_eq others →
 one_place others k place once less within e =
     no_truth (sym (subst (λ (n : ℕ). nat_eq (get_or others k 0) n ≡ true) e (nat_eq_equiv.refl (get_or others k 0))) ∙ apart_from_distinct nat_eq others k place 0 once less within)
 
-pub with_more : (tin : Triangulation) (pieces : List Piece) (most : ℕ) (frame : Frame) (boxes : List Rect) (number : ℕ) (others : List ℕ) (place other first second : ℕ) (xs ys zs : List ChangedPair) → IsDistinct nat_eq others → place < length others
-    → other ≡ get_or others place 0 → first ≡ min number other → second ≡ max number other → DoesCollect tin pieces most (IsPairWith frame boxes number (IsOneOf others place)) xs ys
-    → DoesCollect tin pieces most (IsPairOf frame boxes first second) ys zs → DoesCollect tin pieces most (IsPairWith frame boxes number (IsOneOf others (place + 1))) xs zs
-with_more tin pieces most frame boxes number others place other first second xs ys zs once within at lesser greater before here =
-    collect_more tin pieces most (IsPairWith frame boxes number (IsOneOf others place)) (IsPairOf frame boxes first second) (IsPairWith frame boxes number (IsOneOf others (place + 1))) xs ys zs before here
+pub with_more : (tin : Triangulation) (pieces : List Piece) (most : ℕ) (frame : Frame) (number : ℕ) (others : List ℕ) (place other first second : ℕ) (xs ys zs : List ChangedPair) → IsDistinct nat_eq others → place < length others
+    → other ≡ get_or others place 0 → first ≡ min number other → second ≡ max number other → DoesCollect tin pieces most (IsPairWith frame pieces number (IsOneOf others place)) xs ys
+    → DoesCollect tin pieces most (IsPairOf frame pieces first second) ys zs → DoesCollect tin pieces most (IsPairWith frame pieces number (IsOneOf others (place + 1))) xs zs
+with_more tin pieces most frame number others place other first second xs ys zs once within at lesser greater before here =
+    collect_more tin pieces most (IsPairWith frame pieces number (IsOneOf others place)) (IsPairOf frame pieces first second) (IsPairWith frame pieces number (IsOneOf others (place + 1))) xs ys zs before here
     (λ i j less m.
     ⊎_elim
     (λ h. ⊎_elim (λ earlier. inl (m.0, inl (h.0, (h.1.0, earlier, h.1.2)))) (λ late. let is = from_first i j h.1.0 less h.0 (last h.1.0 h.1.1 late) h.1.2 in inr (m.0, is.0, is.1)) (cases_lt h.1.0 place))
@@ -113,10 +113,10 @@ with_more tin pieces most frame boxes number others place other first second xs 
     same_first : (i j : ℕ) → i < j → j ≡ number → i ≡ first → j ≡ second → i ≡ other
     same_first i j less e f g = omega (arith, less, e, f, g, lesser, greater)
 
-pub with_all : (tin : Triangulation) (pieces : List Piece) (most : ℕ) (frame : Frame) (boxes : List Rect) (number : ℕ) (others : List ℕ) (place : ℕ) (xs ys : List ChangedPair) → place ≤ length others → (length ys ≤ most → length others ≤ place)
-    → DoesCollect tin pieces most (IsPairWith frame boxes number (IsOneOf others place)) xs ys → DoesCollect tin pieces most (IsPairWith frame boxes number (Contains others)) xs ys
-with_all tin pieces most frame boxes number others place xs ys inside past collects =
-    collect_as tin pieces most (IsPairWith frame boxes number (IsOneOf others place)) (IsPairWith frame boxes number (Contains others)) xs ys collects
+pub with_all : (tin : Triangulation) (pieces : List Piece) (most : ℕ) (frame : Frame) (number : ℕ) (others : List ℕ) (place : ℕ) (xs ys : List ChangedPair) → place ≤ length others → (length ys ≤ most → length others ≤ place)
+    → DoesCollect tin pieces most (IsPairWith frame pieces number (IsOneOf others place)) xs ys → DoesCollect tin pieces most (IsPairWith frame pieces number (Contains others)) xs ys
+with_all tin pieces most frame number others place xs ys inside past collects =
+    collect_as tin pieces most (IsPairWith frame pieces number (IsOneOf others place)) (IsPairWith frame pieces number (Contains others)) xs ys collects
     (λ i j less m. (m.0, ⊎_elim (λ h. inl (h.0, listed j h.1.0 h.1.1 h.1.2)) (λ h. inr (h.0, listed i h.1.0 h.1.1 h.1.2)) m.1))
     (λ few i j less within m. (m.0, ⊎_elim (λ h. inl (h.0, one_of (past few) j h.1.0 h.1.1 h.1.2)) (λ h. inr (h.0, one_of (past few) i h.1.0 h.1.1 h.1.2)) m.1))
   where
@@ -128,12 +128,12 @@ with_all tin pieces most frame boxes number others place xs ys inside past colle
 
 -- ---- the pairs of the boxes of a grid
 -- those that are told for the boxes before one
-abbrev pub IsPairBefore : Frame → List Rect → List Rect → ℕ → ℕ → ℕ → Type 0
-IsPairBefore frame boxes grid number i j = AreComparedIn frame boxes i j × (((i < number) × IsPartner grid i j) ⊎ ((j < number) × IsPartner grid j i))
+abbrev pub IsPairBefore : Frame → List Piece → List Rect → ℕ → ℕ → ℕ → Type 0
+IsPairBefore frame pieces grid number i j = IsComparedIn frame pieces i j × (((i < number) × IsPartner grid i j) ⊎ ((j < number) × IsPartner grid j i))
 
-pub before_none : (tin : Triangulation) (pieces : List Piece) (most : ℕ) (frame : Frame) (boxes grid : List Rect) (xs : List ChangedPair) → DoesCollect tin pieces most (IsPairBefore frame boxes grid 0) xs xs
-before_none tin pieces most frame boxes grid xs =
-    collect_none tin pieces most (IsPairBefore frame boxes grid 0) xs
+pub before_none : (tin : Triangulation) (pieces : List Piece) (most : ℕ) (frame : Frame) (grid : List Rect) (xs : List ChangedPair) → DoesCollect tin pieces most (IsPairBefore frame pieces grid 0) xs xs
+before_none tin pieces most frame grid xs =
+    collect_none tin pieces most (IsPairBefore frame pieces grid 0) xs
     (λ i j less within m. absurd (⊎_elim (λ h. none i h.0) (λ h. none j h.0) m.1))
   where
     none : (k : ℕ) → k < 0 → ⊥
@@ -148,11 +148,11 @@ not_own grid a b e p = own (subst (λ (n : ℕ). IsPartner grid b n) e p)
     own : IsPartner grid b b → ⊥
     own q = ⊎_elim (λ less. omega (arith, less)) (λ behind. omega (arith, behind.1)) q.1
 
-pub before_more : (tin : Triangulation) (pieces : List Piece) (most : ℕ) (frame : Frame) (boxes grid : List Rect) (number : ℕ) (partners : List ℕ) (xs ys zs : List ChangedPair) → EachPairIsToldOnce → ArePartners grid number partners
-    → DoesCollect tin pieces most (IsPairBefore frame boxes grid number) xs ys → DoesCollect tin pieces most (IsPairWith frame boxes number (Contains partners)) ys zs
-    → DoesCollect tin pieces most (IsPairBefore frame boxes grid (number + 1)) xs zs
-before_more tin pieces most frame boxes grid number partners xs ys zs law are before here =
-    collect_more tin pieces most (IsPairBefore frame boxes grid number) (IsPairWith frame boxes number (Contains partners)) (IsPairBefore frame boxes grid (number + 1)) xs ys zs before here
+pub before_more : (tin : Triangulation) (pieces : List Piece) (most : ℕ) (frame : Frame) (grid : List Rect) (number : ℕ) (partners : List ℕ) (xs ys zs : List ChangedPair) → EachPairIsToldOnce → ArePartners grid number partners
+    → DoesCollect tin pieces most (IsPairBefore frame pieces grid number) xs ys → DoesCollect tin pieces most (IsPairWith frame pieces number (Contains partners)) ys zs
+    → DoesCollect tin pieces most (IsPairBefore frame pieces grid (number + 1)) xs zs
+before_more tin pieces most frame grid number partners xs ys zs law are before here =
+    collect_more tin pieces most (IsPairBefore frame pieces grid number) (IsPairWith frame pieces number (Contains partners)) (IsPairBefore frame pieces grid (number + 1)) xs ys zs before here
     (λ i j less m.
     ⊎_elim
     (λ h. ⊎_elim (λ same. inr (m.0, inl (same, (are.exact j).1 (subst (λ (n : ℕ). IsPartner grid n j) same h.1)))) (λ other. inl (m.0, inl (earlier i h.0 other, h.1))) (cases_eq i number))
@@ -182,10 +182,10 @@ before_more tin pieces most frame boxes grid number partners xs ys zs law are be
     unequal : (i j : ℕ) → i < j → i ≡ j → ⊥
     unequal i j less e = omega (arith, less, e)
 
-pub before_all : (tin : Triangulation) (pieces : List Piece) (most : ℕ) (frame : Frame) (boxes grid : List Rect) (number : ℕ) (xs ys : List ChangedPair) → EachPairIsToldOnce → length grid ≡ length pieces → (length ys ≤ most → length pieces ≤ number)
-    → DoesCollect tin pieces most (IsPairBefore frame boxes grid number) xs ys → DoesCollect tin pieces most (DoShareIn frame boxes grid) xs ys
-before_all tin pieces most frame boxes grid number xs ys law same past collects =
-    collect_as tin pieces most (IsPairBefore frame boxes grid number) (DoShareIn frame boxes grid) xs ys collects
+pub before_all : (tin : Triangulation) (pieces : List Piece) (most : ℕ) (frame : Frame) (grid : List Rect) (number : ℕ) (xs ys : List ChangedPair) → EachPairIsToldOnce → length grid ≡ length pieces → (length ys ≤ most → length pieces ≤ number)
+    → DoesCollect tin pieces most (IsPairBefore frame pieces grid number) xs ys → DoesCollect tin pieces most (DoShareIn frame pieces grid) xs ys
+before_all tin pieces most frame grid number xs ys law same past collects =
+    collect_as tin pieces most (IsPairBefore frame pieces grid number) (DoShareIn frame pieces grid) xs ys collects
     (λ i j less m. (m.0, ⊎_elim (λ h. let s = h.1.0.1 in (s.0, s.2, s.1)) (λ h. h.1.0.1) m.1))
     (λ few i j less within m. (
       m.0,
@@ -206,42 +206,53 @@ before_all tin pieces most frame boxes grid number xs ys law same past collects 
     unequal i j less e = omega (arith, less, e)
 
 -- ---- both grids
-pub both_collected : (tin : Triangulation) (pieces : List Piece) (most : ℕ) (boxes grid : List Rect) (ys zs : List ChangedPair) → ShareAPointOrAreApart → AreBoxesOf (IsExactBox tin) pieces boxes → AreBoxesOf IsRoundedBox pieces grid
-    → DoesCollect tin pieces most (DoShareIn Source boxes boxes) [] ys → DoesCollect tin pieces most (DoShareIn Target boxes grid) ys zs → AreCollected tin pieces most zs
-both_collected tin pieces most boxes grid ys zs law exact rounded first second = record {
+pub both_collected : (tin : Triangulation) (pieces : List Piece) (most : ℕ) (near boxes : List Rect) (ys zs : List ChangedPair) → ShareAPointOrAreApart → AreBoxesOf IsRoundedBox pieces near → AreBoxesOf (IsExactBox tin) pieces boxes
+    → DoesCollect tin pieces most (DoShareIn Target pieces near) [] ys → DoesCollect tin pieces most (DoShareIn Source pieces boxes) ys zs → AreCollected tin pieces most zs
+both_collected tin pieces most near boxes ys zs law rounded exact first second = record {
   each = λ c h. ⊎_elim (λ none. absurd (nowhere c none)) (λ is. is.0) (both.only c h);
   different = both.once (λ i j d less within. absurd (omega (arith, within))) (λ i j less within m has. nowhere has.0 has.1);
-  all = λ few i j less within. of_boxes few i j less within (apart_or_not (box_at boxes i) (box_at boxes j)) (apart_or_not (box_at grid i) (box_at grid j));
+  all = λ few i j less within. of_boxes few i j less within (apart_or_not (image i) (image j)) (apart_or_not (box_at boxes i) (box_at boxes j));
 }
   where
+    image : ℕ → Rect
+    image i = rounded_box_of (piece_at pieces i)
+
     earlier : (i j : ℕ) → i < j → j < length pieces → i < length pieces
     earlier i j less within = omega (arith, less, within)
 
     exact_law : (i j : ℕ) → i < j → j < length pieces → (AreApart (box_at boxes i) (box_at boxes j) → ⊥) → ShareAPoint (box_at boxes i) (box_at boxes j)
     exact_law i j less within not = (law (box_at boxes i) (box_at boxes j) (exact.each i (earlier i j less within)).ordered (exact.each j within).ordered).shared.1 not
 
-    not_shared : (i j : ℕ) → i < j → j < length pieces → ShareAPoint (box_at boxes i) (box_at boxes j) → AreApart (box_at boxes i) (box_at boxes j) → ⊥
-    not_shared i j less within share apart = (law (box_at boxes i) (box_at boxes j) (exact.each i (earlier i j less within)).ordered (exact.each j within).ordered).shared.0 share apart
+    images_law : (i j : ℕ) → (AreApart (image i) (image j) → ⊥) → ShareAPoint (image i) (image j)
+    images_law i j not = (law (image i) (image j) (rounded_boxed (piece_at pieces i)).ordered (rounded_boxed (piece_at pieces j)).ordered).shared.1 not
 
-    rounded_law : (i j : ℕ) → i < j → j < length pieces → (AreApart (box_at grid i) (box_at grid j) → ⊥) → ShareAPoint (box_at grid i) (box_at grid j)
-    rounded_law i j less within not = (law (box_at grid i) (box_at grid j) (rounded.each i (earlier i j less within)).ordered (rounded.each j within).ordered).shared.1 not
+    not_shared : (i j : ℕ) → ShareAPoint (image i) (image j) → AreApart (image i) (image j) → ⊥
+    not_shared i j share apart = (law (image i) (image j) (rounded_boxed (piece_at pieces i)).ordered (rounded_boxed (piece_at pieces j)).ordered).shared.0 share apart
+
+    to_images : (i j : ℕ) → i < j → j < length pieces → ShareAPoint (box_at near i) (box_at near j) → ShareAPoint (image i) (image j)
+    to_images i j less within share =
+        subst (λ (r : Rect). ShareAPoint r (image j)) (rounded.each i (earlier i j less within)) (subst (λ (r : Rect). ShareAPoint (box_at near i) r) (rounded.each j within) share)
+
+    from_images : (i j : ℕ) → i < j → j < length pieces → ShareAPoint (image i) (image j) → ShareAPoint (box_at near i) (box_at near j)
+    from_images i j less within share =
+        subst (λ (r : Rect). ShareAPoint r (box_at near j)) (sym (rounded.each i (earlier i j less within))) (subst (λ (r : Rect). ShareAPoint (image i) r) (sym (rounded.each j within)) share)
 
     nowhere : (c : ChangedPair) → Contains [] c → ⊥
     nowhere c h = omega (arith, h.1)
 
-    both : DoesCollect tin pieces most (λ i j. DoShareIn Source boxes boxes i j ⊎ DoShareIn Target boxes grid i j) [] zs
+    both : DoesCollect tin pieces most (λ i j. DoShareIn Target pieces near i j ⊎ DoShareIn Source pieces boxes i j) [] zs
     both =
-        collect_more tin pieces most (DoShareIn Source boxes boxes) (DoShareIn Target boxes grid) (λ i j. DoShareIn Source boxes boxes i j ⊎ DoShareIn Target boxes grid i j) [] ys zs first second
-        (λ i j less m. m) (λ i j less m. inl m) (λ i j less m. inr m) (λ i j less within m n. not_shared i j less within m.1 n.0)
+        collect_more tin pieces most (DoShareIn Target pieces near) (DoShareIn Source pieces boxes) (λ i j. DoShareIn Target pieces near i j ⊎ DoShareIn Source pieces boxes i j) [] ys zs first second
+        (λ i j less m. m) (λ i j less m. inl m) (λ i j less m. inr m) (λ i j less within m n. not_shared i j (to_images i j less within m.1) n.0)
 
-    of_boxes : length zs ≤ most → (i j : ℕ) → i < j → j < length pieces → AreApart (box_at boxes i) (box_at boxes j) ⊎ (AreApart (box_at boxes i) (box_at boxes j) → ⊥)
-        → AreApart (box_at grid i) (box_at grid j) ⊎ (AreApart (box_at grid i) (box_at grid j) → ⊥) → HasPair zs i j ⊎ IsUnchanged tin pieces i j
-    of_boxes few i j less within (inr near) _ = both.all few i j less within (inl (tt, exact_law i j less within near))
-    of_boxes few i j less within (inl apart) (inr near) = both.all few i j less within (inr (apart, rounded_law i j less within near))
+    of_boxes : length zs ≤ most → (i j : ℕ) → i < j → j < length pieces → AreApart (image i) (image j) ⊎ (AreApart (image i) (image j) → ⊥)
+        → AreApart (box_at boxes i) (box_at boxes j) ⊎ (AreApart (box_at boxes i) (box_at boxes j) → ⊥) → HasPair zs i j ⊎ IsUnchanged tin pieces i j
+    of_boxes few i j less within (inr by) _ = both.all few i j less within (inl (tt, from_images i j less within (images_law i j by)))
+    of_boxes few i j less within (inl apart) (inr by) = both.all few i j less within (inr (apart, exact_law i j less within by))
     of_boxes few i j less within (inl apart) (inl far) = inr (
       Apart,
-      far_had tin (piece_at pieces i) (piece_at pieces j) (box_at boxes i) (box_at boxes j) (exact.each i (earlier i j less within)) (exact.each j within) apart,
-      far_has (piece_at pieces i) (piece_at pieces j) (box_at grid i) (box_at grid j) (rounded.each i (earlier i j less within)) (rounded.each j within) far,
+      far_had tin (piece_at pieces i) (piece_at pieces j) (box_at boxes i) (box_at boxes j) (exact.each i (earlier i j less within)) (exact.each j within) far,
+      far_has (piece_at pieces i) (piece_at pieces j) apart,
     )
 
 -- more than `most` pairs of the first grid

@@ -14,6 +14,7 @@ use Rattle.tin_base.specs.Limits.{IsWithinLimits}
 use Rattle.meet_rel.specs.Near.{AreNear}
 use Rattle.topo_check.specs.Changes.{piece_at, no_piece}
 use Rattle.topo_check.proofs.Cases.{below_or_not}
+use Rattle.topo_check.proofs.InBoxes.{rounded_boxed}
 use Rattle.topo_check.specs.Boxes.{IsAround, IsAmongCorners, IsExactBox, IsRoundedBox, AreBoxesOf}
 
 -- ---- one number
@@ -59,7 +60,7 @@ pub exact_ordered : (tin : Triangulation) (pieces : List Piece) (boxes : List Re
 exact_ordered tin pieces boxes h i d within = box_of boxes i d IsOrdered within (h.each i (omega (arith, h.same))).ordered
 
 pub rounded_ordered : (pieces : List Piece) (boxes : List Rect) → AreBoxesOf IsRoundedBox pieces boxes → AreOrdered boxes
-rounded_ordered pieces boxes h i d within = box_of boxes i d IsOrdered within (h.each i (omega (arith, h.same))).ordered
+rounded_ordered pieces boxes h i d within = box_of boxes i d IsOrdered within (subst (λ (r : Rect). IsOrdered r) (sym (h.each i (omega (arith, h.same)))) (rounded_boxed (piece_at pieces i)).ordered)
 
 pub exact_spans : (tin : Triangulation) (pieces : List Piece) (boxes : List Rect) → IsWithinLimits tin → AreBoxesOf (IsExactBox tin) pieces boxes → AreWithinSpan boxes
 exact_spans tin pieces boxes limits h i d hi j e hj =
@@ -73,7 +74,10 @@ rounded_spans pieces boxes near h i d hi j e hj =
     let wi : i < length pieces = omega (arith, h.same) in let wj : j < length pieces = omega (arith, h.same) in
     box_of boxes i d (λ r. IsWithinSpan r (get_or boxes j e)) hi
     (box_of boxes j e (λ r. IsWithinSpan (box_at boxes i) r) hj
-    (around_span p.ia p.ib q.ia q.ib (box_at boxes i) (box_at boxes j) (near i no_piece wi j no_piece wj) (h.each i wi).around (h.each j wj).around))
+    (around_span p.ia p.ib q.ia q.ib (box_at boxes i) (box_at boxes j) (near i no_piece wi j no_piece wj) (around i wi) (around j wj)))
+  where
+    around : (k : ℕ) → k < length pieces → IsAround ((piece_at pieces k).ia ∷ (piece_at pieces k).ib ∷ []) (box_at boxes k)
+    around k hk = subst (λ (r : Rect). IsAround ((piece_at pieces k).ia ∷ (piece_at pieces k).ib ∷ []) r) (sym (h.each k hk)) (rounded_boxed (piece_at pieces k)).around
 
 -- ---- while boxes are put behind each other
 pub record AreBoxesSoFar (IsBoxOf : Piece → Rect → Type 0) (pieces : List Piece) (boxes : List Rect) (i : ℕ) : Type 0 where

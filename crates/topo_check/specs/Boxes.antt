@@ -1,11 +1,11 @@
 -- Boxes round pieces. Only private functions speak of them.
-use Rattle.std.specs.Prelude.{◌≡◌, ℕ, ◌<◌, ℤ, pos, ◌+ℤ◌, ◌-ℤ◌, ◌*ℤ◌, ◌≤ℤ◌, ◌<ℤ◌, List, [], ◌∷◌, length}
+use Rattle.std.specs.Prelude.{◌≡◌, ℕ, ◌<◌, ℤ, pos, ◌+ℤ◌, ◌-ℤ◌, ◌*ℤ◌, ◌≤ℤ◌, ◌<ℤ◌, List, length}
 use Rattle.std.specs.List.{AllByRecursion}
 use Rattle.frac128.specs.declared.frac.Frac.{Frac}
 use Rattle.plane_base.specs.declared.shapes.Pt.{Pt}
 use Rattle.plane_base.specs.declared.shapes.Rect.{Rect}
-use Rattle.plane_base.specs.Plane.{Point, whole}
-use Rattle.plane_base.specs.Boxes.{IsIn, IsOrdered}
+use Rattle.plane_base.specs.Plane.{Point}
+use Rattle.plane_base.specs.Boxes.{IsIn, IsOrdered, box_of_segment}
 use Rattle.cell_grid.specs.Boxes.{box_at}
 use Rattle.tin_base.specs.declared.corners.Corner.{Corner}
 use Rattle.tin_base.specs.declared.pieces.Piece.{Piece}
@@ -51,11 +51,12 @@ pub record IsExactBox (tin : Triangulation) (p : Piece) (box : Rect) : Type 0 wh
   pub encloses : (part : Part) → IsPieceOf tin p part → HasSegment box (first_point p part) (last_point p part)
   pub among : IsAmongCorners tin box
 
--- a box that the segment between the rounded images of the piece's ends is in, and that reaches no further than these
-pub record IsRoundedBox (p : Piece) (box : Rect) : Type 0 where
-  pub ordered : IsOrdered box
-  pub encloses : HasSegment box (whole p.ia) (whole p.ib)
-  pub around : IsAround (p.ia ∷ p.ib ∷ []) box
+-- the box of the segment between the rounded images of the piece's ends
+abbrev pub rounded_box_of : Piece → Rect
+rounded_box_of p = box_of_segment p.ia p.ib
+
+abbrev pub IsRoundedBox : Piece → Rect → Type 0
+IsRoundedBox p box = box ≡ rounded_box_of p
 
 -- the boxes are those of the pieces, in order
 pub record AreBoxesOf (IsBoxOf : Piece → Rect → Type 0) (pieces : List Piece) (boxes : List Rect) : Type 0 where

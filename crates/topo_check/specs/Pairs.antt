@@ -10,6 +10,7 @@ use Rattle.tin_base.specs.declared.pieces.Piece.{Piece}
 use Rattle.tin_base.specs.declared.pieces.Change.{Change}
 use Rattle.tin_base.specs.Triangulation.{Triangulation}
 use Rattle.topo_check.specs.declared.comparing.ChangedPair.{ChangedPair}
+use Rattle.topo_check.specs.Boxes.{rounded_box_of}
 use Rattle.topo_check.specs.Changes.{piece_at, HadRelation, HasRelation, IsChangeOf, Numbers, DoPrecede}
 
 -- ---- a pair
@@ -64,19 +65,22 @@ pub record DoesCollect (tin : Triangulation) (pieces : List Piece) (most : ℕ) 
   pub once : AreDifferent before → ((i j : ℕ) → i < j → j < length pieces → AreMeant i j → HasPair before i j → ⊥) → AreDifferent now
 
 -- ---- which pairs are meant
--- in the source frame each pair is compared, and in the target frame those whose exact boxes are apart
-abbrev pub AreComparedIn : Frame → List Rect → ℕ → ℕ → Type 0
-AreComparedIn Source boxes i j = Unit {0}
-AreComparedIn Target boxes i j = AreApart (box_at boxes i) (box_at boxes j)
+-- in the target frame each two are compared, and in the source frame those whose rounded boxes are apart
+abbrev pub AreComparedIn : Frame → Piece → Piece → Type 0
+AreComparedIn Source p q = AreApart (rounded_box_of p) (rounded_box_of q)
+AreComparedIn Target p q = Unit {0}
+
+abbrev pub IsComparedIn : Frame → List Piece → ℕ → ℕ → Type 0
+IsComparedIn frame pieces i j = AreComparedIn frame (piece_at pieces i) (piece_at pieces j)
 
 -- the pair of two numbers
-abbrev pub IsPairOf : Frame → List Rect → ℕ → ℕ → ℕ → ℕ → Type 0
-IsPairOf frame boxes first second i j = AreComparedIn frame boxes i j × (i ≡ first) × (j ≡ second)
+abbrev pub IsPairOf : Frame → List Piece → ℕ → ℕ → ℕ → ℕ → Type 0
+IsPairOf frame pieces first second i j = IsComparedIn frame pieces i j × (i ≡ first) × (j ≡ second)
 
 -- a pair of this number and another
-abbrev pub IsPairWith : Frame → List Rect → ℕ → (ℕ → Type 0) → ℕ → ℕ → Type 0
-IsPairWith frame boxes number IsOther i j = AreComparedIn frame boxes i j × (((i ≡ number) × IsOther j) ⊎ ((j ≡ number) × IsOther i))
+abbrev pub IsPairWith : Frame → List Piece → ℕ → (ℕ → Type 0) → ℕ → ℕ → Type 0
+IsPairWith frame pieces number IsOther i j = IsComparedIn frame pieces i j × (((i ≡ number) × IsOther j) ⊎ ((j ≡ number) × IsOther i))
 
 -- a pair whose boxes in a grid share a point
-abbrev pub DoShareIn : Frame → List Rect → List Rect → ℕ → ℕ → Type 0
-DoShareIn frame boxes grid i j = AreComparedIn frame boxes i j × ShareAPoint (box_at grid i) (box_at grid j)
+abbrev pub DoShareIn : Frame → List Piece → List Rect → ℕ → ℕ → Type 0
+DoShareIn frame pieces grid i j = IsComparedIn frame pieces i j × ShareAPoint (box_at grid i) (box_at grid j)

@@ -3,19 +3,18 @@
 ghost use Rattle.std.specs.Prelude.{◌≡◌, ◌≢◌, ◌≤◌, ℕ, ◌<◌, List, length, Contains, OnOk, IfOk, nat_eq};
 ghost use Rattle.std.specs.List.{IsDistinct};
 ghost use Rattle.topo_check.specs.declared.limits.TheConstants.{MOST_COMPARED};
-ghost use Rattle.topo_check.specs.Boxes.{AreBoxesOf, IsExactBox};
 ghost use Rattle.topo_check.specs.Changes.{AreAllComparable};
 ghost use Rattle.topo_check.specs.Pairs.{DoesCollect, AreCollected, IsPairOf, IsPairWith, DoShareIn};
 
 use crate::comparing::{ChangedPair, changed_pair};
-use crate::grids::{exact_boxes, rounded_grid};
+use crate::grids::{exact_grid, rounded_grid};
 use cell_grid::{Grid, each_pair_is_told_once};
-use plane_base::{Rect, boxes_share_a_point_or_are_apart};
+use plane_base::boxes_share_a_point_or_are_apart;
 use std::alloc::{AllocError, Global};
 use tin_base::{Frame, Piece, SoundTin};
 
 /// The pairs of pieces that have changed, each once, in no order. It stops once there are more than `most`.
-/// First the pairs whose exact boxes share a point are compared, and then, where these are not too many, the others whose rounded boxes share one. One grid is kept at a time.
+/// First the pairs whose rounded boxes share a point are compared, and then, where these are not too many, the others whose exact boxes share one. One grid is kept at a time, and no box beside it.
 pub(crate) fn changed_pairs(
     alloc: Global,
     tin: &SoundTin,
@@ -28,35 +27,15 @@ pub(crate) fn changed_pairs(
 {
     boxes_share_a_point_or_are_apart();
     let mut pairs = Vec::new(alloc);
-    let boxes = exact_boxes(alloc, tin, pieces)?;
     {
-        let _ = tin.corners();
-        let grid = Grid::build(alloc, &boxes)?;
-        collect(
-            alloc,
-            tin,
-            pieces,
-            &boxes,
-            Frame::Source,
-            &grid,
-            most,
-            &mut pairs,
-        )?;
+        let grid = rounded_grid(alloc, pieces)?;
+        collect(alloc, tin, pieces, Frame::Target, &grid, most, &mut pairs)?;
     }
     if pairs.len() > most as usize {
         return Ok(pairs);
     }
-    let grid = rounded_grid(alloc, pieces)?;
-    collect(
-        alloc,
-        tin,
-        pieces,
-        &boxes,
-        Frame::Target,
-        &grid,
-        most,
-        &mut pairs,
-    )?;
+    let grid = exact_grid(alloc, tin, pieces)?;
+    collect(alloc, tin, pieces, Frame::Source, &grid, most, &mut pairs)?;
     Ok(pairs)
 }
 
@@ -65,7 +44,6 @@ fn collect(
     alloc: Global,
     tin: &SoundTin,
     pieces: &[Piece],
-    boxes: &[Rect],
     frame: Frame,
     grid: &Grid,
     most: u32,
@@ -73,16 +51,15 @@ fn collect(
 ) -> Result<(), AllocError>
     requires comparable { AreAllComparable tin.now pieces.now }
     requires count { length pieces.now ≤ MOST_COMPARED }
-    requires boxes { AreBoxesOf (IsExactBox tin.now) pieces.now boxes.now }
     requires grid { length grid.now.boxes ≡ length pieces.now }
-    ensures { OnOk result (DoesCollect tin.now pieces.now most (DoShareIn frame boxes.now grid.now.boxes) pairs.old.items pairs.new.items) }
+    ensures { OnOk result (DoesCollect tin.now pieces.now most (DoShareIn frame pieces.now grid.now.boxes) pairs.old.items pairs.new.items) }
 {
     each_pair_is_told_once();
     let mut partners = Vec::new(alloc);
     let mut number = 0;
     while number < pieces.len() as u32 && pairs.len() <= most as usize {
         grid.partners(number, &mut partners)?;
-        collect_with(tin, pieces, boxes, frame, number, &partners, most, pairs)?;
+        collect_with(tin, pieces, frame, number, &partners, most, pairs)?;
         number += 1;
     }
     Ok(())
@@ -92,7 +69,6 @@ fn collect(
 fn collect_with(
     tin: &SoundTin,
     pieces: &[Piece],
-    boxes: &[Rect],
     frame: Frame,
     number: u32,
     others: &[u32],
@@ -100,12 +76,11 @@ fn collect_with(
     pairs: &mut Vec<ChangedPair>,
 ) -> Result<(), AllocError>
     requires comparable { AreAllComparable tin.now pieces.now }
-    requires boxes { AreBoxesOf (IsExactBox tin.now) pieces.now boxes.now }
     requires number { number < length pieces.now }
     requires once { IsDistinct nat_eq others.now }
     requires within { (other : ℕ) → Contains others.now other → other < length pieces.now }
     requires different { (other : ℕ) → Contains others.now other → other ≢ number }
-    ensures { OnOk result (DoesCollect tin.now pieces.now most (IsPairWith frame boxes.now number (Contains others.now)) pairs.old.items pairs.new.items) }
+    ensures { OnOk result (DoesCollect tin.now pieces.now most (IsPairWith frame pieces.now number (Contains others.now)) pairs.old.items pairs.new.items) }
 {
     let mut place = 0;
     while place < others.len() && pairs.len() <= most as usize {
@@ -113,7 +88,6 @@ fn collect_with(
         compare(
             tin,
             pieces,
-            boxes,
             frame,
             number.min(other),
             number.max(other),
@@ -129,7 +103,6 @@ fn collect_with(
 fn compare(
     tin: &SoundTin,
     pieces: &[Piece],
-    boxes: &[Rect],
     frame: Frame,
     first: u32,
     second: u32,
@@ -137,12 +110,11 @@ fn compare(
     pairs: &mut Vec<ChangedPair>,
 ) -> Result<(), AllocError>
     requires comparable { AreAllComparable tin.now pieces.now }
-    requires boxes { AreBoxesOf (IsExactBox tin.now) pieces.now boxes.now }
     requires earlier { first < second }
     requires second { second < length pieces.now }
-    ensures { OnOk result (DoesCollect tin.now pieces.now most (IsPairOf frame boxes.now first second) pairs.old.items pairs.new.items) }
+    ensures { OnOk result (DoesCollect tin.now pieces.now most (IsPairOf frame pieces.now first second) pairs.old.items pairs.new.items) }
 {
-    if let Some(pair) = changed_pair(tin, pieces, boxes, frame, first, second) {
+    if let Some(pair) = changed_pair(tin, pieces, frame, first, second) {
         pairs.push(pair)?;
     }
     Ok(())

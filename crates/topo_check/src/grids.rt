@@ -25,12 +25,24 @@ pub(crate) fn rounded_grid(alloc: Global, pieces: &[Piece]) -> Result<Grid, Allo
     Ok(grid)
 }
 
-/// The boxes of the exact pieces, in their order.
-pub(crate) fn exact_boxes(
+/// The grid of the exact pieces.
+pub(crate) fn exact_grid(
     alloc: Global,
     tin: &SoundTin,
     pieces: &[Piece],
-) -> Result<Vec<Rect>, AllocError>
+) -> Result<Grid, AllocError>
+    requires inside { All (λ piece. IsPieceInside tin.now piece) pieces.now }
+    requires count { length pieces.now ≤ MOST_COMPARED }
+    ensures { IfOk result (λ grid. AreBoxesOf (IsExactBox tin.now) pieces.now grid.boxes) }
+{
+    let _ = tin.corners();
+    let boxes = exact_boxes(alloc, tin, pieces)?;
+    let grid = Grid::build(alloc, &boxes)?;
+    Ok(grid)
+}
+
+// The boxes of the exact pieces, in their order.
+fn exact_boxes(alloc: Global, tin: &SoundTin, pieces: &[Piece]) -> Result<Vec<Rect>, AllocError>
     requires { All (λ piece. IsPieceInside tin.now piece) pieces.now }
     ensures { IfOk result (λ boxes. AreBoxesOf (IsExactBox tin.now) pieces.now boxes.items) }
 {

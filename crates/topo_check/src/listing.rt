@@ -14,7 +14,7 @@ use std::alloc::{AllocError, Global};
 use tin_base::{Change, Piece, SoundTin};
 
 /// The changes of each two pieces, the earlier first, in the order of the pairs: by the first piece, and then by the second.
-/// It stops at the first change over `most`, and takes memory for changes, for two boxes of each piece with one grid at a time, and for the numbers of the pieces that are near one.
+/// It stops at the first change over `most`, and takes memory for changes, for one grid at a time of a box of each piece, with a list of these boxes while it is built, and for the numbers of the pieces that are near one.
 pub fn changes(
     alloc: Global,
     tin: &SoundTin,

@@ -1,3 +1,4 @@
+-- The invariants of `push_all_fields` in src/copies.rt.
 use Rattle.std.proofs.Common.{◌≡◌, ◌++◌, drop}
 use Rattle.std.specs.Prelude.{flat_map}
 use Rattle.dxf_layer.specs.Rendering.{field_copy}

@@ -1,3 +1,4 @@
+-- The invariants of `push_copy` in src/copies.rt.
 use Rattle.std.proofs.Common.{◌≡◌, ◌++◌, drop}
 use Rattle.dxf_layer.specs.Told.{told}
 use Rattle.dxf_layer.specs.Entities.{entity_end}

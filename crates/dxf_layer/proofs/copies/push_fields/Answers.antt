@@ -1,3 +1,4 @@
+-- Answers to the goals of `push_fields` in src/copies.rt.
 use Rattle.std.proofs.Common.{◌∙◌, ◌++◌, ap, FitsSigned, w64, rules}
 use Rattle.std.proofs.lemmas.Int.{to_z-of_z}
 use Rattle.mm_decimal.specs.Writing.{written}

@@ -1,3 +1,4 @@
+-- Answers to the goals of `first_handle` in src/counting.rt.
 use Rattle.std.proofs.Common.{◌∙◌, sym}
 use Rattle.dxf_layer.specs.declared.entities.Where.TheVariants.{Outside}
 use Rattle.dxf_layer.proofs.SeedForm.{seed_is}

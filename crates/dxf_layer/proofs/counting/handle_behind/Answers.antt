@@ -1,3 +1,4 @@
+-- Answers to the goals of `handle_behind` in src/counting.rt.
 use Rattle.std.proofs.Common.{arith, sym, ◌∙◌}
 use Rattle.dxf_layer.specs.Paged.{read_of}
 use Rattle.dxf_layer.specs.Rendering.{entity_at}

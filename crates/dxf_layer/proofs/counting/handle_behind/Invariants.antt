@@ -1,3 +1,4 @@
+-- The invariants of `handle_behind` in src/counting.rt.
 use Rattle.std.proofs.Common.{length}
 use Rattle.dxf_layer.specs.Paged.{read_of}
 use Rattle.dxf_layer.proofs.Taking.{AreCounted}

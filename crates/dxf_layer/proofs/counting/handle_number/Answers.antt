@@ -1,3 +1,4 @@
+-- Answers to the goals of `handle_number` in src/counting.rt.
 use Rattle.std.proofs.Common.{arith, refl, ◌+◌, ◌*◌}
 use Rattle.std.proofs.lemmas.List.Sums.{fold_more}
 use Rattle.dxf_layer.specs.Rendering.{digit_of}

@@ -1,3 +1,4 @@
+-- The invariants of `handle_number` in src/counting.rt.
 use Rattle.std.proofs.Common.{◌≡◌, ◌<◌, ◌^◌, take}
 use Rattle.dxf_layer.specs.Rendering.{handle_number}
 use Rattle.dxf_layer.proofs.counting.handle_number.Given as goal

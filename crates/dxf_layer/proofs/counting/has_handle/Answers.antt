@@ -1,3 +1,4 @@
+-- Answers to the goals of `has_handle` in src/counting.rt.
 use Rattle.std.proofs.Common.{◌∙◌, ap, pos, length, nat_lt}
 use Rattle.std.specs.Prelude.{filter}
 use Rattle.dxf_layer.specs.Entities.{has_code}

@@ -1,3 +1,4 @@
+-- The invariants of `pairs_before_head` in src/entities.rt.
 use Rattle.std.proofs.Common.{◌≡◌, ◌+◌, ◌-◌, ◌≤◌, length, drop}
 use Rattle.dxf_layer.specs.Entities.{is_no_head}
 use Rattle.std.specs.List.{prefix_len}

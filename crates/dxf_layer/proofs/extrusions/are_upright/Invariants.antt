@@ -1,3 +1,4 @@
+-- The invariants of `are_upright` in src/extrusions.rt.
 use Rattle.std.proofs.Common.{◌≡◌, drop}
 use Rattle.std.specs.List.{list_all}
 use Rattle.dxf_layer.specs.Walks.{is_upright}

@@ -1,3 +1,4 @@
+-- Answers to the goals of `field` in src/fields.rt.
 use Rattle.std.proofs.Common.{◌∙◌, sym, FitsSigned, w32, rules}
 use Rattle.std.proofs.lemmas.Int.{to_z-of_z}
 use Rattle.dxf_layer.specs.Entities.{has_code}

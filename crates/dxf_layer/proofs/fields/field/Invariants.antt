@@ -1,3 +1,4 @@
+-- The invariants of `field` in src/fields.rt.
 use Rattle.std.proofs.Common.{◌≡◌, take}
 use Rattle.std.specs.Prelude.{filter}
 use Rattle.dxf_layer.specs.Entities.{has_code}

@@ -1,3 +1,4 @@
+-- The invariants of `seed_of` in src/handles.rt.
 use Rattle.std.proofs.Common.{◌≡◌, drop}
 use Rattle.dxf_layer.specs.Handles.{seed_from, seed_of}
 use Rattle.dxf_layer.proofs.handles.seed_of.Given as goal

@@ -1,3 +1,4 @@
+-- Answers to the goals of `number_at` in src/pages.rt.
 use Rattle.std.proofs.Common.{◌≡◌, arith, true, false, get_or}
 use Rattle.std.specs.Prelude.{nat_lt}
 use Rattle.std.proofs.lemmas.List.Sums.{prefix_len-le-length}

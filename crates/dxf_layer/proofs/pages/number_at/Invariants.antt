@@ -1,3 +1,4 @@
+-- The invariants of `number_at` in src/pages.rt.
 use Rattle.std.proofs.Common.{◌≤◌, ◌-◌, length}
 use Rattle.dxf_layer.specs.Paged.{read_of}
 use Rattle.dxf_layer.specs.Rendering.{number_at}

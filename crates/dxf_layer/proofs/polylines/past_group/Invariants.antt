@@ -1,3 +1,4 @@
+-- The invariants of `past_group` in src/polylines.rt.
 use Rattle.std.proofs.Common.{◌≡◌, drop}
 use Rattle.dxf_layer.specs.Polylines.{past_group}
 use Rattle.dxf_layer.proofs.polylines.past_group.Given as goal

@@ -1,3 +1,4 @@
+-- Answers to the goals of `read_light` in src/polylines.rt.
 use Rattle.std.proofs.Common.{◌≡◌, sym, subst, arith, ◌+◌, ◌-◌, ◌≤◌, length, pos, ◌^◌, Ok, Err}
 use Rattle.std.specs.Prelude.{int_lt}
 use Rattle.dxf_pairs.specs.declared.pairs.Pair.{Pair}

@@ -1,3 +1,4 @@
+-- Answers to the goals of `read_vertices` in src/polylines.rt.
 use Rattle.std.proofs.Common.{arith, ◌+◌, ◌-◌, ◌^◌, length, take, drop}
 use Rattle.dxf_layer.specs.Held.{seen}
 use Rattle.dxf_layer.proofs.Growing.{holds_more}

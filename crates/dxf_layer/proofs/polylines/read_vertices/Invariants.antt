@@ -1,3 +1,4 @@
+-- The invariants of `read_vertices` in src/polylines.rt.
 use Rattle.std.proofs.Common.{length, ◌-◌}
 use Rattle.dxf_layer.specs.Held.{seen}
 use Rattle.dxf_layer.proofs.Vertices.{AreReadTo}

@@ -1,3 +1,4 @@
+-- Answers to the goals of `read_drawing` in src/reading.rt.
 use Rattle.std.proofs.Common.{◌≡◌, ◌∙◌, ap, arith}
 use Rattle.sheet_base.specs.Sheets.{Contents}
 use Rattle.dxf_layer.specs.Shapes.{in_order}

@@ -1,3 +1,4 @@
+-- Answers to the goals of `read_entities` in src/reading.rt.
 use Rattle.std.proofs.Common.{◌≡◌, sym, subst, arith, ◌^◌, ◌*◌, ◌+◌, get_or, drop, Err}
 use Rattle.std.proofs.lemmas.List.{drop_more}
 use Rattle.dxf_layer.specs.Entities.{entities_of}

@@ -1,3 +1,4 @@
+-- Answers to the goals of `visit` in src/reading.rt.
 use Rattle.std.proofs.Common.{◌≡◌, List, ◌∙◌, ap, sym, length, drop}
 use Rattle.std.specs.Prelude.{take_while}
 use Rattle.std.proofs.lemmas.List.Folds.{length-prefix_len}

@@ -1,3 +1,4 @@
+-- Answers to the goals of `render_drawing` in src/rendering.rt.
 use Rattle.std.proofs.Common.{◌≡◌, List, sym, subst}
 use Rattle.std.specs.Prelude.{IfOk, Result}
 use Rattle.sheet_base.specs.Splices.{spliced, DoKeep}

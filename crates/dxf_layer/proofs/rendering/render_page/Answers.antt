@@ -1,3 +1,4 @@
+-- Answers to the goals of `render_page` in src/rendering.rt.
 use Rattle.std.proofs.Common.{◌≡◌, ◌∙◌, ◌++◌, arith, ap, sym, length, slice_index_or}
 use Rattle.sheet_base.specs.declared.edits.Edit.{Edit}
 use Rattle.sheet_base.specs.Splices.{AreInOrder}

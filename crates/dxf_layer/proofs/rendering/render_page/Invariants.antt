@@ -1,3 +1,4 @@
+-- The invariants of `render_page` in src/rendering.rt.
 use Rattle.std.proofs.Common.{length, drop}
 use Rattle.sheet_base.proofs.Splicing.{IsSpliced}
 use Rattle.dxf_layer.specs.Paged.{read_of}

@@ -1,3 +1,4 @@
+-- Answers to the goals of `last_coded` in src/texts.rt.
 use Rattle.std.proofs.Common.{◌≡◌, ◌∙◌, sym, refl, arith, FitsSigned, w32, rules, true, false, get_or, ◌-◌}
 use Rattle.std.proofs.lemmas.Int.{to_z-of_z}
 use Rattle.dxf_layer.specs.Entities.{has_code}

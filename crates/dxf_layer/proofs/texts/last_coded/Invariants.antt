@@ -1,3 +1,4 @@
+-- The invariants of `last_coded` in src/texts.rt.
 use Rattle.std.proofs.Common.{◌≡◌, ◌≤◌, length, take, None}
 use Rattle.dxf_layer.specs.Rendering.{last_coded}
 use Rattle.dxf_layer.proofs.texts.last_coded.Given as goal

@@ -1,3 +1,4 @@
+-- The invariants of `push_vertices` in src/texts.rt.
 use Rattle.std.proofs.Common.{◌≡◌, ◌++◌, drop, true}
 use Rattle.dxf_layer.specs.Told.{told}
 use Rattle.dxf_layer.specs.Rendering.{vertex_copies}

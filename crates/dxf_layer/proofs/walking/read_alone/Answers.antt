@@ -1,3 +1,4 @@
+-- Answers to the goals of `read_alone` in src/walking.rt.
 use Rattle.std.proofs.Common.{arith, ◌+◌, length}
 use Rattle.dxf_layer.specs.Held.{seen}
 use Rattle.dxf_layer.proofs.Growing.{grows_wider}

@@ -1,3 +1,4 @@
+-- Answers to the goals of `step_alone` in src/walking.rt.
 use Rattle.std.proofs.Common.{◌≡◌, sym, Ok}
 use Rattle.dxf_layer.specs.Told.{told}
 use Rattle.dxf_layer.specs.Walks.{upright, shapes_of}

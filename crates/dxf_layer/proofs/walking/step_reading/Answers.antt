@@ -1,3 +1,4 @@
+-- Answers to the goals of `step_reading` in src/walking.rt.
 use Rattle.std.proofs.Common.{◌≡◌, ◌∙◌, sym, refl, ap, subst, Ok, true}
 use Rattle.std.specs.Prelude.{codes}
 use Rattle.dxf_layer.specs.Told.{told}

@@ -1,3 +1,4 @@
+-- Answers to the goals of `write_mm` in src/writing.rt.
 use Rattle.mm_decimal.proofs.Puttings.{rest_then}
 use Rattle.mm_decimal.proofs.writing.write_mm.Goals as goal
 

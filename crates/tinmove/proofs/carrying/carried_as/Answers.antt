@@ -1,3 +1,4 @@
+-- Answers to the goals of `carried_as` in src/carrying.rt.
 use Rattle.std.proofs.Common.{length}
 use Rattle.tinmove.proofs.Uncarried.{uncarried_as}
 use Rattle.tinmove.proofs.carrying.carried_as.Goals as goal

@@ -1,3 +1,4 @@
+-- Answers to the goals of `carried_layer` in src/carrying.rt.
 use Rattle.std.proofs.Common.{IfOk, sym, subst}
 use Rattle.job_words.specs.declared.formats.Format.{Format}
 use Rattle.tinmove.specs.Carrying.{IsCarried}

@@ -1,3 +1,4 @@
+-- Answers to the goals of `carried_layers` in src/carrying.rt.
 use Rattle.std.proofs.Common.{◌≤◌, ◌+◌, ◌-◌, length, ◌∙◌}
 use Rattle.tinmove.specs.declared.loading.TheConstants.{MOST_BYTES}
 use Rattle.tinmove.proofs.HandedOn.{handed_on}

@@ -1,3 +1,4 @@
+-- Answers to the goals of `outcome_is_one` in src/laws.rt.
 use Rattle.tinmove.proofs.OneOutcome.{outcome_is_one}
 use Rattle.tinmove.proofs.laws.outcome_is_one.Goals as goal
 

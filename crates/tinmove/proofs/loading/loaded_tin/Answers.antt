@@ -1,3 +1,4 @@
+-- Answers to the goals of `loaded_tin` in src/loading.rt.
 use Rattle.std.proofs.Common.{sym, subst, ◌≤◌}
 use Rattle.tinmove.specs.declared.loading.TheConstants.{MOST_BYTES}
 use Rattle.tinmove.specs.Prepared.{no_tin}

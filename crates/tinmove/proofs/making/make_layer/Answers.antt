@@ -1,3 +1,4 @@
+-- Answers to the goals of `make_layer` in src/making.rt.
 use Rattle.std.proofs.Common.{arith, []}
 use Rattle.tinmove.specs.Making.{layer_line}
 use Rattle.tinmove.proofs.MadeRows.{one_more_text}

@@ -1,3 +1,4 @@
+-- The invariants of `make_layer` in src/making.rt.
 use Rattle.std.proofs.Common.{◌≤◌, ◌*◌, vec_len, ◌≡◌}
 use Rattle.std.specs.List.{flat_map}
 use Rattle.tinmove.specs.Making.{below, layer_line}

@@ -1,3 +1,4 @@
+-- Answers to the goals of `make_tin` in src/making.rt.
 use Rattle.std.proofs.Common.{◌≡◌, ◌∷◌, [], ◌++◌, ◌-◌, take, length, ap, ◌∙◌, rules}
 use Rattle.std.specs.List.{join_with_byte}
 use Rattle.tinmove.specs.Making.{tin_front, tin_between, tin_end, vertex_rows, triangle_rows}

@@ -1,3 +1,4 @@
+-- The invariants of `put_cell_line` in src/making.rt.
 use Rattle.tinmove.specs.declared.making.TheConstants.{TRIANGLE_MOST}
 use Rattle.std.proofs.Common.{◌≤◌, ◌*◌, ◌+◌, vec_len, ◌≡◌, ◌++◌}
 use Rattle.std.specs.List.{flat_map}

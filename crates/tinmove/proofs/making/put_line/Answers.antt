@@ -1,3 +1,4 @@
+-- Answers to the goals of `put_line` in src/making.rt.
 use Rattle.std.proofs.Common.{◌+◌, ◌*◌, ◌%◌, codes, decimal}
 use Rattle.tinmove.specs.Making.{layer_line}
 use Rattle.tinmove.proofs.MadeRows.{four_parts}

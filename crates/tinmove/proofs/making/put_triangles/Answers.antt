@@ -1,3 +1,4 @@
+-- Answers to the goals of `put_triangles` in src/making.rt.
 use Rattle.std.proofs.Common.{◌≡◌, ◌++◌, ℕ, subst, arith}
 use Rattle.std.specs.List.{flat_map}
 use Rattle.tinmove.specs.Making.{below, cell_rows, ended_rows}

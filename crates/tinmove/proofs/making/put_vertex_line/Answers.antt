@@ -1,3 +1,4 @@
+-- Answers to the goals of `put_vertex_line` in src/making.rt.
 use Rattle.std.proofs.Common.{arith}
 use Rattle.tinmove.specs.Making.{vertex_row}
 use Rattle.tinmove.proofs.MadeRows.{one_more_row}

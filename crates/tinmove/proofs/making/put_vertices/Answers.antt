@@ -1,3 +1,4 @@
+-- Answers to the goals of `put_vertices` in src/making.rt.
 use Rattle.std.proofs.Common.{arith, ◌+◌, map}
 use Rattle.tinmove.specs.Making.{below, vertex_row}
 use Rattle.tinmove.proofs.MadeRows.{one_more_list}

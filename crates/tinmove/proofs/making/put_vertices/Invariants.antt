@@ -1,3 +1,4 @@
+-- The invariants of `put_vertices` in src/making.rt.
 use Rattle.tinmove.specs.declared.making.TheConstants.{VERTEX_MOST}
 use Rattle.std.proofs.Common.{◌≤◌, ◌*◌, vec_len, ◌≡◌, ◌+◌, ◌++◌, map}
 use Rattle.std.specs.List.{flat_map}

@@ -1,3 +1,4 @@
+-- Answers to the goals of `checked` in src/preparing.rt.
 use Rattle.std.proofs.Common.{◌≡◌, List, map, rules, refl, ap}
 use Rattle.tinmove.specs.declared.carrying.LayerFile.{LayerFile}
 use Rattle.tinmove.specs.Prepared.{file_of}

@@ -1,3 +1,4 @@
+-- Answers to the goals of `made_run` in src/preparing.rt.
 use Rattle.std.proofs.Common.{◌≤◌, length, subst}
 use Rattle.tinmove.specs.declared.loading.TheConstants.{MOST_BYTES}
 use Rattle.tinmove.proofs.HandedOn.{handed_on}

@@ -1,3 +1,4 @@
+-- Answers to the goals of `migrated` in src/preparing.rt.
 use Rattle.std.proofs.Common.{sym, subst}
 use Rattle.tin_base.specs.Limits.{IsWithinLimits}
 use Rattle.tin_base.specs.Triangulation.{Triangulation}

@@ -1,3 +1,4 @@
+-- Answers to the goals of `prepared` in src/preparing.rt.
 use Rattle.tinmove.specs.Prepared.{IsOfMaking}
 use Rattle.tinmove.specs.Wanted.{MayNotBeMade}
 use Rattle.tinmove.proofs.HandedOn.{refused_more}

@@ -1,3 +1,4 @@
+-- Answers to the goals of `publish` in src/publishing.rt.
 use Rattle.std.proofs.Common.{map, codes, [], ◌∷◌}
 use Rattle.tinmove.specs.Prepared.{file_of}
 use Rattle.tinmove.proofs.Fronts.{front_told, front_printed, lacks_dash}

@@ -1,3 +1,4 @@
+-- Answers to the goals of `publish_layers` in src/publishing.rt.
 use Rattle.shelf_io.proofs.Made.{on_err_always}
 use Rattle.tinmove.proofs.Fronts.{lacks_next, front_next}
 use Rattle.tinmove.proofs.publishing.publish_layers.Goals as goal

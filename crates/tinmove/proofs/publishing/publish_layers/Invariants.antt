@@ -1,3 +1,4 @@
+-- The invariants of `publish_layers` in src/publishing.rt.
 use Rattle.std.proofs.Common.{◌≡◌, false, IfSome, map, take}
 use Rattle.tinmove.specs.Prepared.{file_of}
 use Rattle.tinmove.proofs.publishing.publish_layers.Given as goal

@@ -1,3 +1,4 @@
+-- Answers to the goals of `run` in src/run.rt.
 use Rattle.std.proofs.Common.{inr, [], map, string_bytes, refl}
 use Rattle.tinmove.specs.declared.refusal.Refusal.TheVariants.{Words}
 use Rattle.tinmove.specs.RunChanges.{end_of}

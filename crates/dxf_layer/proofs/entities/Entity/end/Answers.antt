@@ -1,3 +1,4 @@
+-- Answers to the goals of `Entity::end` in src/entities.rt.
 use Rattle.std.proofs.Common.{◌∙◌, ap, sym}
 use Rattle.std.specs.Option.{option_copied}
 use Rattle.dxf_layer.proofs.Lists.{last_end}

@@ -1,3 +1,4 @@
+-- Answers to the goals of `DxfLayer::render` in src/layer.rt.
 use Rattle.std.proofs.Common.{◌≡◌, sym, subst, Ok}
 use Rattle.sheet_base.specs.Splices.{spliced}
 use Rattle.sheet_base.specs.ReadBack.{IsReadBack}
