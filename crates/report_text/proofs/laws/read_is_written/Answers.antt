@@ -1,0 +1,5 @@
+use Rattle.report_text.proofs.Outcomes.{read_written}
+use Rattle.report_text.proofs.laws.read_is_written.Goals as goal
+
+pub returns : goal.returns
+returns c = read_written
