@@ -2,7 +2,8 @@
 use Rattle.std.proofs.Common.{◌≡◌, ℕ, ◌+◌, ◌<◌, List, [], ◌∷◌, ◌++◌, length, take, get_or, refl, sym, ◌∙◌, ap, arith, append_assoc, append-nil, suc, length-take, subst, add-zero, codes}
 use Rattle.std.proofs.lemmas.List.{take_more}
 use Rattle.std.proofs.lemmas.List.Concat.{flat_map-append}
-use Rattle.std.specs.List.{concat}
+use Rattle.std.specs.List.{AllByRecursion, concat}
+use Rattle.plain_laws.proofs.Lists.{all_append}
 use Rattle.report_text.specs.declared.rows.LayerRow.{LayerRow}
 use Rattle.report_text.specs.ReportText.{title, end_line, layer_line, extents_lines, layer_lines, text_of_lines}
 use Rattle.report_text.specs.declared.lines.TheConstants.{LINE_FEED}
@@ -59,3 +60,8 @@ parts a b d e front behind o1 o2 o3 o4 o5 o6 o7 o8 h1 h2 h3 h4 h5 h6 h7 h8 =
     let inner : text_of_lines (front ++ ((d ∷ behind) ++ (e ∷ []))) ≡ text_of_lines front ++ ((d ++ LINE_FEED ∷ []) ++ (text_of_lines behind ++ (e ++ LINE_FEED ∷ [])))
     = text_of_lines-append front _ ∙ ap (λ t. text_of_lines front ++ ((d ++ LINE_FEED ∷ []) ++ t)) (text_of_lines-append behind (e ∷ []) ∙ ap (λ t. text_of_lines behind ++ t) (append-nil (e ++ LINE_FEED ∷ []))) in
     simp (h8, h7, h6, h5, h4, h3, h2, h1, inner, append_assoc) refl
+
+-- what is so of the first elements of a list is so of one more
+pub one_more_held : {A : Type 0} (P : A → Type 0) (xs : List A) {i : ℕ} {x : A} → i < length xs → x ≡ get_or xs i x → AllByRecursion P (take i xs) → P x → AllByRecursion P (take (i + 1) xs)
+one_more_held P xs {i} {x} within is all one =
+    subst (AllByRecursion P) (sym (take_more xs i x within ∙ ap (λ r. take i xs ++ r ∷ []) (sym is))) (all_append P (take i xs) (x ∷ []) all (one, tt))

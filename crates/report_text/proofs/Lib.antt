@@ -14,4 +14,5 @@ pub mod Running
 pub mod Recognizing
 pub mod Reaching
 pub mod OneReport
+pub mod Outcomes
 pub mod Worked

@@ -28,6 +28,18 @@ pub record IsReport (report : Contents) : Type 0 where
   pub layers : AllByRecursion (λ row. IsPrintable row.name) report.layers
   pub changes : AllByRecursion IsChanged report.changes
 
+-- the numbers of corners, of triangles and of numbers that lost digits fit their fields
+abbrev pub AreCountsHeld : Contents → Type 0
+AreCountsHeld report = (report.corners < 2 ^ 32) × (report.triangles < 2 ^ 32) × (report.inexact < 2 ^ 64)
+
+-- the numbers of a layer's paths, segments and pieces fit their fields
+abbrev pub AreSizesHeld : LayerRow → Type 0
+AreSizesHeld row = (row.paths < 2 ^ 32) × (row.segments < 2 ^ 32) × (row.pieces < 2 ^ 32)
+
+-- and those of what was lost do
+abbrev pub AreLossesHeld : LayerRow → Type 0
+AreLossesHeld row = (row.inexact < 2 ^ 64) × (row.dropped < 2 ^ 64)
+
 -- the numbers of a layer fit their fields, and its name is text
 pub record IsLayerHeld (row : LayerRow) : Type 0 where
   pub paths : row.paths < 2 ^ 32

@@ -1,6 +1,4 @@
-//! Laws of reports: no two have one text, and bad bytes have one bad line.
-
-ghost use Rattle.report_text.specs.Laws.{BadLinesAreOne, TextsAreOne};
+ghost use Rattle.report_text.specs.Laws.{BadLinesAreOne, OutcomeExists, ReadIsWritten, TextsAreOne, WrittenIsRead};
 
 /// A law: no two reports have one text. So what is read of the text that was written of a report is that report.
 pub fn texts_are_one()
@@ -10,4 +8,20 @@ pub fn texts_are_one()
 /// A law: bytes are bad at one line.
 pub fn bad_lines_are_one()
     ensures { BadLinesAreOne }
+{}
+
+/// A law: any bytes are the text of some report, or bad at some line. With the two laws above, what bytes say is one function
+/// of them.
+pub fn outcome_exists()
+    ensures { OutcomeExists }
+{}
+
+/// A law: reading what was written of a report gives the report back, unless memory runs out.
+pub fn written_is_read()
+    ensures { WrittenIsRead }
+{}
+
+/// A law: of a report that was read the same bytes are written.
+pub fn read_is_written()
+    ensures { ReadIsWritten }
 {}

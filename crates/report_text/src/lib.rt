@@ -14,7 +14,9 @@ mod rows;
 mod writing;
 
 pub use faults::ReportFault;
-pub use laws::{bad_lines_are_one, texts_are_one};
+pub use laws::{
+    bad_lines_are_one, outcome_exists, read_is_written, texts_are_one, written_is_read,
+};
 pub use lines::LINE_FEED;
 pub use reading::read_report;
 pub use reports::Report;

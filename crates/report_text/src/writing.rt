@@ -1,6 +1,7 @@
-//! The text of a report.
-
-ghost use Rattle.std.specs.Prelude.{◌≡◌, ◌++◌, IfOk, OnOk, codes, map};
+ghost use Rattle.std.specs.Prelude.{◌≡◌, ◌<◌, ◌≤◌, ◌^◌, ◌++◌, length, IfOk, OnOk, IsUtf8, codes, map};
+ghost use Rattle.std.specs.List.{AllByRecursion};
+ghost use Rattle.report_text.specs.Beginnings.{IsReportText};
+ghost use Rattle.report_text.specs.Reports.{AreCountsHeld, AreSizesHeld, AreLossesHeld, IsLayerHeld, IsPlaceHeld, IsChangeHeld};
 ghost use Rattle.report_text.specs.ReportText.{field, tin_counts, tin_line, sizes, losses, layer_line, extents_lines, layer_lines, place_text, relation_word, change_line, count_line, text_of_lines, report_text};
 
 use crate::{LayerRow, Report};
@@ -17,8 +18,9 @@ fn put(out: &mut Vec<u8>, text: &str) -> Result<(), AllocError>
 }
 
 // Adds a word, and a number in digits behind it.
-fn put_field(out: &mut Vec<u8>, word: &str, number: u64) -> Result<(), AllocError>
-    ensures { OnOk result (out.new.items ≡ out.old.items ++ field word.now number) }
+fn put_long(out: &mut Vec<u8>, word: &str, number: u64) -> Result<(), AllocError>
+    ensures text { OnOk result (out.new.items ≡ out.old.items ++ field word.now number) }
+    ensures fits { number < 2 ^ 64 }
 {
     let mut digits = Buffer::new();
     put(out, word)?;
@@ -26,9 +28,18 @@ fn put_field(out: &mut Vec<u8>, word: &str, number: u64) -> Result<(), AllocErro
     Ok(())
 }
 
+// The same for a number of 32 bits.
+fn put_short(out: &mut Vec<u8>, word: &str, number: u32) -> Result<(), AllocError>
+    ensures text { OnOk result (out.new.items ≡ out.old.items ++ field word.now number) }
+    ensures fits { number < 2 ^ 32 }
+{
+    put_long(out, word, u64::from(number))
+}
+
 // Adds a name with its word.
 fn put_name(out: &mut Vec<u8>, name: &str) -> Result<(), AllocError>
-    ensures { OnOk result (out.new.items ≡ out.old.items ++ (codes " name " ++ name.now)) }
+    ensures text { OnOk result (out.new.items ≡ out.old.items ++ (codes " name " ++ name.now)) }
+    ensures utf8 { IsUtf8 name.now }
 {
     put(out, " name ")?;
     put(out, name)?;
@@ -36,18 +47,20 @@ fn put_name(out: &mut Vec<u8>, name: &str) -> Result<(), AllocError>
 }
 
 fn put_tin_counts(out: &mut Vec<u8>, report: &Report) -> Result<(), AllocError>
-    ensures { OnOk result (out.new.items ≡ out.old.items ++ tin_counts report.now) }
+    ensures text { OnOk result (out.new.items ≡ out.old.items ++ tin_counts report.now) }
+    ensures held { OnOk result (AreCountsHeld report.now) }
 {
-    put_field(out, "triangulation corners ", u64::from(report.corners()))?;
-    put_field(out, " triangles ", u64::from(report.triangles()))?;
-    put_field(out, " inexact ", report.inexact())?;
+    put_short(out, "triangulation corners ", report.corners())?;
+    put_short(out, " triangles ", report.triangles())?;
+    put_long(out, " inexact ", report.inexact())?;
     Ok(())
 }
 
 // Adds the line of the triangulation, without its line feed.
 #[tactic(auto, unfolding(crate::specs::ReportText::tin_line))]
 fn put_tin(out: &mut Vec<u8>, report: &Report) -> Result<(), AllocError>
-    ensures { OnOk result (out.new.items ≡ out.old.items ++ tin_line report.now) }
+    ensures text { OnOk result (out.new.items ≡ out.old.items ++ tin_line report.now) }
+    ensures held { OnOk result (AreCountsHeld report.now × IsUtf8 report.now.name) }
 {
     put_tin_counts(out, report)?;
     put_name(out, report.name().text())?;
@@ -55,28 +68,31 @@ fn put_tin(out: &mut Vec<u8>, report: &Report) -> Result<(), AllocError>
 }
 
 fn put_sizes(out: &mut Vec<u8>, row: &LayerRow) -> Result<(), AllocError>
-    ensures { OnOk result (out.new.items ≡ out.old.items ++ sizes row.now) }
+    ensures text { OnOk result (out.new.items ≡ out.old.items ++ sizes row.now) }
+    ensures held { OnOk result (AreSizesHeld row.now) }
 {
-    put_field(out, " paths ", u64::from(row.paths))?;
-    put_field(out, " segments ", u64::from(row.segments))?;
-    put_field(out, " pieces ", u64::from(row.pieces))?;
+    put_short(out, " paths ", row.paths)?;
+    put_short(out, " segments ", row.segments)?;
+    put_short(out, " pieces ", row.pieces)?;
     Ok(())
 }
 
 fn put_losses(out: &mut Vec<u8>, row: &LayerRow) -> Result<(), AllocError>
-    ensures { OnOk result (out.new.items ≡ out.old.items ++ losses row.now) }
+    ensures text { OnOk result (out.new.items ≡ out.old.items ++ losses row.now) }
+    ensures held { OnOk result (AreLossesHeld row.now) }
 {
-    put_field(out, " inexact ", row.inexact)?;
-    put_field(out, " dropped ", row.dropped)?;
+    put_long(out, " inexact ", row.inexact)?;
+    put_long(out, " dropped ", row.dropped)?;
     Ok(())
 }
 
 // Adds the line of a layer, without its line feed.
 #[tactic(auto, unfolding(crate::specs::ReportText::layer_line))]
 fn put_layer(out: &mut Vec<u8>, number: u64, row: &LayerRow) -> Result<(), AllocError>
-    ensures { OnOk result (out.new.items ≡ out.old.items ++ layer_line number row.now) }
+    ensures text { OnOk result (out.new.items ≡ out.old.items ++ layer_line number row.now) }
+    ensures held { OnOk result (IsLayerHeld row.now) }
 {
-    put_field(out, "layer ", number)?;
+    put_long(out, "layer ", number)?;
     put_sizes(out, row)?;
     put_losses(out, row)?;
     put_name(out, row.name.text())?;
@@ -88,14 +104,16 @@ fn put_extents(out: &mut Vec<u8>, number: u64, drawing: bool) -> Result<(), Allo
     ensures { OnOk result (out.new.items ≡ out.old.items ++ text_of_lines (extents_lines number drawing)) }
 {
     if drawing {
-        put_field(out, "extents ", number)?;
+        put_long(out, "extents ", number)?;
         put(out, " as they were\n")?;
     }
     Ok(())
 }
 
 fn put_layers(out: &mut Vec<u8>, rows: &[LayerRow]) -> Result<(), AllocError>
-    ensures { OnOk result (out.new.items ≡ out.old.items ++ text_of_lines (layer_lines 0 rows.now)) }
+    ensures text { OnOk result (out.new.items ≡ out.old.items ++ text_of_lines (layer_lines 0 rows.now)) }
+    ensures held { OnOk result (AllByRecursion IsLayerHeld rows.now) }
+    ensures few { length rows.now ≤ 2 ^ 64 }
 {
     for (number, row) in rows.iter().enumerate() {
         put_layer(out, number as u64, row)?;
@@ -106,12 +124,13 @@ fn put_layers(out: &mut Vec<u8>, rows: &[LayerRow]) -> Result<(), AllocError>
 }
 
 fn put_place(out: &mut Vec<u8>, place: Place) -> Result<(), AllocError>
-    ensures { OnOk result (out.new.items ≡ out.old.items ++ place_text place) }
+    ensures text { OnOk result (out.new.items ≡ out.old.items ++ place_text place) }
+    ensures held { IsPlaceHeld place }
 {
-    put_field(out, "", u64::from(place.layer))?;
-    put_field(out, "/", u64::from(place.path))?;
-    put_field(out, "/", u64::from(place.segment))?;
-    put_field(out, "/", u64::from(place.piece))?;
+    put_short(out, "", place.layer)?;
+    put_short(out, "/", place.path)?;
+    put_short(out, "/", place.segment)?;
+    put_short(out, "/", place.piece)?;
     Ok(())
 }
 
@@ -139,7 +158,8 @@ fn put_relation(out: &mut Vec<u8>, relation: Rel) -> Result<(), AllocError>
 // Adds the line of a change, without its line feed.
 #[tactic(auto, unfolding(crate::specs::ReportText::change_line))]
 fn put_change(out: &mut Vec<u8>, change: Change) -> Result<(), AllocError>
-    ensures { OnOk result (out.new.items ≡ out.old.items ++ change_line change) }
+    ensures text { OnOk result (out.new.items ≡ out.old.items ++ change_line change) }
+    ensures held { IsChangeHeld change }
 {
     put(out, "change ")?;
     put_place(out, change.first)?;
@@ -151,7 +171,8 @@ fn put_change(out: &mut Vec<u8>, change: Change) -> Result<(), AllocError>
 }
 
 fn put_changes(out: &mut Vec<u8>, changes: &[Change]) -> Result<(), AllocError>
-    ensures { OnOk result (out.new.items ≡ out.old.items ++ text_of_lines (map change_line changes.now)) }
+    ensures text { OnOk result (out.new.items ≡ out.old.items ++ text_of_lines (map change_line changes.now)) }
+    ensures held { OnOk result (AllByRecursion IsChangeHeld changes.now) }
 {
     for change in changes {
         put_change(out, *change)?;
@@ -162,15 +183,17 @@ fn put_changes(out: &mut Vec<u8>, changes: &[Change]) -> Result<(), AllocError>
 
 #[tactic(auto, unfolding(crate::specs::ReportText::count_line))]
 fn put_count(out: &mut Vec<u8>, count: u64) -> Result<(), AllocError>
-    ensures { OnOk result (out.new.items ≡ out.old.items ++ count_line count) }
+    ensures text { OnOk result (out.new.items ≡ out.old.items ++ count_line count) }
+    ensures fits { count < 2 ^ 64 }
 {
-    put_field(out, "changes ", count)?;
+    put_long(out, "changes ", count)?;
     Ok(())
 }
 
-/// The text of a report: its lines, each ended by a line feed.
+/// The text of a report: its lines, each ended by a line feed. `read_report` reads it as that report.
 pub fn write_report(alloc: Global, report: &Report) -> Result<Vec<u8>, AllocError>
-    ensures { IfOk result (λ text. text.items ≡ report_text report.now) }
+    ensures text { IfOk result (λ text. text.items ≡ report_text report.now) }
+    ensures read { IfOk result (λ text. IsReportText text.items report.now) }
 {
     let mut out = Vec::new(alloc);
     put(&mut out, "tinmove report 1\n")?;

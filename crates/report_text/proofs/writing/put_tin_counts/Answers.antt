@@ -4,9 +4,9 @@ use Rattle.report_text.specs.ReportText.{field}
 use Rattle.report_text.proofs.Appending.{three}
 use Rattle.report_text.proofs.writing.put_tin_counts.Goals as goal
 
-pub returns : goal.returns
-returns c =
-    let corners : c.put_field.new.out.items ≡ c.args.out.now.items ++ field (codes "triangulation corners ") c.args.report.now.corners = search rules in
-    let triangles : c.put_field-2.new.out.items ≡ c.put_field.new.out.items ++ field (codes " triangles ") c.args.report.now.triangles = search rules in
-    let inexact : c.put_field-3.new.out.items ≡ c.put_field-2.new.out.items ++ field (codes " inexact ") c.args.report.now.inexact = search rules in
+pub returns-clause-text : goal.returns-clause-text
+returns-clause-text c =
+    let corners : c.put_short.new.out.items ≡ c.args.out.now.items ++ field (codes "triangulation corners ") c.args.report.now.corners = search rules in
+    let triangles : c.put_short-2.new.out.items ≡ c.put_short.new.out.items ++ field (codes " triangles ") c.args.report.now.triangles = search rules in
+    let inexact : c.put_long.new.out.items ≡ c.put_short-2.new.out.items ++ field (codes " inexact ") c.args.report.now.inexact = search rules in
     three _ _ _ _ _ _ _ corners triangles inexact
