@@ -12,3 +12,4 @@ pub mod Fitting
 pub mod Bearing
 pub mod OneCut
 pub mod Segmenting
+pub mod SegmentImages

@@ -6,3 +6,4 @@ pub mod SheetSegments
 pub mod SheetPieces
 pub mod SheetImages
 pub mod SheetLaws
+pub mod SegmentImages

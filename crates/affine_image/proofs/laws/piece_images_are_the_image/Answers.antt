@@ -1,0 +1,5 @@
+use Rattle.affine_image.proofs.SegmentImages.{piece_images_are_the_image}
+use Rattle.affine_image.proofs.laws.piece_images_are_the_image.Goals as goal
+
+pub returns : goal.returns
+returns c = piece_images_are_the_image
