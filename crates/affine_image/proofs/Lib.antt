@@ -13,3 +13,4 @@ pub mod Fitting
 pub mod Bearing
 pub mod OneCut
 pub mod Segmenting
+pub mod SegmentImages

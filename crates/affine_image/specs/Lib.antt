@@ -7,3 +7,4 @@ pub mod SheetSegments
 pub mod SheetPieces
 pub mod SheetImages
 pub mod SheetLaws
+pub mod SegmentImages

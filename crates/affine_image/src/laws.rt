@@ -1,6 +1,7 @@
 //! Laws of rounded images: each point has one, the images of pieces are joined, and 128 bits hold the numbers.
 
 ghost use Rattle.affine_image.specs.Laws.{RoundedImagesAgree, CutsAreImages, RoundedImagesAreInReach, RoundedImagesAreNear, DoubledNumeratorsAreSmall};
+ghost use Rattle.affine_image.specs.SegmentImages.{PieceImagesAreTheImage};
 ghost use Rattle.affine_image.specs.SheetLaws.{PieceImagesAreJoined, SheetPiecesArePieces, ImagesFit, ImageSegmentsArePieces};
 
 /// A law: the rounded image of a place is one, whichever triangle gives it.
@@ -28,6 +29,12 @@ pub fn rounded_images_are_near()
 /// the segment's first end, each other where the one before it ends, and the last ends at the image of the last end.
 pub fn piece_images_are_joined()
     ensures { PieceImagesAreJoined }
+{}
+
+/// A law: where a segment is inside a sound triangulation, the exact images of its points are the points of the segments between the
+/// exact images of the ends of its pieces. So the images of the pieces are together the image of the segment.
+pub fn piece_images_are_the_image()
+    ensures { PieceImagesAreTheImage }
 {}
 
 /// A law: each piece of a sheet is a piece of the triangulation, with the rounded images of its own ends.

@@ -11,6 +11,6 @@ mod weights;
 pub use images::{image_cut, image_of};
 pub use laws::{
     cuts_are_images, doubled_numerators_are_small, image_segments_are_pieces, images_fit,
-    piece_images_are_joined, rounded_images_agree, rounded_images_are_in_reach,
-    rounded_images_are_near, sheet_pieces_are_pieces,
+    piece_images_are_joined, piece_images_are_the_image, rounded_images_agree,
+    rounded_images_are_in_reach, rounded_images_are_near, sheet_pieces_are_pieces,
 };
