@@ -1,0 +1,5 @@
+use Rattle.migrate.proofs.KeptMigrations.{migration_keeps_relations}
+use Rattle.migrate.proofs.laws.migration_keeps_relations.Goals as goal
+
+pub returns : goal.returns
+returns c = migration_keeps_relations

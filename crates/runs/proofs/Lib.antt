@@ -1,0 +1,6 @@
+pub mod PassedRefusals
+pub mod Faults
+pub mod TinRefusals
+pub mod RefusalLines
+pub mod LimitLines
+pub mod OneTin

@@ -1,0 +1,5 @@
+use Rattle.tinmove.proofs.KeptRuns.{end_keeps_relations}
+use Rattle.tinmove.proofs.laws.end_keeps_relations.Goals as goal
+
+pub returns : goal.returns
+returns c = end_keeps_relations
