@@ -13,7 +13,7 @@ import glob
 import re
 import sys
 
-SOURCES = """lines layer_lines outside_lines refusal report progress checking warnings remarks hints told errors""".split()
+SOURCES = """lines layer_lines outside_lines refusal report progress checks warnings remarks hints told errors""".split()
 files = [it for name in SOURCES for it in glob.glob(f"crates/*/src/{name}.rt")]
 files = [it for it in files if not it.startswith(("crates/meet_rel/", "crates/report_text/src/lines"))]
 files += ["crates/report_text/src/writing.rt"]

@@ -67,6 +67,13 @@ impl TinIndex {
         &self.tin
     }
 
+    /// The triangulation alone. The index is let go.
+    pub fn into_tin(self) -> SoundTin
+        ensures { result ≡ self }
+    {
+        self.tin
+    }
+
     /// The number of the least source triangle that contains the point, or none where no triangle does. The point, in
     /// millimetres, may be anywhere.
     pub fn locate(&self, p: Pt) -> Option<u32>

@@ -5,10 +5,9 @@ use Rattle.std.specs.List.{AllByRecursion}
 use Rattle.shelf_io.specs.Files.{Files, bytes_of}
 use Rattle.shelf_io.specs.Made.{Lacks, PrintsFront}
 use Rattle.job_words.proofs.Deciding.{texts-differ}
-use Rattle.tinmove.specs.declared.carrying.LayerFile.{LayerFile}
-use Rattle.tinmove.specs.Names.{HasSlash}
+use Rattle.runs.specs.declared.output.LayerFile.{LayerFile}
+use Rattle.runs.specs.Output.{HasSlash, file_of, AreWritable}
 use Rattle.tinmove.specs.Ends.{IsFrontOf}
-use Rattle.tinmove.specs.Prepared.{file_of, AreWritable}
 
 abbrev File : Type 0
 File = List ℕ × List ℕ

@@ -1,22 +1,7 @@
 -- The files of lemmas of tinmove.
-pub mod HandedOn
-pub mod Faults
-pub mod OnePieces
-pub mod Keeping
-pub mod MadeRows
-pub mod MadeExamples
-pub mod OneReading
-pub mod OneCarried
-pub mod Uncarried
-pub mod Comparable
-pub mod LayerLists
-pub mod OneLayers
-pub mod OneOutcome
-pub mod Readied
-pub mod LayerCauses
-pub mod Made
-pub mod Fronts
-pub mod Ending
-pub mod LimitsTold
-pub mod WordsEnd
-pub mod KeptRuns
+mod OneOutcome
+mod Fronts
+mod RunEnds
+mod ReportLimits
+mod WordsEnd
+mod KeptRuns

@@ -5,14 +5,15 @@ use Rattle.job_words.specs.declared.faults.WordsFault.TheVariants.{NoMode, Parse
 use Rattle.job_words.specs.declared.jobs.Job.{Job}
 use Rattle.job_words.specs.declared.jobs.Job.TheVariants.{Migrate, Check as CheckJob, Make}
 use Rattle.job_words.specs.Jobs.{IsJobOf, IsWordsFault}
-use Rattle.tinmove.specs.declared.status.Status.{Status}
-use Rattle.tinmove.specs.declared.status.Status.TheVariants.{Words as WordsStatus, Read, Write, Memory}
+use Rattle.runs.specs.declared.status.Status.{Status}
+use Rattle.runs.specs.declared.status.Status.TheVariants.{Words as WordsStatus, Read, Write, Memory}
 use Rattle.tinmove.specs.Jobs.{LacksJob, AsksCheck, WantNoFile}
-use Rattle.tinmove.specs.RunChanges.{end_of}
-use Rattle.tinmove.specs.Refusals.{status_of_words}
-use Rattle.tinmove.specs.Ends.{MayEnd, IsEndOfCheck, IsWithoutFile}
+use Rattle.runs.specs.Status.{end_of}
+use Rattle.runs.specs.Refusals.{status_of_words}
+use Rattle.tinmove.specs.Ends.{MayEnd, IsWithoutFile}
+use Rattle.check_mode.specs.Checks.{IsEndOfCheck}
 use Rattle.tinmove.proofs.OneOutcome.{job_one, job_or_fault}
-use Rattle.tinmove.proofs.Ending.{lacks_job}
+use Rattle.tinmove.proofs.RunEnds.{lacks_job}
 
 -- the words of a check give no other job
 pub check_job : (words : List (List ℕ)) (job : Job) (name : List ℕ) (status : Status) → IsJobOf words job → AsksCheck words name → MayEnd job status → IsEndOfCheck status
@@ -24,7 +25,7 @@ pub end_as : (status result : Status) → (result ≡ status) ⊎ (result ≡ Wr
 end_as status result (inl is) may = rw is may
 end_as status result (inr is) may = rw is tt
 
--- where words give no job, the run ends so, for want of memory, or after a write fault
+-- where words give no job, the run ends so, or because memory ran out, or after a write fault
 pub no_job_end : (fault : WordsFault) (result : Status) → (result ≡ status_of_words fault) ⊎ (result ≡ Write) → (result ≡ WordsStatus) ⊎ ((result ≡ Memory) ⊎ (result ≡ Write))
 no_job_end fault result (inr is) = inr (inr is)
 no_job_end WordsMemory result (inl is) = inr (inl is)

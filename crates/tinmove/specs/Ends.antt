@@ -1,43 +1,31 @@
--- How a run ends: by its outcome, after a read fault, for want of memory, or after a write fault.
-use Rattle.std.specs.Prelude.{◌≡◌, ◌≢◌, ◌⊎◌, ℕ, List, [], ◌∷◌, ◌++◌, map, codes, take, Contains, Option, None, Some}
+-- How a run ends: by its outcome, after a read fault, because memory ran out, or after a write fault.
+use Rattle.std.specs.Prelude.{◌≡◌, ℕ, List, [], ◌∷◌, ◌++◌, codes, take, Option, None, Some}
 use Rattle.shelf_io.specs.Files.{Files}
 use Rattle.shelf_io.specs.Load.{LacksName}
-use Rattle.tin_base.specs.Triangulation.{Triangulation}
 use Rattle.job_words.specs.declared.jobs.Job.{Job}
 use Rattle.job_words.specs.declared.jobs.Job.TheVariants.{Migrate, Check, Make}
 use Rattle.job_words.specs.Jobs.{IsJobOf}
-use Rattle.tinmove.specs.declared.status.Status.{Status}
-use Rattle.tinmove.specs.declared.status.Status.TheVariants.{Same, Changed, Words, Layer, Outside, Read, Write, Memory}
-use Rattle.tinmove.specs.declared.refusal.Refusal.{Refusal}
-use Rattle.tinmove.specs.declared.refusal.Refusal.TheVariants.{TinUnread, TinLong, LayerUnread, LayersLong, NoMemory}
-use Rattle.tinmove.specs.Names.{name_in}
-use Rattle.tinmove.specs.Jobs.{Carriage}
-use Rattle.tinmove.specs.LayerRuns.{IsReachedLayer}
-use Rattle.tinmove.specs.Outcome.{HasWay, carriage_with, made_carriage, HasOutcome, IsJobRefused, Refuses}
-use Rattle.tinmove.specs.RunChanges.{end_with}
-use Rattle.report_text.specs.Reports.{Contents as Report}
-use Rattle.report_text.specs.declared.rows.LayerRow.{LayerRow}
-use Rattle.report_text.specs.ReportText.{report_text}
-use Rattle.tinmove.specs.SoundLine.{sound_text}
-use Rattle.tinmove.specs.Refusals.{status_of}
-
--- nothing refuses the migration before the file of the layer of this number
-pub record IsLayerReached (files : Files) (carriage : Carriage) (number : ℕ) : Type 0 where
-  pub tin : Triangulation
-  pub way : HasWay files carriage tin
-  pub name : List ℕ
-  pub reached : IsReachedLayer (Some files) carriage.how tin carriage.layers number name
+use Rattle.runs.specs.declared.status.Status.{Status}
+use Rattle.runs.specs.declared.status.Status.TheVariants.{Write}
+use Rattle.runs.specs.declared.refusal.Refusal.{Refusal}
+use Rattle.runs.specs.declared.refusal.Refusal.TheVariants.{TinUnread, NoMemory}
+use Rattle.runs.specs.Refusals.{Refuses, limit_front}
+use Rattle.runs.specs.Causes.{MayRefuse}
+use Rattle.check_mode.specs.Checks.{IsCheckWritten, IsEndOfCheck}
+use Rattle.migrate.specs.Migrations.{IsReachedBy, LacksWanted, IsMigrationWritten}
+use Rattle.migrate.specs.Maker.{IsMakingWritten}
+use Rattle.tinmove.specs.Jobs.{migration_with}
+use Rattle.tinmove.specs.Outcome.{HasOutcome, IsJobRefused}
 
 -- the refusal is that of a file that could not be read, and nothing refuses the job before that file
-abbrev pub IsReachedBy : Files → Carriage → Refusal → Type 0
-IsReachedBy files carriage TinUnread = Unit {0}
-IsReachedBy files carriage (LayerUnread layer) = IsLayerReached files carriage layer
-IsReachedBy files carriage refusal = ⊥
-
 abbrev pub IsReached : Files → Job → Refusal → Type 0
-IsReached files (Migrate tin out how inverse layers) refusal = IsReachedBy files (carriage_with tin out how inverse layers) refusal
-IsReached files (Check tin how) refusal = refusal ≡ TinUnread
-IsReached files (Make n) refusal = ⊥
+IsReached files (Migrate tin out how inverse layers) = IsReachedBy files (migration_with tin out how inverse layers)
+IsReached files (Check tin how) = λ refusal. refusal ≡ TinUnread
+IsReached files (Make n) = λ refusal. ⊥
+
+-- why a job may be refused before anything is written
+abbrev pub MayRefuseJob : Files → Job → Type 0 → Refusal → Type 0
+MayRefuseJob files job shelf_rose refusal = MayRefuse (IsJobRefused files job) (IsReached files job) shelf_rose refusal
 
 -- what a run makes unless a write fails
 pub data Makes (words : List (List ℕ)) (files : Files) (shelf_rose : Type 0) (status : Status) (made : Files) : Type 0 where
@@ -64,20 +52,11 @@ abbrev pub EndsTold : List (List ℕ) → Files → Type 0 → Type 0 → Status
 EndsTold words files shelf_rose press_rose status (Some made) = Ends words files shelf_rose press_rose status made
 EndsTold words files shelf_rose press_rose status None = (made : Files) × Ends words files shelf_rose press_rose status made
 
--- a report on the triangulation and the layers of these names; the status says whether it lists a change
-pub record IsReportOn (tin : List ℕ) (layers : List (List ℕ)) (said : List ℕ) (status : Status) : Type 0 where
-  pub report : Report
-  pub tin_is : report.name ≡ tin
-  pub layers_are : map (λ (row : LayerRow). row.name) report.layers ≡ layers
-  pub said_is : said ≡ report_text report
-  pub status_is : status ≡ end_with report.changes
-
--- What is written of a job that is done, whatever files hold, and the status: the layers' files and what is said. A migration has a file for each layer, in their order and under
--- their last parts in the folder, and says a report on them; what is made has the report alone; a check says that a triangulation is sound.
+-- What is written of a job that is done, whatever files hold, and the status: the layers' files and the text on standard output.
 abbrev pub IsWrittenOf : Job → Files → List ℕ → Status → Type 0
-IsWrittenOf (Migrate tin out how inverse names) layers said status = (map (λ (file : List ℕ × List ℕ). file.0) layers ≡ map (name_in out) names) × IsReportOn tin names said status
-IsWrittenOf (Check tin how) layers said status = (layers ≡ []) × (status ≡ Same) × (sound : Triangulation) × (said ≡ sound_text sound)
-IsWrittenOf (Make n) layers said status = (layers ≡ []) × IsReportOn made_carriage.tin made_carriage.layers said status
+IsWrittenOf (Migrate tin out how inverse layers) = IsMigrationWritten (migration_with tin out how inverse layers)
+IsWrittenOf (Check tin how) = IsCheckWritten
+IsWrittenOf (Make n) = IsMakingWritten
 
 -- the files that a run with these words may be to make, whatever files hold, and its status: what is written of the job, or `-` alone with the line of a refusal
 pub data IsToBeMade (words : List (List ℕ)) (status : Status) (made : Files) : Type 0 where
@@ -89,15 +68,11 @@ pub data Stands (words : List (List ℕ)) (status : Status) (made : Files) : Typ
   all_made : IsToBeMade words status made → Stands words status made
   front_made : status ≡ Write → (wanted : Status) → (whole : Files) → IsToBeMade words wanted whole → IsFrontOf made whole → Stands words status made
 
--- one of these names is missing from the shelf's files, which are told
-abbrev pub LacksSome : List (List ℕ) → Option Files → Type 0
-LacksSome names files = (name : List ℕ) × Contains names name × LacksName files name
-
 -- a file that the job wants is missing
-abbrev pub LacksWanted : Job → Option Files → Type 0
-LacksWanted (Migrate tin out how inverse layers) files = LacksName files tin ⊎ LacksSome layers files
-LacksWanted (Check tin how) files = LacksName files tin
-LacksWanted (Make n) files = ⊥
+abbrev pub LacksWantedFile : Job → Option Files → Type 0
+LacksWantedFile (Migrate tin out how inverse layers) files = LacksWanted (migration_with tin out how inverse layers) files
+LacksWantedFile (Check tin how) files = LacksName files tin
+LacksWantedFile (Make n) files = ⊥
 
 -- a job that wants no file
 abbrev pub IsWithoutFile : Job → Type 0
@@ -106,37 +81,13 @@ IsWithoutFile job = ⊥
 
 -- the words give a job, and a file that it wants is missing
 abbrev pub LacksWantedOf : List (List ℕ) → Option Files → Type 0
-LacksWantedOf words files = (job : Job) × IsJobOf words job × LacksWanted job files
+LacksWantedOf words files = (job : Job) × IsJobOf words job × LacksWantedFile job files
 
--- why a job is refused before anything is written: by its files, after a read fault, or for want of memory
-pub data MayRefuse (files : Files) (job : Job) (shelf_rose : Type 0) (refusal : Refusal) : Type 0 where
-  by_the_files : IsJobRefused files job refusal → MayRefuse files job shelf_rose refusal
-  unread : shelf_rose → IsReached files job refusal → MayRefuse files job shelf_rose refusal
-  no_room : status_of refusal ≡ Memory → MayRefuse files job shelf_rose refusal
-
--- a check has no layer
-abbrev pub IsEndOfCheck : Status → Type 0
-IsEndOfCheck Changed = ⊥
-IsEndOfCheck Layer = ⊥
-IsEndOfCheck Outside = ⊥
-IsEndOfCheck status = Unit {0}
-
+-- the statuses of a job
 abbrev pub MayEnd : Job → Status → Type 0
-MayEnd (Migrate tin out how inverse layers) status = Unit {0}
-MayEnd (Check tin how) status = IsEndOfCheck status
-MayEnd (Make n) status = Unit {0}
-
--- the causes of a job's refusal that stand whether or not the shelf tells its files
-pub record HasCauses (job : Job) (files : Option Files) (shelf_rose given_passed : Type 0) (refusal : Refusal) : Type 0 where
-  pub understood : status_of refusal ≢ Words
-  pub read : status_of refusal ≡ Read → shelf_rose ⊎ LacksWanted job files
-  pub tin_long : refusal ≡ TinLong → given_passed
-  pub layers_long : refusal ≡ LayersLong → given_passed
-  pub may_end : MayEnd job (status_of refusal)
-
--- what is printed alone begins so
-abbrev pub limit_front : List ℕ
-limit_front = codes "limit: bytes of"
+MayEnd (Migrate tin out how inverse layers) = λ status. Unit {0}
+MayEnd (Check tin how) = IsEndOfCheck
+MayEnd (Make n) = λ status. Unit {0}
 
 -- what is said alone is a line that says that a limit on bytes is passed, or a front of it that says as much
 abbrev pub TellsBytes : Files → Type 0

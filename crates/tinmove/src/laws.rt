@@ -1,8 +1,19 @@
 //! What is true of the definitions that the contracts cite.
 
-ghost use Rattle.tinmove.specs.Laws.{OutcomeIsOne};
+ghost use Rattle.tinmove.specs.Laws.{OutcomeIsOne, EndKeepsRelations, EndKeepsMadeRelations};
 
 /// A law: a run has one outcome.
 pub fn outcome_is_one()
     ensures { OutcomeIsOne }
+{}
+
+/// A law: however a run ends that is asked for a migration, the segments that it wrote lie to each other as their
+/// pieces do in the source, or its report lists those that do not.
+pub fn end_keeps_relations()
+    ensures { EndKeepsRelations }
+{}
+
+/// A law: so does the end of a run that is asked for what is made.
+pub fn end_keeps_made_relations()
+    ensures { EndKeepsMadeRelations }
 {}

@@ -2,55 +2,21 @@
 //! `run` is the whole program, over the words, the shelf and the press that it is handed.
 #![tactic(auto)]
 
-mod carrying;
-#[cfg(test)]
-mod drawing_tests;
-#[cfg(test)]
-mod geojson_tests;
 mod help;
-#[cfg(test)]
-mod help_tests;
-#[cfg(test)]
-mod job_tests;
+mod jobs;
 mod laws;
-mod layer_lines;
-#[cfg(test)]
-mod layer_tests;
-mod lines;
-mod listing;
-mod loading;
-mod making;
-#[cfg(test)]
-mod making_tests;
-mod preparing;
 mod progress;
-#[cfg(test)]
-mod progress_tests;
-mod publishing;
-mod refusal;
-mod report;
-#[cfg(test)]
-mod report_tests;
+mod publication;
 mod run;
 #[cfg(test)]
-mod square_tests;
-mod status;
-#[cfg(test)]
-mod test_runs;
-#[cfg(test)]
 mod tests;
-#[cfg(test)]
-mod tin_tests;
-mod triangulations;
-#[cfg(test)]
-mod words_tests;
 
 use help::{Help, USAGE, help_of};
 use job_words::{Job, read_words};
 use progress::{ToldPress, ToldShelf};
 use run::run;
+use runs::Status;
 use shelf_io::{FilePress, FileShelf};
-use status::Status;
 use std::alloc::Global;
 use std::env;
 use std::io::{ErrorKind, IsTerminal, Stderr};

@@ -3,16 +3,17 @@
 ghost use Rattle.std.specs.Prelude.{◌≡◌, ◌≢◌, ◌⊎◌, ◌+◌, ◌≤◌, ℕ, List, [], IfSome, false, map, string_bytes};
 ghost use Rattle.shelf_io.specs.Count.{Rose, counted};
 ghost use Rattle.shelf_io.specs.Files.{Files};
-ghost use Rattle.tinmove.specs.declared.loading.TheConstants.{MOST_BYTES};
-ghost use Rattle.tinmove.specs.Jobs.{Carriage, LacksJob, AsksMigration, AsksCheck, AsksMaking, WantNoFile};
-ghost use Rattle.tinmove.specs.Kept.{KeepsRelations, KeepsMadeRelations};
-ghost use Rattle.tinmove.specs.Ends.{EndsTold, Stands, LacksWantedOf, TellsBytes, IsEndOfCheck};
+ghost use Rattle.runs.specs.declared.loads.TheConstants.{MOST_BYTES};
+ghost use Rattle.migrate.specs.declared.migrations.Migration.{Migration};
+ghost use Rattle.tinmove.specs.Jobs.{LacksJob, AsksMigration, AsksCheck, AsksMaking, WantNoFile};
+ghost use Rattle.migrate.specs.KeptRelations.{KeepsRelations, KeepsMadeRelations};
+ghost use Rattle.tinmove.specs.Ends.{EndsTold, Stands, LacksWantedOf, TellsBytes};
+ghost use Rattle.check_mode.specs.Checks.{IsEndOfCheck};
 
-use crate::preparing::prepared;
-use crate::publishing::{publish, refuse};
-use crate::refusal::Refusal;
-use crate::status::Status;
+use crate::jobs::prepare;
+use crate::publication::{publish, refuse};
 use job_words::read_words;
+use runs::{Refusal, Status};
 use shelf_io::{Press, Shelf};
 use std::alloc::Global;
 
@@ -27,12 +28,12 @@ pub fn run<S: Shelf, P: Press>(
     requires empty { IfSome (P.made press.old) (λ made. made ≡ []) }
 
     // Where the shelf tells its files, a run ends in one of four ways: by its outcome, after a read fault,
-    // for want of memory, or after a write fault.
+    // because memory ran out, or after a write fault.
     ensures ends { IfSome (S.files shelf.old) (λ files. EndsTold (map string_bytes words.now) files (Rose (S.faults shelf.old) (S.faults shelf.new)) (Rose (P.faults press.old) (P.faults press.new)) result (P.made press.new)) }
 
     // Where a migration ends with `Same`, each two segments of the written layers lie to each other as their pieces do in
     // the source; where it ends with `Changed`, the report lists each two that do not, and no others.
-    ensures kept { IfSome (S.files shelf.old) (λ files. (carriage : Carriage) → AsksMigration (map string_bytes words.now) carriage → KeepsRelations files carriage result (P.made press.new)) }
+    ensures kept { IfSome (S.files shelf.old) (λ files. (migration : Migration) → AsksMigration (map string_bytes words.now) migration → KeepsRelations files migration result (P.made press.new)) }
 
     // Told or not, where the words give no job or ask for what is made, a run ends so over any files, and never by a read
     // fault; and what is said of a migration holds of what is made, whose layer is not written.
@@ -59,7 +60,7 @@ pub fn run<S: Shelf, P: Press>(
         Ok(job) => job,
         Err(fault) => return refuse(press, Refusal::Words(fault)),
     };
-    match prepared(alloc, shelf, &job) {
+    match prepare(alloc, shelf, job) {
         Ok(written) => publish(press, &written),
         Err(refusal) => refuse(press, refusal),
     }

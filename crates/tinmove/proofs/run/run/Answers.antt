@@ -1,11 +1,12 @@
 -- Answers to the goals of `run` in src/run.rt.
 use Rattle.std.proofs.Common.{inr, [], map, string_bytes, refl}
-use Rattle.tinmove.specs.declared.refusal.Refusal.TheVariants.{Words}
-use Rattle.tinmove.specs.RunChanges.{end_of}
-use Rattle.tinmove.specs.Refusals.{status_of}
-use Rattle.tinmove.specs.Prepared.{files_of}
-use Rattle.tinmove.proofs.Ending.{line_file, never-write, ends_so, never-write-end, makes_refusal, makes_no_job, makes_files, told, told_always, stands_refused, stands_done}
-use Rattle.tinmove.proofs.LimitsTold.{limit_told, limit_done}
+use Rattle.runs.specs.declared.refusal.Refusal.TheVariants.{Words}
+use Rattle.runs.specs.Status.{end_of}
+use Rattle.runs.specs.Refusals.{status_of, line_file}
+use Rattle.runs.specs.Output.{files_of}
+use Rattle.tinmove.proofs.RunEnds.{ends_so, never-write-end, makes_refusal, makes_no_job, makes_files, told, told_always, stands_refused, stands_done}
+use Rattle.runs.proofs.RefusalLines.{never-write}
+use Rattle.tinmove.proofs.ReportLimits.{limit_told, limit_done}
 use Rattle.tinmove.proofs.WordsEnd.{check_job, end_as, no_job_end, words_end, wants_none, words_unread, end_unread, unread_as}
 use Rattle.tinmove.proofs.OneOutcome.{job_or_fault}
 use Rattle.tinmove.proofs.KeptRuns.{run_keeps, made_keeps}
@@ -52,99 +53,99 @@ returns-in-Err-clause-limit g c =
     limit_told (Words c.in-Err.fault) c.refuse.result (g.P.Press.made c.refuse.new.press) _ _ (record { status = e.status; all = e.whole; front = e.front; rose = e.rose }) (λ no. cc) (λ no. cc)
 
 pub publish-requires-clause-writable : goal.publish-requires-clause-writable
-publish-requires-clause-writable g c = let form = c.in-Ok-prepared.ensures.form in form.writable
+publish-requires-clause-writable g c = let form = c.in-Ok-prepare.ensures.form in form.writable
 
-pub returns-in-Ok-prepared-clause-ends : goal.returns-in-Ok-prepared-clause-ends
-returns-in-Ok-prepared-clause-ends g c =
+pub returns-in-Ok-prepare-clause-ends : goal.returns-in-Ok-prepare-clause-ends
+returns-in-Ok-prepare-clause-ends g c =
     let e = c.publish.ensures in
     told (g.S.Shelf.files c.args.shelf.now) (λ files is.
-    ends_so (map string_bytes c.args.words.now) files _ _ (files_of c.in-Ok-prepared.written) (end_of c.in-Ok-prepared.written.changed) c.publish.result (g.P.Press.made c.publish.new.press)
-    (never-write-end c.in-Ok-prepared.written.changed)
-    (makes_files (map string_bytes c.args.words.now) files _ c.in-Ok.job (end_of c.in-Ok-prepared.written.changed) (files_of c.in-Ok-prepared.written) c.in-Ok.ensures.job is)
-    (record { status = e.status; all = e.whole; front = e.front; rose = e.rose })) c.in-Ok-prepared.ensures.ok
+    ends_so (map string_bytes c.args.words.now) files _ _ (files_of c.in-Ok-prepare.written) (end_of c.in-Ok-prepare.written.changed) c.publish.result (g.P.Press.made c.publish.new.press)
+    (never-write-end c.in-Ok-prepare.written.changed)
+    (makes_files (map string_bytes c.args.words.now) files _ c.in-Ok.job (end_of c.in-Ok-prepare.written.changed) (files_of c.in-Ok-prepare.written) c.in-Ok.ensures.job is)
+    (record { status = e.status; all = e.whole; front = e.front; rose = e.rose })) c.in-Ok-prepare.ensures.ok
 
-pub returns-in-Ok-prepared-clause-kept : goal.returns-in-Ok-prepared-clause-kept
-returns-in-Ok-prepared-clause-kept g c =
-    run_keeps (map string_bytes c.args.words.now) (g.S.Shelf.files c.args.shelf.now) _ _ c.publish.result (g.P.Press.made c.publish.new.press) (returns-in-Ok-prepared-clause-ends g c)
+pub returns-in-Ok-prepare-clause-kept : goal.returns-in-Ok-prepare-clause-kept
+returns-in-Ok-prepare-clause-kept g c =
+    run_keeps (map string_bytes c.args.words.now) (g.S.Shelf.files c.args.shelf.now) _ _ c.publish.result (g.P.Press.made c.publish.new.press) (returns-in-Ok-prepare-clause-ends g c)
 
-pub returns-in-Ok-prepared-clause-untold : goal.returns-in-Ok-prepared-clause-untold
-returns-in-Ok-prepared-clause-untold g c = λ none files.
+pub returns-in-Ok-prepare-clause-untold : goal.returns-in-Ok-prepare-clause-untold
+returns-in-Ok-prepare-clause-untold g c = λ none files.
     let e = c.publish.ensures in
-    ends_so (map string_bytes c.args.words.now) files ⊥ _ (files_of c.in-Ok-prepared.written) (end_of c.in-Ok-prepared.written.changed) c.publish.result (g.P.Press.made c.publish.new.press)
-    (never-write-end c.in-Ok-prepared.written.changed)
-    (makes_files (map string_bytes c.args.words.now) files ⊥ c.in-Ok.job (end_of c.in-Ok-prepared.written.changed) (files_of c.in-Ok-prepared.written) c.in-Ok.ensures.job
-    (c.in-Ok-prepared.ensures.untold (wants_none (map string_bytes c.args.words.now) c.in-Ok.job c.in-Ok.ensures.job none) files))
+    ends_so (map string_bytes c.args.words.now) files ⊥ _ (files_of c.in-Ok-prepare.written) (end_of c.in-Ok-prepare.written.changed) c.publish.result (g.P.Press.made c.publish.new.press)
+    (never-write-end c.in-Ok-prepare.written.changed)
+    (makes_files (map string_bytes c.args.words.now) files ⊥ c.in-Ok.job (end_of c.in-Ok-prepare.written.changed) (files_of c.in-Ok-prepare.written) c.in-Ok.ensures.job
+    (c.in-Ok-prepare.ensures.untold (wants_none (map string_bytes c.args.words.now) c.in-Ok.job c.in-Ok.ensures.job none) files))
     (record { status = e.status; all = e.whole; front = e.front; rose = e.rose })
 
-pub returns-in-Ok-prepared-clause-unread : goal.returns-in-Ok-prepared-clause-unread
-returns-in-Ok-prepared-clause-unread g c = λ none. unread_as (end_of c.in-Ok-prepared.written.changed) c.publish.result c.publish.ensures.status (end_unread c.in-Ok-prepared.written.changed)
+pub returns-in-Ok-prepare-clause-unread : goal.returns-in-Ok-prepare-clause-unread
+returns-in-Ok-prepare-clause-unread g c = λ none. unread_as (end_of c.in-Ok-prepare.written.changed) c.publish.result c.publish.ensures.status (end_unread c.in-Ok-prepare.written.changed)
 
-pub returns-in-Ok-prepared-clause-kept_made : goal.returns-in-Ok-prepared-clause-kept_made
-returns-in-Ok-prepared-clause-kept_made g c = λ n asks.
-    made_keeps (map string_bytes c.args.words.now) [] ⊥ _ n c.publish.result (g.P.Press.made c.publish.new.press) asks (returns-in-Ok-prepared-clause-untold g c (inr (n, asks)) [])
+pub returns-in-Ok-prepare-clause-kept_made : goal.returns-in-Ok-prepare-clause-kept_made
+returns-in-Ok-prepare-clause-kept_made g c = λ n asks.
+    made_keeps (map string_bytes c.args.words.now) [] ⊥ _ n c.publish.result (g.P.Press.made c.publish.new.press) asks (returns-in-Ok-prepare-clause-untold g c (inr (n, asks)) [])
 
-pub returns-in-Ok-prepared-clause-stands : goal.returns-in-Ok-prepared-clause-stands
-returns-in-Ok-prepared-clause-stands g c =
+pub returns-in-Ok-prepare-clause-stands : goal.returns-in-Ok-prepare-clause-stands
+returns-in-Ok-prepare-clause-stands g c =
     let e = c.publish.ensures in
-    stands_done (map string_bytes c.args.words.now) c.in-Ok.job c.in-Ok-prepared.written c.publish.result (g.P.Press.made c.publish.new.press) _ c.in-Ok.ensures.job c.in-Ok-prepared.ensures.form (record { status = e.status; all = e.whole; front = e.front; rose = e.rose })
+    stands_done (map string_bytes c.args.words.now) c.in-Ok.job c.in-Ok-prepare.written c.publish.result (g.P.Press.made c.publish.new.press) _ c.in-Ok.ensures.job c.in-Ok-prepare.ensures.form (record { status = e.status; all = e.whole; front = e.front; rose = e.rose })
 
-pub returns-in-Ok-prepared-clause-no_job : goal.returns-in-Ok-prepared-clause-no_job
-returns-in-Ok-prepared-clause-no_job g c = λ lacks. absurd (job_or_fault (map string_bytes c.args.words.now) c.in-Ok.job lacks.0 c.in-Ok.ensures.job lacks.1)
+pub returns-in-Ok-prepare-clause-no_job : goal.returns-in-Ok-prepare-clause-no_job
+returns-in-Ok-prepare-clause-no_job g c = λ lacks. absurd (job_or_fault (map string_bytes c.args.words.now) c.in-Ok.job lacks.0 c.in-Ok.ensures.job lacks.1)
 
-pub returns-in-Ok-prepared-clause-limit : goal.returns-in-Ok-prepared-clause-limit
-returns-in-Ok-prepared-clause-limit g c =
+pub returns-in-Ok-prepare-clause-limit : goal.returns-in-Ok-prepare-clause-limit
+returns-in-Ok-prepare-clause-limit g c =
     let e = c.publish.ensures in
-    limit_done c.in-Ok.job c.in-Ok-prepared.written c.publish.result (g.P.Press.made c.publish.new.press) _ _ c.in-Ok-prepared.ensures.form (record { status = e.status; all = e.whole; front = e.front; rose = e.rose })
+    limit_done c.in-Ok.job c.in-Ok-prepare.written c.publish.result (g.P.Press.made c.publish.new.press) _ _ c.in-Ok-prepare.ensures.form (record { status = e.status; all = e.whole; front = e.front; rose = e.rose })
 
-pub returns-in-Ok-prepared-clause-check : goal.returns-in-Ok-prepared-clause-check
-returns-in-Ok-prepared-clause-check g c = λ name check.
-    end_as _ c.publish.result c.publish.ensures.status (check_job (map string_bytes c.args.words.now) c.in-Ok.job name _ c.in-Ok.ensures.job check c.in-Ok-prepared.ensures.may_end)
+pub returns-in-Ok-prepare-clause-check : goal.returns-in-Ok-prepare-clause-check
+returns-in-Ok-prepare-clause-check g c = λ name check.
+    end_as _ c.publish.result c.publish.ensures.status (check_job (map string_bytes c.args.words.now) c.in-Ok.job name _ c.in-Ok.ensures.job check c.in-Ok-prepare.ensures.may_end)
 
-pub returns-clause-ends : goal.returns-clause-ends
-returns-clause-ends g c =
-    let e = c.refuse-in-Err-prepared.ensures in
+pub returns-in-Err-prepare-clause-ends : goal.returns-in-Err-prepare-clause-ends
+returns-in-Err-prepare-clause-ends g c =
+    let e = c.refuse-in-Err-prepare.ensures in
     told (g.S.Shelf.files c.args.shelf.now) (λ files is.
-    ends_so (map string_bytes c.args.words.now) files _ _ (line_file c.in-Err-prepared.refusal) (status_of c.in-Err-prepared.refusal) c.refuse-in-Err-prepared.result (g.P.Press.made c.refuse-in-Err-prepared.new.press)
-    (never-write c.in-Err-prepared.refusal) (makes_refusal (map string_bytes c.args.words.now) files _ c.in-Ok.job c.in-Err-prepared.refusal c.in-Ok.ensures.job is)
-    (record { status = e.status; all = e.whole; front = e.front; rose = e.rose })) c.in-Err-prepared.ensures.refused
+    ends_so (map string_bytes c.args.words.now) files _ _ (line_file c.in-Err-prepare.refusal) (status_of c.in-Err-prepare.refusal) c.refuse-in-Err-prepare.result (g.P.Press.made c.refuse-in-Err-prepare.new.press)
+    (never-write c.in-Err-prepare.refusal) (makes_refusal (map string_bytes c.args.words.now) files _ c.in-Ok.job c.in-Err-prepare.refusal c.in-Ok.ensures.job is)
+    (record { status = e.status; all = e.whole; front = e.front; rose = e.rose })) c.in-Err-prepare.ensures.refused
 
-pub returns-clause-kept : goal.returns-clause-kept
-returns-clause-kept g c =
-    run_keeps (map string_bytes c.args.words.now) (g.S.Shelf.files c.args.shelf.now) _ _ c.refuse-in-Err-prepared.result (g.P.Press.made c.refuse-in-Err-prepared.new.press) (returns-clause-ends g c)
+pub returns-in-Err-prepare-clause-kept : goal.returns-in-Err-prepare-clause-kept
+returns-in-Err-prepare-clause-kept g c =
+    run_keeps (map string_bytes c.args.words.now) (g.S.Shelf.files c.args.shelf.now) _ _ c.refuse-in-Err-prepare.result (g.P.Press.made c.refuse-in-Err-prepare.new.press) (returns-in-Err-prepare-clause-ends g c)
 
-pub returns-clause-untold : goal.returns-clause-untold
-returns-clause-untold g c = λ none files.
-    let e = c.refuse-in-Err-prepared.ensures in
-    ends_so (map string_bytes c.args.words.now) files ⊥ _ (line_file c.in-Err-prepared.refusal) (status_of c.in-Err-prepared.refusal) c.refuse-in-Err-prepared.result (g.P.Press.made c.refuse-in-Err-prepared.new.press)
-    (never-write c.in-Err-prepared.refusal)
-    (makes_refusal (map string_bytes c.args.words.now) files ⊥ c.in-Ok.job c.in-Err-prepared.refusal c.in-Ok.ensures.job
-    (c.in-Err-prepared.ensures.untold_refused (wants_none (map string_bytes c.args.words.now) c.in-Ok.job c.in-Ok.ensures.job none) files))
+pub returns-in-Err-prepare-clause-untold : goal.returns-in-Err-prepare-clause-untold
+returns-in-Err-prepare-clause-untold g c = λ none files.
+    let e = c.refuse-in-Err-prepare.ensures in
+    ends_so (map string_bytes c.args.words.now) files ⊥ _ (line_file c.in-Err-prepare.refusal) (status_of c.in-Err-prepare.refusal) c.refuse-in-Err-prepare.result (g.P.Press.made c.refuse-in-Err-prepare.new.press)
+    (never-write c.in-Err-prepare.refusal)
+    (makes_refusal (map string_bytes c.args.words.now) files ⊥ c.in-Ok.job c.in-Err-prepare.refusal c.in-Ok.ensures.job
+    (c.in-Err-prepare.ensures.untold_refused (wants_none (map string_bytes c.args.words.now) c.in-Ok.job c.in-Ok.ensures.job none) files))
     (record { status = e.status; all = e.whole; front = e.front; rose = e.rose })
 
-pub returns-clause-unread : goal.returns-clause-unread
-returns-clause-unread g c = λ none.
-    unread_as (status_of c.in-Err-prepared.refusal) c.refuse-in-Err-prepared.result c.refuse-in-Err-prepared.ensures.status
-    (c.in-Err-prepared.ensures.unread (wants_none (map string_bytes c.args.words.now) c.in-Ok.job c.in-Ok.ensures.job none))
+pub returns-in-Err-prepare-clause-unread : goal.returns-in-Err-prepare-clause-unread
+returns-in-Err-prepare-clause-unread g c = λ none.
+    unread_as (status_of c.in-Err-prepare.refusal) c.refuse-in-Err-prepare.result c.refuse-in-Err-prepare.ensures.status
+    (c.in-Err-prepare.ensures.unread (wants_none (map string_bytes c.args.words.now) c.in-Ok.job c.in-Ok.ensures.job none))
 
-pub returns-clause-kept_made : goal.returns-clause-kept_made
-returns-clause-kept_made g c = λ n asks.
-    made_keeps (map string_bytes c.args.words.now) [] ⊥ _ n c.refuse-in-Err-prepared.result (g.P.Press.made c.refuse-in-Err-prepared.new.press) asks (returns-clause-untold g c (inr (n, asks)) [])
+pub returns-in-Err-prepare-clause-kept_made : goal.returns-in-Err-prepare-clause-kept_made
+returns-in-Err-prepare-clause-kept_made g c = λ n asks.
+    made_keeps (map string_bytes c.args.words.now) [] ⊥ _ n c.refuse-in-Err-prepare.result (g.P.Press.made c.refuse-in-Err-prepare.new.press) asks (returns-in-Err-prepare-clause-untold g c (inr (n, asks)) [])
 
-pub returns-clause-stands : goal.returns-clause-stands
-returns-clause-stands g c =
-    let e = c.refuse-in-Err-prepared.ensures in
-    stands_refused (map string_bytes c.args.words.now) c.in-Err-prepared.refusal c.refuse-in-Err-prepared.result (g.P.Press.made c.refuse-in-Err-prepared.new.press) _ (record { status = e.status; all = e.whole; front = e.front; rose = e.rose })
+pub returns-in-Err-prepare-clause-stands : goal.returns-in-Err-prepare-clause-stands
+returns-in-Err-prepare-clause-stands g c =
+    let e = c.refuse-in-Err-prepare.ensures in
+    stands_refused (map string_bytes c.args.words.now) c.in-Err-prepare.refusal c.refuse-in-Err-prepare.result (g.P.Press.made c.refuse-in-Err-prepare.new.press) _ (record { status = e.status; all = e.whole; front = e.front; rose = e.rose })
 
-pub returns-clause-no_job : goal.returns-clause-no_job
-returns-clause-no_job g c = λ lacks. absurd (job_or_fault (map string_bytes c.args.words.now) c.in-Ok.job lacks.0 c.in-Ok.ensures.job lacks.1)
+pub returns-in-Err-prepare-clause-no_job : goal.returns-in-Err-prepare-clause-no_job
+returns-in-Err-prepare-clause-no_job g c = λ lacks. absurd (job_or_fault (map string_bytes c.args.words.now) c.in-Ok.job lacks.0 c.in-Ok.ensures.job lacks.1)
 
-pub returns-clause-limit : goal.returns-clause-limit
-returns-clause-limit g c =
-    let e = c.refuse-in-Err-prepared.ensures in
-    limit_told c.in-Err-prepared.refusal c.refuse-in-Err-prepared.result (g.P.Press.made c.refuse-in-Err-prepared.new.press) _ _ (record { status = e.status; all = e.whole; front = e.front; rose = e.rose })
-    c.in-Err-prepared.ensures.causes.tin_long c.in-Err-prepared.ensures.causes.layers_long
+pub returns-in-Err-prepare-clause-limit : goal.returns-in-Err-prepare-clause-limit
+returns-in-Err-prepare-clause-limit g c =
+    let e = c.refuse-in-Err-prepare.ensures in
+    limit_told c.in-Err-prepare.refusal c.refuse-in-Err-prepare.result (g.P.Press.made c.refuse-in-Err-prepare.new.press) _ _ (record { status = e.status; all = e.whole; front = e.front; rose = e.rose })
+    c.in-Err-prepare.ensures.causes.tin_long c.in-Err-prepare.ensures.causes.layers_long
 
-pub returns-clause-check : goal.returns-clause-check
-returns-clause-check g c = λ name check.
-    end_as _ c.refuse-in-Err-prepared.result c.refuse-in-Err-prepared.ensures.status
-    (check_job (map string_bytes c.args.words.now) c.in-Ok.job name _ c.in-Ok.ensures.job check c.in-Err-prepared.ensures.causes.may_end)
+pub returns-in-Err-prepare-clause-check : goal.returns-in-Err-prepare-clause-check
+returns-in-Err-prepare-clause-check g c = λ name check.
+    end_as _ c.refuse-in-Err-prepare.result c.refuse-in-Err-prepare.ensures.status
+    (check_job (map string_bytes c.args.words.now) c.in-Ok.job name _ c.in-Ok.ensures.job check c.in-Err-prepare.ensures.causes.may_end)

@@ -1,0 +1,2 @@
+-- The files of lemmas of check_mode.
+pub mod CheckRefusals

@@ -1,0 +1,50 @@
+//! What a check writes.
+
+ghost use Rattle.std.specs.Prelude.{◌≡◌, ◌+◌, ◌≤◌, IfOk, IfErr, IfSome, string_bytes, false};
+ghost use Rattle.shelf_io.specs.Count.{Rose, counted};
+ghost use Rattle.shelf_io.specs.Load.{LacksName};
+ghost use Rattle.runs.specs.declared.loads.TheConstants.{MOST_BYTES};
+ghost use Rattle.runs.specs.Status.{end_of};
+ghost use Rattle.runs.specs.Counts.{LeavesFaults};
+ghost use Rattle.runs.specs.Output.{files_of, HasForm};
+ghost use Rattle.runs.specs.Causes.{HasCauses};
+ghost use Rattle.check_mode.specs.Checks.{sound_text, IsChecked, IsCheckWritten, IsEndOfCheck, MayRefuseCheck};
+
+use runs::{Output, Refusal, load_tin};
+use sheet_base::{How, Listed};
+use shelf_io::{Name, Shelf};
+use std::alloc::{AllocError, Global};
+use tin_base::SoundTin;
+
+/// The line of a triangulation that was found sound.
+fn sound_line(alloc: Global, tin: &SoundTin) -> Result<String, AllocError>
+    ensures { IfOk result (λ text. string_bytes text ≡ sound_text tin.now) }
+{
+    let corners = tin.corners().len();
+    let triangles = tin.triangles().len();
+    let inexact = tin.inexact();
+    format!(in alloc; "sound: corners {corners} triangles {triangles} inexact {inexact}\n")
+}
+
+/// What is written where the triangulation of the file of this name is to be checked.
+pub fn prepare_check<S: Shelf>(
+    alloc: Global,
+    shelf: &mut S,
+    name: &Name,
+    how: How,
+) -> Result<Output, Refusal>
+    ensures ok { IfOk result (λ written. IfSome (S.files shelf.old) (λ files. IsChecked files how name.now (end_of written.changed) (files_of written))) }
+    ensures unchanged { IfOk result (λ written. written.changed ≡ false) }
+    ensures form { IfOk result (λ written. HasForm IsCheckWritten written) }
+    ensures refused { IfErr result (λ refusal. IfSome (S.files shelf.old) (λ files. MayRefuseCheck files how name.now (Rose (S.faults shelf.old) (S.faults shelf.new)) refusal)) }
+    ensures causes { IfErr result (λ refusal. HasCauses (LacksName (S.files shelf.old) name.now) IsEndOfCheck (Rose (S.faults shelf.old) (S.faults shelf.new)) (counted (S.given shelf.old) (MOST_BYTES + 1) ≤ S.given shelf.new) refusal) }
+    ensures faults { LeavesFaults (S.faults shelf.old) (S.faults shelf.new) result }
+{
+    let tin = load_tin(alloc, shelf, name.text(), how)?;
+    let line = sound_line(alloc, &tin)?;
+    Ok(Output {
+        layers: Vec::new(alloc),
+        said: Listed::of(line.into_bytes()),
+        changed: false,
+    })
+}

@@ -1,0 +1,53 @@
+-- What causes that the layers are refused causes that the job is.
+use Rattle.std.proofs.Common.{◌≡◌, ◌≢◌, ◌⊎◌, ◌≤◌, inl, inr, ℕ, Option, subst, arith}
+use Rattle.shelf_io.specs.Count.{counted}
+use Rattle.shelf_io.specs.Files.{Files}
+use Rattle.shelf_io.specs.Load.{LacksName}
+use Rattle.migrate.specs.declared.migrations.Migration.{Migration}
+use Rattle.runs.specs.declared.status.Status.{Status}
+use Rattle.runs.specs.declared.status.Status.TheVariants.{Read as ReadStatus, Words as WordsStatus}
+use Rattle.runs.specs.declared.refusal.Refusal.{Refusal}
+use Rattle.runs.specs.declared.refusal.Refusal.TheVariants.{Words, TinUnread, TinLong, Tin, Check, LayerUnread, LayersLong, Layer, Outside, TooManyPieces, TooManyChanges, NoMemory}
+use Rattle.runs.specs.Refusals.{status_of, status_of_layer}
+use Rattle.migrate.specs.Migrations.{LacksSome, LacksWanted}
+use Rattle.runs.specs.Causes.{HasCauses}
+use Rattle.migrate.specs.RunContents.{IsOfLayers}
+use Rattle.runs.proofs.Faults.{IsOfLayer, unread, without_room, of_layer}
+
+-- the words are understood
+layer_understood : (status : Status) → IsOfLayer status → status ≢ WordsStatus
+layer_understood status (unread is) = rw is (λ e. cc)
+layer_understood status (without_room is) = rw is (λ e. cc)
+
+understood : (refusal : Refusal) → IsOfLayers refusal → status_of refusal ≢ WordsStatus
+understood (Words fault) of = absurd of
+understood TinUnread of = absurd of
+understood TinLong of = absurd of
+understood (Tin fault) of = absurd of
+understood (Check fault) of = absurd of
+understood (LayerUnread layer) of = λ e. cc
+understood LayersLong of = λ e. cc
+understood (Layer layer fault) of = layer_understood (status_of_layer fault) (of_layer fault)
+understood (Outside layer path segment) of = λ e. cc
+understood TooManyPieces of = λ e. cc
+understood TooManyChanges of = λ e. cc
+understood NoMemory of = λ e. cc
+
+-- a file that the layers lack is one that the job wants
+wanted : (rose lacks some : Type 0) → rose ⊎ some → rose ⊎ (lacks ⊎ some)
+wanted rose lacks some (inl h) = inl h
+wanted rose lacks some (inr h) = inr (inr h)
+
+pub layers_causes : (migration : Migration) (told : Option Files) (rose passed : Type 0) (refusal : Refusal) → IsOfLayers refusal
+    → (status_of refusal ≡ ReadStatus → rose ⊎ LacksSome migration.layers told) → (refusal ≡ LayersLong → passed) → HasCauses (LacksWanted migration told) (λ status. Unit {0}) rose passed refusal
+layers_causes migration told rose passed refusal of read long = record {
+  understood = understood refusal of;
+  read = λ e. wanted rose (LacksName told migration.tin) (LacksSome migration.layers told) (read e);
+  tin_long = λ e. absurd (subst IsOfLayers e of);
+  layers_long = long;
+  may_end = tt;
+}
+
+-- what was handed out before counts too
+pub passed_since : (start given more after : ℕ) → start ≤ given → counted given more ≤ after → counted start more ≤ after
+passed_since start given more after before past = omega (arith, before, past)

@@ -1,0 +1,16 @@
+-- The files of lemmas of migrate.
+mod OnePieces
+mod PairChanges
+mod MakerRows
+mod MakerExamples
+mod OneReading
+mod OneOutcome
+mod LayerRefusals
+pub mod ComparablePieces
+mod LayerLists
+mod OneLayers
+pub mod OneMigration
+mod MigrationSteps
+mod LayerCauses
+pub mod MakerSteps
+pub mod KeptMigrations

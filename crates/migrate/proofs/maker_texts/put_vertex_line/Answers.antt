@@ -1,0 +1,11 @@
+-- Answers to the goals of `put_vertex_line` in src/making.rt.
+use Rattle.std.proofs.Common.{arith}
+use Rattle.migrate.specs.MakerTexts.{vertex_row}
+use Rattle.migrate.proofs.MakerRows.{one_more_row}
+use Rattle.migrate.proofs.maker_texts.put_vertex_line.Goals as goal
+
+pub loop-i-preserved : goal.loop-i-preserved
+loop-i-preserved c =
+    let here = c.loop-i.invariant in
+    let put = c.in_ok-put_vertex.ensures in
+    record { text = one_more_row (λ i. vertex_row i c.args.j) c.args.out.now.items _ _ _ here.text put.text; short = omega (arith, here.short, put.short) }

@@ -1,0 +1,52 @@
+-- What is made in place of a migration that is read: its texts, and what becomes of them.
+use Rattle.std.specs.Prelude.{◌≡◌, ℕ, List, [], ◌∷◌, codes, false}
+use Rattle.shelf_io.specs.Files.{Files}
+use Rattle.tin_base.specs.declared.pieces.Change.{Change}
+use Rattle.runs.specs.declared.status.Status.{Status}
+use Rattle.runs.specs.declared.refusal.Refusal.{Refusal}
+use Rattle.runs.specs.declared.refusal.Refusal.TheVariants.{Tin, Check, Layer, Outside, TooManyPieces, TooManyChanges, NoMemory}
+use Rattle.migrate.specs.declared.migrations.Migration.{Migration}
+use Rattle.migrate.specs.MakerTexts.{tin_text, layer_text}
+use Rattle.migrate.specs.RunChanges.{end_with}
+use Rattle.migrate.specs.Migrations.{IsMigrated, IsReportOn, MayRefuseMigration}
+
+-- what is made goes the way of a migration, under these names and as two files alone
+abbrev pub made_files : ℕ → Files
+made_files n = (codes "made.json", tin_text n) ∷ (codes "made.wkt", layer_text n) ∷ []
+
+abbrev pub made_migration : Migration
+made_migration = record {
+  tin = codes "made.json";
+  out = [];
+  how = record { exact = false; drop_other = false; inside_only = false };
+  inverse = false;
+  layers = codes "made.wkt" ∷ [];
+}
+
+-- its report alone is written
+pub record IsMakingDone (n : ℕ) (status : Status) (made : Files) : Type 0 where
+  pub changes : List Change
+  pub layers : Files
+  pub said : List ℕ
+  pub migrated : IsMigrated (made_files n) made_migration changes layers said
+  pub status_is : status ≡ end_with changes
+  pub made_is : made ≡ (codes "-", said) ∷ []
+
+-- What is written of it, whatever files hold, and the status: a report alone.
+abbrev pub IsMakingWritten : Files → List ℕ → Status → Type 0
+IsMakingWritten layers said status = (layers ≡ []) × IsReportOn made_migration.tin made_migration.layers said status
+
+-- why it is refused: by its texts, or because memory ran out
+abbrev pub MayNotBeMade : ℕ → Refusal → Type 0
+MayNotBeMade n refusal = MayRefuseMigration (made_files n) made_migration ⊥ refusal
+
+-- the refusal is one that texts which are made may have
+abbrev pub IsOfMaking : Refusal → Type 0
+IsOfMaking (Tin fault) = Unit {0}
+IsOfMaking (Check fault) = Unit {0}
+IsOfMaking (Layer layer fault) = Unit {0}
+IsOfMaking (Outside layer path segment) = Unit {0}
+IsOfMaking TooManyPieces = Unit {0}
+IsOfMaking TooManyChanges = Unit {0}
+IsOfMaking NoMemory = Unit {0}
+IsOfMaking refusal = ⊥

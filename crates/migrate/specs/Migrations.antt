@@ -1,0 +1,133 @@
+-- A migration: the triangulation through which layers are carried, what refuses it, and what it makes.
+use Rattle.std.specs.Prelude.{◌≡◌, ◌⊎◌, ℕ, List, [], ◌∷◌, ◌++◌, map, codes, Bool, true, false, Contains, Option, length, Some}
+use Rattle.shelf_io.specs.Files.{Files}
+use Rattle.shelf_io.specs.Load.{LacksName}
+use Rattle.sheet_base.specs.declared.flags.How.{How}
+use Rattle.tin_base.specs.declared.pieces.Change.{Change}
+use Rattle.tin_base.specs.declared.pieces.Piece.{Piece}
+use Rattle.tin_base.specs.Triangulation.{Triangulation}
+use Rattle.tin_base.specs.Turned.{turned_of}
+use Rattle.job_words.specs.Kept.{IsMigration as AreNames}
+use Rattle.report_text.specs.Reports.{Contents as Report}
+use Rattle.report_text.specs.declared.rows.LayerRow.{LayerRow}
+use Rattle.report_text.specs.ReportText.{report_text}
+use Rattle.runs.specs.declared.status.Status.{Status}
+use Rattle.runs.specs.declared.refusal.Refusal.{Refusal}
+use Rattle.runs.specs.declared.refusal.Refusal.TheVariants.{TinUnread, LayerUnread}
+use Rattle.runs.specs.Triangulations.{HasTin, IsTinRefused}
+use Rattle.runs.specs.Causes.{MayRefuse}
+use Rattle.migrate.specs.declared.migrations.Migration.{Migration}
+use Rattle.migrate.specs.Names.{name_in}
+use Rattle.migrate.specs.LayerTexts.{is_drawing}
+use Rattle.migrate.specs.LayerRuns.{setting_of, Done, AreCarried, IsReachedLayer, AreRefused}
+use Rattle.migrate.specs.RunChanges.{AreListed, end_with}
+
+-- the names of the migration may be taken
+abbrev pub MayBeTaken : Migration → Type 0
+MayBeTaken migration = AreNames migration.tin migration.out migration.layers
+
+-- ---- the triangulation
+-- the triangulation through which layers are carried: as it stands, or with its frames exchanged
+abbrev pub directed : Bool → Triangulation → Triangulation
+directed false tin = tin
+directed true tin = turned_of tin
+
+-- the layers are carried through this one: it is read and sound as it stands, and only then its frames are exchanged, where that is asked for
+abbrev pub HasTurned : Files → How → List ℕ → Bool → Triangulation → Type 0
+HasTurned files how name inverse tin = (stood : Triangulation) × HasTin files how name stood × (tin ≡ directed inverse stood)
+
+abbrev pub HasWay : Files → Migration → Triangulation → Type 0
+HasWay files migration tin = HasTurned files migration.how migration.tin migration.inverse tin
+
+-- ---- what refuses it
+-- the files refuse it: the triangulation, or else a layer or the changes
+pub data IsMigrationRefused (files : Files) (migration : Migration) (refusal : Refusal) : Type 0 where
+  by_tin : IsTinRefused files migration.how migration.tin refusal → IsMigrationRefused files migration refusal
+  by_layers : (tin : Triangulation) → HasWay files migration tin → AreRefused (setting_of (Some files) migration.how tin) migration.layers refusal → IsMigrationRefused files migration refusal
+
+-- nothing refuses the migration before the file of the layer of this number
+pub record IsLayerReached (files : Files) (migration : Migration) (number : ℕ) : Type 0 where
+  pub tin : Triangulation
+  pub way : HasWay files migration tin
+  pub name : List ℕ
+  pub reached : IsReachedLayer (setting_of (Some files) migration.how tin) migration.layers number name
+
+-- the refusal is that of a file that could not be read, and nothing refuses the job before that file
+abbrev pub IsReachedBy : Files → Migration → Refusal → Type 0
+IsReachedBy files migration TinUnread = Unit {0}
+IsReachedBy files migration (LayerUnread layer) = IsLayerReached files migration layer
+IsReachedBy files migration refusal = ⊥
+
+-- why it may be refused before anything is written
+abbrev pub MayRefuseMigration : Files → Migration → Type 0 → Refusal → Type 0
+MayRefuseMigration files migration shelf_rose refusal = MayRefuse (IsMigrationRefused files migration) (IsReachedBy files migration) shelf_rose refusal
+
+-- one of these names is missing from the shelf's files, which are told
+abbrev pub LacksSome : List (List ℕ) → Option Files → Type 0
+LacksSome names files = (name : List ℕ) × Contains names name × LacksName files name
+
+-- a file that the migration wants is missing
+abbrev pub LacksWanted : Migration → Option Files → Type 0
+LacksWanted migration files = LacksName files migration.tin ⊎ LacksSome migration.layers files
+
+-- ---- what it makes
+-- a layer's row of the report
+abbrev pub row_of : Done → LayerRow
+row_of done = record {
+  paths = done.carried.paths;
+  segments = done.carried.segments;
+  pieces = done.carried.pieces;
+  inexact = done.carried.inexact;
+  dropped = done.carried.dropped;
+  drawing = is_drawing done.format;
+  name = done.name;
+}
+
+-- what the report of a run says
+abbrev pub report_of : List ℕ → Triangulation → List LayerRow → List Change → Report
+report_of name tin rows changes = record {
+  corners = length tin.corners;
+  triangles = length tin.triangles;
+  inexact = tin.inexact;
+  name = name;
+  layers = rows;
+  changes = changes;
+}
+
+-- a layer's file in a folder, with the images in place of the points
+abbrev pub file_in : List ℕ → Done → List ℕ × List ℕ
+file_in folder done = (name_in folder done.name, done.carried.text)
+
+-- all layers are carried: a file for each, in their order, and a report, which lists the changes of the pieces of all of them
+pub record IsMigrated (files : Files) (migration : Migration) (changes : List Change) (layers : Files) (said : List ℕ) : Type 0 where
+  pub tin : Triangulation
+  pub way : HasWay files migration tin
+  pub pieces : List Piece
+  pub done : List Done
+  pub used : ℕ
+  pub carried : AreCarried (setting_of (Some files) migration.how tin) 0 0 [] migration.layers pieces done used
+  pub listed : AreListed tin pieces changes
+  pub layers_are : layers ≡ map (file_in migration.out) done
+  pub said_is : said ≡ report_text (report_of migration.tin tin (map row_of done) changes)
+
+-- a migration makes the layers' files and then the report; the status says whether this lists a change
+pub record IsMigrationDone (files : Files) (migration : Migration) (status : Status) (made : Files) : Type 0 where
+  pub changes : List Change
+  pub layers : Files
+  pub said : List ℕ
+  pub migrated : IsMigrated files migration changes layers said
+  pub status_is : status ≡ end_with changes
+  pub made_is : made ≡ layers ++ (codes "-", said) ∷ []
+
+-- a report on the triangulation and the layers of these names; the status says whether it lists a change
+pub record IsReportOn (tin : List ℕ) (layers : List (List ℕ)) (said : List ℕ) (status : Status) : Type 0 where
+  pub report : Report
+  pub tin_is : report.name ≡ tin
+  pub layers_are : map (λ (row : LayerRow). row.name) report.layers ≡ layers
+  pub said_is : said ≡ report_text report
+  pub status_is : status ≡ end_with report.changes
+
+-- What is written of a migration that is done, whatever files hold, and the status: a file for each layer, in their order and under their last parts in the folder, and a report on them.
+abbrev pub IsMigrationWritten : Migration → Files → List ℕ → Status → Type 0
+IsMigrationWritten migration layers said status =
+    (map (λ (file : List ℕ × List ℕ). file.0) layers ≡ map (name_in migration.out) migration.layers) × IsReportOn migration.tin migration.layers said status

@@ -1,0 +1,118 @@
+-- What a run has of the layers that it carried, and why one is not carried.
+use Rattle.std.specs.Prelude.{◌≡◌, ℕ, ◌+◌, List, [], ◌∷◌, ◌++◌, map, length, Some}
+use Rattle.carry_map.specs.Layers.{IsLayerOutside, IsLayerTooMany}
+use Rattle.carry_map.specs.declared.faults.CarryFault.{CarryFault}
+use Rattle.carry_map.specs.declared.faults.CarryFault.TheVariants.{Layer as Unread, Outside as CarryOutside, TooMany, NoMemory as CarryMemory}
+use Rattle.carry_map.specs.declared.layers.Carried.{Carried}
+use Rattle.carry_map.specs.declared.limits.TheConstants.{MOST_PIECES}
+use Rattle.sheet_base.specs.declared.flags.How.{How}
+use Rattle.sheet_base.specs.declared.faults.LayerFault.{LayerFault}
+use Rattle.sheet_base.specs.Sheets.{Contents}
+use Rattle.tin_base.specs.declared.pieces.Change.{Change}
+use Rattle.tin_base.specs.declared.pieces.Piece.{Piece}
+use Rattle.tin_base.specs.Triangulation.{Triangulation}
+use Rattle.topo_check.specs.Changes.{HasMoreThan}
+use Rattle.topo_check.specs.declared.faults.ChangesFault.{ChangesFault}
+use Rattle.topo_check.specs.declared.faults.ChangesFault.TheVariants.{TooMany as TooManyListed, NoMemory as ChangesMemory}
+use Rattle.report_text.specs.declared.rows.LayerRow.{LayerRow}
+use Rattle.report_text.specs.ReportText.{report_text}
+use Rattle.job_words.specs.declared.formats.Format.{Format}
+use Rattle.job_words.specs.Formats.{format_of}
+use Rattle.runs.specs.declared.refusal.Refusal.{Refusal}
+use Rattle.runs.specs.declared.refusal.Refusal.TheVariants.{LayerUnread, LayersLong, Layer, Outside, TooManyPieces, TooManyChanges, NoMemory}
+use Rattle.runs.specs.declared.output.Output.{Output}
+use Rattle.runs.specs.Output.{file_of}
+use Rattle.migrate.specs.declared.layer_runs.Run.{Run}
+use Rattle.migrate.specs.declared.change_lists.TheConstants.{MOST_CHANGES}
+use Rattle.migrate.specs.LayerOutcomes.{IsLayerText, LacksLayerText, IsCarried}
+use Rattle.migrate.specs.LayerRuns.{Setting, Done, AreCarried, IsReachedLayer, AreRefused}
+use Rattle.migrate.specs.RunChanges.{AreListed, is_some_change}
+use Rattle.migrate.specs.Migrations.{row_of, file_in, report_of}
+
+-- ---- one layer
+-- the refusal of the layer of this number, which is not carried
+abbrev pub of_carrying : ℕ → CarryFault → Refusal
+of_carrying layer (Unread fault) = Layer layer fault
+of_carrying layer (CarryOutside path segment) = Outside layer path segment
+of_carrying layer TooMany = TooManyPieces
+of_carrying layer CarryMemory = NoMemory
+
+-- the refusal of a run whose changes are not listed
+abbrev pub of_changes : ChangesFault → Refusal
+of_changes TooManyListed = TooManyChanges
+of_changes ChangesMemory = NoMemory
+
+-- the layer of this number and text is not carried, where a format reads and refuses texts so, or memory ran out
+abbrev pub IsUncarriedAs : (List ℕ → Contents → Type 0) → (List ℕ → LayerFault → Type 0) → Triangulation → List ℕ → ℕ → ℕ → Refusal → Type 0
+IsUncarriedAs reads refuses tin text number before (Layer layer fault) = (layer ≡ number) × refuses text fault
+IsUncarriedAs reads refuses tin text number before (Outside layer path segment) = (layer ≡ number) × IsLayerOutside tin (reads text) number before MOST_PIECES path segment
+IsUncarriedAs reads refuses tin text number before TooManyPieces = IsLayerTooMany tin (reads text) number before MOST_PIECES
+IsUncarriedAs reads refuses tin text number before NoMemory = Unit {0}
+IsUncarriedAs reads refuses tin text number before refusal = ⊥
+
+-- the same of a format
+abbrev pub IsUncarried : How → Triangulation → Format → List ℕ → ℕ → ℕ → Refusal → Type 0
+IsUncarried how tin format text number before refusal = IsUncarriedAs (IsLayerText how format) (LacksLayerText how format) tin text number before refusal
+
+-- the layer of this number, name and bytes is carried behind what the run had, and is the last that it has now
+pub record AddsLayer (how : How) (tin : Triangulation) (folder : List ℕ) (number : ℕ) (name bytes : List ℕ) (before now : Run) : Type 0 where
+  pub done : Done
+  pub named : done.name ≡ name
+  pub suffix : format_of name ≡ Some done.format
+  pub carried : IsCarried how tin done.format bytes number before.pieces.items now.pieces.items done.carried
+  pub files : map file_of now.files.items ≡ map file_of before.files.items ++ file_in folder done ∷ []
+  pub rows : now.rows.items ≡ before.rows.items ++ row_of done ∷ []
+  pub used : now.used ≡ before.used + length bytes
+
+-- it is not carried behind so many pieces, or memory ran out
+pub record AddsNone (how : How) (tin : Triangulation) (number : ℕ) (name bytes : List ℕ) (before : ℕ) (refusal : Refusal) : Type 0 where
+  pub format : Format
+  pub suffix : format_of name ≡ Some format
+  pub why : IsUncarried how tin format bytes number before refusal
+
+-- the row of a layer of this name and format
+abbrev pub row_with : List ℕ → Format → Carried → LayerRow
+row_with name format carried = row_of (record { name = name; format = format; carried = carried })
+
+-- ---- all layers
+-- what a run has of the layers that were carried
+pub record Holds (folder : List ℕ) (done : List Done) (run : Run) : Type 0 where
+  pub files : map file_of run.files.items ≡ map (file_in folder) done
+  pub rows : run.rows.items ≡ map row_of done
+
+-- the layers of these names are carried, and this is what the run has of them
+pub record HasCarried (setting : Setting) (folder : List ℕ) (names : List (List ℕ)) (run : Run) : Type 0 where
+  pub done : List Done
+  pub carried : AreCarried setting 0 0 [] names run.pieces.items done run.used
+  pub holds : Holds folder done run
+
+-- why the layers are not all carried, or their changes not listed: by the files, after a read fault, or because memory ran out
+pub data AreUncarried (setting : Setting) (names : List (List ℕ)) (shelf_rose : Type 0) (refusal : Refusal) : Type 0 where
+  by_the_layers : AreRefused setting names refusal → AreUncarried setting names shelf_rose refusal
+  by_fault : shelf_rose → (number : ℕ) → (name : List ℕ) → IsReachedLayer setting names number name → refusal ≡ LayerUnread number → AreUncarried setting names shelf_rose refusal
+  out_of_memory : refusal ≡ NoMemory → AreUncarried setting names shelf_rose refusal
+
+-- the pieces have more changes than may be listed, or memory ran out
+abbrev pub IsUnlisted : Triangulation → List Piece → Refusal → Type 0
+IsUnlisted tin pieces TooManyChanges = HasMoreThan tin pieces MOST_CHANGES
+IsUnlisted tin pieces NoMemory = Unit {0}
+IsUnlisted tin pieces refusal = ⊥
+
+-- the refusal is one of layers
+abbrev pub IsOfLayers : Refusal → Type 0
+IsOfLayers (LayerUnread layer) = Unit {0}
+IsOfLayers LayersLong = Unit {0}
+IsOfLayers (Layer layer fault) = Unit {0}
+IsOfLayers (Outside layer path segment) = Unit {0}
+IsOfLayers TooManyPieces = Unit {0}
+IsOfLayers TooManyChanges = Unit {0}
+IsOfLayers NoMemory = Unit {0}
+IsOfLayers refusal = ⊥
+
+-- the run's files and the report on its layers, with all changes of their pieces
+pub record IsReported (name : List ℕ) (tin : Triangulation) (run : Run) (written : Output) : Type 0 where
+  pub changes : List Change
+  pub listed : AreListed tin run.pieces.items changes
+  pub layers : written.layers.items ≡ run.files.items
+  pub said : written.said ≡ report_text (report_of name tin run.rows.items changes)
+  pub changed : written.changed ≡ is_some_change changes

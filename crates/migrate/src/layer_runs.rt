@@ -1,0 +1,222 @@
+//! The layers of a run, carried one after the other.
+
+ghost use Rattle.std.specs.Prelude.{◌≡◌, ◌≢◌, ◌⊎◌, ◌+◌, ◌≤◌, [], ◌∷◌, ◌++◌, Some, IfOk, IfErr, OnOk, length, vec_len, string_bytes};
+ghost use Rattle.shelf_io.specs.Count.{Rose, counted};
+ghost use Rattle.carry_map.specs.declared.limits.TheConstants.{MOST_PIECES};
+ghost use Rattle.job_words.specs.Formats.{format_of as format_by_name};
+ghost use Rattle.job_words.specs.Kept.{HasFormat};
+ghost use Rattle.runs.specs.declared.loads.TheConstants.{MOST_BYTES};
+ghost use Rattle.runs.specs.declared.status.Status.TheVariants.{Read as ReadStatus};
+ghost use Rattle.runs.specs.declared.refusal.Refusal.TheVariants.{LayersLong};
+ghost use Rattle.migrate.specs.Names.{name_in};
+ghost use Rattle.migrate.specs.Migrations.{MayBeTaken, LacksSome};
+ghost use Rattle.runs.specs.Counts.{LeavesFaults};
+ghost use Rattle.runs.specs.Refusals.{status_of};
+ghost use Rattle.migrate.specs.LayerOutcomes.{IsCarriedAs, IsCarried};
+ghost use Rattle.runs.specs.Output.{file_of};
+ghost use Rattle.migrate.specs.RunContents.{IsUncarriedAs, IsUncarried, HasCarried, AreUncarried, IsOfLayers, AddsLayer, AddsNone};
+ghost use Rattle.migrate.specs.LayerRuns.{setting_of};
+
+use crate::migrations::Migration;
+use crate::refusals::uncarried;
+use crate::report::layer_row;
+use carry_map::{Carried, MOST_PIECES, carry_layer};
+use dxf_layer::Dxf;
+use gj_layer::GeoJson;
+use job_words::{Format, format_of, last_part};
+use report_text::LayerRow;
+use runs::{LayerFile, MOST_BYTES, Refusal, load_file};
+use sheet_base::{How, Layer, Listed};
+use shelf_io::{Name, Shelf};
+use std::alloc::{AllocError, Global};
+use tin_base::Piece;
+use tin_index::TinIndex;
+use wkt_layer::Wkt;
+
+/// What a run has of the layers that were carried: for each its file and its row of the report, and the pieces and
+/// the bytes of all of them.
+#[derive(Drop)]
+pub struct Run {
+    pub files: Vec<LayerFile>,
+    pub rows: Vec<LayerRow>,
+    pub pieces: Vec<Piece>,
+    pub used: u64,
+}
+
+impl Run {
+    ghost use Rattle.std.specs.Prelude.{◌≡◌, []};
+
+    /// A run that has no layer yet.
+    pub fn new(alloc: Global) -> Run
+        ensures files { result.files.items ≡ [] }
+        ensures rows { result.rows.items ≡ [] }
+        ensures pieces { result.pieces.items ≡ [] }
+        ensures used { result.used ≡ 0 }
+    {
+        Run {
+            files: Vec::new(alloc),
+            rows: Vec::new(alloc),
+            pieces: Vec::new(alloc),
+            used: 0,
+        }
+    }
+}
+
+/// The name of the file into which a layer is written: the last part of the layer's name, in the folder `out`.
+pub fn output_name(alloc: Global, out: &str, layer: &str) -> Result<String, AllocError>
+    ensures { IfOk result (λ name. string_bytes name ≡ name_in out.now layer.now) }
+{
+    let last = last_part(layer);
+    let name = format!(in alloc; "{out}/{last}")?;
+    Ok(name)
+}
+
+/// The layer of this number, which has the format `L`, carried through a triangulation. Its pieces are appended.
+fn carry_as<L: Layer>(
+    alloc: Global,
+    index: &TinIndex,
+    bytes: &[u8],
+    how: How,
+    number: u32,
+    pieces: &mut Vec<Piece>,
+) -> Result<Carried, Refusal>
+    requires within { length bytes.now ≤ MOST_BYTES }
+    requires room { vec_len pieces.old ≤ MOST_PIECES }
+    ensures ok { IfOk result (λ carried. IsCarriedAs (L.reads how) (λ text sheet images edit. L.text text how sheet images edit) (L.reads_back how) index.now bytes.now number pieces.old.items pieces.new.items carried) }
+    ensures room { vec_len pieces.new ≤ MOST_PIECES }
+    ensures refused { IfErr result (λ refusal. IsUncarriedAs (L.reads how) (L.refuses how) index.now bytes.now number (length pieces.old.items) refusal) }
+{
+    match carry_layer::<L>(alloc, index, bytes, how, number, MOST_PIECES, pieces) {
+        Ok(carried) => Ok(carried),
+        Err(fault) => Err(uncarried(number, fault)),
+    }
+}
+
+/// The same of a layer of this format.
+fn carry_by_format(
+    alloc: Global,
+    format: Format,
+    index: &TinIndex,
+    bytes: &[u8],
+    how: How,
+    number: u32,
+    pieces: &mut Vec<Piece>,
+) -> Result<Carried, Refusal>
+    requires within { length bytes.now ≤ MOST_BYTES }
+    requires room { vec_len pieces.old ≤ MOST_PIECES }
+    ensures ok { IfOk result (λ carried. IsCarried how index.now format bytes.now number pieces.old.items pieces.new.items carried) }
+    ensures room { vec_len pieces.new ≤ MOST_PIECES }
+    ensures refused { IfErr result (λ refusal. IsUncarried how index.now format bytes.now number (length pieces.old.items) refusal) }
+{
+    match format {
+        Format::Wkt => carry_as::<Wkt>(alloc, index, bytes, how, number, pieces),
+        Format::GeoJson => carry_as::<GeoJson>(alloc, index, bytes, how, number, pieces),
+        Format::Drawing => carry_as::<Dxf>(alloc, index, bytes, how, number, pieces),
+    }
+}
+
+/// The format of a layer of the words.
+fn known_format(name: &str) -> Format
+    requires { HasFormat name.now }
+    ensures { format_by_name name.now ≡ Some result }
+{
+    match format_of(name) {
+        Some(format) => format,
+        None => unreachable!(),
+    }
+}
+
+/// The file into which a layer is written that was carried.
+fn layer_file(
+    alloc: Global,
+    out: &Name,
+    name: &Name,
+    text: Listed<u8>,
+) -> Result<LayerFile, AllocError>
+    ensures { IfOk result (λ file. file_of file ≡ (name_in out.now name.now, text)) }
+{
+    Ok(LayerFile {
+        name: output_name(alloc, out.text(), name.text())?,
+        text,
+    })
+}
+
+/// Puts a layer's file and its row behind those that the run has.
+fn add_layer(run: &mut Run, file: LayerFile, row: LayerRow) -> Result<(), AllocError>
+    ensures files { OnOk result (run.new.files.items ≡ run.old.files.items ++ file ∷ []) }
+    ensures rows { OnOk result (run.new.rows.items ≡ run.old.rows.items ++ row ∷ []) }
+    ensures pieces { run.new.pieces ≡ run.old.pieces }
+    ensures used { run.new.used ≡ run.old.used }
+{
+    run.files.push(file)?;
+    run.rows.push(row)?;
+    Ok(())
+}
+
+/// Carries the layer of this number, name and bytes behind those that the run has.
+pub fn carry_next(
+    alloc: Global,
+    folder: &Name,
+    how: How,
+    index: &TinIndex,
+    number: u32,
+    name: &Name,
+    bytes: &[u8],
+    run: &mut Run,
+) -> Result<(), Refusal>
+    requires suffix { HasFormat name.now }
+    requires within { run.old.used + length bytes.now ≤ MOST_BYTES }
+    requires room { vec_len run.old.pieces ≤ MOST_PIECES }
+    ensures ok { OnOk result (AddsLayer how index.now folder.now number name.now bytes.now run.old run.new) }
+    ensures room { vec_len run.new.pieces ≤ MOST_PIECES }
+    ensures refused { IfErr result (λ refusal. AddsNone how index.now number name.now bytes.now (length run.old.pieces.items) refusal) }
+{
+    let format = known_format(name.text());
+    let carried = carry_by_format(alloc, format, index, bytes, how, number, &mut run.pieces)?;
+    let row = layer_row(alloc, name, format, &carried)?;
+    let file = layer_file(alloc, folder, name, carried.text)?;
+    add_layer(run, file, row)?;
+    run.used += bytes.len() as u64;
+    Ok(())
+}
+
+/// All layers of a migration, carried in order.
+pub fn carry_layers<S: Shelf>(
+    alloc: Global,
+    shelf: &mut S,
+    migration: &Migration,
+    index: &TinIndex,
+) -> Result<Run, Refusal>
+    requires { MayBeTaken migration.now }
+    ensures ok { IfOk result (λ run. HasCarried (setting_of (S.files shelf.old) migration.now.how index.now) migration.now.out migration.now.layers run) }
+    ensures room { IfOk result (λ run. vec_len run.pieces ≤ MOST_PIECES) }
+    ensures refused { IfErr result (λ refusal. AreUncarried (setting_of (S.files shelf.old) migration.now.how index.now) migration.now.layers (Rose (S.faults shelf.old) (S.faults shelf.new)) refusal) }
+    ensures of_layers { IfErr result IsOfLayers }
+    ensures read { IfErr result (λ refusal. status_of refusal ≡ ReadStatus → Rose (S.faults shelf.old) (S.faults shelf.new) ⊎ LacksSome migration.now.layers (S.files shelf.old)) }
+    ensures long { IfErr result (λ refusal. refusal ≡ LayersLong → counted (S.given shelf.old) (MOST_BYTES + 1) ≤ S.given shelf.new) }
+    ensures faults { LeavesFaults (S.faults shelf.old) (S.faults shelf.new) result }
+{
+    let mut run = Run::new(alloc);
+    for (number, name) in migration.layers.items().iter().enumerate() {
+        let layer = number as u32;
+        let bytes = load_file(
+            alloc,
+            shelf,
+            name.text(),
+            MOST_BYTES - run.used,
+            Refusal::LayerUnread { layer },
+            Refusal::LayersLong,
+        )?;
+        carry_next(
+            alloc,
+            &migration.out,
+            migration.how,
+            index,
+            layer,
+            name,
+            &bytes,
+            &mut run,
+        )?;
+    }
+    Ok(run)
+}

@@ -1,0 +1,22 @@
+//! The mode that carries layers through a triangulation, and the maker of an example of it.
+#![tactic(auto)]
+
+mod change_lists;
+mod laws;
+mod layer_runs;
+mod maker;
+mod maker_texts;
+mod migration_output;
+mod migrations;
+mod refusals;
+mod report;
+
+pub use change_lists::MOST_CHANGES;
+pub use laws::{
+    making_is_one, making_keeps_relations, migration_is_one, migration_keeps_relations,
+};
+pub use layer_runs::output_name;
+pub use maker::prepare_making;
+pub use maker_texts::{make_layer, make_tin};
+pub use migration_output::prepare_migration;
+pub use migrations::Migration;

@@ -1,0 +1,84 @@
+//! What is written of a triangulation and a layer that are made.
+
+ghost use Rattle.std.specs.Prelude.{◌≡◌, ◌≤◌, [], Some, IfOk, IfErr, vec_len};
+ghost use Rattle.carry_map.specs.declared.limits.TheConstants.{MOST_PIECES};
+ghost use Rattle.job_words.specs.declared.limits.TheConstants.{MOST_SIZE};
+ghost use Rattle.runs.specs.Status.{end_of};
+ghost use Rattle.runs.specs.Output.{files_of, HasForm};
+ghost use Rattle.migrate.specs.Migrations.{HasTurned};
+ghost use Rattle.migrate.specs.Maker.{made_files, made_migration, IsMakingDone, IsMakingWritten, MayNotBeMade, IsOfMaking};
+ghost use Rattle.migrate.specs.RunContents.{HasCarried, AreUncarried};
+ghost use Rattle.migrate.specs.LayerRuns.{setting_of};
+
+use crate::layer_runs::{Run, carry_next};
+use crate::maker_texts::{make_layer, make_tin};
+use crate::migration_output::report_on_run;
+use runs::{Output, Refusal, sound_tin};
+use sheet_base::How;
+use shelf_io::Name;
+use std::alloc::Global;
+use tin_index::TinIndex;
+
+/// How a run reads without options.
+fn plainly() -> How
+    ensures { result ≡ made_migration.how }
+{
+    How {
+        exact: false,
+        drop_other: false,
+        inside_only: false,
+    }
+}
+
+/// The index of the made triangulation of n by n cells.
+fn build_made_index(alloc: Global, n: u32) -> Result<TinIndex, Refusal>
+    requires some { 1 ≤ n }
+    requires most { n ≤ MOST_SIZE }
+    ensures ok { IfOk result (λ tin. HasTurned (made_files n) made_migration.how made_migration.tin made_migration.inverse tin) }
+    ensures refused { IfErr result (λ refusal. MayNotBeMade n refusal) }
+    ensures of_making { IfErr result IsOfMaking }
+{
+    let text = make_tin(alloc, n)?;
+    let tin = sound_tin(alloc, &text, plainly())?;
+    let index = TinIndex::build(alloc, tin)?;
+    Ok(index)
+}
+
+/// The made layer of n lines, carried.
+fn carry_made_layer(alloc: Global, n: u32, index: &TinIndex) -> Result<Run, Refusal>
+    requires some { 1 ≤ n }
+    requires most { n ≤ MOST_SIZE }
+    ensures ok { IfOk result (λ run. HasCarried (setting_of (Some (made_files n)) made_migration.how index.now) [] made_migration.layers run) }
+    ensures room { IfOk result (λ run. vec_len run.pieces ≤ MOST_PIECES) }
+    ensures refused { IfErr result (λ refusal. AreUncarried (setting_of (Some (made_files n)) made_migration.how index.now) made_migration.layers ⊥ refusal) }
+    ensures of_making { IfErr result IsOfMaking }
+{
+    let text = make_layer(alloc, n)?;
+    let name = Name::of(alloc, "made.wkt")?;
+    let folder = Name::of(alloc, "")?;
+    let mut run = Run::new(alloc);
+    carry_next(alloc, &folder, plainly(), index, 0, &name, &text, &mut run)?;
+    Ok(run)
+}
+
+/// What is written where a triangulation and a layer are to be made: the report on them alone.
+pub fn prepare_making(alloc: Global, n: u32) -> Result<Output, Refusal>
+    requires some { 1 ≤ n }
+    requires most { n ≤ MOST_SIZE }
+    ensures ok { IfOk result (λ written. IsMakingDone n (end_of written.changed) (files_of written)) }
+    ensures form { IfOk result (λ written. HasForm IsMakingWritten written) }
+    ensures refused { IfErr result (λ refusal. MayNotBeMade n refusal) }
+    ensures of_making { IfErr result IsOfMaking }
+{
+    let index = build_made_index(alloc, n)?;
+    let run = carry_made_layer(alloc, n, &index)?;
+    let name = Name::of(alloc, "made.json")?;
+    let tin = index.into_tin();
+    tin.known();
+    let written = report_on_run(alloc, &name, &tin, run)?;
+    Ok(Output {
+        layers: Vec::new(alloc),
+        said: written.said,
+        changed: written.changed,
+    })
+}

@@ -1,0 +1,75 @@
+//! What a migration writes.
+
+ghost use Rattle.std.specs.Prelude.{◌≡◌, ◌+◌, ◌≤◌, IfOk, IfErr, IfSome, vec_len};
+ghost use Rattle.std.specs.List.{AllByRecursion};
+ghost use Rattle.shelf_io.specs.Count.{Rose, counted};
+ghost use Rattle.report_text.specs.Reports.{IsPrintable};
+ghost use Rattle.carry_map.specs.declared.limits.TheConstants.{MOST_PIECES};
+ghost use Rattle.topo_check.specs.Changes.{AreAllComparable};
+ghost use Rattle.runs.specs.declared.loads.TheConstants.{MOST_BYTES};
+ghost use Rattle.runs.specs.Status.{end_of};
+ghost use Rattle.runs.specs.Counts.{LeavesFaults};
+ghost use Rattle.runs.specs.Output.{files_of, HasForm};
+ghost use Rattle.runs.specs.Causes.{HasCauses};
+ghost use Rattle.migrate.specs.Migrations.{MayBeTaken, MayRefuseMigration, LacksWanted, IsMigrationDone, IsMigrationWritten};
+ghost use Rattle.migrate.specs.RunContents.{IsUnlisted, IsReported};
+
+use crate::change_lists::list_changes;
+use crate::layer_runs::{Run, carry_layers};
+use crate::migrations::{Migration, load_index};
+use crate::report::run_report;
+use runs::{Output, Refusal};
+use shelf_io::{Name, Shelf};
+use std::alloc::Global;
+use tin_base::SoundTin;
+
+/// The layers that were carried through a triangulation, with the report on them.
+pub fn report_on_run(
+    alloc: Global,
+    name: &Name,
+    tin: &SoundTin,
+    run: Run,
+) -> Result<Output, Refusal>
+    requires name { IsPrintable name.now }
+    requires rows { AllByRecursion (λ row. IsPrintable row.name) run.rows.items }
+    requires comparable { AreAllComparable tin.now run.pieces.items }
+    requires room { vec_len run.pieces ≤ MOST_PIECES }
+    ensures ok { IfOk result (λ written. IsReported name.now tin.now run written) }
+    ensures refused { IfErr result (λ refusal. IsUnlisted tin.now run.pieces.items refusal) }
+{
+    let changes = list_changes(alloc, tin, &run.pieces)?;
+    drop(run.pieces);
+    let changed = !changes.is_empty();
+    let said = run_report(alloc, name.text(), tin, run.rows, changes)?;
+    Ok(Output {
+        layers: run.files,
+        said,
+        changed,
+    })
+}
+
+/// What is written where layers are to be carried.
+pub fn prepare_migration<S: Shelf>(
+    alloc: Global,
+    shelf: &mut S,
+    migration: &Migration,
+) -> Result<Output, Refusal>
+    requires { MayBeTaken migration.now }
+    ensures ok { IfOk result (λ written. IfSome (S.files shelf.old) (λ files. IsMigrationDone files migration.now (end_of written.changed) (files_of written))) }
+    ensures form { IfOk result (λ written. HasForm (IsMigrationWritten migration.now) written) }
+    ensures refused { IfErr result (λ refusal. IfSome (S.files shelf.old) (λ files. MayRefuseMigration files migration.now (Rose (S.faults shelf.old) (S.faults shelf.new)) refusal)) }
+    ensures causes { IfErr result (λ refusal. HasCauses (LacksWanted migration.now (S.files shelf.old)) (λ status. Unit {0}) (Rose (S.faults shelf.old) (S.faults shelf.new)) (counted (S.given shelf.old) (MOST_BYTES + 1) ≤ S.given shelf.new) refusal) }
+    ensures faults { LeavesFaults (S.faults shelf.old) (S.faults shelf.new) result }
+{
+    let index = load_index(
+        alloc,
+        shelf,
+        migration.tin.text(),
+        migration.how,
+        migration.inverse,
+    )?;
+    let run = carry_layers(alloc, shelf, migration, &index)?;
+    let tin = index.into_tin();
+    tin.known();
+    report_on_run(alloc, &migration.tin, &tin, run)
+}

@@ -1,0 +1,34 @@
+//! Why a layer is refused, or the changes of all layers.
+
+ghost use Rattle.std.specs.Prelude.{◌≡◌};
+ghost use Rattle.migrate.specs.RunContents.{of_carrying, of_changes};
+
+use carry_map::CarryFault;
+use runs::Refusal;
+use topo_check::ChangesFault;
+
+/// The refusal of the layer of this number, which is not carried.
+pub fn uncarried(layer: u32, fault: CarryFault) -> Refusal
+    ensures { result ≡ of_carrying layer fault }
+{
+    match fault {
+        CarryFault::Layer(fault) => Refusal::Layer { layer, fault },
+        CarryFault::Outside { path, segment } => Refusal::Outside {
+            layer,
+            path,
+            segment,
+        },
+        CarryFault::TooMany => Refusal::TooManyPieces,
+        CarryFault::NoMemory => Refusal::NoMemory,
+    }
+}
+
+/// The refusal of a run whose changes are not listed.
+pub fn unlisted(fault: ChangesFault) -> Refusal
+    ensures { result ≡ of_changes fault }
+{
+    match fault {
+        ChangesFault::TooMany => Refusal::TooManyChanges,
+        ChangesFault::NoMemory => Refusal::NoMemory,
+    }
+}

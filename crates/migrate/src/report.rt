@@ -1,0 +1,90 @@
+//! The report of a run.
+
+ghost use Rattle.std.specs.Prelude.{◌≡◌, IfOk};
+ghost use Rattle.std.specs.List.{AllByRecursion};
+ghost use Rattle.report_text.specs.Reports.{IsPrintable, IsChanged};
+ghost use Rattle.report_text.specs.ReportText.{report_text};
+ghost use Rattle.migrate.specs.LayerTexts.{is_drawing};
+ghost use Rattle.migrate.specs.Migrations.{report_of};
+ghost use Rattle.migrate.specs.RunContents.{row_with};
+
+use carry_map::Carried;
+use job_words::Format;
+use report_text::{LayerRow, Report, write_report};
+use sheet_base::Listed;
+use shelf_io::Name;
+use std::alloc::{AllocError, Global};
+use tin_base::{Change, SoundTin};
+
+/// Whether a layer of this format is a drawing, whose extents a report names.
+fn is_drawing(format: Format) -> bool
+    ensures { result ≡ is_drawing format }
+{
+    match format {
+        Format::Wkt | Format::GeoJson => false,
+        Format::Drawing => true,
+    }
+}
+
+/// What the report says of a layer of this name and format that was carried.
+pub fn layer_row(
+    alloc: Global,
+    name: &Name,
+    format: Format,
+    carried: &Carried,
+) -> Result<LayerRow, AllocError>
+    ensures { IfOk result (λ row. row ≡ row_with name.now format carried.now) }
+{
+    Ok(LayerRow {
+        paths: carried.paths,
+        segments: carried.segments,
+        pieces: carried.pieces,
+        inexact: carried.inexact,
+        dropped: carried.dropped,
+        drawing: is_drawing(format),
+        name: Name::of(alloc, name.text())?,
+    })
+}
+
+/// The report on layers that were carried through the triangulation of the file of this name.
+fn report_on(
+    alloc: Global,
+    name: &str,
+    tin: &SoundTin,
+    layers: Vec<LayerRow>,
+    changes: Vec<Change>,
+) -> Result<Report, AllocError>
+    requires name { IsPrintable name.now }
+    requires layers { AllByRecursion (λ row. IsPrintable row.name) layers.items }
+    requires changes { AllByRecursion IsChanged changes.items }
+    ensures { IfOk result (λ report. report ≡ report_of name.now tin.now layers.items changes.items) }
+{
+    let corners = tin.corners().len() as u32;
+    let triangles = tin.triangles().len() as u32;
+    let name = Name::of(alloc, name)?;
+    Ok(Report::of(
+        corners,
+        triangles,
+        tin.inexact(),
+        name,
+        Listed::of(layers),
+        Listed::of(changes),
+    ))
+}
+
+/// The text of that report.
+pub fn run_report(
+    alloc: Global,
+    name: &str,
+    tin: &SoundTin,
+    layers: Vec<LayerRow>,
+    changes: Vec<Change>,
+) -> Result<Listed<u8>, AllocError>
+    requires name { IsPrintable name.now }
+    requires layers { AllByRecursion (λ row. IsPrintable row.name) layers.items }
+    requires changes { AllByRecursion IsChanged changes.items }
+    ensures { IfOk result (λ text. text ≡ report_text (report_of name.now tin.now layers.items changes.items)) }
+{
+    let report = report_on(alloc, name, tin, layers, changes)?;
+    Ok(Listed::of(write_report(alloc, &report)?))
+}

@@ -1,0 +1,183 @@
+-- A line that tells of bytes is that of a file with too many: no other line has such a beginning.
+use Rattle.std.proofs.Common.{◌≡◌, ◌≢◌, ◌⊎◌, ◌<◌, inl, inr, ℕ, zero, suc, List, [], ◌∷◌, ◌++◌, length, take, get_or, refl, sym, ◌∙◌, ap, subst, arith}
+use Rattle.mm_decimal.specs.declared.reading.NumFault.{NumFault}
+use Rattle.mm_decimal.specs.declared.reading.NumFault.TheVariants.{Form, Long, Range}
+use Rattle.sheet_base.specs.declared.faults.LayerFault.{LayerFault}
+use Rattle.sheet_base.specs.declared.faults.LayerFault.TheVariants as layers
+use Rattle.tin_base.specs.declared.frames.Frame.TheVariants.{Source, Target}
+use Rattle.tin_check.specs.declared.faults.CheckFault.{CheckFault}
+use Rattle.tin_check.specs.declared.faults.CheckFault.TheVariants.{Flat, TurnsOver, Meets, NoMemory as CheckMemory}
+use Rattle.tin_file.specs.declared.faults.Nearest.TheVariants.{Side, Centroid}
+use Rattle.tin_file.specs.declared.faults.Rows.TheVariants.{Vertices, Triangles}
+use Rattle.tin_file.specs.declared.faults.TinFault.{TinFault}
+use Rattle.tin_file.specs.declared.faults.TinFault.TheVariants.{Json, Deep, Key, Version, Fallback, NoHorizontal, TooMany, Row, Number, Inexact, Index, Span, NoMemory as TinMemory}
+use Rattle.job_words.specs.declared.faults.Which.TheVariants.{Tin as WhichTin, Out as WhichOut, Layer as WhichLayer}
+use Rattle.job_words.specs.declared.faults.WordsFault.{WordsFault}
+use Rattle.job_words.specs.declared.faults.WordsFault.TheVariants.{NoMode, Parse, Size, Many, Name, Suffix, SameName, NoMemory as WordsMemory}
+use Rattle.runs.specs.declared.refusal.Refusal.{Refusal}
+use Rattle.runs.specs.declared.refusal.Refusal.TheVariants.{Words, TinUnread, TinLong, Tin, Check, LayerUnread, LayersLong, Layer, Outside, TooManyPieces, TooManyChanges, NoMemory}
+use Rattle.runs.specs.Lines.{words_line, tin_line, check_line, number_line, layer_line, layer_number_line}
+use Rattle.runs.specs.Refusals.{line_of, limit_front}
+
+byte_of_take : (line : List ℕ) (count k : ℕ) → (get_or (take count line) k 0 ≡ get_or line k 0) ⊎ (get_or (take count line) k 0 ≡ 0)
+byte_of_take line zero k = inr refl
+byte_of_take [] (suc count) k = inl refl
+byte_of_take (byte ∷ line) (suc count) zero = inl refl
+byte_of_take (byte ∷ line) (suc count) (suc k) = byte_of_take line count k
+
+-- no front of a line is a text with another byte at a place
+differs_at : (text line : List ℕ) (count k : ℕ) → text ≡ take count line → get_or text k 0 ≢ get_or line k 0 → get_or text k 0 ≢ 0 → ⊥
+differs_at text line count k same other some =
+    elim (byte_of_take line count k) [
+      | inl is ↦ other (ap (λ t. get_or t k 0) same ∙ is)
+      | inr is ↦ some (ap (λ t. get_or t k 0) same ∙ is)
+    ]
+
+-- at some place the line differs from one that tells of bytes
+pub record TellsNone (line : List ℕ) : Type 0 where
+  place : ℕ
+  early : place < 15
+  other : get_or limit_front place 0 ≢ get_or line place 0
+  some : get_or limit_front place 0 ≢ 0
+
+-- a byte of a list's front
+front_byte : (front rest : List ℕ) (k : ℕ) → k < length front → get_or (front ++ rest) k 0 ≡ get_or front k 0
+front_byte [] rest k within = absurd (omega (arith, within))
+front_byte (byte ∷ front) rest zero within = refl
+front_byte (byte ∷ front) rest (suc k) within = front_byte front rest k (omega (arith, within))
+
+limit_byte : (rest : List ℕ) (k : ℕ) → k < 15 → get_or (limit_front ++ rest) k 0 ≡ get_or limit_front k 0
+limit_byte rest k within = let size : 15 ≡ length limit_front = refl in front_byte limit_front rest k (subst (λ n. k < n) size within)
+
+pub at-first : (line : List ℕ) (byte : ℕ) → get_or line 0 0 ≡ byte → byte ≢ 108 → TellsNone line
+at-first line byte is other = record {
+  place = 0;
+  early = omega arith;
+  other = λ e. other (sym is ∙ sym e);
+  some = λ e. omega (arith, e);
+}
+
+at-second : (line : List ℕ) (byte : ℕ) → get_or line 1 0 ≡ byte → byte ≢ 105 → TellsNone line
+at-second line byte is other = record {
+  place = 1;
+  early = omega arith;
+  other = λ e. other (sym is ∙ sym e);
+  some = λ e. omega (arith, e);
+}
+
+at-eighth : (line : List ℕ) (byte : ℕ) → get_or line 7 0 ≡ byte → byte ≢ 98 → TellsNone line
+at-eighth line byte is other = record {
+  place = 7;
+  early = omega arith;
+  other = λ e. other (sym is ∙ sym e);
+  some = λ e. omega (arith, e);
+}
+
+-- the lines of a triangulation begin with a t
+pub t-line : (line : List ℕ) → get_or line 0 0 ≡ 116 → TellsNone line
+t-line line is = at-first line 116 is (λ e. omega (arith, e))
+
+number-none : (row : ℕ) (fault : NumFault) → TellsNone (number_line row fault)
+number-none row (Form at) = t-line _ refl
+number-none row Long = t-line _ refl
+number-none row Range = t-line _ refl
+
+text-none : (fault : TinFault) → TellsNone (tin_line fault)
+text-none (Json at) = t-line _ refl
+text-none (Deep at) = t-line _ refl
+text-none (Key which) = t-line _ refl
+text-none Version = t-line _ refl
+text-none (Fallback Side) = t-line _ refl
+text-none (Fallback Centroid) = t-line _ refl
+text-none NoHorizontal = t-line _ refl
+text-none (TooMany Vertices) = at-eighth _ 118 refl (λ e. omega (arith, e))
+text-none (TooMany Triangles) = at-eighth _ 116 refl (λ e. omega (arith, e))
+text-none (Row list row) = t-line _ refl
+text-none (Number row fault) = number-none row fault
+text-none (Inexact row) = t-line _ refl
+text-none (Index triangle) = t-line _ refl
+text-none (Span Source axis) = t-line _ refl
+text-none (Span Target axis) = t-line _ refl
+text-none TinMemory = at-first _ 110 refl (λ e. omega (arith, e))
+
+check-none : (fault : CheckFault) → TellsNone (check_line fault)
+check-none (Flat triangle frame) = t-line _ refl
+check-none (TurnsOver triangle) = t-line _ refl
+check-none (Meets first second frame) = t-line _ refl
+check-none CheckMemory = at-first _ 110 refl (λ e. omega (arith, e))
+
+-- the lines of a layer have an a behind an l
+a-line : (line : List ℕ) → get_or line 1 0 ≡ 97 → TellsNone line
+a-line line is = at-second line 97 is (λ e. omega (arith, e))
+
+layer-number-none : (layer at : ℕ) (fault : NumFault) → TellsNone (layer_number_line layer at fault)
+layer-number-none layer at (Form place) = a-line _ refl
+layer-number-none layer at Long = a-line _ refl
+layer-number-none layer at Range = a-line _ refl
+
+layer-none : (layer : ℕ) (fault : LayerFault) → TellsNone (layer_line layer fault)
+layer-none layer (layers.Bad at) = a-line _ refl
+layer-none layer (layers.Deep at) = a-line _ refl
+layer-none layer (layers.Repeat at) = a-line _ refl
+layer-none layer (layers.Shape at) = a-line _ refl
+layer-none layer (layers.Kind at) = a-line _ refl
+layer-none layer (layers.Height at) = a-line _ refl
+layer-none layer (layers.Inexact at) = a-line _ refl
+layer-none layer (layers.Ring at) = a-line _ refl
+layer-none layer (layers.Number at fault) = layer-number-none layer at fault
+layer-none layer layers.Binary = a-line _ refl
+layer-none layer layers.NoEof = a-line _ refl
+layer-none layer (layers.Code line) = a-line _ refl
+layer-none layer (layers.Odd line) = a-line _ refl
+layer-none layer (layers.Entity line) = a-line _ refl
+layer-none layer (layers.Extrusion line) = a-line _ refl
+layer-none layer (layers.Flags line) = a-line _ refl
+layer-none layer (layers.Count line) = a-line _ refl
+layer-none layer (layers.Bulge line) = a-line _ refl
+layer-none layer (layers.Width line) = a-line _ refl
+layer-none layer (layers.Slope line) = a-line _ refl
+layer-none layer (layers.Attribs line) = a-line _ refl
+layer-none layer (layers.Seed line) = a-line _ refl
+layer-none layer layers.NoMemory = at-first _ 110 refl (λ e. omega (arith, e))
+
+-- the lines of words begin with a w
+w-line : (line : List ℕ) → get_or line 0 0 ≡ 119 → TellsNone line
+w-line line is = at-first line 119 is (λ e. omega (arith, e))
+
+words-none : (fault : WordsFault) → TellsNone (words_line fault)
+words-none NoMode = w-line _ refl
+words-none Parse = w-line _ refl
+words-none Size = w-line _ refl
+words-none Many = w-line _ refl
+words-none (Name WhichTin) = w-line _ refl
+words-none (Name WhichOut) = w-line _ refl
+words-none (Name (WhichLayer layer)) = w-line _ refl
+words-none (Suffix layer) = w-line _ refl
+words-none (SameName layer) = w-line _ refl
+words-none WordsMemory = at-first _ 110 refl (λ e. omega (arith, e))
+
+-- no part of the beginning of such a line tells of bytes
+pub none-begins : (line rest : List ℕ) (count : ℕ) → TellsNone line → limit_front ++ rest ≡ take count line → ⊥
+none-begins line rest count none same =
+    let byte = limit_byte rest none.place none.early in
+    differs_at (limit_front ++ rest) line count none.place same (λ e. none.other (sym byte ∙ e)) (λ e. none.some (sym byte ∙ e))
+
+-- a refusal tells of bytes only where a file has too many
+pub data IsLimitLine (refusal : Refusal) : Type 0 where
+  of_tin : refusal ≡ TinLong → IsLimitLine refusal
+  of_layers : refusal ≡ LayersLong → IsLimitLine refusal
+  of_none : TellsNone (line_of refusal) → IsLimitLine refusal
+
+pub limit_line : (refusal : Refusal) → IsLimitLine refusal
+limit_line TinLong = of_tin refl
+limit_line LayersLong = of_layers refl
+limit_line (Words fault) = of_none (words-none fault)
+limit_line TinUnread = of_none (at-first _ 114 refl (λ e. omega (arith, e)))
+limit_line (Tin fault) = of_none (text-none fault)
+limit_line (Check fault) = of_none (check-none fault)
+limit_line (LayerUnread number) = of_none (at-first _ 114 refl (λ e. omega (arith, e)))
+limit_line (Layer number fault) = of_none (layer-none number fault)
+limit_line (Outside number path segment) = of_none (at-first _ 111 refl (λ e. omega (arith, e)))
+limit_line TooManyChanges = of_none (at-eighth _ 99 refl (λ e. omega (arith, e)))
+limit_line TooManyPieces = of_none (at-eighth _ 112 refl (λ e. omega (arith, e)))
+limit_line NoMemory = of_none (at-first _ 110 refl (λ e. omega (arith, e)))

@@ -1,0 +1,64 @@
+-- The triangulation of a text or of a file, and why there is none.
+use Rattle.std.specs.Prelude.{◌≡◌, ◌≢◌, ℕ, ◌<◌, ◌≤◌, List, length, None, Some, Ok, Err}
+use Rattle.shelf_io.specs.Files.{Files, bytes_of}
+use Rattle.sheet_base.specs.declared.flags.How.{How}
+use Rattle.tin_base.specs.Triangulation.{Triangulation}
+use Rattle.tin_base.specs.Soundness.{IsSound}
+use Rattle.tin_check.specs.Faults.{IsCause, IsFirstFault}
+use Rattle.tin_check.specs.declared.faults.CheckFault.{CheckFault}
+use Rattle.tin_file.specs.Reading.{IsReading, Answers}
+use Rattle.tin_file.specs.declared.faults.TinFault.{TinFault}
+use Rattle.tin_file.specs.declared.faults.TinFault.TheVariants.{NoMemory as TinMemory}
+use Rattle.runs.specs.declared.loads.TheConstants.{MOST_BYTES}
+use Rattle.runs.specs.declared.refusal.Refusal.{Refusal}
+use Rattle.runs.specs.declared.refusal.Refusal.TheVariants.{TinUnread, TinLong, Tin, Check, NoMemory}
+
+-- ---- of a text
+-- the text is read as this triangulation
+abbrev pub IsRead : How → List ℕ → Triangulation → Type 0
+IsRead how text tin = IsReading how text (Ok tin)
+
+-- and it is sound
+pub record IsTin (how : How) (text : List ℕ) (tin : Triangulation) : Type 0 where
+  pub read : IsRead how text tin
+  pub sound : IsSound tin
+
+-- the text has this fault first; running out of memory is no fault of a text
+pub record LacksTin (how : How) (text : List ℕ) (fault : TinFault) : Type 0 where
+  pub answers : Answers how text (Err fault)
+  pub of_text : fault ≢ TinMemory
+
+-- the text is read as a triangulation that has this fault first
+pub record IsUnsound (how : How) (text : List ℕ) (fault : CheckFault) : Type 0 where
+  pub tin : Triangulation
+  pub read : IsRead how text tin
+  pub first : IsFirstFault tin fault
+
+-- the text gives no sound triangulation, or memory ran out
+abbrev pub IsTextRefused : How → List ℕ → Refusal → Type 0
+IsTextRefused how text (Tin fault) = Answers how text (Err fault)
+IsTextRefused how text (Check fault) = (tin : Triangulation) × IsRead how text tin × IsCause tin fault
+IsTextRefused how text NoMemory = Unit {0}
+IsTextRefused how text refusal = ⊥
+
+-- ---- of a file
+-- the file of this name has these bytes, and not too many
+pub record HasFile (files : Files) (name bytes : List ℕ) : Type 0 where
+  pub found : bytes_of files name ≡ Some bytes
+  pub within : length bytes ≤ MOST_BYTES
+
+-- the file of this name has too many bytes
+abbrev pub HasLongFile : Files → List ℕ → Type 0
+HasLongFile files name = (bytes : List ℕ) × (bytes_of files name ≡ Some bytes) × (MOST_BYTES < length bytes)
+
+-- the triangulation of the file of this name is read and sound
+abbrev pub HasTin : Files → How → List ℕ → Triangulation → Type 0
+HasTin files how name tin = (text : List ℕ) × HasFile files name text × IsTin how text tin
+
+-- The file of this name gives no sound triangulation: one row for each refusal, in the order in which they are tried.
+abbrev pub IsTinRefused : Files → How → List ℕ → Refusal → Type 0
+IsTinRefused files how name TinUnread = bytes_of files name ≡ None
+IsTinRefused files how name TinLong = HasLongFile files name
+IsTinRefused files how name (Tin fault) = (text : List ℕ) × HasFile files name text × LacksTin how text fault
+IsTinRefused files how name (Check fault) = (text : List ℕ) × HasFile files name text × IsUnsound how text fault
+IsTinRefused files how name refusal = ⊥

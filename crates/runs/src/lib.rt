@@ -1,0 +1,20 @@
+//! What every mode of the program is built on: how a run ends, why it is refused and which line says so,
+//! the files that it reads, and what it is ready to write.
+#![tactic(auto)]
+
+mod laws;
+mod layer_lines;
+mod lines;
+mod loads;
+mod output;
+mod refusal;
+mod status;
+mod triangulations;
+
+pub use laws::tin_end_is_one;
+pub use lines::{LINE_ROOM, Line};
+pub use loads::{MOST_BYTES, load_file, load_tin};
+pub use output::{LayerFile, Output};
+pub use refusal::Refusal;
+pub use status::Status;
+pub use triangulations::sound_tin;

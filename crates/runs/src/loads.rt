@@ -1,0 +1,73 @@
+//! The files that a job reads.
+
+ghost use Rattle.std.specs.Prelude.{◌≡◌, ◌≢◌, ◌+◌, ◌≤◌, vec_len, IfOk, IfErr, IfSome, OnOk};
+ghost use Rattle.shelf_io.specs.Count.{Rose, counted};
+ghost use Rattle.shelf_io.specs.Load.{Loads};
+ghost use Rattle.runs.specs.declared.status.Status.TheVariants.{Read as ReadStatus, Limit as LimitStatus};
+ghost use Rattle.runs.specs.Refusals.{status_of};
+ghost use Rattle.runs.specs.Counts.{LeavesFaults};
+ghost use Rattle.runs.specs.Loads.{IsUnloaded, IsTinUnready};
+ghost use Rattle.runs.specs.Triangulations.{HasTin};
+
+use crate::refusal::Refusal;
+use crate::triangulations::sound_tin;
+use sheet_base::How;
+use shelf_io::{LoadFault, Shelf, load};
+use std::alloc::Global;
+use tin_base::SoundTin;
+
+/// The most bytes of a triangulation's file, and of all layers' files together.
+pub const MOST_BYTES: u64 = tin_file::MOST_BYTES as u64;
+
+/// The bytes of a file: `unread` where it is missing or a read failed, `long` where it has more than `most`.
+pub fn load_file<S: Shelf>(
+    alloc: Global,
+    shelf: &mut S,
+    name: &str,
+    most: u64,
+    unread: Refusal,
+    long: Refusal,
+) -> Result<Vec<u8>, Refusal>
+    requires most { most ≤ MOST_BYTES }
+    requires unread { status_of unread ≡ ReadStatus }
+    requires long { status_of long ≡ LimitStatus }
+    ensures files { S.files shelf.new ≡ S.files shelf.old }
+    ensures ok { IfOk result (λ bytes. IfSome (S.files shelf.old) (Loads name.now bytes.items)) }
+    ensures within { IfOk result (λ bytes. vec_len bytes ≤ most) }
+    ensures refused { IfErr result (λ refusal. IsUnloaded (S.files shelf.old) name.now most unread long (Rose (S.faults shelf.old) (S.faults shelf.new)) (counted (S.given shelf.old) (most + 1) ≤ S.given shelf.new) refusal) }
+    ensures given { IfOk result (λ bytes. counted (S.given shelf.old) (vec_len bytes) ≤ S.given shelf.new) }
+    ensures given_later { S.given shelf.old ≤ S.given shelf.new }
+    ensures faults { LeavesFaults (S.faults shelf.old) (S.faults shelf.new) result }
+{
+    match load(alloc, shelf, name, most) {
+        Ok(bytes) => Ok(bytes),
+        Err(LoadFault::Missing) => Err(unread),
+        Err(LoadFault::Failed) => Err(unread),
+        Err(LoadFault::Long) => Err(long),
+        Err(LoadFault::NoMemory) => Err(Refusal::NoMemory),
+    }
+}
+
+/// The sound triangulation of the file of this name.
+pub fn load_tin<S: Shelf>(
+    alloc: Global,
+    shelf: &mut S,
+    name: &str,
+    how: How,
+) -> Result<SoundTin, Refusal>
+    ensures files { S.files shelf.new ≡ S.files shelf.old }
+    ensures ok { IfOk result (λ tin. IfSome (S.files shelf.old) (λ files. HasTin files how name.now tin)) }
+    ensures refused { IfErr result (λ refusal. IsTinUnready (S.files shelf.old) how name.now (Rose (S.faults shelf.old) (S.faults shelf.new)) (counted (S.given shelf.old) (MOST_BYTES + 1) ≤ S.given shelf.new) refusal) }
+    ensures given { S.given shelf.old ≤ S.given shelf.new }
+    ensures faults { LeavesFaults (S.faults shelf.old) (S.faults shelf.new) result }
+{
+    let text = load_file(
+        alloc,
+        shelf,
+        name,
+        MOST_BYTES,
+        Refusal::TinUnread,
+        Refusal::TinLong,
+    )?;
+    sound_tin(alloc, &text, how)
+}

@@ -1,9 +1,0 @@
--- Answers to the goals of `carried_as` in src/carrying.rt.
-use Rattle.std.proofs.Common.{length}
-use Rattle.tinmove.proofs.Uncarried.{uncarried_as}
-use Rattle.tinmove.proofs.carrying.carried_as.Goals as goal
-
-pub returns-in-Err-clause-refused : goal.returns-in-Err-clause-refused
-returns-in-Err-clause-refused g c =
-    let e = rw c.args.pieces.now.ok.0 at c.in-Err.ensures in
-    rw c.uncarried.ensures (uncarried_as (g.L.Layer.reads c.args.how) (g.L.Layer.refuses c.args.how) c.args.index.now c.args.bytes.now c.args.number (length c.args.pieces.now.items) c.in-Err.fault e.layer e.outside e.too_many)

@@ -1,0 +1,89 @@
+//! Writing what a run makes. It takes no memory.
+
+ghost use Rattle.std.specs.Prelude.{◌≡◌, ◌≢◌, ◌⊎◌, [], ◌∷◌, map, IfSome, OnOk, OnErr, false, codes};
+ghost use Rattle.shelf_io.specs.Count.{Rose, HasCause};
+ghost use Rattle.runs.specs.Status.{end_of};
+ghost use Rattle.runs.specs.Refusals.{line_of, status_of};
+ghost use Rattle.tinmove.specs.Ends.{IsFrontOf};
+ghost use Rattle.runs.specs.Output.{file_of, files_of, AreWritable};
+
+use runs::{LayerFile, Output, Refusal, Status};
+use shelf_io::{Press, PrintFault, print};
+
+/// Writes a text to standard output alone, after which the run ends so.
+fn say<P: Press>(press: &mut P, said: &[u8], status: Status) -> Status
+    requires free { P.at_hand press.old ≡ false }
+    requires empty { IfSome (P.made press.old) (λ made. made ≡ []) }
+    requires other { status ≢ Status.Write }
+    ensures status { (result ≡ status) ⊎ (result ≡ Status.Write) }
+    ensures whole { result ≢ Status.Write → IfSome (P.made press.new) (λ made. made ≡ (codes "-", said.now) ∷ []) }
+    ensures front { result ≡ Status.Write → IfSome (P.made press.new) (λ made. IsFrontOf made ((codes "-", said.now) ∷ [])) }
+    ensures rose { result ≡ Status.Write → Rose (P.faults press.old) (P.faults press.new) }
+    ensures same { result ≢ Status.Write → P.faults press.new ≡ P.faults press.old }
+{
+    match print(press, "-", said) {
+        Ok(()) => status,
+        Err(_) => Status::Write,
+    }
+}
+
+/// How a run ends that has written all.
+fn end(changed: bool) -> Status
+    ensures { result ≡ end_of changed }
+{
+    if changed {
+        Status::Changed
+    } else {
+        Status::Same
+    }
+}
+
+/// Writes the layers' files in order, none where one could not be written.
+fn publish_layers<P: Press>(press: &mut P, layers: &[LayerFile]) -> Result<(), PrintFault>
+    requires free { P.at_hand press.old ≡ false }
+    requires empty { IfSome (P.made press.old) (λ made. made ≡ []) }
+    requires writable { AreWritable (map file_of layers.now) }
+    ensures whole { OnOk result (IfSome (P.made press.new) (λ made. made ≡ map file_of layers.now)) }
+    ensures free { OnOk result (P.at_hand press.new ≡ false) }
+    ensures front { OnErr result (IfSome (P.made press.new) (λ made. IsFrontOf made (map file_of layers.now))) }
+    ensures cause { HasCause (P.faults press.old) (P.faults press.new) result }
+{
+    for file in layers {
+        print(press, file.name.as_str(), file.text.items())?;
+    }
+    Ok(())
+}
+
+/// Writes what a job makes, in order.
+pub fn publish<P: Press>(press: &mut P, written: &Output) -> Status
+    requires free { P.at_hand press.old ≡ false }
+    requires empty { IfSome (P.made press.old) (λ made. made ≡ []) }
+    requires writable { AreWritable (map file_of written.now.layers.items) }
+    ensures status { (result ≡ end_of written.now.changed) ⊎ (result ≡ Status.Write) }
+    ensures whole { result ≢ Status.Write → IfSome (P.made press.new) (λ made. made ≡ files_of written.now) }
+    ensures front { result ≡ Status.Write → IfSome (P.made press.new) (λ made. IsFrontOf made (files_of written.now)) }
+    ensures rose { result ≡ Status.Write → Rose (P.faults press.old) (P.faults press.new) }
+    ensures same { result ≢ Status.Write → P.faults press.new ≡ P.faults press.old }
+{
+    match publish_layers(press, &written.layers) {
+        Ok(()) => match print(press, "-", written.said.items()) {
+            Ok(()) => end(written.changed),
+            Err(_) => Status::Write,
+        },
+        Err(_) => Status::Write,
+    }
+}
+
+/// Prints a refusal's line.
+pub fn refuse<P: Press>(press: &mut P, refusal: Refusal) -> Status
+    requires free { P.at_hand press.old ≡ false }
+    requires empty { IfSome (P.made press.old) (λ made. made ≡ []) }
+    ensures status { (result ≡ status_of refusal) ⊎ (result ≡ Status.Write) }
+    ensures whole { result ≢ Status.Write → IfSome (P.made press.new) (λ made. made ≡ (codes "-", line_of refusal) ∷ []) }
+    ensures front { result ≡ Status.Write → IfSome (P.made press.new) (λ made. IsFrontOf made ((codes "-", line_of refusal) ∷ [])) }
+    ensures rose { result ≡ Status.Write → Rose (P.faults press.old) (P.faults press.new) }
+    ensures same { result ≢ Status.Write → P.faults press.new ≡ P.faults press.old }
+{
+    let line = refusal.line();
+    say(press, line.as_bytes(), refusal.status())
+}

@@ -1,0 +1,192 @@
+//! Runs over whole drawings, in memory. The expected texts and lines are worked out by hand.
+
+use crate::tests::memory_runs::{SQUARE, makes};
+use runs::Status;
+use std::alloc::{AllocError, Global};
+use std::test::Fail;
+
+/// A drawing up to the end of its entities: a line across the diagonal, and a line on a layout of paper.
+const FRONT: &str =
+    "  0\nSECTION\n  2\nHEADER\n  9\n$HANDSEED\n  5\n2F\n  0\nENDSEC\n  0\nSECTION\n  2\nTABLES\n  0\nENDSEC\n  0\nSECTION\n  2\nBLOCKS\n  0\nENDSEC\n  0\nSECTION\n  2\nENTITIES\n  0\nLINE\n  5\n2E\n  8\nPARCEL\n 10\n10.0\n 20\n0.0\n 30\n0.0\n 11\n0.0\n 21\n10.0\n 31\n0.0\n  0\nLINE\n 67\n1\n  8\nSHEET\n 10\n-500.0\n 20\n0.0\n 11\n-400.0\n 21\n0.0\n";
+
+/// An arc, which is no entity that is carried.
+const ARC: &str = "  0\nARC\n 10\n5.0\n 20\n5.0\n 40\n1.0\n";
+
+/// What ends the drawing.
+const BACK: &str = "  0\nENDSEC\n  0\nEOF\n";
+
+/// The drawing without an arc, carried through the square.
+const CARRIED: &str =
+    "  0\nSECTION\n  2\nHEADER\n  9\n$HANDSEED\n  5\n30\n  0\nENDSEC\n  0\nSECTION\n  2\nTABLES\n  0\nENDSEC\n  0\nSECTION\n  2\nBLOCKS\n  0\nENDSEC\n  0\nSECTION\n  2\nENTITIES\n  0\nLINE\n  5\n2E\n  8\nPARCEL\n 10\n110.000\n 20\n100.000\n 30\n0.0\n 11\n105.002\n 21\n105.002\n 31\n0.0\n  0\nLINE\n  5\n2F\n  8\nPARCEL\n 10\n105.002\n 20\n105.002\n 30\n0.0\n 11\n100.000\n 21\n110.000\n 31\n0.0\n  0\nLINE\n 67\n1\n  8\nSHEET\n 10\n-500.0\n 20\n0.0\n 11\n-400.0\n 21\n0.0\n  0\nENDSEC\n  0\nEOF\n";
+
+/// What is said of it.
+const REPORT: &str = "tinmove report 1
+triangulation corners 4 triangles 2 inexact 0 name s.json
+layer 0 paths 1 segments 1 pieces 2 inexact 0 dropped 0 name p.dxf
+extents 0 as they were
+changes 0
+end
+";
+
+/// The texts one behind the other.
+fn joined(alloc: Global, texts: &[&str]) -> Result<String, AllocError> {
+    let mut all = String::new(alloc);
+    for text in texts {
+        all.push_str(text)?;
+    }
+    Ok(all)
+}
+
+/// The text with a carriage return in front of each line feed.
+fn with_returns(alloc: Global, text: &str) -> Result<String, AllocError> {
+    let mut all = String::new(alloc);
+    for letter in text.chars() {
+        if letter == '\n' {
+            all.push('\r')?;
+        }
+        all.push(letter)?;
+    }
+    Ok(all)
+}
+
+const MIGRATE: [&str; 6] = ["migrate", "--tin", "s.json", "--out", "o", "p.dxf"];
+
+/// Does a run that carries this drawing through the square end so, and make these files?
+fn migrates(
+    alloc: Global,
+    texts: &[&str],
+    drawing: &str,
+    wanted: Status,
+    made: &[(&str, Option<&str>)],
+) -> bool {
+    let files = [("s.json", SQUARE), ("p.dxf", drawing)];
+    makes(alloc, texts, &files, wanted, made)
+}
+
+#[test]
+fn a_line_across_the_diagonal_becomes_two(rt: HostRuntime) -> Result<(), Fail> {
+    let alloc = rt.alloc();
+    let drawing = joined(alloc, &[FRONT, BACK])?;
+    let made = [("o/p.dxf", Some(CARRIED)), ("-", Some(REPORT))];
+    assert!(rt; migrates(alloc, &MIGRATE, &drawing, Status::Same, &made));
+    Ok(())
+}
+
+#[test]
+fn carriage_returns_are_kept_in_copies_too(rt: HostRuntime) -> Result<(), Fail> {
+    let alloc = rt.alloc();
+    let drawing = joined(alloc, &[FRONT, BACK])?;
+    let drawing = with_returns(alloc, &drawing)?;
+    let written = with_returns(alloc, CARRIED)?;
+    let made = [("o/p.dxf", Some(written.as_str())), ("-", Some(REPORT))];
+    assert!(rt; migrates(alloc, &MIGRATE, &drawing, Status::Same, &made));
+    Ok(())
+}
+
+#[test]
+fn another_entity_is_refused(rt: HostRuntime) -> Result<(), Fail> {
+    let alloc = rt.alloc();
+    let drawing = joined(alloc, &[FRONT, ARC, BACK])?;
+    let made = [
+        ("o/p.dxf", None),
+        ("-", Some("layer 0: entity at line 59\n")),
+    ];
+    assert!(rt; migrates(alloc, &MIGRATE, &drawing, Status::Layer, &made));
+    Ok(())
+}
+
+#[test]
+fn another_entity_is_left_out(rt: HostRuntime) -> Result<(), Fail> {
+    let alloc = rt.alloc();
+    let report = "tinmove report 1
+triangulation corners 4 triangles 2 inexact 0 name s.json
+layer 0 paths 1 segments 1 pieces 2 inexact 0 dropped 1 name p.dxf
+extents 0 as they were
+changes 0
+end
+";
+    let words = [
+        "migrate",
+        "--tin",
+        "s.json",
+        "--out",
+        "o",
+        "p.dxf",
+        "--drop-other",
+    ];
+    let drawing = joined(alloc, &[FRONT, ARC, BACK])?;
+    let made = [("o/p.dxf", Some(CARRIED)), ("-", Some(report))];
+    assert!(rt; migrates(alloc, &words, &drawing, Status::Same, &made));
+    Ok(())
+}
+
+#[test]
+fn refused_drawings_have_one_line(rt: HostRuntime) {
+    for (drawing, line) in [
+        (
+            "0\nSECTION\n2\nENTITIES\n0\nLINE\n5\n1A\n10\n0\n20\n0\n11\n1\n21\n1\n0\nENDSEC\n0\nEOF\n",
+            "layer 0: seed at line 7\n",
+        ),
+        (
+            "0\nSECTION\n2\nENTITIES\n0\nLINE\n10\n0\n20\n0\n11\n1\n0\nENDSEC\n0\nEOF\n",
+            "layer 0: count at line 5\n",
+        ),
+        ("0\nSECTION\n", "layer 0: no eof\n"),
+        ("AutoCAD Binary DXF", "layer 0: binary\n"),
+    ] {
+        let made = [("-", Some(line)), ("o/p.dxf", None)];
+        assert!(rt;
+            migrates(rt.alloc(), &MIGRATE, drawing, Status::Layer, &made),
+            "at {line}"
+        );
+    }
+}
+
+#[test]
+fn layers_of_three_formats_are_carried(rt: HostRuntime) {
+    let words = [
+        "migrate",
+        "--tin",
+        "s.json",
+        "--out",
+        "o",
+        "lines.wkt",
+        "wells.geojson",
+        "walls.dxf",
+    ];
+    let files = [
+        ("s.json", SQUARE),
+        ("lines.wkt", "LINESTRING (10 0, 0 10)\nPOINT (6 4)\n"),
+        (
+            "wells.geojson",
+            r#"{"type":"Feature","properties":{"id":1},"geometry":{"type":"Point","coordinates":[ 3.0, 1.0 ]}}"#,
+        ),
+        (
+            "walls.dxf",
+            "  0\nSECTION\n  2\nHEADER\n  9\n$HANDSEED\n  5\n2F\n  0\nENDSEC\n  0\nSECTION\n  2\nENTITIES\n  0\nLINE\n  5\n2E\n  8\nWALL\n 10\n0.0\n 20\n5.0\n 11\n10.0\n 21\n5.0\n  0\nENDSEC\n  0\nEOF\n",
+        ),
+    ];
+    let lines =
+        "LINESTRING (110.000 100.000, 105.002 105.002, 100.000 110.000)\nPOINT (106.001 104.001)\n";
+    let wells =
+        r#"{"type":"Feature","properties":{"id":1},"geometry":{"type":"Point","coordinates":[103.000,101.000]}}"#;
+    let walls =
+        "  0\nSECTION\n  2\nHEADER\n  9\n$HANDSEED\n  5\n30\n  0\nENDSEC\n  0\nSECTION\n  2\nENTITIES\n  0\nLINE\n  5\n2E\n  8\nWALL\n 10\n100.000\n 20\n105.000\n 11\n105.002\n 21\n105.002\n  0\nLINE\n  5\n2F\n  8\nWALL\n 10\n105.002\n 20\n105.002\n 11\n110.002\n 21\n105.002\n  0\nENDSEC\n  0\nEOF\n";
+    let report = "tinmove report 1
+triangulation corners 4 triangles 2 inexact 0 name s.json
+layer 0 paths 2 segments 2 pieces 3 inexact 0 dropped 0 name lines.wkt
+layer 1 paths 1 segments 1 pieces 1 inexact 0 dropped 0 name wells.geojson
+layer 2 paths 1 segments 1 pieces 2 inexact 0 dropped 0 name walls.dxf
+extents 2 as they were
+changes 1
+change 0/0/0/0 0/1/0/0 touching apart
+end
+";
+    let made = [
+        ("o/lines.wkt", Some(lines)),
+        ("o/wells.geojson", Some(wells)),
+        ("o/walls.dxf", Some(walls)),
+        ("-", Some(report)),
+    ];
+    assert!(rt; makes(rt.alloc(), &words, &files, Status::Changed, &made));
+}

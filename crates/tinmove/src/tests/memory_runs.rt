@@ -1,0 +1,85 @@
+//! Runs in memory that the tests share: two triangulations, a run over files, and what it is to leave behind.
+
+ghost use Rattle.std.specs.Prelude.{◌<◌};
+
+use crate::run::run;
+use runs::Status;
+use shelf_io::{MemPress, MemShelf, Shelf};
+use std::alloc::{AllocError, Global};
+
+/// A triangle with corners at (0, 0), (10, 0) and (0, 10), whose side along x is two millimetres longer in the target.
+pub const TRIANGLE: &str =
+    r#"{"file_type":"triangulation_file","format_version":"1.1","transformed_components":["horizontal"],"vertices_columns":["source_x","source_y","target_x","target_y"],"triangles_columns":["idx_vertex1","idx_vertex2","idx_vertex3"],"vertices":[[0,0,100,100],[10,0,110.002,100],[0,10,100,110]],"triangles":[[0,1,2]]}"#;
+
+/// Two triangles that make a square, whose diagonal is longer in the target.
+pub const SQUARE: &str =
+    r#"{"file_type":"triangulation_file","format_version":"1.1","transformed_components":["horizontal"],"vertices_columns":["source_x","source_y","target_x","target_y"],"triangles_columns":["idx_vertex1","idx_vertex2","idx_vertex3"],"vertices":[[0,0,100,100],[10,0,110,100],[10,10,110.003,110.003],[0,10,100,110]],"triangles":[[0,1,2],[0,2,3]]}"#;
+
+/// The words as a run takes them.
+pub fn words_of(alloc: Global, texts: &[&str]) -> Result<Vec<String>, AllocError> {
+    let mut words = Vec::new(alloc);
+    for text in texts {
+        words.push(String::from_str(alloc, text)?)?;
+    }
+    Ok(words)
+}
+
+/// A shelf of these files, of which the first of a name counts.
+pub fn shelf_of(alloc: Global, files: &[(&str, &str)]) -> Result<MemShelf, AllocError> {
+    let mut shelf = MemShelf::new(alloc, 4096);
+    for (name, text) in files {
+        if shelf.begin(name) == Ok(false) {
+            shelf.add(name, text.as_bytes())?;
+        }
+    }
+    Ok(shelf)
+}
+
+/// A call that no run makes.
+pub const NEVER: u64 = 1000;
+
+/// How a run of these words over this shelf ends, and what it makes, by writes of at most `most` bytes of which the call of
+/// this number fails.
+pub fn ran_over(
+    alloc: Global,
+    texts: &[&str],
+    mut shelf: MemShelf,
+    most: usize,
+    fail: u64,
+) -> Result<(Status, MemPress), AllocError>
+    requires { 0 < most }
+{
+    let words = words_of(alloc, texts)?;
+    let mut press = MemPress::new(alloc, most);
+    press.fail_at(fail)?;
+    let status = run(alloc, &words, &mut shelf, &mut press);
+    Ok((status, press))
+}
+
+/// Has the press made these files with these texts? `None`: the file of this name was not begun.
+pub fn holds(press: &MemPress, made: &[(&str, Option<&str>)]) -> bool {
+    for &(name, text) in made {
+        if press.made_bytes(name) != text.map(|text| text.as_bytes()) {
+            return false;
+        }
+    }
+    true
+}
+
+/// Does a run of these words over these files end so, and make these files? `None`: a file that is not begun.
+pub fn makes(
+    alloc: Global,
+    texts: &[&str],
+    files: &[(&str, &str)],
+    wanted: Status,
+    made: &[(&str, Option<&str>)],
+) -> bool {
+    let ran = match shelf_of(alloc, files) {
+        Ok(shelf) => ran_over(alloc, texts, shelf, 4096, NEVER),
+        Err(fault) => Err(fault),
+    };
+    match ran {
+        Ok((status, press)) => status == wanted && holds(&press, made),
+        Err(_) => false,
+    }
+}

@@ -1,0 +1,215 @@
+//! What a run says of what it is doing, and that it is the same run whether or not it is heard.
+
+use crate::progress::{ToldPress, ToldShelf};
+use crate::run::run;
+use crate::tests::memory_runs::{NEVER, TRIANGLE, words_of};
+use runs::Status;
+use shelf_io::{MemPress, MemShelf, load, print};
+use std::alloc::{AllocError, Global};
+use std::io;
+use std::io::{ErrorKind, Write};
+use std::test::Fail;
+
+const MIGRATE: [&str; 6] = ["migrate", "--tin", "t.json", "--out", "o", "p.wkt"];
+
+/// A shelf with the files of these words, of which a call fails.
+fn shelf_of_two(alloc: Global, fail: u64) -> Result<MemShelf, AllocError> {
+    let mut shelf = MemShelf::new(alloc, 4096);
+    shelf.add("t.json", TRIANGLE.as_bytes())?;
+    shelf.add("p.wkt", b"POINT (5 0)")?;
+    shelf.fail_at(fail)?;
+    Ok(shelf)
+}
+
+/// A run of which nothing is said, with a call of the shelf and one of the press that fail.
+fn bare_run(alloc: Global, fails: (u64, u64)) -> Result<(Status, MemPress), AllocError> {
+    let mut shelf = shelf_of_two(alloc, fails.0)?;
+    let mut press = MemPress::new(alloc, 4096);
+    press.fail_at(fails.1)?;
+    let status = run(alloc, &words_of(alloc, &MIGRATE)?, &mut shelf, &mut press);
+    Ok((status, press))
+}
+
+/// How a run ended, and the shelf and the press after it.
+type Told<W> = (Status, ToldShelf<MemShelf, W>, ToldPress<MemPress, W>);
+
+/// The same run, told to these two.
+fn told_run<W: Write + Drop>(
+    alloc: Global,
+    fails: (u64, u64),
+    to: (Option<W>, Option<W>),
+) -> Result<Told<W>, AllocError> {
+    let mut shelf = ToldShelf::new(shelf_of_two(alloc, fails.0)?, to.0, Some(1));
+    let mut press = MemPress::new(alloc, 4096);
+    press.fail_at(fails.1)?;
+    let mut press = ToldPress::new(press, to.1);
+    let status = run(alloc, &words_of(alloc, &MIGRATE)?, &mut shelf, &mut press);
+    Ok((status, shelf, press))
+}
+
+/// What was said.
+fn said(to: &Option<Vec<u8>>) -> &[u8] {
+    match to {
+        Some(bytes) => bytes,
+        None => b"",
+    }
+}
+
+#[test]
+fn a_run_says_what_it_is_doing(rt: HostRuntime) -> Result<(), Fail> {
+    let alloc = rt.alloc();
+    let whole =
+        b"tinmove: reading t.json\ntinmove: checking the triangulation\ntinmove: reading p.wkt\ntinmove: carrying layer 0 (1 of 1), then comparing\n";
+    let unread =
+        b"tinmove: reading t.json\ntinmove: checking the triangulation\ntinmove: reading p.wkt\n";
+    // The triangulation is begun, read and ended by the calls 0 to 2 of the shelf, and the layer by 3 to 5.
+    for (fails, status, read, made) in [
+        (
+            (NEVER, NEVER),
+            Status::Same,
+            whole.as_slice(),
+            b"tinmove: writing o/p.wkt\n".as_slice(),
+        ),
+        (
+            (NEVER, 0),
+            Status::Write,
+            whole,
+            b"tinmove: writing o/p.wkt\n",
+        ),
+        ((0, NEVER), Status::Read, b"tinmove: reading t.json\n", b""),
+        ((2, NEVER), Status::Read, b"tinmove: reading t.json\n", b""),
+        ((3, NEVER), Status::Read, unread, b""),
+        ((5, NEVER), Status::Read, unread, b""),
+    ] {
+        let to = (Some(Vec::new(alloc)), Some(Vec::new(alloc)));
+        let (ended, shelf, press) = told_run(alloc, fails, to)?;
+        assert_eq!(rt; ended, status, "at {fails:?}");
+        assert_eq!(rt; said(&shelf.to), read, "at {fails:?}");
+        assert_eq!(rt; said(&press.to), made, "at {fails:?}");
+    }
+    Ok(())
+}
+
+/// A place to write to that takes nothing.
+#[derive(Drop)]
+struct Closed;
+
+impl Write for Closed {
+    fn write(&mut self, _bytes: &[u8]) -> io::Result<usize> {
+        Err(io::Error::from(ErrorKind::BrokenPipe))
+    }
+
+    fn flush(&mut self) -> io::Result<()> {
+        Ok(())
+    }
+}
+
+/// Do two runs end in the same way, after as many faults, and leave the same files?
+fn is_same_run(one: (Status, &MemPress), other: (Status, &MemPress)) -> bool {
+    let is_same_file = |name| one.1.made_bytes(name) == other.1.made_bytes(name);
+    one.0 == other.0
+        && one.1.faults() == other.1.faults()
+        && is_same_file("o/p.wkt")
+        && is_same_file("-")
+}
+
+/// Is the run that is told to these two the same as one of which nothing is said?
+fn is_unchanged<W: Write + Drop>(
+    alloc: Global,
+    fails: (u64, u64),
+    to: (Option<W>, Option<W>),
+) -> Result<bool, AllocError> {
+    let (status, press) = bare_run(alloc, fails)?;
+    let (told_status, _, told) = told_run(alloc, fails, to)?;
+    Ok(is_same_run((status, &press), (told_status, &told.press)))
+}
+
+#[test]
+fn a_run_is_the_same_where_it_is_heard(rt: HostRuntime) -> Result<(), Fail> {
+    let alloc = rt.alloc();
+    // Two files are begun, read and ended by six calls, and two are begun, written and ended by six.
+    for call in 0..7 {
+        for fails in [(call, NEVER), (NEVER, call)] {
+            let heard = (Some(Vec::new(alloc)), Some(Vec::new(alloc)));
+            assert!(rt;
+                is_unchanged::<Vec<u8>>(alloc, fails, heard)?,
+                "at {fails:?}"
+            );
+        }
+    }
+    Ok(())
+}
+
+#[test]
+fn a_run_is_the_same_where_nothing_takes_what_is_said(rt: HostRuntime) -> Result<(), Fail> {
+    for call in 0..7 {
+        for fails in [(call, NEVER), (NEVER, call)] {
+            let closed = (Some(Closed), Some(Closed));
+            assert!(rt; is_unchanged(rt.alloc(), fails, closed)?, "at {fails:?}");
+        }
+    }
+    Ok(())
+}
+
+#[test]
+fn a_run_is_the_same_where_it_is_silent(rt: HostRuntime) -> Result<(), Fail> {
+    for call in 0..7 {
+        for fails in [(call, NEVER), (NEVER, call)] {
+            let is_same = is_unchanged::<Closed>(rt.alloc(), fails, (None, None))?;
+            assert!(rt; is_same, "at {fails:?}");
+        }
+    }
+    Ok(())
+}
+
+/// A shelf of three files, which tells what is done where so many of them are layers.
+fn shelf_of_three(
+    alloc: Global,
+    layers: Option<usize>,
+) -> Result<ToldShelf<MemShelf, Vec<u8>>, AllocError> {
+    let mut shelf = MemShelf::new(alloc, 2);
+    shelf.add("t", b"12345")?;
+    shelf.add("a", b"67")?;
+    shelf.add("b", b"")?;
+    Ok(ToldShelf::new(shelf, Some(Vec::new(alloc)), layers))
+}
+
+#[test]
+fn layers_are_counted_behind_the_triangulation(rt: HostRuntime) -> Result<(), Fail> {
+    let alloc = rt.alloc();
+    for (layers, lines) in [
+        (
+            Some(2),
+            b"tinmove: reading t\ntinmove: checking the triangulation\ntinmove: reading a\ntinmove: carrying layer 0 (1 of 2)\ntinmove: reading b\ntinmove: carrying layer 1 (2 of 2), then comparing\n".as_slice(),
+        ),
+        (
+            None,
+            b"tinmove: reading t\ntinmove: checking the triangulation\ntinmove: reading a\ntinmove: carrying layer 0\ntinmove: reading b\ntinmove: carrying layer 1\n",
+        ),
+    ] {
+        let mut shelf = shelf_of_three(alloc, layers)?;
+        for (name, text) in [("t", b"12345".as_slice()), ("a", b"67"), ("b", b"")] {
+            let bytes = load(alloc, &mut shelf, name, 9)?;
+            assert_eq!(rt; bytes.as_slice(), text);
+        }
+        assert_eq!(rt; said(&shelf.to), lines, "at {layers:?}");
+    }
+    Ok(())
+}
+
+#[test]
+fn of_standard_output_nothing_is_said(rt: HostRuntime) -> Result<(), Fail> {
+    let alloc = rt.alloc();
+    let mut press = ToldPress::new(MemPress::new(alloc, 2), Some(Vec::new(alloc)));
+    print(&mut press, "-", b"123")?;
+    assert_eq!(rt; said(&press.to), b"".as_slice());
+    print(&mut press, "o/three.wkt", b"456")?;
+    assert_eq!(rt;
+        said(&press.to),
+        b"tinmove: writing o/three.wkt\n".as_slice()
+    );
+    for (name, bytes) in [("-", b"123".as_slice()), ("o/three.wkt", b"456")] {
+        assert_eq!(rt; press.press.made_bytes(name), Some(bytes), "at {name}");
+    }
+    Ok(())
+}
