@@ -1,0 +1,88 @@
+//! Checks, migrations and makings. The expected counts follow from the count of cells, and that of the pieces of made lines
+//! from exact fractions of another program.
+
+use crate::largest_maps::{lines_of_cells, shelf_of_cells};
+use check_mode::prepare_check;
+use job_words::{Job, read_words};
+use migrate::{Migration, prepare_making, prepare_migration};
+use runs::Output;
+use shelf_io::MemShelf;
+use std::alloc::{AllocError, Global};
+use std::test::Fail;
+
+/// What these words ask to be written.
+fn output_of(alloc: Global, texts: &[&str], shelf: &mut MemShelf) -> Option<Output> {
+    let mut words = Vec::new(alloc);
+    for text in texts {
+        let word = String::from_str(alloc, text).ok()?;
+        words.push(word).ok()?;
+    }
+    match read_words(alloc, &words).ok()? {
+        Job::Migrate {
+            tin,
+            out,
+            how,
+            inverse,
+            layers,
+        } => {
+            let migration = Migration {
+                tin,
+                out,
+                how,
+                inverse,
+                layers,
+            };
+            prepare_migration(alloc, shelf, &migration).ok()
+        }
+        Job::Check { tin, how } => prepare_check(alloc, shelf, &tin, how).ok(),
+        Job::Make { n } => prepare_making(alloc, n).ok(),
+    }
+}
+
+/// Whether these words ask for this text on standard output.
+fn says(alloc: Global, texts: &[&str], shelf: &mut MemShelf, said: &str) -> bool {
+    match output_of(alloc, texts, shelf) {
+        Some(output) => output.said.items() == said.as_bytes() && !output.changed,
+        None => false,
+    }
+}
+
+#[test]
+fn half_a_million_triangles_are_checked(rt: HostRuntime) -> Result<(), Fail> {
+    let alloc = rt.alloc();
+    let mut shelf = shelf_of_cells(alloc)?;
+    let words = ["check", "--tin", "t.json"];
+    let line = "sound: corners 263169 triangles 524288 inexact 0\n";
+    assert!(rt; says(alloc, &words, &mut shelf, line));
+    Ok(())
+}
+
+#[test]
+fn half_a_million_lines_are_carried_and_compared(rt: HostRuntime) -> Result<(), Fail> {
+    let alloc = rt.alloc();
+    let mut shelf = shelf_of_cells(alloc)?;
+    shelf.add("many.wkt", lines_of_cells(alloc)?.as_bytes())?;
+    let words = ["migrate", "--tin", "t.json", "--out", "o", "many.wkt"];
+    let report = "tinmove report 1
+triangulation corners 263169 triangles 524288 inexact 0 name t.json
+layer 0 paths 524288 segments 524288 pieces 1048576 inexact 0 dropped 0 name many.wkt
+changes 0
+end
+";
+    assert!(rt; says(alloc, &words, &mut shelf, report));
+    Ok(())
+}
+
+#[test]
+fn lines_through_thousands_of_cells_are_made_twice_alike(rt: HostRuntime) {
+    let report = "tinmove report 1
+triangulation corners 16641 triangles 32768 inexact 0 name made.json
+layer 0 paths 128 segments 128 pieces 37304 inexact 0 dropped 0 name made.wkt
+changes 0
+end
+";
+    let mut shelf = MemShelf::new(rt.alloc(), 1);
+    for _ in 0..2 {
+        assert!(rt; says(rt.alloc(), &["make", "128"], &mut shelf, report));
+    }
+}
