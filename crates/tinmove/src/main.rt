@@ -8,8 +8,10 @@ mod laws;
 mod progress;
 mod publication;
 mod run;
+mod sure_run;
 #[cfg(test)]
 mod tests;
+mod warnings;
 
 use help::{Help, USAGE, help_of};
 use job_words::{Job, read_words};
@@ -17,17 +19,29 @@ use progress::{ToldPress, ToldShelf};
 use run::run;
 use runs::Status;
 use shelf_io::{FilePress, FileShelf};
-use std::alloc::Global;
+use std::alloc::AllocError;
 use std::env;
+use std::env::Env;
 use std::io::{ErrorKind, IsTerminal, Stderr};
 use std::process::ExitCode;
+use std::str::from_utf8;
+use warnings::{say_bad_word, say_meetings};
 
-/// The words of the command line without the program's name. Words that are no text are none.
+/// What no mode takes, in the place of words that are no text.
+const NO_WORD: &str = "--not-utf8";
+
+/// How many bytes the longest word of a mode has.
+const MODE_BYTES: usize = 7;
+
+/// The words of the command line without the program's name.
 fn words_of(rt: &HostRuntime) -> Result<Vec<String>, Status> {
     let mut args = match env::args(rt) {
         Ok(args) => args,
         Err(fault) if fault.kind() == ErrorKind::OutOfMemory => return Err(Status::Memory),
-        Err(_) => return Ok(Vec::new(rt.alloc())),
+        Err(_) => {
+            say_bad_word(rt);
+            return no_words(rt).map_err(|_| Status::Memory);
+        }
     };
     let _ = args.next();
     match args.collect(rt.alloc()) {
@@ -36,10 +50,23 @@ fn words_of(rt: &HostRuntime) -> Result<Vec<String>, Status> {
     }
 }
 
-/// How many layers the words give to be carried, where they give any.
-fn layer_count(alloc: Global, words: &[String]) -> Option<usize> {
-    match read_words(alloc, words) {
-        Ok(Job::Migrate { layers, .. }) => Some(layers.items().len()),
+/// Words that are refused in place of those that are no text: behind the same mode one that it does not understand.
+fn no_words(rt: &HostRuntime) -> Result<Vec<String>, AllocError> {
+    let mut words = Vec::new(rt.alloc());
+    let mut buf = [0u8; MODE_BYTES];
+    if let Ok(count) = rt.arg(1, &mut buf) {
+        if let Ok(mode) = from_utf8(&buf[..count]) {
+            words.push(String::from_str(rt.alloc(), mode)?)?;
+            words.push(String::from_str(rt.alloc(), NO_WORD)?)?;
+        }
+    }
+    Ok(words)
+}
+
+/// How many layers the job carries, where it carries any.
+fn layer_count(job: &Job) -> Option<usize> {
+    match job {
+        Job::Migrate { layers, .. } => Some(layers.items().len()),
         _ => None,
     }
 }
@@ -64,7 +91,14 @@ fn run_on_files(rt: &HostRuntime, words: &[String]) -> Status {
         return Status::Memory;
     };
     let terminal = terminal(rt);
-    let mut shelf = ToldShelf::new(shelf, terminal, layer_count(rt.alloc(), words));
+    let layers = match read_words(rt.alloc(), words) {
+        Ok(job) => {
+            say_meetings(rt, &job);
+            layer_count(&job)
+        }
+        Err(_) => None,
+    };
+    let mut shelf = ToldShelf::new(shelf, terminal, layers);
     let mut press = ToldPress::new(press, terminal);
     run(rt.alloc(), words, &mut shelf, &mut press)
 }

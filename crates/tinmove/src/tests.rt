@@ -8,6 +8,7 @@ mod jobs;
 mod layers;
 mod maker;
 mod memory_runs;
+mod outside;
 mod progress_lines;
 mod reports;
 mod squares;
