@@ -5,6 +5,7 @@ pub mod Stripes
 pub mod Indices
 pub mod Sizes
 pub mod Places
+pub mod Placed
 pub mod Found
 pub mod Tells
 pub mod Enters

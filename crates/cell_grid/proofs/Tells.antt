@@ -20,7 +20,7 @@ use Rattle.cell_grid.specs.Stripes.{IsPast}
 use Rattle.cell_grid.specs.Cells.{numbers_at, cell_of, IsLevelOf, IsPlaceOf}
 use Rattle.cell_grid.specs.Blocks.{place_at}
 use Rattle.cell_grid.specs.Partners.{ArePartners}
-use Rattle.cell_grid.specs.Telling.{DoesTell, IsAsked, least, index_with, IsTellable, IsToldBefore, IsToldAmong, IsPartnerOn, IsPartnerOnFirst}
+use Rattle.cell_grid.specs.Telling.{DoesTell, IsAsked, least, index_with, IsTellable, IsToldBefore, IsToldFrom, IsPartnerOn, IsPartnerOnFirst}
 use Rattle.cell_grid.specs.declared.telling.Asked.{Asked}
 use Rattle.cell_grid.proofs.Finds.{index_of_member}
 use Rattle.plane_base.proofs.BoxLemmas.{meeting}
@@ -89,26 +89,57 @@ tell_one L xs k meant one =
 less : (xs : List ℕ) (i j : ℕ) → IsStrictlyIncreasing xs → i < j → j < length xs → get_or xs i 0 < get_or xs j 0
 less xs i j up h within = AllPairs-from_increasing xs up i j 0 h within
 
-pub among_more : (asked : Asked) (boxes : List Rect) (index : ℕ) (numbers : List ℕ) (i : ℕ) (xs ys zs : List ℕ) → i < length numbers → IsStrictlyIncreasing numbers
-    → DoesTell (IsToldAmong asked boxes index numbers i) xs ys → DoesTell (λ n. (n ≡ get_or numbers i 0) × IsTellable asked boxes index n) ys zs
-    → DoesTell (IsToldAmong asked boxes index numbers (i + 1)) xs zs
-among_more asked boxes index numbers i xs ys zs within up before here =
-    tell_more (IsToldAmong asked boxes index numbers i) (λ n. (n ≡ get_or numbers i 0) × IsTellable asked boxes index n) (IsToldAmong asked boxes index numbers (i + 1)) xs ys zs before here
-    (λ n h. ⊎_elim
-    (λ earlier. inl ((h.0.0, earlier, h.0.2), h.1))
-    (λ late. let e : h.0.0 ≡ i = omega (arith, h.0.1) in inr (sym h.0.2 ∙ ap (λ (k : ℕ). get_or numbers k 0) e, h.1))
-    (cases_lt h.0.0 i))
-    (λ n h. ((h.0.0, omega (arith, h.0.1), h.0.2), h.1))
-    (λ n h. ((i, omega arith, sym h.0), h.1))
-    (λ n h m. omega (arith, less numbers h.0.0 i up h.0.1 within, h.0.2, m.0))
+-- one that is left is the first of them, or is behind it
+left_cases : (asked : Asked) (boxes : List Rect) (index : ℕ) (numbers : List ℕ) (i n : ℕ) → IsToldFrom asked boxes index numbers i n → IsToldFrom asked boxes index numbers (i + 1) n ⊎ ((n ≡ get_or numbers i 0) × IsTellable asked boxes index n)
+left_cases asked boxes index numbers i n h = go (cases_lt i h.0.0)
+  where
+    go : (i < h.0.0) ⊎ (h.0.0 ≤ i) → IsToldFrom asked boxes index numbers (i + 1) n ⊎ ((n ≡ get_or numbers i 0) × IsTellable asked boxes index n)
+    go (inl later) = inl ((h.0.0, omega (arith, later), h.0.2, h.0.3), h.1)
+    go (inr first) = let e : h.0.0 ≡ i = omega (arith, first, h.0.1) in inr (sym h.0.3 ∙ ap (λ (k : ℕ). get_or numbers k 0) e, h.1)
+
+pub from_more : (asked : Asked) (boxes : List Rect) (index : ℕ) (numbers : List ℕ) (i : ℕ) (xs ys zs : List ℕ) → i < length numbers → IsStrictlyIncreasing numbers
+    → DoesTell (IsToldFrom asked boxes index numbers (i + 1)) xs ys → DoesTell (λ n. (n ≡ get_or numbers i 0) × IsTellable asked boxes index n) ys zs
+    → DoesTell (IsToldFrom asked boxes index numbers i) xs zs
+from_more asked boxes index numbers i xs ys zs within up before here =
+    tell_more (IsToldFrom asked boxes index numbers (i + 1)) (λ n. (n ≡ get_or numbers i 0) × IsTellable asked boxes index n) (IsToldFrom asked boxes index numbers i) xs ys zs before here
+    (left_cases asked boxes index numbers i)
+    (λ n h. ((h.0.0, omega (arith, h.0.1), h.0.2, h.0.3), h.1))
+    (λ n h. ((i, omega arith, within, sym h.0), h.1))
+    (λ n h m. omega (arith, less numbers i h.0.0 up (omega (arith, h.0.1)) h.0.2, h.0.3, m.0))
+
+-- no number that is left is asked for
+none_early : (numbers : List ℕ) (i k n from : ℕ) → IsStrictlyIncreasing numbers → i < length numbers → get_or numbers i 0 < from → k ≤ i → get_or numbers k 0 ≡ n → from ≤ n → ⊥
+none_early numbers i k n from up within early h e f = go (cases_lt k i)
+  where
+    go : (k < i) ⊎ (i ≤ k) → ⊥
+    go (inl below) = omega (arith, less numbers k i up below within, e, f, early)
+    go (inr above) = let at : k ≡ i = omega (arith, above, h) in omega (arith, ap (λ (j : ℕ). get_or numbers j 0) at, e, f, early)
+
+pub from_first : (asked : Asked) (boxes : List Rect) (index : ℕ) (numbers : List ℕ) (i : ℕ) (xs ys : List ℕ) → i < length numbers → IsStrictlyIncreasing numbers → get_or numbers i 0 < asked.from
+    → DoesTell (IsToldFrom asked boxes index numbers (i + 1)) xs ys → DoesTell (IsToldFrom asked boxes index numbers 0) xs ys
+from_first asked boxes index numbers i xs ys within up early tells =
+    tell_as (IsToldFrom asked boxes index numbers (i + 1)) (IsToldFrom asked boxes index numbers 0) xs ys tells
+    (λ n h. ((h.0.0, omega arith, h.0.2, h.0.3), h.1))
+    from
+  where
+    from : (n : ℕ) → IsToldFrom asked boxes index numbers 0 n → IsToldFrom asked boxes index numbers (i + 1) n
+    from n h = go (cases_lt i h.0.0)
+      where
+        go : (i < h.0.0) ⊎ (h.0.0 ≤ i) → IsToldFrom asked boxes index numbers (i + 1) n
+        go (inl later) = ((h.0.0, omega (arith, later), h.0.2, h.0.3), h.1)
+        go (inr first) = absurd (none_early numbers i h.0.0 n asked.from up within early first h.0.3 h.1.from)
+
+-- all are left, or none
+pub from_none : (asked : Asked) (boxes : List Rect) (index : ℕ) (numbers xs : List ℕ) → DoesTell (IsToldFrom asked boxes index numbers (length numbers)) xs xs
+from_none asked boxes index numbers xs = tell_none (IsToldFrom asked boxes index numbers (length numbers)) xs (λ n h. omega (arith, h.0.1, h.0.2))
 
 -- ---- in the cells of a block
 pub index_more : (asked : Asked) (boxes : List Rect) (cells : List (List ℕ)) (index : ℕ) (numbers : List ℕ) (xs ys zs : List ℕ) → IsAsked asked → AreOrdered boxes → IsLevelOf boxes cells asked.level
     → IsPlaceOf asked.level (place_at asked.level asked.block index) → numbers ≡ numbers_at cells (place_at asked.level asked.block index)
-    → DoesTell (IsToldBefore asked boxes index) xs ys → DoesTell (IsToldAmong asked boxes index numbers (length numbers)) ys zs
+    → DoesTell (IsToldBefore asked boxes index) xs ys → DoesTell (IsToldFrom asked boxes index numbers 0) ys zs
     → DoesTell (IsToldBefore asked boxes (index + 1)) xs zs
 index_more asked boxes cells index numbers xs ys zs is ordered of_level place at before here =
-    tell_more (IsToldBefore asked boxes index) (IsToldAmong asked boxes index numbers (length numbers)) (IsToldBefore asked boxes (index + 1)) xs ys zs before here
+    tell_more (IsToldBefore asked boxes index) (IsToldFrom asked boxes index numbers 0) (IsToldBefore asked boxes (index + 1)) xs ys zs before here
     (λ n h. ⊎_elim
     (λ earlier. inl (record { on_level = h.on_level; from = h.from; shared = h.shared; before = earlier }))
     (λ late.
@@ -117,11 +148,11 @@ index_more asked boxes cells index numbers xs ys zs is ordered of_level place at
     let p = least (box_at boxes n) asked.rect in
     let there : place_at asked.level asked.block index ≡ cell_of asked.level p = sym (ap (place_at asked.level asked.block) e) ∙ place_there asked.level asked.rect asked.block p is.past is.block common.1 in
     let stands : Contains numbers n = subst (λ (l : List ℕ). Contains l n) (ap (numbers_at cells) (sym there) ∙ sym at) (of_level.held n p h.on_level common.0) in
-    inr ((stands.0, stands.1, sym (get_or_default numbers stands.0 n 0 stands.1) ∙ stands.2), record { from = h.from; told = record { shared = h.shared; here = e } }))
+    inr ((stands.0, omega arith, stands.1, sym (get_or_default numbers stands.0 n 0 stands.1) ∙ stands.2), record { from = h.from; told = record { shared = h.shared; here = e } }))
     (cases_lt (index_with asked (box_at boxes n)) index))
     (λ n h. record { on_level = h.on_level; from = h.from; shared = h.shared; before = omega (arith, h.before) })
     (λ n h.
-    let stands : Contains numbers n = (h.0.0, h.0.1, get_or_default numbers h.0.0 n 0 h.0.1 ∙ h.0.2) in
+    let stands : Contains numbers n = (h.0.0, h.0.2, get_or_default numbers h.0.0 n 0 h.0.2 ∙ h.0.3) in
     record {
       on_level = of_level.of_level (place_at asked.level asked.block index) n place (subst (λ (l : List ℕ). Contains l n) at stands);
       from = h.1.from;

@@ -1,5 +1,5 @@
 -- The box round all boxes. Only private functions speak of it.
-use Rattle.std.specs.Prelude.{ℤ, ◌≤ℤ◌, List, All}
+use Rattle.std.specs.Prelude.{ℤ, List, All}
 use Rattle.std.specs.Int.{int_max, int_min}
 use Rattle.plane_base.specs.declared.shapes.Pt.{Pt}
 use Rattle.plane_base.specs.declared.shapes.Rect.{Rect}

@@ -10,16 +10,16 @@ use Rattle.cell_grid.specs.declared.grids.Grid.TheInside.{Inside}
 use Rattle.cell_grid.specs.declared.grids.TheConstants.{LIMIT}
 
 abbrev pub seen : Inside → Boxes
-seen grid = record { boxes = grid.boxes.items; levels = grid.used.items }
+seen grid = record { boxes = grid.boxes.boxes; levels = grid.used.items }
 
 pub record IsKept (grid : Inside) : Type 0 where
-  pub ordered : AreOrdered grid.boxes.items
-  pub count : length grid.boxes.items < LIMIT
-  pub around : IsAround grid.around grid.boxes.items
-  pub of_levels : AreOfLevels (length grid.levels.items) grid.boxes.items
-  pub used : AreUsed (length grid.levels.items) grid.boxes.items grid.used.items
+  pub ordered : AreOrdered grid.boxes.boxes
+  pub count : length grid.boxes.boxes < LIMIT
+  pub around : IsAround grid.boxes.around grid.boxes.boxes
+  pub of_levels : AreOfLevels (length grid.levels.items) grid.boxes.boxes
+  pub used : AreUsed (length grid.levels.items) grid.boxes.boxes grid.used.items
   pub laid : AreLaid grid.levels.items
-  pub low : All (λ level. level.low ≡ corner_of grid.around) grid.levels.items
-  pub levels : All (λ level. IsLevelOf grid.boxes.items grid.cells level) grid.levels.items
+  pub low : All (λ level. level.low ≡ corner_of grid.boxes.around) grid.levels.items
+  pub levels : All (λ level. IsLevelOf grid.boxes.boxes grid.cells level) grid.levels.items
   pub ascending : DoAscend grid.cells
-  pub numbers : HasNumbersBelow (length grid.boxes.items) grid.cells
+  pub numbers : HasNumbersBelow (length grid.boxes.boxes) grid.cells

@@ -5,6 +5,8 @@ pub mod Sizes
 pub mod Partners
 pub mod Grids
 pub mod Around
+pub mod Offsets
+pub mod KeptOffsets
 pub mod Stripes
 pub mod Cells
 pub mod Blocks

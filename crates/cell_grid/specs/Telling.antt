@@ -1,5 +1,5 @@
 -- How a list of numbers grows while partners are told. Only private functions speak of it.
-use Rattle.std.specs.Prelude.{◌≡◌, ◌⊎◌, ℕ, ◌<◌, ◌≤◌, List, Contains, slice_index, nat_eq}
+use Rattle.std.specs.Prelude.{◌≡◌, ◌⊎◌, ℕ, ◌<◌, ◌≤◌, List, length, Contains, slice_index, nat_eq}
 use Rattle.std.specs.Int.{int_max}
 use Rattle.std.specs.List.{IsDistinct}
 use Rattle.plane_base.specs.declared.shapes.Pt.{Pt}
@@ -9,6 +9,7 @@ use Rattle.cell_grid.specs.Boxes.{box_at}
 use Rattle.cell_grid.specs.Sizes.{level_of}
 use Rattle.cell_grid.specs.Partners.{IsPartner}
 use Rattle.cell_grid.specs.Stripes.{IsPastCorner}
+use Rattle.cell_grid.specs.Offsets.{rect_of}
 use Rattle.cell_grid.specs.Cells.{IsOnLevel}
 use Rattle.cell_grid.specs.Blocks.{IsBlockOf, index_of}
 use Rattle.cell_grid.specs.declared.telling.Asked.{Asked}
@@ -23,6 +24,7 @@ pub record DoesTell (IsMeant : ℕ → Type 0) (before now : List ℕ) : Type 0 
 -- the box that asks is past the low corner of the level, and the block is of its cells
 pub record IsAsked (asked : Asked) : Type 0 where
   pub past : IsPastCorner asked.level.low asked.rect
+  pub own : rect_of asked.level.low asked.own ≡ asked.rect
   pub block : IsBlockOf asked.level asked.rect asked.block
 
 -- the least point of two boxes, on each axis the greater of where they begin
@@ -50,9 +52,9 @@ pub record IsToldBefore (asked : Asked) (boxes : List Rect) (index number : ℕ)
   pub shared : ShareAPoint (box_at boxes number) asked.rect
   pub before : index_with asked (box_at boxes number) < index
 
--- one of the first numbers of a list, and it may be told
-abbrev pub IsToldAmong : Asked → List Rect → ℕ → List ℕ → ℕ → ℕ → Type 0
-IsToldAmong asked boxes index numbers count number = ((k : ℕ) × (k < count) × (slice_index numbers k ≡ number)) × IsTellable asked boxes index number
+-- one of the numbers of a list from a place on, and it may be told
+abbrev pub IsToldFrom : Asked → List Rect → ℕ → List ℕ → ℕ → ℕ → Type 0
+IsToldFrom asked boxes index numbers first number = ((k : ℕ) × (first ≤ k) × (k < length numbers) × (slice_index numbers k ≡ number)) × IsTellable asked boxes index number
 
 -- a partner on this level
 abbrev pub IsPartnerOn : List Rect → ℕ → ℕ → ℕ → Type 0

@@ -9,6 +9,7 @@ ghost use Rattle.cell_grid.specs.Blocks.{place_at};
 ghost use Rattle.cell_grid.specs.Finding.{DoesFind, StandsIn, StandsBefore};
 
 use crate::blocks::Block;
+use crate::box_lists::BoxList;
 use crate::levels::Level;
 use number_groups::Groups;
 use plane_base::Rect;
@@ -20,17 +21,17 @@ use std::alloc::AllocError;
 pub(crate) fn find(
     level: &Level,
     cells: &Groups,
-    boxes: &[Rect],
+    boxes: &BoxList,
     cut: &Rect,
     r: &Rect,
     found: &mut Vec<u32>,
 ) -> Result<(), AllocError>
     requires places { HasPlacesOf level.now cells.now }
-    requires numbers { HasNumbersBelow (length boxes.now) cells.now }
-    requires ordered { AreOrdered boxes.now }
+    requires numbers { HasNumbersBelow (length boxes.now.boxes) cells.now }
+    requires ordered { AreOrdered boxes.now.boxes }
     requires cut { IsPastCorner level.now.low cut.now }
     requires r { IsOrdered r.now }
-    ensures { OnOk result (DoesFind boxes.now r.now (StandsIn level.now cells.now cut.now) found.old.items found.new.items) }
+    ensures { OnOk result (DoesFind boxes.now.boxes r.now (StandsIn level.now cells.now cut.now) found.old.items found.new.items) }
 {
     let block = Block::of(level, cut);
     if block.count() > level.mask as u64 {
@@ -45,15 +46,15 @@ pub(crate) fn find(
 fn find_everywhere(
     level: &Level,
     cells: &Groups,
-    boxes: &[Rect],
+    boxes: &BoxList,
     r: &Rect,
     found: &mut Vec<u32>,
 ) -> Result<(), AllocError>
     requires places { HasPlacesOf level.now cells.now }
-    requires numbers { HasNumbersBelow (length boxes.now) cells.now }
-    requires ordered { AreOrdered boxes.now }
+    requires numbers { HasNumbersBelow (length boxes.now.boxes) cells.now }
+    requires ordered { AreOrdered boxes.now.boxes }
     requires r { IsOrdered r.now }
-    ensures { OnOk result (DoesFind boxes.now r.now (StandsBefore cells.now (λ k. level.now.base + k) (level.now.mask + 1)) found.old.items found.new.items) }
+    ensures { OnOk result (DoesFind boxes.now.boxes r.now (StandsBefore cells.now (λ k. level.now.base + k) (level.now.mask + 1)) found.old.items found.new.items) }
 {
     for index in 0..level.mask + 1 {
         find_among(cells.at(level.base + index), boxes, r, found)?;
@@ -66,16 +67,16 @@ fn find_in_block(
     level: &Level,
     block: &Block,
     cells: &Groups,
-    boxes: &[Rect],
+    boxes: &BoxList,
     r: &Rect,
     found: &mut Vec<u32>,
 ) -> Result<(), AllocError>
     requires few { block.now.columns * block.now.rows < 2 ^ 32 }
     requires places { HasPlacesOf level.now cells.now }
-    requires numbers { HasNumbersBelow (length boxes.now) cells.now }
-    requires ordered { AreOrdered boxes.now }
+    requires numbers { HasNumbersBelow (length boxes.now.boxes) cells.now }
+    requires ordered { AreOrdered boxes.now.boxes }
     requires r { IsOrdered r.now }
-    ensures { OnOk result (DoesFind boxes.now r.now (StandsBefore cells.now (place_at level.now block.now) (block.now.columns * block.now.rows)) found.old.items found.new.items) }
+    ensures { OnOk result (DoesFind boxes.now.boxes r.now (StandsBefore cells.now (place_at level.now block.now) (block.now.columns * block.now.rows)) found.old.items found.new.items) }
 {
     for index in 0..block.count() as u32 {
         find_among(cells.at(block.place_at(level, index)), boxes, r, found)?;
@@ -86,14 +87,14 @@ fn find_in_block(
 // Finds those of some boxes that share a point with `r`.
 fn find_among(
     numbers: &[u32],
-    boxes: &[Rect],
+    boxes: &BoxList,
     r: &Rect,
     found: &mut Vec<u32>,
 ) -> Result<(), AllocError>
-    requires numbers { (k : ℕ) → Contains numbers.now k → k < length boxes.now }
-    requires ordered { AreOrdered boxes.now }
+    requires numbers { (k : ℕ) → Contains numbers.now k → k < length boxes.now.boxes }
+    requires ordered { AreOrdered boxes.now.boxes }
     requires r { IsOrdered r.now }
-    ensures { OnOk result (DoesFind boxes.now r.now (Contains numbers.now) found.old.items found.new.items) }
+    ensures { OnOk result (DoesFind boxes.now.boxes r.now (Contains numbers.now) found.old.items found.new.items) }
 {
     for number in numbers {
         find_one(*number, boxes, r, found)?;
@@ -102,13 +103,13 @@ fn find_among(
 }
 
 // Finds a box if it shares a point with `r`.
-fn find_one(number: u32, boxes: &[Rect], r: &Rect, found: &mut Vec<u32>) -> Result<(), AllocError>
-    requires number { number < length boxes.now }
-    requires ordered { AreOrdered boxes.now }
+fn find_one(number: u32, boxes: &BoxList, r: &Rect, found: &mut Vec<u32>) -> Result<(), AllocError>
+    requires number { number < length boxes.now.boxes }
+    requires ordered { AreOrdered boxes.now.boxes }
     requires r { IsOrdered r.now }
-    ensures { OnOk result (DoesFind boxes.now r.now (λ n. n ≡ number) found.old.items found.new.items) }
+    ensures { OnOk result (DoesFind boxes.now.boxes r.now (λ n. n ≡ number) found.old.items found.new.items) }
 {
-    if !boxes[number as usize].shares_a_point(r) {
+    if !boxes.rect(number).shares_a_point(r) {
         return Ok(());
     }
     found.push(number)?;

@@ -8,6 +8,7 @@ ghost use Rattle.cell_grid.specs.Sizes.{level_of};
 ghost use Rattle.cell_grid.specs.Partners.{ArePartners};
 ghost use Rattle.cell_grid.specs.Telling.{DoesTell, IsPartnerOn};
 
+use crate::box_lists::BoxList;
 use crate::entering::cells_of;
 use crate::finding::find;
 use crate::laying::{counts_of, levels_for, used_levels};
@@ -26,9 +27,7 @@ pub const LIMIT: usize = 1 << 23;
 /// from 0.
 #[derive(Debug, Drop)]
 pub struct Grid {
-    boxes: Vec<Rect>,
-    // round all boxes
-    around: Rect,
+    boxes: BoxList,
     // all levels up to the greatest, and the numbers of those that have boxes
     levels: Vec<Level>,
     used: Vec<u32>,
@@ -49,7 +48,7 @@ impl Model for Grid {
 }
 
 impl Grid {
-    /// The grid of these boxes, in millimetres. It takes memory for the boxes, for their numbers in at most four cells each,
+    /// The grid of these boxes, in millimetres. It takes memory for half of what the boxes take, for their numbers in at most four cells each,
     /// twice while it sorts them, and for about as many cells as boxes.
     pub fn build(alloc: Global, boxes: &[Rect]) -> Result<Self, AllocError>
         requires ordered { AreOrdered boxes.now }
@@ -62,8 +61,7 @@ impl Grid {
         let levels = levels_for(alloc, boxes, &counts, &around)?;
         Ok(Grid {
             cells: cells_of(alloc, boxes, &levels)?,
-            boxes: Vec::from_slice(alloc, boxes)?,
-            around,
+            boxes: BoxList::of(alloc, boxes, around)?,
             levels,
             used: used_levels(alloc, &counts)?,
         })
@@ -74,7 +72,7 @@ impl Grid {
         requires { IsOrdered r }
         ensures { IfOk result (λ numbers. IsNearList self.now.boxes r numbers.items) }
     {
-        let cut = cut_to(&self.around, &r);
+        let cut = cut_to(self.boxes.around(), &r);
         let mut numbers = Vec::new(alloc);
         for used in &self.used {
             let level = &self.levels[*used as usize];
@@ -103,7 +101,7 @@ impl Grid {
     {
         let used = self.used[level as usize];
         let level = &self.levels[used as usize];
-        let inside = put_into(&self.around, p);
+        let inside = put_into(self.boxes.around(), p);
         self.cells
             .at(level.place(level.column(inside.x), level.row(inside.y)))
     }
@@ -129,7 +127,7 @@ impl Grid {
         ensures { OnOk result (DoesTell (IsPartnerOn self.now.boxes number (slice_index self.now.levels place)) found.old.items found.new.items) }
     {
         let used = self.used[place as usize];
-        if used < level_of(&self.boxes[number as usize]) {
+        if used < level_of(&self.boxes.rect(number)) {
             return Ok(());
         }
         let level = &self.levels[used as usize];

@@ -1,6 +1,4 @@
-//! A level of a grid, with the columns, rows and places of its cells.
-
-ghost use Rattle.std.specs.Prelude.{◌≡◌, ◌+◌, ◌*◌, ◌^◌, ◌<◌, ◌≤◌};
+ghost use Rattle.std.specs.Prelude.{◌≡◌, ◌+◌, ◌*◌, ◌/◌, ◌^◌, ◌<◌, ◌≤◌};
 ghost use Rattle.cell_grid.specs.Stripes.{IsPast, stripe_of};
 
 use crate::LIMIT;
@@ -84,6 +82,13 @@ impl Level {
         ensures within { result < 2 ^ 31 }
     {
         stripe(self.low.y, self.shift, y)
+    }
+
+    /// The column or row that is so far past the low corner.
+    pub(crate) fn stripe_at(&self, offset: u32) -> u32
+        ensures { result ≡ offset / 2 ^ self.now.shift }
+    {
+        offset >> self.shift
     }
 
     /// The place of a cell. Neighbours have places of their own where there are eight places or more.

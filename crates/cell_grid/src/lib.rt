@@ -3,12 +3,14 @@
 #![tactic(auto)]
 
 mod blocks;
+mod box_lists;
 mod entering;
 mod finding;
 mod grids;
 mod laws;
 mod laying;
 mod levels;
+mod offsets;
 mod rects;
 mod telling;
 mod widths;

@@ -7,12 +7,16 @@ ghost use Rattle.plane_base.specs.Boxes.{ShareAPoint};
 ghost use Rattle.cell_grid.specs.Boxes.{box_at};
 ghost use Rattle.cell_grid.specs.Sizes.{level_of};
 ghost use Rattle.cell_grid.specs.Stripes.{IsPastCorner};
+ghost use Rattle.cell_grid.specs.Around.{corner_of};
+ghost use Rattle.cell_grid.specs.Offsets.{rect_of};
 ghost use Rattle.cell_grid.specs.Cells.{IsLevelOf, DoAscend};
 ghost use Rattle.cell_grid.specs.Blocks.{index_of};
-ghost use Rattle.cell_grid.specs.Telling.{DoesTell, IsAsked, IsTold, IsTellable, IsToldAmong, IsPartnerOn, index_with};
+ghost use Rattle.cell_grid.specs.Telling.{DoesTell, IsAsked, IsTold, IsTellable, IsToldFrom, IsPartnerOn, index_with};
 
 use crate::blocks::Block;
+use crate::box_lists::BoxList;
 use crate::levels::Level;
+use crate::offsets::Offsets;
 use crate::rects::level_of;
 use number_groups::Groups;
 use plane_base::Rect;
@@ -23,6 +27,8 @@ use std::alloc::AllocError;
 pub(crate) struct Asked {
     level: Level,
     rect: Rect,
+    // the same box
+    own: Offsets,
     block: Block,
     from: u32,
 }
@@ -31,27 +37,22 @@ pub(crate) struct Asked {
 pub(crate) fn tell(
     level: &Level,
     cells: &Groups,
-    boxes: &[Rect],
+    boxes: &BoxList,
     number: u32,
     found: &mut Vec<u32>,
 ) -> Result<(), AllocError>
-    requires level { IsLevelOf boxes.now cells.now level.now }
+    requires level { IsLevelOf boxes.now.boxes cells.now level.now }
     requires ascending { DoAscend cells.now }
-    requires past { All (λ rect. IsPastCorner level.now.low rect) boxes.now }
-    requires count { length boxes.now < LIMIT }
-    requires number { number < length boxes.now }
-    requires above { level_of (box_at boxes.now number) ≤ level.now.number }
-    ensures { OnOk result (DoesTell (IsPartnerOn boxes.now number level.now.number) found.old.items found.new.items) }
+    requires low { corner_of boxes.now.around ≡ level.now.low }
+    requires past { All (λ rect. IsPastCorner level.now.low rect) boxes.now.boxes }
+    requires count { length boxes.now.boxes < LIMIT }
+    requires number { number < length boxes.now.boxes }
+    requires above { level_of (box_at boxes.now.boxes number) ≤ level.now.number }
+    ensures { OnOk result (DoesTell (IsPartnerOn boxes.now.boxes number level.now.number) found.old.items found.new.items) }
 {
-    let rect = &boxes[number as usize];
-    let asked = Asked {
-        level: *level,
-        rect: *rect,
-        block: Block::of(level, rect),
-        from: first_meant(level, rect, number),
-    };
+    let asked = Asked::of(level, boxes, number);
     for index in 0..asked.block.count() as u32 {
-        let numbers = cells.at(asked.block.place_at(level, index));
+        let numbers = cells.at(asked.block.place_at(&asked.level, index));
         asked.tell_among(index, numbers, boxes, found)?;
     }
     Ok(())
@@ -71,80 +72,117 @@ fn first_meant(level: &Level, rect: &Rect, number: u32) -> u32
 }
 
 impl Asked {
-    // Tells those of the numbers that are told at the cell of this index.
+    // The box of a number, as it asks on this level.
+    fn of(level: &Level, boxes: &BoxList, number: u32) -> Self
+        requires low { corner_of boxes.now.around ≡ level.now.low }
+        requires past { All (λ rect. IsPastCorner level.now.low rect) boxes.now.boxes }
+        requires count { length boxes.now.boxes < LIMIT }
+        requires number { number < length boxes.now.boxes }
+        ensures is { IsAsked result }
+        ensures level { result.level ≡ level.now }
+        ensures rect { result.rect ≡ box_at boxes.now.boxes number }
+        ensures own { level_of (box_at boxes.now.boxes number) ≡ level.now.number → result.from ≡ number + 1 }
+        ensures above { level_of (box_at boxes.now.boxes number) ≢ level.now.number → result.from ≡ 0 }
+    {
+        let rect = boxes.rect(number);
+        Asked {
+            level: *level,
+            rect,
+            own: *boxes.offsets(number),
+            block: Block::of(level, &rect),
+            from: first_meant(level, &rect, number),
+        }
+    }
+
+    // Tells those of the numbers that are told at the cell of this index. They ascend, so it begins at the last one and stops
+    // at the first one that is not asked for.
     fn tell_among(
         &self,
         index: u32,
         numbers: &[u32],
-        boxes: &[Rect],
+        boxes: &BoxList,
         found: &mut Vec<u32>,
     ) -> Result<(), AllocError>
         requires asked { IsAsked self.now }
-        requires past { All (λ rect. IsPastCorner self.now.level.low rect) boxes.now }
+        requires low { corner_of boxes.now.around ≡ self.now.level.low }
+        requires past { All (λ rect. IsPastCorner self.now.level.low rect) boxes.now.boxes }
         requires ascending { IsStrictlyIncreasing numbers.now }
-        requires numbers { (k : ℕ) → Contains numbers.now k → k < length boxes.now }
-        ensures { OnOk result (DoesTell (IsToldAmong self.now boxes.now index numbers.now (length numbers.now)) found.old.items found.new.items) }
+        requires numbers { (k : ℕ) → Contains numbers.now k → k < length boxes.now.boxes }
+        ensures { OnOk result (DoesTell (IsToldFrom self.now boxes.now.boxes index numbers.now 0) found.old.items found.new.items) }
     {
-        for number in numbers {
-            self.tell_one(*number, index, boxes, found)?;
+        let mut left = numbers.len();
+        while left > 0 {
+            left -= 1;
+            let number = numbers[left];
+            if number < self.from {
+                return Ok(());
+            }
+            self.tell_one(number, index, boxes, found)?;
         }
         Ok(())
     }
 
-    // Tells a number, if it is told at the cell of this index.
+    // Tells a number that is asked for, if it is told at the cell of this index.
     fn tell_one(
         &self,
         number: u32,
         index: u32,
-        boxes: &[Rect],
+        boxes: &BoxList,
         found: &mut Vec<u32>,
     ) -> Result<(), AllocError>
         requires asked { IsAsked self.now }
-        requires past { All (λ rect. IsPastCorner self.now.level.low rect) boxes.now }
-        requires number { number < length boxes.now }
-        ensures { OnOk result (DoesTell (λ n. (n ≡ number) × IsTellable self.now boxes.now index n) found.old.items found.new.items) }
+        requires low { corner_of boxes.now.around ≡ self.now.level.low }
+        requires past { All (λ rect. IsPastCorner self.now.level.low rect) boxes.now.boxes }
+        requires number { number < length boxes.now.boxes }
+        requires from { self.now.from ≤ number }
+        ensures { OnOk result (DoesTell (λ n. (n ≡ number) × IsTellable self.now boxes.now.boxes index n) found.old.items found.new.items) }
     {
-        if !self.is_tellable(number, index, boxes) {
+        if !self.is_told(index, boxes.offsets(number)) {
             return Ok(());
         }
         found.push(number)?;
         Ok(())
     }
 
-    // Whether this number is told at the cell of this index.
-    fn is_tellable(&self, number: u32, index: u32, boxes: &[Rect]) -> bool
+    // Whether the boxes have a common point, and the least one is in the cell of this index.
+    fn is_told(&self, index: u32, other: &Offsets) -> bool
         requires asked { IsAsked self.now }
-        requires past { All (λ rect. IsPastCorner self.now.level.low rect) boxes.now }
-        requires number { number < length boxes.now }
-        ensures { IsTrue result ↔ IsTellable self.now boxes.now index number }
+        requires past { IsPastCorner self.now.level.low (rect_of self.now.level.low other.now) }
+        ensures { IsTrue result ↔ IsTold self.now index (rect_of self.now.level.low other.now) }
     {
-        if number < self.from {
+        if !self.shares_a_point(other) {
             return false;
         }
-        self.is_told(index, &boxes[number as usize])
+        self.index_with(other) == index as u64
     }
 
-    // Whether the boxes have a common point, and the least one is in the cell of this index.
-    fn is_told(&self, index: u32, rect: &Rect) -> bool
+    // Whether the boxes have a common point.
+    fn shares_a_point(&self, other: &Offsets) -> bool
         requires asked { IsAsked self.now }
-        requires past { IsPastCorner self.now.level.low rect.now }
-        ensures { IsTrue result ↔ IsTold self.now index rect.now }
+        requires past { IsPastCorner self.now.level.low (rect_of self.now.level.low other.now) }
+        ensures { IsTrue result ↔ ShareAPoint (rect_of self.now.level.low other.now) self.now.rect }
     {
-        if !rect.shares_a_point(&self.rect) {
-            return false;
-        }
-        self.index_with(rect) == index as u64
+        let wide = do_meet(other.x0, other.x1, self.own.x0, self.own.x1);
+        let high = do_meet(other.y0, other.y1, self.own.y0, self.own.y1);
+        wide & high
     }
 
     // The index of the cell that has the least common point.
-    fn index_with(&self, rect: &Rect) -> u64
+    fn index_with(&self, other: &Offsets) -> u64
         requires asked { IsAsked self.now }
-        requires past { IsPastCorner self.now.level.low rect.now }
-        requires shared { ShareAPoint rect.now self.now.rect }
-        ensures { result ≡ index_with self.now rect.now }
+        requires past { IsPastCorner self.now.level.low (rect_of self.now.level.low other.now) }
+        requires shared { ShareAPoint (rect_of self.now.level.low other.now) self.now.rect }
+        ensures { result ≡ index_with self.now (rect_of self.now.level.low other.now) }
     {
-        let column = self.level.column(rect.x0.max(self.rect.x0));
-        let row = self.level.row(rect.y0.max(self.rect.y0));
+        let column = self.level.stripe_at(other.x0.max(self.own.x0));
+        let row = self.level.stripe_at(other.y0.max(self.own.y0));
         self.block.index_of(column, row)
     }
+}
+
+// Whether neither of two spans ends before the other begins.
+fn do_meet(first: u32, last: u32, start: u32, end: u32) -> bool
+    ensures { IsTrue result ↔ (first ≤ end) × (start ≤ last) }
+{
+    (first <= end) & (start <= last)
 }

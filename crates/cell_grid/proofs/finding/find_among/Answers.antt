@@ -12,7 +12,7 @@ find_one-requires-clause-number c = c.requires.numbers (get_or c.args.numbers.no
 
 pub loop-number-preserved : goal.loop-number-preserved
 loop-number-preserved c =
-    find_more c.args.boxes.now c.args.r.now (IsOneOf c.args.numbers.now c.loop-number.number-index) (λ n. n ≡ get_or c.args.numbers.now c.loop-number.number-index 0) (IsOneOf c.args.numbers.now (c.loop-number.number-index + 1))
+    find_more c.args.boxes.now.boxes c.args.r.now (IsOneOf c.args.numbers.now c.loop-number.number-index) (λ n. n ≡ get_or c.args.numbers.now c.loop-number.number-index 0) (IsOneOf c.args.numbers.now (c.loop-number.number-index + 1))
     c.args.found.now.items c.loop-number.found.items c.find_one.new.found.items c.loop-number.invariant c.in_ok-find_one.ensures
     (λ n u _. ⊎_elim
     (λ earlier. inl (u.0, earlier, u.2))
@@ -21,5 +21,5 @@ loop-number-preserved c =
 
 pub returns : goal.returns
 returns c =
-    find_as c.args.boxes.now c.args.r.now (IsOneOf c.args.numbers.now c.loop-number.number-index) (Contains c.args.numbers.now) c.args.found.now.items c.loop-number.found.items c.loop-number.invariant
+    find_as c.args.boxes.now.boxes c.args.r.now (IsOneOf c.args.numbers.now c.loop-number.number-index) (Contains c.args.numbers.now) c.args.found.now.items c.loop-number.found.items c.loop-number.invariant
     (λ n h _. (h.0, omega (arith, h.1, c.loop-number-test.false), sym (get_or_default_zero c.args.numbers.now h.0 n h.1) ∙ h.2))

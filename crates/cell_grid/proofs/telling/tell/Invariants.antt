@@ -3,4 +3,4 @@ use Rattle.cell_grid.specs.Telling.{DoesTell, IsToldBefore}
 use Rattle.cell_grid.proofs.telling.tell.Given as goal
 
 abbrev pub invariant-loop-index : goal.invariant-loop-index
-invariant-loop-index l = DoesTell (IsToldBefore l.asked l.boxes l.index) l.initial.found.items l.found.items
+invariant-loop-index l = DoesTell (IsToldBefore l.asked l.boxes.boxes l.index) l.initial.found.items l.found.items

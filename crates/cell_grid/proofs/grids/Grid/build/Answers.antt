@@ -3,7 +3,7 @@ use Rattle.std.proofs.Common.{◌≡◌, ◌<◌, ◌≤◌, ℕ, List, length, 
 use Rattle.plane_base.specs.declared.shapes.Rect.{Rect}
 use Rattle.cell_grid.specs.Boxes.{AreOrdered}
 use Rattle.cell_grid.specs.Sizes.{level_of, AreOfLevels, AreUsed}
-use Rattle.cell_grid.specs.Around.{IsAround}
+use Rattle.cell_grid.specs.Around.{IsAround, corner_of}
 use Rattle.cell_grid.specs.Cells.{IsLevelOf, HasNumbersBelow}
 use Rattle.cell_grid.specs.declared.levels.Level.{Level}
 use Rattle.cell_grid.specs.declared.grids.TheConstants.{LIMIT}
@@ -22,7 +22,8 @@ cells_of-requires-clause-past c =
 
 pub invariant_of-result : goal.invariant_of-result
 invariant_of-result c =
-    let same = sym c.in_ok-from_slice.ensures.items in
+    let same = sym c.in_ok-of.ensures.boxes in
+    let round = sym c.in_ok-of.ensures.around in
     let counts : length c.in_ok-counts.counts.items ≡ length c.in_ok-levels.levels.items = ap length (sym c.deref.ensures.value) ∙ sym c.in_ok-levels.ensures.count in
     let long : length c.deref-3.result.now ≡ length c.in_ok-levels.levels.items = ap length c.deref-3.ensures.value ∙ counts in
     let of_levels : AreOfLevels (length c.in_ok-levels.levels.items) c.args.boxes.now = subst (λ (n : ℕ). AreOfLevels n c.args.boxes.now) counts c.in_ok-counts.ensures.of_levels in
@@ -39,11 +40,11 @@ invariant_of-result c =
     record {
       ordered = subst (λ (bs : List Rect). AreOrdered bs) same c.requires.ordered;
       count = subst (λ (bs : List Rect). length bs < LIMIT) same c.requires.count;
-      around = subst (λ (bs : List Rect). IsAround c.around_all-around.result bs) same c.around_all-around.ensures;
+      around = subst (λ (a : Rect). IsAround a c.in_ok-of.field-0.boxes) round (subst (λ (bs : List Rect). IsAround c.around_all-around.result bs) same c.around_all-around.ensures);
       of_levels = subst (λ (bs : List Rect). AreOfLevels (length c.in_ok-levels.levels.items) bs) same of_levels;
       used = subst (λ (bs : List Rect). AreUsed (length c.in_ok-levels.levels.items) bs c.in_ok-used_levels.field-0.items) same used;
       laid = c.in_ok-levels.ensures.laid;
-      low = c.in_ok-levels.ensures.low;
+      low = subst (λ (a : Rect). All (λ (v : Level). v.low ≡ corner_of a) c.in_ok-levels.levels.items) round c.in_ok-levels.ensures.low;
       levels = subst (λ (bs : List Rect). All (λ (v : Level). IsLevelOf bs c.in_ok-cells_of.field-0 v) c.in_ok-levels.levels.items) same
           (subst (λ (vs : List Level). All (λ (v : Level). IsLevelOf c.args.boxes.now c.in_ok-cells_of.field-0 v) vs) c.deref-2.ensures.value c.in_ok-cells_of.ensures.levels);
       ascending = c.in_ok-cells_of.ensures.ascending;
