@@ -25,6 +25,8 @@ mod made_tins;
 #[cfg(test)]
 mod nearness;
 #[cfg(test)]
+mod seg_gap_tests;
+#[cfg(test)]
 mod slice_tests;
 #[cfg(test)]
 mod soundness_tests;

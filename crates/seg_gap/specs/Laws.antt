@@ -1,0 +1,22 @@
+-- The laws of the distance of two segments.
+use Rattle.std.specs.Prelude.{◌≡◌, ◌↔◌, ℕ}
+use Rattle.plane_base.specs.Plane.{Point}
+use Rattle.plane_base.specs.declared.shapes.Pt.{Pt}
+use Rattle.seg_gap.specs.Gaps.{IsOfSegment, IsGap}
+
+-- two segments have at most one gap
+abbrev pub GapIsOne : Type 0
+GapIsOne = (a b c d : Pt) (first second : ℕ) → IsGap a b c d first → IsGap a b c d second → first ≡ second
+
+-- where they share a point, it is 0
+abbrev pub SegmentsThatShareAPointHaveNoGap : Type 0
+SegmentsThatShareAPointHaveNoGap =
+    (a b c d : Pt) (p : Point) (gap : ℕ) → IsOfSegment a b p → IsOfSegment c d p → IsGap a b c d gap ↔ (gap ≡ 0)
+
+-- the gap of the second and the first segment is that of the first and the second, and each segment may go from either end
+pub record IsAlike (a b c d : Pt) (gap : ℕ) : Type 0 where
+  pub exchanged : IsGap c d a b gap
+  pub reversed : IsGap b a c d gap
+
+abbrev pub GapIsSymmetric : Type 0
+GapIsSymmetric = (a b c d : Pt) (gap : ℕ) → IsGap a b c d gap → IsAlike a b c d gap

@@ -1,0 +1,17 @@
+//! The laws of the distance of two segments.
+ghost use Rattle.seg_gap.specs.Laws.{GapIsOne, SegmentsThatShareAPointHaveNoGap, GapIsSymmetric};
+
+/// Two segments have at most one gap, so `gap` has one right answer.
+pub fn gap_is_one()
+    ensures { GapIsOne }
+{}
+
+/// The gap of two segments that share a point is 0.
+pub fn segments_that_share_a_point_have_no_gap()
+    ensures { SegmentsThatShareAPointHaveNoGap }
+{}
+
+/// The gap is the same in either order of the segments, and from either end of a segment.
+pub fn gap_is_symmetric()
+    ensures { GapIsSymmetric }
+{}
