@@ -1,3 +1,4 @@
+//! Boxes of whole sides round exact pieces and round their rounded segments.
 ghost use Rattle.std.specs.Prelude.{◌≡◌, ◌≤ℤ◌, ℤ, ◌⊎◌, [], ◌∷◌};
 ghost use Rattle.plane_base.specs.Boxes.{AreIn};
 ghost use Rattle.plane_base.specs.Plane.{IsNear};

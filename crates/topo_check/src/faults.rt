@@ -1,3 +1,4 @@
+//! Why changes are not listed.
 ghost use Rattle.std.specs.Prelude.{◌≡◌};
 ghost use Rattle.topo_check.specs.declared.faults.ChangesFault.TheVariants.{NoMemory};
 

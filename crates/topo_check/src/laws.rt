@@ -1,3 +1,4 @@
+//! The laws of changes.
 ghost use Rattle.topo_check.specs.Laws.{ChangesAreOne, MoreStayMore, ChangesAreByRounding};
 
 /// A law: pieces have one list of changes.

@@ -1,3 +1,4 @@
+//! How many pieces are compared, and when a segment has many.
 /// The most pieces that can be compared in one call.
 pub const MOST_COMPARED: usize = 1 << 22;
 

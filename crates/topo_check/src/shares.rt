@@ -1,3 +1,4 @@
+//! Shares of a way, rounded down and up.
 ghost use Rattle.std.specs.Int.{int_div_euclid};
 ghost use Rattle.std.specs.Prelude.{◌≡◌, ℤ, pos, ◌-ℤ◌, ◌*ℤ◌, ◌≤ℤ◌};
 ghost use Rattle.plane_base.specs.Plane.{IsShort};
