@@ -17,7 +17,7 @@ both_are false b e = absurd (no_truth e)
     no_truth : false ≡ true → ⊥
     no_truth e = cc
 
-same_numbers : (c d : ChangedPair) → is_same_pair c d ≡ true → (c.first ≡ d.first) × (c.second ≡ d.second)
+pub same_numbers : (c d : ChangedPair) → is_same_pair c d ≡ true → (c.first ≡ d.first) × (c.second ≡ d.second)
 same_numbers c d e =
     let both = both_are (nat_eq c.first d.first) (nat_eq c.second d.second) e in (eqb-true c.first d.first both.0, eqb-true c.second d.second both.1)
 

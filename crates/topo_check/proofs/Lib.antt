@@ -4,8 +4,12 @@ pub mod Cases
 pub mod Collects
 pub mod InBoxes
 pub mod InOrder
+pub mod Numbered
+pub mod OfKinds
 pub mod OneList
 pub mod Ordered
 pub mod Passes
+pub mod PieceCopies
+pub mod Sorts
 pub mod Spans
 pub mod Tight

@@ -56,7 +56,7 @@ with_none tin pieces most frame number others xs =
     no_place h = omega (arith, h)
 
 -- numbers that differ stand at one place
-one_place : (others : List ℕ) (k place : ℕ) → IsDistinct nat_eq others → k < place → place < length others → get_or others k 0 ≡ get_or others place 0 → ⊥
+pub one_place : (others : List ℕ) (k place : ℕ) → IsDistinct nat_eq others → k < place → place < length others → get_or others k 0 ≡ get_or others place 0 → ⊥
 one_place others k place once less within e =
     no_truth (sym (subst (λ (n : ℕ). nat_eq (get_or others k 0) n ≡ true) e (nat_eq_equiv.refl (get_or others k 0))) ∙ apart_from_distinct nat_eq others k place 0 once less within)
 

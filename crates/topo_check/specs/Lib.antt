@@ -3,3 +3,4 @@ pub mod Changes
 pub mod Laws
 pub mod Boxes
 pub mod Pairs
+pub mod Kinds

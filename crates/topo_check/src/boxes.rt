@@ -1,5 +1,4 @@
-//! Boxes round a piece: of the exact piece, and of the segment between its rounded ends.
-
+//! Boxes of whole sides round exact pieces and round their rounded segments.
 ghost use Rattle.std.specs.Prelude.{◌≡◌, ◌≤ℤ◌, ℤ, ◌⊎◌, [], ◌∷◌};
 ghost use Rattle.plane_base.specs.Boxes.{AreIn};
 ghost use Rattle.plane_base.specs.Plane.{IsNear};

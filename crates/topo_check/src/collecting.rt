@@ -1,5 +1,4 @@
-//! The search for the pairs of pieces that have changed, by grids of their boxes.
-
+//! The changed pairs of pieces, by two grids of boxes.
 ghost use Rattle.std.specs.Prelude.{◌≡◌, ◌≢◌, ◌≤◌, ℕ, ◌<◌, List, length, Contains, OnOk, IfOk, nat_eq};
 ghost use Rattle.std.specs.List.{IsDistinct};
 ghost use Rattle.topo_check.specs.declared.limits.TheConstants.{MOST_COMPARED};
@@ -65,8 +64,8 @@ fn collect(
     Ok(())
 }
 
-// Collects the changed pairs of one piece with others, of those that are compared in the frame.
-fn collect_with(
+/// Collects the changed pairs of one piece with others, of those that are compared in the frame.
+pub(crate) fn collect_with(
     tin: &SoundTin,
     pieces: &[Piece],
     frame: Frame,

@@ -1,3 +1,4 @@
+//! Two pieces before and after rounding.
 ghost use Rattle.std.specs.Prelude.{◌≡◌, ◌↔◌, ◌<◌, length, IfSome, IfNone, IsTrue};
 ghost use Rattle.tin_base.specs.declared.relations.Rel.{Rel};
 ghost use Rattle.topo_check.specs.Changes.{AreAllComparable};

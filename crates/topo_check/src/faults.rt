@@ -1,5 +1,4 @@
-//! Why the changes of some pieces are not listed.
-
+//! Why changes are not listed.
 ghost use Rattle.std.specs.Prelude.{◌≡◌};
 ghost use Rattle.topo_check.specs.declared.faults.ChangesFault.TheVariants.{NoMemory};
 

@@ -1,5 +1,4 @@
-//! The boxes of all pieces, and the grid over those of the rounded segments.
-
+//! The grids of the exact pieces and of their rounded segments.
 ghost use Rattle.std.specs.Prelude.{◌≡◌, ◌<◌, ◌≤◌, All, IfOk, length};
 ghost use Rattle.tin_base.specs.Pieces.{IsPieceInside};
 ghost use Rattle.meet_rel.specs.Near.{AreNear};

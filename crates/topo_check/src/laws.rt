@@ -1,5 +1,4 @@
-//! Laws of changes: pieces have one list of them, and each is by rounding alone.
-
+//! The laws of changes.
 ghost use Rattle.topo_check.specs.Laws.{ChangesAreOne, MoreStayMore, ChangesAreByRounding};
 
 /// A law: pieces have one list of changes.

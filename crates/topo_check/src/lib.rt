@@ -5,11 +5,16 @@
 mod boxes;
 mod collecting;
 mod comparing;
+mod copies;
 mod faults;
 mod grids;
+mod kinds;
 mod laws;
+mod leads;
 mod limits;
 mod listing;
+mod marks;
+mod members;
 mod shares;
 
 pub use faults::ChangesFault;

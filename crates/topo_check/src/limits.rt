@@ -1,5 +1,4 @@
-//! The most pieces that one call compares, and how many pieces a segment needs for boxes by exact ends.
-
+//! How many pieces are compared, and when a segment has many.
 /// The most pieces that can be compared in one call.
 pub const MOST_COMPARED: usize = 1 << 22;
 

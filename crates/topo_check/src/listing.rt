@@ -1,5 +1,4 @@
-//! The list of the changes of pieces, in order.
-
+//! The list of changes.
 ghost use Rattle.std.specs.Prelude.{◌≡◌, ◌<◌, ◌≤◌, map, All, IfOk, IsErrOf, length, vec_len};
 ghost use Rattle.std.specs.List.Sorted.{IsPermutation};
 ghost use Rattle.topo_check.specs.declared.limits.TheConstants.{MOST_COMPARED};
@@ -8,13 +7,13 @@ ghost use Rattle.topo_check.specs.Pairs.{AreDifferent, AreAscending, AreInRange,
 ghost use Rattle.topo_check.specs.declared.faults.ChangesFault.TheVariants.{TooMany};
 
 use crate::ChangesFault;
-use crate::collecting::changed_pairs;
 use crate::comparing::ChangedPair;
+use crate::leads::changed_pairs_by_kinds;
 use std::alloc::{AllocError, Global};
 use tin_base::{Change, Piece, SoundTin};
 
 /// The changes of each two pieces, the earlier first, in the order of the pairs: by the first piece, and then by the second.
-/// It stops at the first change over `most`, and takes memory for changes, for one grid at a time of a box of each piece, with a list of these boxes while it is built, and for the numbers of the pieces that are near one.
+/// It stops at the first change over `most`, and takes memory for changes, for one grid at a time of a box of each piece, with a list of these boxes while it is built, and for the numbers of the pieces that are near one; where pieces are copies of others, also for the first piece of each kind.
 pub fn changes(
     alloc: Global,
     tin: &SoundTin,
@@ -27,7 +26,7 @@ pub fn changes(
     ensures within { IfOk result (λ changes. vec_len changes ≤ most) }
     ensures too_many { IsErrOf result TooMany → HasMoreThan tin.now pieces.now most }
 {
-    let mut pairs = changed_pairs(alloc, tin, pieces, most)?;
+    let mut pairs = changed_pairs_by_kinds(alloc, tin, pieces, most)?;
     sort(&mut pairs);
     if pairs.len() > most as usize {
         return Err(ChangesFault::TooMany);

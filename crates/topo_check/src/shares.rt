@@ -1,5 +1,4 @@
-//! A share of the way between two numbers, rounded down or up.
-
+//! Shares of a way, rounded down and up.
 ghost use Rattle.std.specs.Int.{int_div_euclid};
 ghost use Rattle.std.specs.Prelude.{◌≡◌, ℤ, pos, ◌-ℤ◌, ◌*ℤ◌, ◌≤ℤ◌};
 ghost use Rattle.plane_base.specs.Plane.{IsShort};
