@@ -6,6 +6,7 @@
 #
 #     large.sh [BOXES [N..]]      200000 boxes and N = 64 128 256 512, if nothing else is said
 #     PART=check or PART=layouts  runs one of the two alone
+#     PART=worst                  runs 'check' of the triangulations that cost it most instead (worst_tins.py)
 set -eu
 part=${PART:-both}
 boxes=${1:-200000}
@@ -14,6 +15,14 @@ boxes=${1:-200000}
 top=$(CDPATH='' cd -- "$(dirname -- "$0")/.." && pwd)
 work=$(mktemp -d)
 trap 'rm -rf "$work"' EXIT
+
+# ---- the worst
+if [ "$part" = worst ]; then
+    python3 "$top/bench/json_text.py" make 1 "$work/1.json"
+    "$top/tinmove" check --tin "$work/1.json" >/dev/null
+    python3 "$top/bench/worst_tins.py" "$top/crates/tinmove/out/tinmove" "$work"
+    exit 0
+fi
 
 # ---- check
 if [ "$part" != layouts ]; then
