@@ -26,7 +26,8 @@ fn sound_line(alloc: Global, tin: &SoundTin) -> Result<String, AllocError>
     format!(in alloc; "sound: corners {corners} triangles {triangles} inexact {inexact}\n")
 }
 
-/// What is written where the triangulation of the file of this name is to be checked.
+/// The output of a check of the triangulation of the file of this name: one line, and no file. The error says why the
+/// triangulation is refused; nothing is written by then.
 pub fn prepare_check<S: Shelf>(
     alloc: Global,
     shelf: &mut S,

@@ -1,8 +1,6 @@
 -- What is made, from the steps of making it.
 use Rattle.std.proofs.Common.{◌≡◌, ◌≢◌, ◌≤◌, ◌+◌, ℕ, List, [], map, codes, length, Some, IfSome, refl, sym, ◌∙◌, ap, arith}
 use Rattle.shelf_io.specs.Load.{Loads}
-use Rattle.report_text.specs.ReportText.{report_text}
-use Rattle.report_text.specs.declared.rows.LayerRow.{LayerRow}
 use Rattle.tin_base.specs.Triangulation.{Triangulation}
 use Rattle.tin_base.specs.Limits.{IsWithinLimits}
 use Rattle.topo_check.specs.Changes.{AreAllComparable}
@@ -14,12 +12,12 @@ use Rattle.runs.specs.Refusals.{status_of}
 use Rattle.runs.proofs.Faults.{of_text, of_check, of_layer, not_read, layer_not_read}
 use Rattle.migrate.specs.MakerTexts.{layer_text}
 use Rattle.runs.specs.Status.{end_of}
-use Rattle.migrate.specs.Migrations.{HasTurned, report_of, file_in}
+use Rattle.migrate.specs.Migrations.{HasTurned, file_in}
 use Rattle.migrate.specs.Maker.{made_files, made_migration, IsMakingDone, IsMakingWritten, IsOfMaking, MayNotBeMade}
 use Rattle.runs.specs.Output.{file_of, files_of, HasForm}
 use Rattle.migrate.specs.RunContents.{HasCarried, AreUncarried, IsUnlisted, AddsLayer, AddsNone, IsReported}
 use Rattle.migrate.proofs.LayerLists.{names_done}
-use Rattle.migrate.proofs.MigrationSteps.{carried_at, uncarried_at, layers_refused, changes_refused, run_comparable, reports_on}
+use Rattle.migrate.proofs.MigrationSteps.{carried_at, uncarried_at, layers_refused, changes_refused, run_comparable, reports_on, run_migrated}
 use Rattle.runs.specs.declared.output.LayerFile.{LayerFile}
 use Rattle.migrate.specs.declared.layer_runs.Run.{Run}
 use Rattle.runs.specs.declared.output.Output.{Output}
@@ -74,22 +72,11 @@ pub made_done : (n : ℕ) (tin : Triangulation) (run : Run) (written final : Out
     → HasCarried (setting_of (Some (made_files n)) made_migration.how tin) [] made_migration.layers run → IsReported (codes "made.json") tin run written → final.layers.items ≡ [] → final.said ≡ written.said → final.changed ≡ written.changed
     → IsMakingDone n (end_of final.changed) (files_of final)
 made_done n tin run written final ready has is none said changed =
-    let holds = has.holds in
     record {
       changes = is.changes;
       layers = map (file_in []) has.done;
       said = written.said;
-      migrated = record {
-        tin = tin;
-        way = ready;
-        pieces = run.pieces.items;
-        done = has.done;
-        used = run.used;
-        carried = has.carried;
-        listed = is.listed;
-        layers_are = refl;
-        said_is = is.said ∙ ap (λ (rows : List LayerRow). report_text (report_of (codes "made.json") tin rows is.changes)) holds.rows;
-      };
+      migrated = run_migrated (made_files n) made_migration tin run written (map (file_in []) has.done) ready has is refl;
       status_is = ap end_of (changed ∙ is.changed);
       made_is = rw (none, said) refl;
     }

@@ -21,7 +21,7 @@ use Rattle.runs.specs.declared.output.LayerFile.{LayerFile}
 use Rattle.migrate.specs.declared.layer_runs.Run.{Run}
 use Rattle.runs.specs.declared.output.Output.{Output}
 use Rattle.migrate.specs.declared.migrations.Migration.{Migration}
-use Rattle.migrate.specs.Migrations.{MayBeTaken, HasTurned, by_tin, by_layers, row_of, report_of, file_in, IsReportOn, LacksSome}
+use Rattle.migrate.specs.Migrations.{MayBeTaken, HasTurned, by_tin, by_layers, row_of, report_of, file_in, IsReportOn, LacksSome, IsMigrated}
 use Rattle.migrate.specs.LayerOutcomes.{IsLayerText, LacksLayerText}
 use Rattle.runs.specs.Status.{end_of}
 use Rattle.runs.specs.Refusals.{status_of}
@@ -181,6 +181,24 @@ run_comparable told migration tin run limits has = run_compared (setting_of told
 files_are : (run : Run) (written : Output) (folder : List ℕ) (done : List Done) → written.layers.items ≡ run.files.items → Holds folder done run → map file_of written.layers.items ≡ map (file_in folder) done
 files_are run written folder done same holds = ap (λ (fs : List LayerFile). map file_of fs) same ∙ holds.files
 
+-- the run is the migration of its files, where its layers are written into these files
+pub run_migrated : (files : Files) (migration : Migration) (tin : Triangulation) (run : Run) (written : Output) (layers : Files) → HasTurned files migration.how migration.tin migration.inverse tin
+    → (has : HasCarried (setting_of (Some files) migration.how tin) migration.out migration.layers run) → (is : IsReported migration.tin tin run written) → layers ≡ map (file_in migration.out) has.done
+    → IsMigrated files migration is.changes layers written.said
+run_migrated files migration tin run written layers ready has is layers_are =
+    let holds = has.holds in
+    record {
+      tin = tin;
+      way = ready;
+      pieces = run.pieces.items;
+      done = has.done;
+      used = run.used;
+      carried = has.carried;
+      listed = is.listed;
+      layers_are = layers_are;
+      said_is = is.said ∙ ap (λ (rows : List LayerRow). report_text (report_of migration.tin tin rows is.changes)) holds.rows;
+    }
+
 pub migration_done : (told : Option Files) (migration : Migration) (tin : Triangulation) (run : Run) (written : Output) → IfSome told (λ files. HasTurned files migration.how migration.tin migration.inverse tin)
     → HasCarried (setting_of told migration.how tin) migration.out migration.layers run → IsReported migration.tin tin run written → IfSome told (λ files. IsMigrationDone files migration (end_of written.changed) (files_of written))
 migration_done None migration tin run written ready has is = tt
@@ -190,17 +208,7 @@ migration_done (Some files) migration tin run written ready has is =
       changes = is.changes;
       layers = map file_of written.layers.items;
       said = written.said;
-      migrated = record {
-        tin = tin;
-        way = ready;
-        pieces = run.pieces.items;
-        done = has.done;
-        used = run.used;
-        carried = has.carried;
-        listed = is.listed;
-        layers_are = files_are run written migration.out has.done is.layers holds;
-        said_is = is.said ∙ ap (λ (rows : List LayerRow). report_text (report_of migration.tin tin rows is.changes)) holds.rows;
-      };
+      migrated = run_migrated files migration tin run written (map file_of written.layers.items) ready has is (files_are run written migration.out has.done is.layers holds);
       status_is = ap end_of is.changed;
       made_is = refl;
     }

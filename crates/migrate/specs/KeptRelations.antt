@@ -1,4 +1,5 @@
--- What a run says of how the pieces of its layers lie to each other: after rounding as in the source, or which of them do not.
+-- What a run says of how the pieces of its layers lie to each other: after rounding as in the source, or which of
+-- them do not.
 use Rattle.std.specs.Prelude.{◌≡◌, ◌≢◌, ◌⊎◌, ℕ, ◌+◌, ◌<◌, List, [], ◌∷◌, ◌++◌, All, AllPairs, Contains, codes, length, slice_index_or, Option, Some, IfSome}
 use Rattle.shelf_io.specs.Files.{Files}
 use Rattle.sheet_base.specs.declared.flags.How.{How}
@@ -23,7 +24,8 @@ use Rattle.migrate.specs.Maker.{made_files, made_migration}
 use Rattle.report_text.specs.Reports.{Contents as Report}
 use Rattle.report_text.specs.ReportText.{report_text}
 
--- the layer's file in the folder is a layer again, whose segments in order are those between the rounded images of the ends of its pieces, unless the format excepts what is written of the layer's bytes
+-- the layer's file in the folder is a layer again, whose segments in order are those between the rounded images of
+-- the ends of its pieces, unless the format excepts what is written of the layer's bytes
 abbrev pub HasWritten : How → Format → Triangulation → List ℕ → List ℕ → List ℕ → List Piece → Files → Type 0
 HasWritten how format tin folder name bytes own made =
     (text : List ℕ) × Contains made (name_in folder name, text) × IsBackAsPieces tin bytes (IsLayerText how format) (reads_back_of format how bytes) text own
@@ -38,7 +40,8 @@ pub record IsKeptLayer (setting : Setting) (folder : List ℕ) (made : Option Fi
   pub are_pieces : ArePiecesOfSheet setting.tin number sheet own
   pub written : IfSome made (HasWritten setting.how format setting.tin folder name bytes own)
 
--- the layers of these names in order, the first of them under this number and behind `used` bytes, and the pieces of all of them
+-- the layers of these names in order, the first of them under this number and behind `used` bytes, and the pieces of
+-- all of them
 abbrev pub AreKeptLayers : Setting → List ℕ → Option Files → ℕ → ℕ → List (List ℕ) → List Piece → Type 0
 AreKeptLayers setting folder made number used [] pieces = pieces ≡ []
 AreKeptLayers setting folder made number used (name ∷ names) pieces =
@@ -50,11 +53,13 @@ pub record GivesPieces (files : Files) (migration : Migration) (made : Option Fi
   pub way : HasWay files migration tin
   pub layers : AreKeptLayers (setting_of (Some files) migration.how tin) migration.out made 0 0 migration.layers pieces
 
--- one relation is that of the two pieces in the source, and that of the segments between the rounded images of their ends
+-- one relation is that of the two pieces in the source, and that of the segments between the rounded images of their
+-- ends
 abbrev pub KeepTheirRelation : Triangulation → Piece → Piece → Type 0
 KeepTheirRelation tin p q = (relation : Rel) × HadRelation tin relation p q × HasRelation relation p q
 
--- the change is that of some piece and a later one: they had one relation in the source, and the segments between the rounded images of their ends have another
+-- the change is that of some piece and a later one: they had one relation in the source, and the segments between the
+-- rounded images of their ends have another
 abbrev pub IsOfSomePair : Triangulation → List Piece → Change → Type 0
 IsOfSomePair tin pieces change = (i : ℕ) × (j : ℕ) × (d : Piece) × (i < j) × (j < length pieces) × IsChangeOf tin (slice_index_or pieces i d) (slice_index_or pieces j d) (Some change)
 
@@ -74,8 +79,10 @@ pub record ReportsChanges (tin : Triangulation) (pieces : List Piece) (made : Op
   pub some : report.changes ≢ []
   pub printed : IfSome made (λ made. Contains made (codes "-", report_text report))
 
--- What the status of a migration says of all pieces of all its layers, each of them with each later one, where the layers' files are among `layers` and the report among `made`.
--- After `Same` each two written segments lie to each other as their pieces do in the source; after `Changed` the report names those that do not.
+-- What the status of a migration says of all pieces of all its layers, each of them with each later one, where the
+-- layers' files are among `layers` and the report among `made`.
+-- After `Same` each two written segments lie to each other as their pieces do in the source; after `Changed` the
+-- report names those that do not.
 abbrev pub KeepsRelationsIn : Files → Migration → Status → Option Files → Option Files → Type 0
 KeepsRelationsIn files migration Same layers made = (tin : Triangulation) × (pieces : List Piece) × GivesPieces files migration layers tin pieces × AllPairs (KeepTheirRelation tin) pieces
 KeepsRelationsIn files migration Changed layers made = (tin : Triangulation) × (pieces : List Piece) × GivesPieces files migration layers tin pieces × ReportsChanges tin pieces made
@@ -85,6 +92,7 @@ KeepsRelationsIn files migration status layers made = Unit {0}
 abbrev pub KeepsRelations : Files → Migration → Status → Option Files → Type 0
 KeepsRelations files migration status made = KeepsRelationsIn files migration status made made
 
--- The same of the triangulation and the layer that are made, as of a migration of these two files. Only its report is made; `layers` has the layer's file that would stand before it.
+-- The same of the triangulation and the layer that are made, as of a migration of these two files. Only its report is
+-- made; `layers` has the layer's file that would stand before it.
 abbrev pub KeepsMadeRelations : ℕ → Status → Option Files → Type 0
 KeepsMadeRelations n status made = (layers : Files) × KeepsRelationsIn (made_files n) made_migration status (Some layers) made

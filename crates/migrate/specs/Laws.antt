@@ -1,4 +1,5 @@
--- A migration ends in one way, and where it is done it keeps the relations of its pieces or lists those that it does not.
+-- A migration ends in one way, and where it is done it keeps the relations of its pieces or lists those that it does
+-- not.
 use Rattle.std.specs.Prelude.{◌≡◌, ℕ, Result, Ok, Err, Some}
 use Rattle.shelf_io.specs.Files.{Files}
 use Rattle.runs.specs.declared.status.Status.{Status}
@@ -8,7 +9,8 @@ use Rattle.migrate.specs.Migrations.{IsMigrationRefused, IsMigrationDone}
 use Rattle.migrate.specs.Maker.{made_files, made_migration, IsMakingDone}
 use Rattle.migrate.specs.KeptRelations.{KeepsRelations, KeepsMadeRelations}
 
--- how a job ends where no call of the outside fails and memory does not run out: with a status and its made files, or with its refusal
+-- how a job ends where no call of the outside fails and memory does not run out: with a status and its made files, or
+-- with its refusal
 abbrev pub End : Type 0
 End = Result (Status × Files) Refusal
 

@@ -1,4 +1,5 @@
--- What becomes of a layer of some format: it is read, or has a first fault; then it is carried, or its first segment that is not is outside or passes the limit.
+-- What becomes of a layer of some format: it is read, or has a first fault; then it is carried, or its first segment
+-- that is not is outside or passes the limit.
 use Rattle.std.specs.Prelude.{ℕ, ◌≤◌, List, length, drop}
 use Rattle.sheet_base.specs.declared.edits.Edit.{Edit}
 use Rattle.sheet_base.specs.declared.faults.LayerFault.{LayerFault}
@@ -21,20 +22,23 @@ IsLayerText how format text sheet = reads_of format how text sheet
 abbrev pub LacksLayerText : How → Format → List ℕ → LayerFault → Type 0
 LacksLayerText how format text fault = refuses_of format how text fault
 
--- The layer of this number is carried; its pieces stand behind those of the layers before it, and they are not too many. A format says which texts it reads as which
--- sheets, what it writes in the place of an edit, and of which sheets and images what is written is read back.
+-- The layer of this number is carried; its pieces stand behind those of the layers before it, and they are not too
+-- many. A format says which texts it reads as which sheets, what it writes in the place of an edit, and of which
+-- sheets and images what is written is read back.
 pub record IsCarriedAs (reads : List ℕ → Contents → Type 0) (writes : List ℕ → Contents → Runs → Edit → List ℕ) (reads_back : List ℕ → Contents → Runs → Type 0)
     (tin : Triangulation) (text : List ℕ) (number : ℕ) (before after : List Piece) (carried : Carried) : Type 0 where
   pub layer : IsLayerCarried tin text (reads text) (writes text) number before after carried
   pub few : length after ≤ MOST_PIECES
-  -- what is written is a layer again, whose segments in order are those between the rounded images of the ends of its pieces; a format may except some
+  -- what is written is a layer again, whose segments in order are those between the rounded images of the ends of its
+  -- pieces; a format may except some
   pub back : IsBackAsPieces tin text reads (reads_back text) carried.text (drop (length before) after)
 
 abbrev pub IsCarried : How → Triangulation → Format → List ℕ → ℕ → List Piece → List Piece → Carried → Type 0
 IsCarried how tin format text number before after carried =
     IsCarriedAs (IsLayerText how format) (λ text sheet images edit. text_of format text how sheet images edit) (reads_back_of format how) tin text number before after carried
 
--- its first segment that is not carried is outside: the one of this number, of the path of that number; so many pieces stand before it
+-- its first segment that is not carried is outside: the one of this number, of the path of that number; so many
+-- pieces stand before it
 abbrev pub IsOutside : How → Triangulation → Format → List ℕ → ℕ → ℕ → ℕ → ℕ → Type 0
 IsOutside how tin format text number before path segment = IsLayerOutside tin (IsLayerText how format text) number before MOST_PIECES path segment
 

@@ -30,7 +30,8 @@ pub record Done : Type 0 where
   pub format : Format
   pub carried : Carried
 
--- the layer of this name has this format and, where the shelf tells its files, these bytes; with those of the layers before it they are not too many
+-- the layer of this name has this format and, where the shelf tells its files, these bytes; with those of the layers
+-- before it they are not too many
 pub record IsLayerFile (told : Option Files) (name : List ℕ) (used : ℕ) (format : Format) (bytes : List ℕ) : Type 0 where
   pub suffix : format_of name ≡ Some format
   pub found : IfSome told (λ files. bytes_of files name ≡ Some bytes)
@@ -46,7 +47,8 @@ pub record IsNextCarried (setting : Setting) (number used : ℕ) (before : List 
   pub file : IsLayerFile setting.told name used done.format bytes
   pub carried : IsCarried setting.how setting.tin done.format bytes number before after done.carried
 
--- The layers of these names are carried one after the other, the first of them under this number and behind `used` bytes and the pieces before it.
+-- The layers of these names are carried one after the other, the first of them under this number and behind `used`
+-- bytes and the pieces before it.
 -- Then there are these pieces and so many bytes.
 abbrev pub AreCarried : Setting → ℕ → ℕ → List Piece → List (List ℕ) → List Piece → List Done → ℕ → Type 0
 AreCarried setting number used before [] after done total = (after ≡ before) × (done ≡ []) × (total ≡ used)
@@ -54,7 +56,8 @@ AreCarried setting number used before (name ∷ names) after done total =
     (bytes : List ℕ) × (pieces : List Piece) × (first : Done) × (rest : List Done) × IsNextCarried setting number used before name bytes pieces first × (done ≡ first ∷ rest)
     × AreCarried setting (number + 1) (used + length bytes) pieces names after rest total
 
--- The layer of this name and number is not carried, behind `used` bytes and so many pieces: one row for each refusal, in the order in which they are tried.
+-- The layer of this name and number is not carried, behind `used` bytes and so many pieces: one row for each refusal,
+-- in the order in which they are tried.
 -- A row speaks of what was accepted before it.
 abbrev pub IsNextRefused : Setting → ℕ → ℕ → ℕ → List ℕ → Refusal → Type 0
 IsNextRefused setting number used before name (LayerUnread layer) = (layer ≡ number) × LacksName setting.told name

@@ -63,7 +63,8 @@ tin_text n =
     tin_front ++ (join_with_byte COMMA (vertex_rows n)
     ++ (tin_between ++ (join_with_byte COMMA (triangle_rows n) ++ tin_end)))
 
--- the line of this number of a layer of n: from the left edge of the square to the right one, both ends half-way between whole metres
+-- the line of this number of a layer of n: from the left edge of the square to the right one, both ends half-way
+-- between whole metres
 unfoldable pub layer_line : ℕ → ℕ → List ℕ
 layer_line n k =
     codes "LINESTRING (0 " ++ (decimal (10 * k + 2) ++ (codes ".5, " ++ (decimal (10 * n)

@@ -32,7 +32,8 @@ abbrev pub directed : Bool → Triangulation → Triangulation
 directed false tin = tin
 directed true tin = turned_of tin
 
--- the layers are carried through this one: it is read and sound as it stands, and only then its frames are exchanged, where that is asked for
+-- the layers are carried through this one: it is read and sound as it stands, and only then its frames are exchanged,
+-- where that is asked for
 abbrev pub HasTurned : Files → How → List ℕ → Bool → Triangulation → Type 0
 HasTurned files how name inverse tin = (stood : Triangulation) × HasTin files how name stood × (tin ≡ directed inverse stood)
 
@@ -98,7 +99,8 @@ report_of name tin rows changes = record {
 abbrev pub file_in : List ℕ → Done → List ℕ × List ℕ
 file_in folder done = (name_in folder done.name, done.carried.text)
 
--- all layers are carried: a file for each, in their order, and a report, which lists the changes of the pieces of all of them
+-- all layers are carried: a file for each, in their order, and a report, which lists the changes of the pieces of all
+-- of them
 pub record IsMigrated (files : Files) (migration : Migration) (changes : List Change) (layers : Files) (said : List ℕ) : Type 0 where
   pub tin : Triangulation
   pub way : HasWay files migration tin
@@ -127,7 +129,8 @@ pub record IsReportOn (tin : List ℕ) (layers : List (List ℕ)) (said : List �
   pub said_is : said ≡ report_text report
   pub status_is : status ≡ end_with report.changes
 
--- What is written of a migration that is done, whatever files hold, and the status: a file for each layer, in their order and under their last parts in the folder, and a report on them.
+-- What is written of a migration that is done, whatever files hold, and the status: a file for each layer, in their
+-- order and under their last parts in the folder, and a report on them.
 abbrev pub IsMigrationWritten : Migration → Files → List ℕ → Status → Type 0
 IsMigrationWritten migration layers said status =
     (map (λ (file : List ℕ × List ℕ). file.0) layers ≡ map (name_in migration.out) migration.layers) × IsReportOn migration.tin migration.layers said status

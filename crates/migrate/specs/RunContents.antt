@@ -86,7 +86,8 @@ pub record HasCarried (setting : Setting) (folder : List ℕ) (names : List (Lis
   pub carried : AreCarried setting 0 0 [] names run.pieces.items done run.used
   pub holds : Holds folder done run
 
--- why the layers are not all carried, or their changes not listed: by the files, after a read fault, or because memory ran out
+-- why the layers are not all carried, or their changes not listed: by the files, after a read fault, or because
+-- memory ran out
 pub data AreUncarried (setting : Setting) (names : List (List ℕ)) (shelf_rose : Type 0) (refusal : Refusal) : Type 0 where
   by_the_layers : AreRefused setting names refusal → AreUncarried setting names shelf_rose refusal
   by_fault : shelf_rose → (number : ℕ) → (name : List ℕ) → IsReachedLayer setting names number name → refusal ≡ LayerUnread number → AreUncarried setting names shelf_rose refusal

@@ -61,7 +61,8 @@ fn carry_made_layer(alloc: Global, n: u32, index: &TinIndex) -> Result<Run, Refu
     Ok(run)
 }
 
-/// What is written where a triangulation and a layer are to be made: the report on them alone.
+/// The output of the maker of n by n cells, n from 1 to 512: the report on the carried layer alone. The error says
+/// why what is made is refused, or that memory ran out.
 pub fn prepare_making(alloc: Global, n: u32) -> Result<Output, Refusal>
     requires some { 1 ≤ n }
     requires most { n ≤ MOST_SIZE }

@@ -48,7 +48,8 @@ pub fn report_on_run(
     })
 }
 
-/// What is written where layers are to be carried.
+/// The output of a migration: a file for each layer, in order, and the report. The error says why it is refused: by the
+/// triangulation, by the first layer that is not carried, or by the changes of all pieces; nothing is written by then.
 pub fn prepare_migration<S: Shelf>(
     alloc: Global,
     shelf: &mut S,

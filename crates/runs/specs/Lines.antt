@@ -1,4 +1,5 @@
--- The lines that say why words, a triangulation or a layer are refused. Places are bytes, rows and triangles are counted from 0, lines from 1.
+-- The lines that say why words, a triangulation or a layer are refused. Places are bytes, rows and triangles are
+-- counted from 0, lines from 1.
 use Rattle.std.specs.Prelude.{ℕ, List, ◌++◌, codes, decimal}
 use Rattle.mm_decimal.specs.declared.reading.NumFault.{NumFault}
 use Rattle.mm_decimal.specs.declared.reading.NumFault.TheVariants.{Form, Long, Range}

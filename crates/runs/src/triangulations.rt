@@ -10,7 +10,8 @@ use tin_base::SoundTin;
 use tin_check::check_tin;
 use tin_file::{MOST_BYTES, read_tin};
 
-/// The triangulation of a text, where it is read and sound.
+/// The triangulation of a text, where it is read and sound. The error is the first fault of reading it, or else of its
+/// soundness.
 pub fn sound_tin(alloc: Global, text: &[u8], how: How) -> Result<SoundTin, Refusal>
     requires { length text.now ≤ MOST_BYTES }
     ensures ok { IfOk result (λ tin. IsTin how text.now tin) }

@@ -52,13 +52,15 @@ abbrev pub EndsTold : List (List ℕ) → Files → Type 0 → Type 0 → Status
 EndsTold words files shelf_rose press_rose status (Some made) = Ends words files shelf_rose press_rose status made
 EndsTold words files shelf_rose press_rose status None = (made : Files) × Ends words files shelf_rose press_rose status made
 
--- What is written of a job that is done, whatever files hold, and the status: the layers' files and the text on standard output.
+-- What is written of a job that is done, whatever files hold, and the status: the layers' files and the text on
+-- standard output.
 abbrev pub IsWrittenOf : Job → Files → List ℕ → Status → Type 0
 IsWrittenOf (Migrate tin out how inverse layers) = IsMigrationWritten (migration_with tin out how inverse layers)
 IsWrittenOf (Check tin how) = IsCheckWritten
 IsWrittenOf (Make n) = IsMakingWritten
 
--- the files that a run with these words may be to make, whatever files hold, and its status: what is written of the job, or `-` alone with the line of a refusal
+-- the files that a run with these words may be to make, whatever files hold, and its status: what is written of the
+-- job, or `-` alone with the line of a refusal
 pub data IsToBeMade (words : List (List ℕ)) (status : Status) (made : Files) : Type 0 where
   by_job : (job : Job) → IsJobOf words job → (layers : Files) → (said : List ℕ) → IsWrittenOf job layers said status → made ≡ layers ++ (codes "-", said) ∷ [] → IsToBeMade words status made
   by_refusal : (refusal : Refusal) → Refuses refusal status made → IsToBeMade words status made

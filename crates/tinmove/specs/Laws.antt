@@ -9,7 +9,8 @@ use Rattle.tinmove.specs.Jobs.{AsksMigration, AsksMaking}
 use Rattle.tinmove.specs.Outcome.{HasOutcome}
 use Rattle.tinmove.specs.Ends.{EndsTold}
 
--- two outcomes of the same words and files have the same status and made the same files; where files have the same name, the first of them is meant
+-- two outcomes of the same words and files have the same status and made the same files; where files have the same
+-- name, the first of them is meant
 abbrev pub OutcomeIsOne : Type 0
 OutcomeIsOne =
     (words : List (List ℕ)) (files : Files) (status other : Status) (made others : Files) → HasOutcome words files status made → HasOutcome words files other others

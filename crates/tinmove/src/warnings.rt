@@ -30,8 +30,8 @@ pub fn say_bad_word(rt: &HostRuntime) {
     }
 }
 
-/// Says which layers are written over the file of the triangulation, or over that of an earlier layer. That it cannot be found
-/// out or said changes nothing.
+/// Says which layers are written over the file of the triangulation, or over that of an earlier layer. That it cannot
+/// be found out or said changes nothing.
 pub fn say_meetings(rt: &HostRuntime, job: &Job) {
     if let Job::Migrate {
         tin,

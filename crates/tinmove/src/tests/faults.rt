@@ -1,6 +1,6 @@
 //! Runs over one triangle and a layer of points: worked examples, and calls of the outside that fail.
 
-use crate::tests::memory_runs::{NEVER, TRIANGLE, holds, makes, ran_over};
+use crate::tests::memory_runs::{MIGRATE, NEVER, TRIANGLE, holds, makes, migrates, ran_over};
 use runs::Status;
 use shelf_io::MemShelf;
 use std::alloc::{AllocError, Global};
@@ -9,20 +9,6 @@ use std::test::Fail;
 /// The same triangle with targets around zero.
 const TRIANGLE_AT_ZERO: &str =
     r#"{"file_type":"triangulation_file","format_version":"1.1","transformed_components":["horizontal"],"vertices_columns":["source_x","source_y","target_x","target_y"],"triangles_columns":["idx_vertex1","idx_vertex2","idx_vertex3"],"vertices":[[0,0,-110,0],[10,0,-99.998,0],[0,10,-110,10]],"triangles":[[0,1,2]]}"#;
-
-const MIGRATE: [&str; 6] = ["migrate", "--tin", "t.json", "--out", "o", "p.wkt"];
-
-/// Does a run over these files end so, and make these?
-fn migrates(
-    alloc: Global,
-    tin: &str,
-    layer: &str,
-    wanted: Status,
-    made: &[(&str, Option<&str>)],
-) -> bool {
-    let files = [("t.json", tin), ("p.wkt", layer)];
-    makes(alloc, &MIGRATE, &files, wanted, made)
-}
 
 #[test]
 fn layers_of_points_are_carried(rt: HostRuntime) {

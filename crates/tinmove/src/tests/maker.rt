@@ -1,5 +1,5 @@
-//! Texts of the maker. The expected ones are made by a script from the rule of each row, but for those of one cell, which
-//! are worked out by hand.
+//! Texts of the maker. The expected ones are made by a script from the rule of each row, except those of one cell,
+//! which are worked out by hand.
 
 use crate::tests::memory_runs::makes;
 use migrate::{make_layer, make_tin};

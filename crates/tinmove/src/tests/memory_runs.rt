@@ -38,8 +38,8 @@ pub fn shelf_of(alloc: Global, files: &[(&str, &str)]) -> Result<MemShelf, Alloc
 /// A call that no run makes.
 pub const NEVER: u64 = 1000;
 
-/// How a run of these words over this shelf ends, and what it makes, by writes of at most `most` bytes of which the call of
-/// this number fails.
+/// How a run of these words over this shelf ends, and what it makes, by writes of at most `most` bytes of which the
+/// call of this number fails.
 pub fn ran_over(
     alloc: Global,
     texts: &[&str],
@@ -82,4 +82,19 @@ pub fn makes(
         Ok((status, press)) => status == wanted && holds(&press, made),
         Err(_) => false,
     }
+}
+
+/// The words that carry one layer through one triangulation.
+pub const MIGRATE: [&str; 6] = ["migrate", "--tin", "t.json", "--out", "o", "p.wkt"];
+
+/// Whether a run that carries this layer through this triangulation ends so, and makes these files.
+pub fn migrates(
+    alloc: Global,
+    tin: &str,
+    layer: &str,
+    wanted: Status,
+    made: &[(&str, Option<&str>)],
+) -> bool {
+    let files = [("t.json", tin), ("p.wkt", layer)];
+    makes(alloc, &MIGRATE, &files, wanted, made)
 }

@@ -2,15 +2,13 @@
 
 use crate::progress::{ToldPress, ToldShelf};
 use crate::run::run;
-use crate::tests::memory_runs::{NEVER, TRIANGLE, words_of};
+use crate::tests::memory_runs::{MIGRATE, NEVER, TRIANGLE, words_of};
 use runs::Status;
 use shelf_io::{MemPress, MemShelf, load, print};
 use std::alloc::{AllocError, Global};
 use std::io;
 use std::io::{ErrorKind, Write};
 use std::test::Fail;
-
-const MIGRATE: [&str; 6] = ["migrate", "--tin", "t.json", "--out", "o", "p.wkt"];
 
 /// A shelf with the files of these words, of which a call fails.
 fn shelf_of_two(alloc: Global, fail: u64) -> Result<MemShelf, AllocError> {

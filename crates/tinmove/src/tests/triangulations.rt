@@ -1,6 +1,6 @@
 //! Runs over triangulations of all kinds, in memory. The expected lines and images are worked out by hand.
 
-use crate::tests::memory_runs::{NEVER, holds, makes, ran_over};
+use crate::tests::memory_runs::{NEVER, holds, makes, migrates, ran_over};
 use runs::Status;
 use shelf_io::MemShelf;
 use std::alloc::{AllocError, Global};
@@ -36,18 +36,6 @@ fn checks_rows(alloc: Global, vertices: &str, triangles: &str, wanted: Status, l
     }
 }
 
-/// Does a run that carries this layer through this triangulation end so, and make these files?
-fn migrates(
-    alloc: Global,
-    tin: &str,
-    layer: &str,
-    wanted: Status,
-    made: &[(&str, Option<&str>)],
-) -> bool {
-    let files = [("t.json", tin), ("p.wkt", layer)];
-    makes(alloc, &MIGRATE, &files, wanted, made)
-}
-
 /// Does a run that carries this layer through a triangulation of these rows end so, and make these files?
 fn migrates_through_rows(
     alloc: Global,
@@ -64,9 +52,8 @@ fn migrates_through_rows(
 
 const CHECK: [&str; 3] = ["check", "--tin", "t.json"];
 
-const MIGRATE: [&str; 6] = ["migrate", "--tin", "t.json", "--out", "o", "p.wkt"];
-
-/// Three vertices as far apart as they may be on both axes of the source, and each 100 m further on both axes of the target.
+/// Three vertices as far apart as they may be on both axes of the source, and each 100 m further on both axes of the
+/// target.
 const LARGEST: &str =
     "[0,0,100,100],[2147483.647,0,2147583.647,100],[0,2147483.647,100,2147583.647]";
 
