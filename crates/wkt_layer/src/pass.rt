@@ -1,7 +1,7 @@
 //! The sheet so far, while a layer is read.
 
 ghost use Rattle.plane_base.specs.declared.shapes.Pt.{Pt};
-ghost use Rattle.std.specs.Prelude.{if◌then◌else◌, ◌≡◌, ◌+◌, ◌-◌, ◌^◌, ◌<◌, ◌≤◌, [], ◌∷◌, ◌++◌, ℕ, List, length, OnOk, Ok};
+ghost use Rattle.std.specs.Prelude.{if◌then◌else◌, ◌≡◌, ◌+◌, ◌-◌, ◌^◌, ◌<◌, ◌≤◌, [], ◌∷◌, ◌++◌, ℕ, List, length, OnOk, IfOk, Ok};
 ghost use Rattle.sheet_base.specs.declared.paths.PathKind.TheVariants.{Loop};
 ghost use Rattle.mm_decimal.specs.Measured.{measured};
 ghost use Rattle.wkt_layer.specs.Numbers.{Point, lost_in};
@@ -81,24 +81,26 @@ fn drop_closing(points: &mut Vec<Pt>, kind: PathKind)
 }
 
 impl Pass {
-    /// Before the first token: nothing is open, and there are no paths, points or edits.
-    pub fn new(alloc: Global) -> Pass
-        ensures stack { result.stack ≡ [] }
-        ensures held { Held result [] [] }
-        ensures start { (result.start ≡ 0) × (result.end ≡ 0) × (result.inexact ≡ 0) }
-        ensures opened { result.opened ≡ 0 }
+    /// Before the first token of a text of so many bytes: nothing is open, and there are no paths,
+    /// points or edits. There is room for a point in every 16 bytes and for a path in every 20, as in
+    /// most texts; lists that become longer take more.
+    pub fn new(alloc: Global, size: usize) -> Result<Pass, AllocError>
+        ensures stack { IfOk result (λ pass. pass.stack ≡ []) }
+        ensures held { IfOk result (λ pass. Held pass [] []) }
+        ensures start { IfOk result (λ pass. (pass.start ≡ 0) × (pass.end ≡ 0) × (pass.inexact ≡ 0)) }
+        ensures opened { IfOk result (λ pass. pass.opened ≡ 0) }
     {
-        Pass {
+        Ok(Pass {
             stack: Stack::none(alloc),
-            paths: Vec::new(alloc),
-            points: Vec::new(alloc),
-            edits: Vec::new(alloc),
+            paths: Vec::with_capacity(alloc, size / 20)?,
+            points: Vec::with_capacity(alloc, size / 16)?,
+            edits: Vec::with_capacity(alloc, size / 20)?,
             inexact: 0,
             first: 0,
             start: 0,
             end: 0,
             opened: 0,
-        }
+        })
     }
 
     /// One point more of the path that is not whole yet; its numbers stand from `start` to before `end`.

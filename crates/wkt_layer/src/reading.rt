@@ -119,7 +119,7 @@ pub fn read(alloc: Global, bytes: &[u8], exact: bool) -> Result<Sheet, LayerFaul
     ensures edits { IfOk result (λ sheet. AreInOrder 0 sheet.edits (length bytes.now)) }
     ensures refused { (fault : LayerFault) → IsErrOf result fault → fault ≢ NoMemory → IsRefusedBy exact bytes.now fault }
 {
-    let mut pass = Pass::new(alloc);
+    let mut pass = Pass::new(alloc, bytes.len())?;
     let mut base = 0;
     let mut rest = Some(bytes);
     while let Some(text) = rest {
