@@ -1,3 +1,4 @@
+-- Answers to the goals of `BoxList::of` in src/box_lists.rt.
 use Rattle.std.proofs.Common.{◌≡◌, List, refl, sym, ◌∙◌, subst, rules, arith}
 use Rattle.std.specs.Prelude.{FitsSigned}
 use Rattle.std.proofs.lemmas.Int.{ints}

@@ -1,3 +1,4 @@
+-- Answers to the goals of `BoxList::rect` in src/box_lists.rt.
 use Rattle.std.proofs.Common.{ap, ◌∙◌, rules, arith}
 use Rattle.std.specs.Prelude.{FitsSigned}
 use Rattle.std.proofs.lemmas.Int.{ints, to_z-of_z}

@@ -1,3 +1,4 @@
+-- Answers to the goals of `Asked::shares_a_point` in src/telling.rt.
 use Rattle.std.proofs.Common.{◌↔◌, IsTrue, ◌&&◌, sym, subst}
 use Rattle.plane_base.specs.declared.shapes.Rect.{Rect}
 use Rattle.plane_base.specs.Boxes.{IsOrdered, ShareAPoint}
