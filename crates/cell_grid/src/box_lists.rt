@@ -1,3 +1,4 @@
+//! Boxes in order of their numbers, which are kept by their offsets from one low corner.
 ghost use Rattle.std.specs.Prelude.{◌≡◌, ◌<◌, ◌^◌, pos, ◌+ℤ◌, ◌<ℤ◌, length, IfOk};
 ghost use Rattle.cell_grid.specs.Boxes.{AreOrdered, box_at};
 ghost use Rattle.cell_grid.specs.Around.{IsAround, corner_of};

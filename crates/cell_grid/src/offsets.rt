@@ -1,3 +1,4 @@
+//! One box by its offsets from a low corner.
 ghost use Rattle.std.specs.Prelude.{◌≡◌};
 ghost use Rattle.cell_grid.specs.Stripes.{IsPast, IsPastCorner};
 ghost use Rattle.cell_grid.specs.Around.{corner_of};

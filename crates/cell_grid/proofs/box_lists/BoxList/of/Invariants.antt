@@ -1,4 +1,4 @@
--- The invariants of `BoxList::of` in src/box_lists.rt.
+-- The invariant of the loop of `BoxList::of` in src/box_lists.rt.
 use Rattle.std.proofs.Common.{◌≡◌, take}
 use Rattle.cell_grid.proofs.Placed.{placed}
 use Rattle.cell_grid.proofs.box_lists.BoxList.of.Given as goal
