@@ -1,12 +1,12 @@
 -- Two segments that do not cross are as far apart as their four ends say.
-use Rattle.std.proofs.Common.{◌≡◌, ◌⊎◌, inl, inr, ℤ, pos, ◌+ℤ◌, ◌-ℤ◌, ◌*ℤ◌, ◌≤ℤ◌, ◌<ℤ◌, subst}
+use Rattle.std.proofs.Common.{◌≡◌, ◌⊎◌, inl, inr, ℤ, pos, ◌+ℤ◌, ◌-ℤ◌, ◌*ℤ◌, ◌≤ℤ◌, ◌<ℤ◌, subst, refl, sym}
 use Rattle.integer_ring.proofs.Ring.{Expr, num, neg, ◌⊕◌, ◌⊖◌, ◌⊗◌}
 use Rattle.integer_ring.proofs.Order.{≤_or_>, ≤_of_<, ≤_antisymm, nonneg_square, nonneg_pos}
 use Rattle.integer_ring.proofs.Signs.{zero_cases}
 use Rattle.integer_ring.proofs.Claims.{Claim, ◌≐◌, ◌≼◌, ◌≺◌, gap, over, eqn, nat, square, ◌⊞◌, ◌⊠◌, ◌because◌, ◌⇒◌, follows, solve}
 use Rattle.plane_base.specs.Plane.{whole, turn_of}
 use Rattle.plane_base.specs.declared.shapes.Pt.{Pt}
-use Rattle.plane_base.proofs.Points.{turn}
+use Rattle.plane_base.proofs.Sizes.{turn_whole}
 use Rattle.seg_gap.specs.Ends.{AreWeights, AreOpposite, DoCross, way_to, IsLow}
 use Rattle.seg_gap.proofs.Steps.{way_from, way_fromE, way_toE, square_toE, whole_turn, whole_turnE, length_of, IsFarAt, shrink, step}
 
@@ -188,13 +188,9 @@ far_aside m a b c d h low = go (≤_or_> (length_of c d) (pos 0)) h
     go (inr some) (inr h) = right_of m a b c d some h.0 h.1 low
 
 -- ---- the turn of whole points
-pub turn_by_differences : (cx cy dx dy ax ay : ℤ)
-    → turn_of (record { x = cx; y = cy; w = pos 1 }) (record { x = dx; y = dy; w = pos 1 }) (record { x = ax; y = ay; w = pos 1 }) ≡ (dx -ℤ cx) *ℤ (ay -ℤ cy) -ℤ (dy -ℤ cy) *ℤ (ax -ℤ cx)
-turn_by_differences =
-    solve 6 (λ cx cy dx dy ax ay. turn (record { x = cx; y = cy; w = num (pos 1) }) (record { x = dx; y = dy; w = num (pos 1) }) (record { x = ax; y = ay; w = num (pos 1) }) ≐ whole_turnE cx cy dx dy ax ay) tt
-
 pub whole_turn_is : (c d a : Pt) → turn_of (whole c) (whole d) (whole a) ≡ whole_turn c d a
-whole_turn_is c d a = turn_by_differences c.x c.y d.x d.y a.x a.y
+whole_turn_is c d a =
+    sym (turn_whole c.x c.y d.x d.y a.x a.y (d.x -ℤ c.x) (d.y -ℤ c.y) (a.x -ℤ c.x) (a.y -ℤ c.y) (whole_turn c d a) refl refl refl refl refl)
 
 aside_of : (c d a b : Pt) → AreAside (turn_of (whole c) (whole d) (whole a)) (turn_of (whole c) (whole d) (whole b))
     → AreAside (whole_turn c d a) (whole_turn c d b)
