@@ -5,7 +5,7 @@ use Rattle.plane_base.specs.Plane.{Point}
 use Rattle.plane_base.specs.declared.shapes.Pt.{Pt}
 use Rattle.seg_gap.specs.Gaps.{IsOfSegment, HaveCloser, IsGap}
 use Rattle.seg_gap.specs.Laws.{GapIsOne, SegmentsThatShareAPointHaveNoGap, GapIsSymmetric}
-use Rattle.seg_gap.specs.Ends.{DoCross, IsReached, IsLeast, IsHalfRoot}
+use Rattle.seg_gap.specs.Ends.{DoCross, IsSomeMixBelow, IsLeast, IsHalfRoot}
 use Rattle.seg_gap.proofs.Sides.{far_apart}
 use Rattle.seg_gap.proofs.Places.{none_closer, closer_end, closer_reversed, closer_exchanged, closer_more, same_closer}
 use Rattle.seg_gap.proofs.Crossings.{closer_crossing}
@@ -14,13 +14,14 @@ use Rattle.seg_gap.proofs.Crossings.{closer_crossing}
 pub gap_crossing : (a b c d : Pt) → DoCross a b c d → IsGap a b c d 0
 gap_crossing a b c d h = record { near = closer_crossing 1 a b c d (omega arith) h; far = λ some k. absurd (omega arith) }
 
-near_end : (value n : ℕ) (a b c d : Pt) → value < n * n → IsReached (pos value) a c d ⊎ (IsReached (pos value) b c d ⊎ (IsReached (pos value) c a b ⊎ IsReached (pos value) d a b)) → HaveCloser n a b c d
+near_end : (value n : ℕ) (a b c d : Pt) → value < n * n → IsSomeMixBelow (pos value) a b c d → HaveCloser n a b c d
 near_end value n a b c d h (inl r) = closer_end value n a b c d r h
 near_end value n a b c d h (inr (inl r)) = closer_reversed n b a c d (closer_end value n b a c d r h)
 near_end value n a b c d h (inr (inr (inl r))) = closer_exchanged n c d a b (closer_end value n c d a b r h)
 near_end value n a b c d h (inr (inr (inr r))) = closer_exchanged n c d a b (closer_reversed n d c a b (closer_end value n d c a b r h))
 
-pub gap_by_ends : (a b c d : Pt) (value half : ℕ) → (DoCross a b c d → ⊥) → IsLeast a b c d value → IsHalfRoot value half → IsGap a b c d half
+pub gap_by_ends : (a b c d : Pt) (value half : ℕ) → (DoCross a b c d → ⊥) → IsLeast a b c d value
+    → IsHalfRoot value half → IsGap a b c d half
 gap_by_ends a b c d value half apart least root =
     record {
       near = near_end value (2 * half + 1) a b c d root.high least.high;

@@ -13,9 +13,11 @@ quotient_low n d h = floor-≤ (pos n) (pos d) h
 
 quotient_high : (n d : ℕ) → pos 0 <ℤ pos d → pos n <ℤ (pos (n / d + 1) *ℤ pos d)
 quotient_high n d h =
-    follows 3 (λ n q d. n ≺ q ⊗ d ⊕ d ⇒ n ≺ (q ⊕ num (pos 1)) ⊗ d because over 0) tt (pos n) (pos (n / d)) (pos d) (floor-< (pos n) (pos d) h)
+    follows 3 (λ n q d. n ≺ q ⊗ d ⊕ d ⇒ n ≺ (q ⊕ num (pos 1)) ⊗ d
+    because over 0) tt (pos n) (pos (n / d)) (pos d) (floor-< (pos n) (pos d) h)
 
-pub height_low : (t s : ℤ) (h d : ℕ) → h ≡ unsigned_abs t → d ≡ unsigned_abs s → pos 0 <ℤ s → (pos (4 * (h * h) / d) *ℤ s) ≤ℤ (pos 4 *ℤ (t *ℤ t))
+pub height_low : (t s : ℤ) (h d : ℕ) → h ≡ unsigned_abs t → d ≡ unsigned_abs s → pos 0 <ℤ s
+    → (pos (4 * (h * h) / d) *ℤ s) ≤ℤ (pos 4 *ℤ (t *ℤ t))
 height_low t (pos m) h d e f some =
     subst (λ (z : ℤ). (pos (4 * (h * h) / d) *ℤ pos m) ≤ℤ z) (four_squares t)
     (subst (λ (k : ℕ). (pos (4 * (k * k) / d) *ℤ pos m) ≤ℤ pos (4 * (unsigned_abs t * unsigned_abs t))) (sym e)
@@ -23,7 +25,8 @@ height_low t (pos m) h d e f some =
     (quotient_low (4 * (unsigned_abs t * unsigned_abs t)) m some)))
 height_low t (negsuc m) h d e f some = absurd some.lt
 
-pub height_high : (t s : ℤ) (h d : ℕ) → h ≡ unsigned_abs t → d ≡ unsigned_abs s → pos 0 <ℤ s → (pos 4 *ℤ (t *ℤ t)) <ℤ (pos (4 * (h * h) / d + 1) *ℤ s)
+pub height_high : (t s : ℤ) (h d : ℕ) → h ≡ unsigned_abs t → d ≡ unsigned_abs s → pos 0 <ℤ s
+    → (pos 4 *ℤ (t *ℤ t)) <ℤ (pos (4 * (h * h) / d + 1) *ℤ s)
 height_high t (pos m) h d e f some =
     subst (λ (z : ℤ). z <ℤ (pos (4 * (h * h) / d + 1) *ℤ pos m)) (four_squares t)
     (subst (λ (k : ℕ). pos (4 * (unsigned_abs t * unsigned_abs t)) <ℤ (pos (4 * (k * k) / d + 1) *ℤ pos m)) (sym e)

@@ -5,7 +5,7 @@ use Rattle.integer_ring.proofs.Ring.{num, ◌⊗◌}
 use Rattle.integer_ring.proofs.Order.{nonneg_square}
 use Rattle.integer_ring.proofs.Claims.{◌≼◌, gap, ◌⊞◌, ◌⊠◌, ◌because◌, ◌⇒◌, follows}
 use Rattle.plane_base.specs.declared.shapes.Pt.{Pt}
-use Rattle.seg_gap.specs.Ends.{square_to, IsLow, IsReached, IsReach, IsLeast}
+use Rattle.seg_gap.specs.Ends.{square_to, IsLow, HasMixBelow, IsSomeMixBelow, IsEndSquare, IsLeast}
 
 -- one of two numbers that is not above the other
 pub record IsLesser (m n r : ℕ) : Type 0 where
@@ -24,10 +24,11 @@ low_less m n p c d h low k l w =
     at_most : (m n : ℕ) → m ≤ n → pos m ≤ℤ pos n
     at_most m n h = omega (arith, ints)
 
-reached_as : (m n : ℕ) (p c d : Pt) → m ≡ n → IsReached (pos n) p c d → IsReached (pos m) p c d
-reached_as m n p c d e h = subst (λ (z : ℕ). IsReached (pos z) p c d) (sym e) h
+mix_below_as : (m n : ℕ) (p c d : Pt) → m ≡ n → HasMixBelow (pos n) p c d → HasMixBelow (pos m) p c d
+mix_below_as m n p c d e h = subst (λ (z : ℕ). HasMixBelow (pos z) p c d) (sym e) h
 
-pub least_of : (a b c d : Pt) (s t u v x y r : ℕ) → IsReach a c d s → IsReach b c d t → IsReach c a b u → IsReach d a b v → IsLesser s t x → IsLesser u v y → IsLesser x y r → IsLeast a b c d r
+pub least_of : (a b c d : Pt) (s t u v x y r : ℕ) → IsEndSquare a c d s → IsEndSquare b c d t → IsEndSquare c a b u
+    → IsEndSquare d a b v → IsLesser s t x → IsLesser u v y → IsLesser x y r → IsLeast a b c d r
 least_of a b c d s t u v x y r of_a of_b of_c of_d first second both =
     let xs = both.first in let ys = both.second in let h = first.first in let i = first.second in let j = second.first in let k = second.second in
     record {
@@ -38,8 +39,8 @@ least_of a b c d s t u v x y r of_a of_b of_c of_d first second both =
       high = go both.one first.one second.one;
     }
   where
-    go : (r ≡ x) ⊎ (r ≡ y) → (x ≡ s) ⊎ (x ≡ t) → (y ≡ u) ⊎ (y ≡ v) → IsReached (pos r) a c d ⊎ (IsReached (pos r) b c d ⊎ (IsReached (pos r) c a b ⊎ IsReached (pos r) d a b))
-    go (inl e) (inl f) h = inl (reached_as r s a c d (omega arith) of_a.high)
-    go (inl e) (inr f) h = inr (inl (reached_as r t b c d (omega arith) of_b.high))
-    go (inr e) h (inl f) = inr (inr (inl (reached_as r u c a b (omega arith) of_c.high)))
-    go (inr e) h (inr f) = inr (inr (inr (reached_as r v d a b (omega arith) of_d.high)))
+    go : (r ≡ x) ⊎ (r ≡ y) → (x ≡ s) ⊎ (x ≡ t) → (y ≡ u) ⊎ (y ≡ v) → IsSomeMixBelow (pos r) a b c d
+    go (inl e) (inl f) h = inl (mix_below_as r s a c d (omega arith) of_a.high)
+    go (inl e) (inr f) h = inr (inl (mix_below_as r t b c d (omega arith) of_b.high))
+    go (inr e) h (inl f) = inr (inr (inl (mix_below_as r u c a b (omega arith) of_c.high)))
+    go (inr e) h (inr f) = inr (inr (inr (mix_below_as r v d a b (omega arith) of_d.high)))

@@ -7,24 +7,29 @@ use Rattle.integer_ring.proofs.Order.{nonneg_pos, nonneg_square}
 use Rattle.integer_ring.proofs.Signs.{≤_of_mul, mul-positive}
 use Rattle.integer_ring.proofs.Claims.{◌≐◌, ◌≼◌, ◌≺◌, never, gap, over, eqn, square, ◌⊞◌, ◌⊠◌, ◌because◌, ◌⇒◌, follows, solve}
 use Rattle.plain_laws.proofs.Weights.{two_positive}
-use Rattle.plane_base.specs.Plane.{Point, whole}
+use Rattle.plane_base.specs.Plane.{Point, Same, whole}
 use Rattle.plane_base.specs.declared.shapes.Pt.{Pt}
 use Rattle.plane_base.proofs.Mixes.{mixed, between_weights, between-w, weights_between, mix_swapped}
 use Rattle.seg_gap.specs.Gaps.{IsOfSegment, square_between, AreCloser, HaveCloser}
-use Rattle.seg_gap.specs.Ends.{AreWeights, way_to, IsReached}
-use Rattle.seg_gap.proofs.Steps.{way_fromE, way_toE}
-use Rattle.seg_gap.proofs.Sides.{IsFar}
+use Rattle.seg_gap.specs.Ends.{AreWeights, square_to, HasMixBelow}
+use Rattle.seg_gap.proofs.Steps.{square_toE, IsFarAt}
+use Rattle.seg_gap.proofs.Sides.{IsFar, is_far}
 use Rattle.seg_gap.proofs.Feet.{at_first}
 
 -- the square between two places, as an expression
 abbrev pub betweenE : Expr → Expr → Expr → Expr → Expr → Expr → Expr
 betweenE px py pw qx qy qw = (px ⊗ qw ⊖ qx ⊗ pw) ⊗ (px ⊗ qw ⊖ qx ⊗ pw) ⊕ (py ⊗ qw ⊖ qy ⊗ pw) ⊗ (py ⊗ qw ⊖ qy ⊗ pw)
 
+-- the square of the distance of two places, four times, is at least m
+abbrev pub IsFarPair : ℤ → Point → Point → Type 0
+IsFarPair m p q = (m *ℤ ((p.w *ℤ q.w) *ℤ (p.w *ℤ q.w))) ≤ℤ (pos 4 *ℤ square_between p q)
+
 -- ---- from weights to a place
 abbrev pub mix_at : Pt → Pt → ℤ → ℤ → Point
 mix_at a b k l = record { x = k *ℤ a.x +ℤ l *ℤ b.x; y = k *ℤ a.y +ℤ l *ℤ b.y; w = k +ℤ l }
 
-same_axis : (k l a b : ℤ) → (k *ℤ a +ℤ l *ℤ b) *ℤ (k *ℤ pos 1 +ℤ (l *ℤ pos 1 +ℤ pos 0)) ≡ (k *ℤ a +ℤ (l *ℤ b +ℤ pos 0)) *ℤ (k +ℤ l)
+same_axis : (k l a b : ℤ)
+    → (k *ℤ a +ℤ l *ℤ b) *ℤ (k *ℤ pos 1 +ℤ (l *ℤ pos 1 +ℤ pos 0)) ≡ (k *ℤ a +ℤ (l *ℤ b +ℤ pos 0)) *ℤ (k +ℤ l)
 same_axis = solve 4 (λ k l a b. (k ⊗ a ⊕ l ⊗ b) ⊗ (k ⊗ num (pos 1) ⊕ (l ⊗ num (pos 1) ⊕ num (pos 0))) ≐ (k ⊗ a ⊕ (l ⊗ b ⊕ num (pos 0))) ⊗ (k ⊕ l)) tt
 
 some_of : (k l : ℕ) → pos 0 <ℤ (pos k +ℤ pos l) → 0 < k + l
@@ -48,23 +53,27 @@ of_weights a b (pos k) (negsuc l) w = absurd w.second.le
 weights_of : (i j : ℕ) → 0 < i + j → AreWeights (pos i) (pos j)
 weights_of i j h = record { first = nonneg_pos i; second = nonneg_pos j; some = two_positive i j h }
 
-far_mixes : (m ax ay bx by cx cy dx dy i j k l : ℤ)
-    → (m *ℤ (((i +ℤ j) *ℤ (k +ℤ l)) *ℤ ((i +ℤ j) *ℤ (k +ℤ l)))) ≤ℤ (pos 4 *ℤ (((k +ℤ l) *ℤ (i *ℤ ax +ℤ j *ℤ bx) -ℤ (i +ℤ j) *ℤ (k *ℤ cx +ℤ l *ℤ dx)) *ℤ ((k +ℤ l) *ℤ (i *ℤ ax +ℤ j *ℤ bx) -ℤ (i +ℤ j) *ℤ (k *ℤ cx +ℤ l *ℤ dx)) +ℤ ((k +ℤ l) *ℤ (i *ℤ ay +ℤ j *ℤ by) -ℤ (i +ℤ j) *ℤ (k *ℤ cy +ℤ l *ℤ dy)) *ℤ ((k +ℤ l) *ℤ (i *ℤ ay +ℤ j *ℤ by) -ℤ (i +ℤ j) *ℤ (k *ℤ cy +ℤ l *ℤ dy))))
-    → (m *ℤ (((i *ℤ pos 1 +ℤ (j *ℤ pos 1 +ℤ pos 0)) *ℤ (k *ℤ pos 1 +ℤ (l *ℤ pos 1 +ℤ pos 0))) *ℤ ((i *ℤ pos 1 +ℤ (j *ℤ pos 1 +ℤ pos 0)) *ℤ (k *ℤ pos 1 +ℤ (l *ℤ pos 1 +ℤ pos 0)))))
-    ≤ℤ (pos 4 *ℤ square_between (record { x = i *ℤ ax +ℤ (j *ℤ bx +ℤ pos 0); y = i *ℤ ay +ℤ (j *ℤ by +ℤ pos 0); w = i *ℤ pos 1 +ℤ (j *ℤ pos 1 +ℤ pos 0) }) (record { x = k *ℤ cx +ℤ (l *ℤ dx +ℤ pos 0); y = k *ℤ cy +ℤ (l *ℤ dy +ℤ pos 0); w = k *ℤ pos 1 +ℤ (l *ℤ pos 1 +ℤ pos 0) }))
-far_mixes =
-    follows 13 (λ m ax ay bx by cx cy dx dy i j k l.
-    m ⊗ (((i ⊕ j) ⊗ (k ⊕ l)) ⊗ ((i ⊕ j) ⊗ (k ⊕ l))) ≼ num (pos 4) ⊗ (way_fromE ax bx (k ⊗ cx ⊕ l ⊗ dx) (k ⊕ l) i j ⊗ way_fromE ax bx (k ⊗ cx ⊕ l ⊗ dx) (k ⊕ l) i j ⊕ way_fromE ay by (k ⊗ cy ⊕ l ⊗ dy) (k ⊕ l) i j ⊗ way_fromE ay by (k ⊗ cy ⊕ l ⊗ dy) (k ⊕ l) i j)
-    ⇒ m ⊗ (((i ⊗ num (pos 1) ⊕ (j ⊗ num (pos 1) ⊕ num (pos 0))) ⊗ (k ⊗ num (pos 1) ⊕ (l ⊗ num (pos 1) ⊕ num (pos 0)))) ⊗ ((i ⊗ num (pos 1) ⊕ (j ⊗ num (pos 1) ⊕ num (pos 0))) ⊗ (k ⊗ num (pos 1) ⊕ (l ⊗ num (pos 1) ⊕ num (pos 0)))))
-    ≼ num (pos 4) ⊗ betweenE (i ⊗ ax ⊕ (j ⊗ bx ⊕ num (pos 0))) (i ⊗ ay ⊕ (j ⊗ by ⊕ num (pos 0))) (i ⊗ num (pos 1) ⊕ (j ⊗ num (pos 1) ⊕ num (pos 0))) (k ⊗ cx ⊕ (l ⊗ dx ⊕ num (pos 0))) (k ⊗ cy ⊕ (l ⊗ dy ⊕ num (pos 0))) (k ⊗ num (pos 1) ⊕ (l ⊗ num (pos 1) ⊕ num (pos 0)))
-    because gap 0) tt
+-- as a mix is spelled in plane_base
+abbrev axisE : Expr → Expr → Expr → Expr → Expr
+axisE a b i j = i ⊗ a ⊕ (j ⊗ b ⊕ num (pos 0))
+
+abbrev weightE : Expr → Expr → Expr
+weightE i j = axisE (num (pos 1)) (num (pos 1)) i j
+
+far_mixes : (m : ℤ) (a b c d : Pt) (i j k l : ℕ) → IsFarAt m a b c d (pos i) (pos j) (pos k) (pos l)
+    → IsFarPair m (mixed i j (whole a) (whole b)) (mixed k l (whole c) (whole d))
+far_mixes m a b c d i j k l =
+    follows 13 (λ m ax ay bx by cx cy dx dy i j k l. is_far m ax ay bx by cx cy dx dy i j k l
+    ⇒ m ⊗ ((weightE i j ⊗ weightE k l) ⊗ (weightE i j ⊗ weightE k l))
+    ≼ num (pos 4) ⊗ betweenE (axisE ax bx i j) (axisE ay by i j) (weightE i j) (axisE cx dx k l) (axisE cy dy k l) (weightE k l) because gap 0) tt
+    m a.x a.y b.x b.y c.x c.y d.x d.y (pos i) (pos j) (pos k) (pos l)
 
 -- r is in the place of p, and s in that of q
-far_moved : (m px py pw qx qy qw rx ry rw sx sy sw : ℤ) → px *ℤ rw ≡ rx *ℤ pw → py *ℤ rw ≡ ry *ℤ pw → qx *ℤ sw ≡ sx *ℤ qw → qy *ℤ sw ≡ sy *ℤ qw
-    → (m *ℤ ((rw *ℤ sw) *ℤ (rw *ℤ sw))) ≤ℤ (pos 4 *ℤ ((rx *ℤ sw -ℤ sx *ℤ rw) *ℤ (rx *ℤ sw -ℤ sx *ℤ rw) +ℤ (ry *ℤ sw -ℤ sy *ℤ rw) *ℤ (ry *ℤ sw -ℤ sy *ℤ rw)))
-    → ((m *ℤ ((pw *ℤ qw) *ℤ (pw *ℤ qw))) *ℤ ((rw *ℤ sw) *ℤ (rw *ℤ sw))) ≤ℤ ((pos 4 *ℤ ((px *ℤ qw -ℤ qx *ℤ pw) *ℤ (px *ℤ qw -ℤ qx *ℤ pw) +ℤ (py *ℤ qw -ℤ qy *ℤ pw) *ℤ (py *ℤ qw -ℤ qy *ℤ pw))) *ℤ ((rw *ℤ sw) *ℤ (rw *ℤ sw)))
-far_moved =
-    follows 13 (λ m px py pw qx qy qw rx ry rw sx sy sw. px ⊗ rw ≐ rx ⊗ pw ⇒ py ⊗ rw ≐ ry ⊗ pw ⇒ qx ⊗ sw ≐ sx ⊗ qw ⇒ qy ⊗ sw ≐ sy ⊗ qw
+far_moved : (m : ℤ) (p q r s : Point) → Same p r → Same q s → IsFarPair m r s
+    → ((m *ℤ ((p.w *ℤ q.w) *ℤ (p.w *ℤ q.w))) *ℤ ((r.w *ℤ s.w) *ℤ (r.w *ℤ s.w))) ≤ℤ ((pos 4 *ℤ square_between p q) *ℤ ((r.w *ℤ s.w) *ℤ (r.w *ℤ s.w)))
+far_moved m p q r s e f far =
+    follows 13 (λ m px py pw qx qy qw rx ry rw sx sy sw. px ⊗ rw ≐ rx ⊗ pw ⇒ py ⊗ rw ≐ ry ⊗ pw ⇒ qx ⊗ sw ≐ sx ⊗ qw
+    ⇒ qy ⊗ sw ≐ sy ⊗ qw
     ⇒ m ⊗ ((rw ⊗ sw) ⊗ (rw ⊗ sw)) ≼ num (pos 4) ⊗ betweenE rx ry rw sx sy sw
     ⇒ (m ⊗ ((pw ⊗ qw) ⊗ (pw ⊗ qw))) ⊗ ((rw ⊗ sw) ⊗ (rw ⊗ sw)) ≼ (num (pos 4) ⊗ betweenE px py pw qx qy qw) ⊗ ((rw ⊗ sw) ⊗ (rw ⊗ sw))
     because square (pw ⊗ qw) ⊠ gap 4
@@ -72,8 +81,10 @@ far_moved =
     ⊞ eqn 1 (neg (num (pos 4) ⊗ qw ⊗ sw ⊗ ((py ⊗ qw ⊖ qy ⊗ pw) ⊗ rw ⊗ sw ⊕ (ry ⊗ sw ⊖ sy ⊗ rw) ⊗ pw ⊗ qw)))
     ⊞ eqn 2 (num (pos 4) ⊗ pw ⊗ rw ⊗ ((px ⊗ qw ⊖ qx ⊗ pw) ⊗ rw ⊗ sw ⊕ (rx ⊗ sw ⊖ sx ⊗ rw) ⊗ pw ⊗ qw))
     ⊞ eqn 3 (num (pos 4) ⊗ pw ⊗ rw ⊗ ((py ⊗ qw ⊖ qy ⊗ pw) ⊗ rw ⊗ sw ⊕ (ry ⊗ sw ⊖ sy ⊗ rw) ⊗ pw ⊗ qw))) tt
+    m p.x p.y p.w q.x q.y q.w r.x r.y r.w s.x s.y s.w e.0 e.1 f.0 f.1 far
 
-pub far_places : (m : ℤ) (a b c d : Pt) → IsFar m a b c d → (p q : Point) → IsOfSegment a b p → IsOfSegment c d q → (m *ℤ ((p.w *ℤ q.w) *ℤ (p.w *ℤ q.w))) ≤ℤ (pos 4 *ℤ square_between p q)
+far_places : (m : ℤ) (a b c d : Pt) → IsFar m a b c d → (p q : Point) → IsOfSegment a b p → IsOfSegment c d q
+    → IsFarPair m p q
 far_places m a b c d far p q first second =
     let u = between_weights (whole a) (whole b) p first.mix in
     let v = between_weights (whole c) (whole d) q second.mix in
@@ -83,9 +94,10 @@ far_places m a b c d far p q first second =
     let rw_some : pos 0 <ℤ r.w = between-w (whole a) (whole b) p u one one in
     let sw_some : pos 0 <ℤ s.w = between-w (whole c) (whole d) q v one one in
     let both : pos 0 <ℤ (r.w *ℤ s.w) = mul-positive r.w s.w rw_some sw_some in
-    ≤_of_mul (m *ℤ ((p.w *ℤ q.w) *ℤ (p.w *ℤ q.w))) (pos 4 *ℤ square_between p q) ((r.w *ℤ s.w) *ℤ (r.w *ℤ s.w)) (mul-positive (r.w *ℤ s.w) (r.w *ℤ s.w) both both)
-    (far_moved m p.x p.y p.w q.x q.y q.w r.x r.y r.w s.x s.y s.w u.same.0 u.same.1 v.same.0 v.same.1
-    (far_mixes m a.x a.y b.x b.y c.x c.y d.x d.y (pos u.k) (pos u.l) (pos v.k) (pos v.l) (far (pos u.k) (pos u.l) (pos v.k) (pos v.l) (weights_of u.k u.l u.some) (weights_of v.k v.l v.some))))
+    ≤_of_mul (m *ℤ ((p.w *ℤ q.w) *ℤ (p.w *ℤ q.w))) (pos 4 *ℤ square_between p q) ((r.w *ℤ s.w) *ℤ (r.w *ℤ s.w))
+    (mul-positive (r.w *ℤ s.w) (r.w *ℤ s.w) both both)
+    (far_moved m p q r s u.same v.same
+    (far_mixes m a b c d u.k u.l v.k v.l (far (pos u.k) (pos u.l) (pos v.k) (pos v.l) (weights_of u.k u.l u.some) (weights_of v.k v.l v.some))))
 
 -- ---- closer places
 at_most : (k m : ℕ) → k ≤ m → pos k ≤ℤ pos m
@@ -96,30 +108,32 @@ under k m h = omega (arith, ints)
 
 pub none_closer : (value n : ℕ) (a b c d : Pt) → IsFar (pos value) a b c d → n * n ≤ value → HaveCloser n a b c d → ⊥
 none_closer value n a b c d far h k =
-    follows 4 (λ s v w q. s ≼ v ⇒ num (pos 0) ≼ w ⇒ v ⊗ w ≼ q ⇒ q ≺ s ⊗ w ⇒ never because over 3 ⊞ gap 2 ⊞ gap 0 ⊠ gap 1) tt
+    follows 4 (λ s v w q. s ≼ v ⇒ num (pos 0) ≼ w ⇒ v ⊗ w ≼ q ⇒ q ≺ s ⊗ w ⇒ never
+    because over 3 ⊞ gap 2 ⊞ gap 0 ⊠ gap 1) tt
     (pos (n * n)) (pos value) ((k.p.w *ℤ k.q.w) *ℤ (k.p.w *ℤ k.q.w)) (pos 4 *ℤ square_between k.p k.q)
     (at_most (n * n) value h) (nonneg_square (k.p.w *ℤ k.q.w)) (far_places (pos value) a b c d far k.p k.q k.first k.second) k.closer
 
-closer_at : (s v ax ay bx by cx cy dx dy k l : ℤ)
-    → (pos 4 *ℤ (way_to ax cx dx k l *ℤ way_to ax cx dx k l +ℤ way_to ay cy dy k l *ℤ way_to ay cy dy k l)) <ℤ ((v +ℤ pos 1) *ℤ ((k +ℤ l) *ℤ (k +ℤ l))) → v <ℤ s
-    → (pos 4 *ℤ square_between (record { x = pos 1 *ℤ ax +ℤ pos 0 *ℤ bx; y = pos 1 *ℤ ay +ℤ pos 0 *ℤ by; w = pos 1 +ℤ pos 0 }) (record { x = k *ℤ cx +ℤ l *ℤ dx; y = k *ℤ cy +ℤ l *ℤ dy; w = k +ℤ l }))
-    <ℤ (s *ℤ (((pos 1 +ℤ pos 0) *ℤ (k +ℤ l)) *ℤ ((pos 1 +ℤ pos 0) *ℤ (k +ℤ l))))
-closer_at =
+closer_at : (s v : ℤ) (a b c d : Pt) (k l : ℤ) → square_to a c d k l <ℤ ((v +ℤ pos 1) *ℤ ((k +ℤ l) *ℤ (k +ℤ l)))
+    → v <ℤ s
+    → (pos 4 *ℤ square_between (mix_at a b (pos 1) (pos 0)) (mix_at c d k l)) <ℤ (s *ℤ (((pos 1 +ℤ pos 0) *ℤ (k +ℤ l)) *ℤ ((pos 1 +ℤ pos 0) *ℤ (k +ℤ l))))
+closer_at s v a b c d k l =
     follows 12 (λ s v ax ay bx by cx cy dx dy k l.
-    num (pos 4) ⊗ (way_toE ax cx dx k l ⊗ way_toE ax cx dx k l ⊕ way_toE ay cy dy k l ⊗ way_toE ay cy dy k l) ≺ (v ⊕ num (pos 1)) ⊗ ((k ⊕ l) ⊗ (k ⊕ l)) ⇒ v ≺ s
-    ⇒ num (pos 4) ⊗ betweenE (num (pos 1) ⊗ ax ⊕ num (pos 0) ⊗ bx) (num (pos 1) ⊗ ay ⊕ num (pos 0) ⊗ by) (num (pos 1) ⊕ num (pos 0)) (k ⊗ cx ⊕ l ⊗ dx) (k ⊗ cy ⊕ l ⊗ dy) (k ⊕ l)
+    square_toE ax ay cx cy dx dy k l ≺ (v ⊕ num (pos 1)) ⊗ ((k ⊕ l) ⊗ (k ⊕ l)) ⇒ v ≺ s
+    ⇒ num (pos 4) ⊗ betweenE (num (pos 1) ⊗ ax ⊕ num (pos 0) ⊗ bx) (num (pos 1) ⊗ ay ⊕ num (pos 0) ⊗ by) (num (pos 1) ⊕ num (pos 0))
+    (k ⊗ cx ⊕ l ⊗ dx) (k ⊗ cy ⊕ l ⊗ dy) (k ⊕ l)
     ≺ s ⊗ (((num (pos 1) ⊕ num (pos 0)) ⊗ (k ⊕ l)) ⊗ ((num (pos 1) ⊕ num (pos 0)) ⊗ (k ⊕ l)))
     because over 0 ⊞ over 1 ⊠ square (k ⊕ l)) tt
+    s v a.x a.y b.x b.y c.x c.y d.x d.y k l
 
 -- the end a and a point of the other segment
-pub closer_end : (value n : ℕ) (a b c d : Pt) → IsReached (pos value) a c d → value < n * n → HaveCloser n a b c d
+pub closer_end : (value n : ℕ) (a b c d : Pt) → HasMixBelow (pos value) a c d → value < n * n → HaveCloser n a b c d
 closer_end value n a b c d r h =
     record {
       p = mix_at a b (pos 1) (pos 0);
       q = mix_at c d r.k r.l;
       first = of_weights a b (pos 1) (pos 0) at_first;
       second = of_weights c d r.k r.l r.weights;
-      closer = closer_at (pos (n * n)) (pos value) a.x a.y b.x b.y c.x c.y d.x d.y r.k r.l r.below (under value (n * n) h);
+      closer = closer_at (pos (n * n)) (pos value) a b c d r.k r.l r.below (under value (n * n) h);
     }
 
 pub closer_reversed : (n : ℕ) (a b c d : Pt) → HaveCloser n a b c d → HaveCloser n b a c d
@@ -141,7 +155,8 @@ closer_exchanged n a b c d h =
       second = h.first;
       closer =
           follows 7 (λ s px py pw qx qy qw. num (pos 4) ⊗ betweenE px py pw qx qy qw ≺ s ⊗ ((pw ⊗ qw) ⊗ (pw ⊗ qw))
-          ⇒ num (pos 4) ⊗ betweenE qx qy qw px py pw ≺ s ⊗ ((qw ⊗ pw) ⊗ (qw ⊗ pw)) because over 0) tt (pos (n * n)) h.p.x h.p.y h.p.w h.q.x h.q.y h.q.w h.closer;
+          ⇒ num (pos 4) ⊗ betweenE qx qy qw px py pw ≺ s ⊗ ((qw ⊗ pw) ⊗ (qw ⊗ pw))
+          because over 0) tt (pos (n * n)) h.p.x h.p.y h.p.w h.q.x h.q.y h.q.w h.closer;
     }
 
 pub closer_more : (m n : ℕ) (a b c d : Pt) → m ≤ n → HaveCloser m a b c d → HaveCloser n a b c d
@@ -166,7 +181,8 @@ closer_same =
     ⊞ eqn 0 (num (pos 4) ⊗ (px ⊗ qw ⊖ qx ⊗ pw) ⊗ qw) ⊞ eqn 1 (num (pos 4) ⊗ (py ⊗ qw ⊖ qy ⊗ pw) ⊗ qw)
     ⊞ eqn 2 (neg (num (pos 4) ⊗ ((px ⊗ qw ⊖ qx ⊗ pw) ⊗ qx ⊕ (py ⊗ qw ⊖ qy ⊗ pw) ⊗ qy)))) tt
 
-pub same_closer : (n : ℕ) (p q : Point) → 0 < n → pos 0 <ℤ p.w → pos 0 <ℤ q.w → p.x ≡ q.x → p.y ≡ q.y → p.w ≡ q.w → AreCloser n p q
+pub same_closer : (n : ℕ) (p q : Point) → 0 < n → pos 0 <ℤ p.w → pos 0 <ℤ q.w → p.x ≡ q.x → p.y ≡ q.y → p.w ≡ q.w
+    → AreCloser n p q
 same_closer n p q h hp hq ex ey ew =
     closer_same (pos (n * n)) p.x p.y p.w q.x q.y q.w ex ey ew (mul-positive p.w q.w hp hq) (under 0 (n * n) (some_square n h))
   where

@@ -1,14 +1,14 @@
 -- Two segments that do not cross are as far apart as their four ends say.
-use Rattle.std.proofs.Common.{◌≡◌, ◌⊎◌, inl, inr, ℤ, pos, ◌+ℤ◌, ◌-ℤ◌, ◌*ℤ◌, ◌≤ℤ◌, ◌<ℤ◌, subst}
-use Rattle.integer_ring.proofs.Ring.{num, neg, ◌⊕◌, ◌⊖◌, ◌⊗◌}
+use Rattle.std.proofs.Common.{◌≡◌, ◌⊎◌, inl, inr, ℤ, pos, ◌+ℤ◌, ◌-ℤ◌, ◌*ℤ◌, ◌≤ℤ◌, ◌<ℤ◌, subst, refl, sym}
+use Rattle.integer_ring.proofs.Ring.{Expr, num, neg, ◌⊕◌, ◌⊖◌, ◌⊗◌}
 use Rattle.integer_ring.proofs.Order.{≤_or_>, ≤_of_<, ≤_antisymm, nonneg_square, nonneg_pos}
 use Rattle.integer_ring.proofs.Signs.{zero_cases}
-use Rattle.integer_ring.proofs.Claims.{◌≐◌, ◌≼◌, ◌≺◌, gap, over, eqn, nat, square, ◌⊞◌, ◌⊠◌, ◌because◌, ◌⇒◌, follows, solve}
+use Rattle.integer_ring.proofs.Claims.{Claim, ◌≐◌, ◌≼◌, ◌≺◌, gap, over, eqn, nat, square, ◌⊞◌, ◌⊠◌, ◌because◌, ◌⇒◌, follows, solve}
 use Rattle.plane_base.specs.Plane.{whole, turn_of}
 use Rattle.plane_base.specs.declared.shapes.Pt.{Pt}
-use Rattle.plane_base.proofs.Points.{turn}
+use Rattle.plane_base.proofs.Sizes.{turn_whole}
 use Rattle.seg_gap.specs.Ends.{AreWeights, AreOpposite, DoCross, way_to, IsLow}
-use Rattle.seg_gap.proofs.Steps.{way_from, way_fromE, way_toE, side, sideE, length_of, IsFarAt, shrink, step}
+use Rattle.seg_gap.proofs.Steps.{way_from, way_fromE, way_toE, square_toE, whole_turn, whole_turnE, length_of, IsFarAt, shrink, step}
 
 -- all mixes of both segments
 abbrev pub IsFar : ℤ → Pt → Pt → Pt → Pt → Type 0
@@ -21,42 +21,52 @@ pub record AreLow (m : ℤ) (a b c d : Pt) : Type 0 where
   pub of_c : IsLow m c a b
   pub of_d : IsLow m d a b
 
--- ---- a segment from its other end, and the two segments in the other order
-weights_swapped : (k l : ℤ) → AreWeights k l → AreWeights l k
-weights_swapped k l w = record { first = w.second; second = w.first; some = follows 2 (λ k l. num (pos 0) ≺ k ⊕ l ⇒ num (pos 0) ≺ l ⊕ k because over 0) tt k l w.some }
+-- that two mixes are as far apart, as a claim
+abbrev pub way_betweenE : Expr → Expr → Expr → Expr → Expr → Expr → Expr → Expr → Expr
+way_betweenE a b c d i j k l = way_fromE a b (k ⊗ c ⊕ l ⊗ d) (k ⊕ l) i j
 
-low_moved : (m px py cx cy dx dy k l : ℤ) → (m *ℤ ((l +ℤ k) *ℤ (l +ℤ k))) ≤ℤ (pos 4 *ℤ (way_to px dx cx l k *ℤ way_to px dx cx l k +ℤ way_to py dy cy l k *ℤ way_to py dy cy l k))
-    → (m *ℤ ((k +ℤ l) *ℤ (k +ℤ l))) ≤ℤ (pos 4 *ℤ (way_to px cx dx k l *ℤ way_to px cx dx k l +ℤ way_to py cy dy k l *ℤ way_to py cy dy k l))
-low_moved =
-    follows 9 (λ m px py cx cy dx dy k l.
-    m ⊗ ((l ⊕ k) ⊗ (l ⊕ k)) ≼ num (pos 4) ⊗ (way_toE px dx cx l k ⊗ way_toE px dx cx l k ⊕ way_toE py dy cy l k ⊗ way_toE py dy cy l k)
-    ⇒ m ⊗ ((k ⊕ l) ⊗ (k ⊕ l)) ≼ num (pos 4) ⊗ (way_toE px cx dx k l ⊗ way_toE px cx dx k l ⊕ way_toE py cy dy k l ⊗ way_toE py cy dy k l) because gap 0) tt
+abbrev pub is_far : Expr → Expr → Expr → Expr → Expr → Expr → Expr → Expr → Expr → Expr → Expr → Expr → Expr → Claim
+is_far m ax ay bx by cx cy dx dy i j k l =
+    m ⊗ (((i ⊕ j) ⊗ (k ⊕ l)) ⊗ ((i ⊕ j) ⊗ (k ⊕ l)))
+    ≼ num (pos 4) ⊗ (way_betweenE ax bx cx dx i j k l ⊗ way_betweenE ax bx cx dx i j k l ⊕ way_betweenE ay by cy dy i j k l ⊗ way_betweenE ay by cy dy i j k l)
+
+-- ---- a segment from its other end, and the two segments in the other order
+pub weights_swapped : (k l : ℤ) → AreWeights k l → AreWeights l k
+weights_swapped k l w =
+    record {
+      first = w.second;
+      second = w.first;
+      some = follows 2 (λ k l. num (pos 0) ≺ k ⊕ l ⇒ num (pos 0) ≺ l ⊕ k because over 0) tt k l w.some;
+    }
 
 pub low_swapped : (m : ℤ) (p c d : Pt) → IsLow m p d c → IsLow m p c d
-low_swapped m p c d h k l w = low_moved m p.x p.y c.x c.y d.x d.y k l (h l k (weights_swapped k l w))
+low_swapped m p c d h k l w =
+    follows 9 (λ m px py cx cy dx dy k l. m ⊗ ((l ⊕ k) ⊗ (l ⊕ k)) ≼ square_toE px py dx dy cx cy l k
+    ⇒ m ⊗ ((k ⊕ l) ⊗ (k ⊕ l)) ≼ square_toE px py cx cy dx dy k l because gap 0) tt
+    m p.x p.y c.x c.y d.x d.y k l (h l k (weights_swapped k l w))
 
-pub lows_first : (m : ℤ) (a b c d : Pt) → AreLow m a b c d → AreLow m b a c d
-lows_first m a b c d h = record { of_a = h.of_b; of_b = h.of_a; of_c = low_swapped m c b a h.of_c; of_d = low_swapped m d b a h.of_d }
+lows_first : (m : ℤ) (a b c d : Pt) → AreLow m a b c d → AreLow m b a c d
+lows_first m a b c d h =
+    record { of_a = h.of_b; of_b = h.of_a; of_c = low_swapped m c b a h.of_c; of_d = low_swapped m d b a h.of_d }
 
-pub lows_second : (m : ℤ) (a b c d : Pt) → AreLow m a b c d → AreLow m a b d c
-lows_second m a b c d h = record { of_a = low_swapped m a d c h.of_a; of_b = low_swapped m b d c h.of_b; of_c = h.of_d; of_d = h.of_c }
+lows_second : (m : ℤ) (a b c d : Pt) → AreLow m a b c d → AreLow m a b d c
+lows_second m a b c d h =
+    record { of_a = low_swapped m a d c h.of_a; of_b = low_swapped m b d c h.of_b; of_c = h.of_d; of_d = h.of_c }
 
-pub lows_exchanged : (m : ℤ) (a b c d : Pt) → AreLow m a b c d → AreLow m c d a b
+lows_exchanged : (m : ℤ) (a b c d : Pt) → AreLow m a b c d → AreLow m c d a b
 lows_exchanged m a b c d h = record { of_a = h.of_c; of_b = h.of_d; of_c = h.of_a; of_d = h.of_b }
 
 far_first : (m : ℤ) (a b c d : Pt) → IsFar m b a c d → IsFar m a b c d
 far_first m a b c d h i j k l v w =
     follows 13 (λ m ax ay bx by cx cy dx dy i j k l.
-    m ⊗ (((j ⊕ i) ⊗ (k ⊕ l)) ⊗ ((j ⊕ i) ⊗ (k ⊕ l))) ≼ num (pos 4) ⊗ (way_fromE bx ax (k ⊗ cx ⊕ l ⊗ dx) (k ⊕ l) j i ⊗ way_fromE bx ax (k ⊗ cx ⊕ l ⊗ dx) (k ⊕ l) j i ⊕ way_fromE by ay (k ⊗ cy ⊕ l ⊗ dy) (k ⊕ l) j i ⊗ way_fromE by ay (k ⊗ cy ⊕ l ⊗ dy) (k ⊕ l) j i)
-    ⇒ m ⊗ (((i ⊕ j) ⊗ (k ⊕ l)) ⊗ ((i ⊕ j) ⊗ (k ⊕ l))) ≼ num (pos 4) ⊗ (way_fromE ax bx (k ⊗ cx ⊕ l ⊗ dx) (k ⊕ l) i j ⊗ way_fromE ax bx (k ⊗ cx ⊕ l ⊗ dx) (k ⊕ l) i j ⊕ way_fromE ay by (k ⊗ cy ⊕ l ⊗ dy) (k ⊕ l) i j ⊗ way_fromE ay by (k ⊗ cy ⊕ l ⊗ dy) (k ⊕ l) i j)
-    because gap 0) tt m a.x a.y b.x b.y c.x c.y d.x d.y i j k l (h j i k l (weights_swapped i j v) w)
+    is_far m bx by ax ay cx cy dx dy j i k l ⇒ is_far m ax ay bx by cx cy dx dy i j k l because gap 0) tt
+    m a.x a.y b.x b.y c.x c.y d.x d.y i j k l (h j i k l (weights_swapped i j v) w)
 
 far_exchanged : (m : ℤ) (a b c d : Pt) → IsFar m c d a b → IsFar m a b c d
 far_exchanged m a b c d h i j k l v w =
     follows 13 (λ m ax ay bx by cx cy dx dy i j k l.
-    m ⊗ (((k ⊕ l) ⊗ (i ⊕ j)) ⊗ ((k ⊕ l) ⊗ (i ⊕ j))) ≼ num (pos 4) ⊗ (way_fromE cx dx (i ⊗ ax ⊕ j ⊗ bx) (i ⊕ j) k l ⊗ way_fromE cx dx (i ⊗ ax ⊕ j ⊗ bx) (i ⊕ j) k l ⊕ way_fromE cy dy (i ⊗ ay ⊕ j ⊗ by) (i ⊕ j) k l ⊗ way_fromE cy dy (i ⊗ ay ⊕ j ⊗ by) (i ⊕ j) k l)
-    ⇒ m ⊗ (((i ⊕ j) ⊗ (k ⊕ l)) ⊗ ((i ⊕ j) ⊗ (k ⊕ l))) ≼ num (pos 4) ⊗ (way_fromE ax bx (k ⊗ cx ⊕ l ⊗ dx) (k ⊕ l) i j ⊗ way_fromE ax bx (k ⊗ cx ⊕ l ⊗ dx) (k ⊕ l) i j ⊕ way_fromE ay by (k ⊗ cy ⊕ l ⊗ dy) (k ⊕ l) i j ⊗ way_fromE ay by (k ⊗ cy ⊕ l ⊗ dy) (k ⊕ l) i j)
-    because gap 0) tt m a.x a.y b.x b.y c.x c.y d.x d.y i j k l (h k l i j w v)
+    is_far m cx cy dx dy ax ay bx by k l i j ⇒ is_far m ax ay bx by cx cy dx dy i j k l because gap 0) tt
+    m a.x a.y b.x b.y c.x c.y d.x d.y i j k l (h k l i j w v)
 
 far_second : (m : ℤ) (a b c d : Pt) → IsFar m a b d c → IsFar m a b c d
 far_second m a b c d h = far_exchanged m a b c d (far_first m c d a b (far_exchanged m d c a b h))
@@ -72,9 +82,11 @@ zero_square u v h = go (zero_cases u u (≤_antisymm (u *ℤ u) (pos 0) (follows
 zero_other : (u v : ℤ) → (u *ℤ u +ℤ v *ℤ v) ≤ℤ pos 0 → v ≡ pos 0
 zero_other u v h = zero_square v u (follows 2 (λ u v. u ⊗ u ⊕ v ⊗ v ≼ num (pos 0) ⇒ v ⊗ v ⊕ u ⊗ u ≼ num (pos 0) because gap 0) tt u v h)
 
-point_axis : (a b c d i j k l : ℤ) → d -ℤ c ≡ pos 0 → (k +ℤ l) *ℤ way_to c a b i j ≡ pos 1 *ℤ way_from a b (k *ℤ c +ℤ l *ℤ d) (k +ℤ l) i j
+point_axis : (a b c d i j k l : ℤ) → d -ℤ c ≡ pos 0
+    → (k +ℤ l) *ℤ way_to c a b i j ≡ pos 1 *ℤ way_from a b (k *ℤ c +ℤ l *ℤ d) (k +ℤ l) i j
 point_axis =
-    follows 8 (λ a b c d i j k l. d ⊖ c ≐ num (pos 0) ⇒ (k ⊕ l) ⊗ way_toE c a b i j ≐ num (pos 1) ⊗ way_fromE a b (k ⊗ c ⊕ l ⊗ d) (k ⊕ l) i j
+    follows 8 (λ a b c d i j k l. d ⊖ c ≐ num (pos 0)
+    ⇒ (k ⊕ l) ⊗ way_toE c a b i j ≐ num (pos 1) ⊗ way_fromE a b (k ⊗ c ⊕ l ⊗ d) (k ⊕ l) i j
     because eqn 0 ((i ⊕ j) ⊗ l)) tt
 
 point_sum : (i j k l : ℤ) → (k +ℤ l) *ℤ (i +ℤ j) ≡ ((i +ℤ j) *ℤ (k +ℤ l)) *ℤ pos 1
@@ -102,20 +114,21 @@ on_it z t h k p =
     (follows 2 (λ z t. z ≼ num (pos 0) ⇒ num (pos 0) ≼ t ⇒ num (pos 1) ⊗ z ≼ num (pos 1) ⊗ t because gap 0 ⊞ gap 1) tt z t h p)
     (follows 2 (λ z t. t ≼ z ⇒ num (pos 1) ⊗ t ≼ num (pos 1) ⊗ z because gap 0) tt z t k)
 
-nearer_first : (m : ℤ) (a b c d : Pt) → pos 0 <ℤ length_of c d → pos 0 ≤ℤ side c d a → side c d a ≤ℤ side c d b → AreLow m a b c d → IsFar m a b c d
+nearer_first : (m : ℤ) (a b c d : Pt) → pos 0 <ℤ length_of c d → pos 0 ≤ℤ whole_turn c d a
+    → whole_turn c d a ≤ℤ whole_turn c d b → AreLow m a b c d → IsFar m a b c d
 nearer_first m a b c d hg from order low i j k l v w = go (≤_or_> z (pos 0))
   where
     z : ℤ
-    z = i *ℤ side c d a +ℤ j *ℤ side c d b
+    z = i *ℤ whole_turn c d a +ℤ j *ℤ whole_turn c d b
 
     t : ℤ
-    t = (i +ℤ j) *ℤ side c d a
+    t = (i +ℤ j) *ℤ whole_turn c d a
 
     t_some : pos 0 ≤ℤ t
-    t_some = times_some (side c d a) (i +ℤ j) from v.some
+    t_some = times_some (whole_turn c d a) (i +ℤ j) from v.some
 
     t_to : t ≤ℤ z
-    t_to = mix_not_nearer (side c d a) (side c d b) i j v.second order
+    t_to = mix_not_nearer (whole_turn c d a) (whole_turn c d b) i j v.second order
 
     go : (z ≤ℤ pos 0) ⊎ (pos 0 <ℤ z) → IsFarAt m a b c d i j k l
     go (inl none) =
@@ -125,26 +138,31 @@ nearer_first m a b c d hg from order low i j k l v w = go (≤_or_> z (pos 0))
         step m a b c d i j k l z t v w some t_some t_to hg
         (solve 2 (λ z t. t ⊗ z ≐ z ⊗ t) tt z t) low.of_a low.of_c low.of_d
 
-left_of : (m : ℤ) (a b c d : Pt) → pos 0 <ℤ length_of c d → pos 0 ≤ℤ side c d a → pos 0 ≤ℤ side c d b → AreLow m a b c d → IsFar m a b c d
-left_of m a b c d hg ha hb low = go (≤_or_> (side c d a) (side c d b))
+left_of : (m : ℤ) (a b c d : Pt) → pos 0 <ℤ length_of c d → pos 0 ≤ℤ whole_turn c d a → pos 0 ≤ℤ whole_turn c d b
+    → AreLow m a b c d → IsFar m a b c d
+left_of m a b c d hg ha hb low = go (≤_or_> (whole_turn c d a) (whole_turn c d b))
   where
-    go : (side c d a ≤ℤ side c d b) ⊎ (side c d b <ℤ side c d a) → IsFar m a b c d
+    go : (whole_turn c d a ≤ℤ whole_turn c d b) ⊎ (whole_turn c d b <ℤ whole_turn c d a) → IsFar m a b c d
     go (inl h) = nearer_first m a b c d hg ha h low
-    go (inr h) = far_first m a b c d (nearer_first m b a c d hg hb (≤_of_< (side c d b) (side c d a) h) (lows_first m a b c d low))
+    go (inr h) = far_first m a b c d (nearer_first m b a c d hg hb (≤_of_< (whole_turn c d b) (whole_turn c d a) h) (lows_first m a b c d low))
 
 -- ---- the line from the other end
-right_side : (cx cy dx dy ax ay : ℤ) → ((dx -ℤ cx) *ℤ (ay -ℤ cy) -ℤ (dy -ℤ cy) *ℤ (ax -ℤ cx)) ≤ℤ pos 0 → pos 0 ≤ℤ ((cx -ℤ dx) *ℤ (ay -ℤ dy) -ℤ (cy -ℤ dy) *ℤ (ax -ℤ dx))
-right_side = follows 6 (λ cx cy dx dy ax ay. sideE cx cy dx dy ax ay ≼ num (pos 0) ⇒ num (pos 0) ≼ sideE dx dy cx cy ax ay because gap 0) tt
+other_side : (c d a : Pt) → whole_turn c d a ≤ℤ pos 0 → pos 0 ≤ℤ whole_turn d c a
+other_side c d a =
+    follows 6 (λ cx cy dx dy ax ay. whole_turnE cx cy dx dy ax ay ≼ num (pos 0)
+    ⇒ num (pos 0) ≼ whole_turnE dx dy cx cy ax ay
+    because gap 0) tt c.x c.y d.x d.y a.x a.y
 
-same_length : (cx cy dx dy : ℤ) → pos 0 <ℤ ((dx -ℤ cx) *ℤ (dx -ℤ cx) +ℤ (dy -ℤ cy) *ℤ (dy -ℤ cy)) → pos 0 <ℤ ((cx -ℤ dx) *ℤ (cx -ℤ dx) +ℤ (cy -ℤ dy) *ℤ (cy -ℤ dy))
-same_length =
+same_length : (c d : Pt) → pos 0 <ℤ length_of c d → pos 0 <ℤ length_of d c
+same_length c d =
     follows 4 (λ cx cy dx dy. num (pos 0) ≺ (dx ⊖ cx) ⊗ (dx ⊖ cx) ⊕ (dy ⊖ cy) ⊗ (dy ⊖ cy)
-    ⇒ num (pos 0) ≺ (cx ⊖ dx) ⊗ (cx ⊖ dx) ⊕ (cy ⊖ dy) ⊗ (cy ⊖ dy) because over 0) tt
+    ⇒ num (pos 0) ≺ (cx ⊖ dx) ⊗ (cx ⊖ dx) ⊕ (cy ⊖ dy) ⊗ (cy ⊖ dy) because over 0) tt c.x c.y d.x d.y
 
-right_of : (m : ℤ) (a b c d : Pt) → pos 0 <ℤ length_of c d → side c d a ≤ℤ pos 0 → side c d b ≤ℤ pos 0 → AreLow m a b c d → IsFar m a b c d
+right_of : (m : ℤ) (a b c d : Pt) → pos 0 <ℤ length_of c d → whole_turn c d a ≤ℤ pos 0 → whole_turn c d b ≤ℤ pos 0
+    → AreLow m a b c d → IsFar m a b c d
 right_of m a b c d hg ha hb low =
     far_second m a b c d
-    (left_of m a b d c (same_length c.x c.y d.x d.y hg) (right_side c.x c.y d.x d.y a.x a.y ha) (right_side c.x c.y d.x d.y b.x b.y hb) (lows_second m a b c d low))
+    (left_of m a b d c (same_length c d hg) (other_side c d a ha) (other_side c d b hb) (lows_second m a b c d low))
 
 -- ---- both on one side, or both on the other; on the line is on both
 abbrev pub AreAside : ℤ → ℤ → Type 0
@@ -161,25 +179,23 @@ opposite_or_aside u v = go (≤_or_> (pos 0) u) (≤_or_> (pos 0) v) (≤_or_> u
     go (inr p) (inl q) r (inl s) = inr (inr (≤_of_< u (pos 0) p, s))
     go (inr p) (inl q) r (inr s) = inl (inl (p, s))
 
-far_aside : (m : ℤ) (a b c d : Pt) → AreAside (side c d a) (side c d b) → AreLow m a b c d → IsFar m a b c d
+far_aside : (m : ℤ) (a b c d : Pt) → AreAside (whole_turn c d a) (whole_turn c d b) → AreLow m a b c d → IsFar m a b c d
 far_aside m a b c d h low = go (≤_or_> (length_of c d) (pos 0)) h
   where
-    go : (length_of c d ≤ℤ pos 0) ⊎ (pos 0 <ℤ length_of c d) → AreAside (side c d a) (side c d b) → IsFar m a b c d
+    go : (length_of c d ≤ℤ pos 0) ⊎ (pos 0 <ℤ length_of c d) → AreAside (whole_turn c d a) (whole_turn c d b) → IsFar m a b c d
     go (inl none) h = far_point m a b c d none low.of_c
     go (inr some) (inl h) = left_of m a b c d some h.0 h.1 low
     go (inr some) (inr h) = right_of m a b c d some h.0 h.1 low
 
--- ---- the turn is the side
-pub turn_is_side : (cx cy dx dy ax ay : ℤ) → turn_of (record { x = cx; y = cy; w = pos 1 }) (record { x = dx; y = dy; w = pos 1 }) (record { x = ax; y = ay; w = pos 1 }) ≡ (dx -ℤ cx) *ℤ (ay -ℤ cy) -ℤ (dy -ℤ cy) *ℤ (ax -ℤ cx)
-turn_is_side =
-    solve 6 (λ cx cy dx dy ax ay. turn (record { x = cx; y = cy; w = num (pos 1) }) (record { x = dx; y = dy; w = num (pos 1) }) (record { x = ax; y = ay; w = num (pos 1) }) ≐ sideE cx cy dx dy ax ay) tt
+-- ---- the turn of whole points
+pub whole_turn_is : (c d a : Pt) → turn_of (whole c) (whole d) (whole a) ≡ whole_turn c d a
+whole_turn_is c d a =
+    sym (turn_whole c.x c.y d.x d.y a.x a.y (d.x -ℤ c.x) (d.y -ℤ c.y) (a.x -ℤ c.x) (a.y -ℤ c.y) (whole_turn c d a) refl refl refl refl refl)
 
-pub side_of : (c d a : Pt) → turn_of (whole c) (whole d) (whole a) ≡ side c d a
-side_of c d a = turn_is_side c.x c.y d.x d.y a.x a.y
-
-aside_of : (c d a b : Pt) → AreAside (turn_of (whole c) (whole d) (whole a)) (turn_of (whole c) (whole d) (whole b)) → AreAside (side c d a) (side c d b)
+aside_of : (c d a b : Pt) → AreAside (turn_of (whole c) (whole d) (whole a)) (turn_of (whole c) (whole d) (whole b))
+    → AreAside (whole_turn c d a) (whole_turn c d b)
 aside_of c d a b h =
-    subst (λ (z : ℤ). AreAside (side c d a) z) (side_of c d b) (subst (λ (z : ℤ). AreAside z (turn_of (whole c) (whole d) (whole b))) (side_of c d a) h)
+    subst (λ (z : ℤ). AreAside (whole_turn c d a) z) (whole_turn_is c d b) (subst (λ (z : ℤ). AreAside z (turn_of (whole c) (whole d) (whole b))) (whole_turn_is c d a) h)
 
 pub far_apart : (m : ℤ) (a b c d : Pt) → (DoCross a b c d → ⊥) → AreLow m a b c d → IsFar m a b c d
 far_apart m a b c d none low =

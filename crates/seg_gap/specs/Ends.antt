@@ -36,16 +36,21 @@ abbrev pub IsLow : ℤ → Pt → Pt → Pt → Type 0
 IsLow value p c d = (k l : ℤ) → AreWeights k l → (value *ℤ ((k +ℤ l) *ℤ (k +ℤ l))) ≤ℤ square_to p c d k l
 
 -- some mix is nearer to p than the next value says
-pub record IsReached (value : ℤ) (p c d : Pt) : Type 0 where
+pub record HasMixBelow (value : ℤ) (p c d : Pt) : Type 0 where
   pub k : ℤ
   pub l : ℤ
   pub weights : AreWeights k l
   pub below : square_to p c d k l <ℤ ((value +ℤ pos 1) *ℤ ((k +ℤ l) *ℤ (k +ℤ l)))
 
 -- four times the square of the distance of a point and a segment, rounded down
-pub record IsReach (p c d : Pt) (value : ℕ) : Type 0 where
+pub record IsEndSquare (p c d : Pt) (value : ℕ) : Type 0 where
   pub low : IsLow (pos value) p c d
-  pub high : IsReached (pos value) p c d
+  pub high : HasMixBelow (pos value) p c d
+
+-- of one of the four ends
+abbrev pub IsSomeMixBelow : ℤ → Pt → Pt → Pt → Pt → Type 0
+IsSomeMixBelow value a b c d =
+    HasMixBelow value a c d ⊎ (HasMixBelow value b c d ⊎ (HasMixBelow value c a b ⊎ HasMixBelow value d a b))
 
 -- the least of the values of the four ends
 pub record IsLeast (a b c d : Pt) (value : ℕ) : Type 0 where
@@ -53,7 +58,7 @@ pub record IsLeast (a b c d : Pt) (value : ℕ) : Type 0 where
   pub of_b : IsLow (pos value) b c d
   pub of_c : IsLow (pos value) c a b
   pub of_d : IsLow (pos value) d a b
-  pub high : IsReached (pos value) a c d ⊎ (IsReached (pos value) b c d ⊎ (IsReached (pos value) c a b ⊎ IsReached (pos value) d a b))
+  pub high : IsSomeMixBelow (pos value) a b c d
 
 -- half the root of a value, rounded half up
 pub record IsHalfRoot (value half : ℕ) : Type 0 where

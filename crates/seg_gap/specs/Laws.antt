@@ -13,7 +13,7 @@ abbrev pub SegmentsThatShareAPointHaveNoGap : Type 0
 SegmentsThatShareAPointHaveNoGap =
     (a b c d : Pt) (p : Point) (gap : ℕ) → IsOfSegment a b p → IsOfSegment c d p → IsGap a b c d gap ↔ (gap ≡ 0)
 
--- the gap of the second and the first segment is that of the first and the second, and each segment may go from either end
+-- the gap is the same in the other order, and from the other end of the first segment
 pub record IsAlike (a b c d : Pt) (gap : ℕ) : Type 0 where
   pub exchanged : IsGap c d a b gap
   pub reversed : IsGap b a c d gap

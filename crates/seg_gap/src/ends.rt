@@ -2,14 +2,15 @@
 ghost use Rattle.std.specs.Prelude.{◌≡◌, ◌<◌, ◌^◌, pos, ◌+ℤ◌, ◌*ℤ◌, ◌≤ℤ◌, ◌<ℤ◌, unsigned_abs};
 ghost use Rattle.frac128.specs.Sizes.{IsSmall};
 ghost use Rattle.plane_base.specs.Plane.{IsShort, IsNear, IsNearAll};
-ghost use Rattle.seg_gap.specs.Ends.{dot_of, IsReach};
+ghost use Rattle.seg_gap.specs.Ends.{dot_of, IsEndSquare};
 
 use plane_base::{Pt, turn};
 
-/// Four times the square of the distance of the point `p` and the segment from `c` to `d`, in square millimetres, rounded down.
-pub(crate) fn reach(p: Pt, c: Pt, d: Pt) -> u128
+/// Four times the square of the distance of the point `p` and the segment from `c` to `d`, in square millimetres,
+/// rounded down.
+pub(crate) fn end_square(p: Pt, c: Pt, d: Pt) -> u128
     requires { IsNearAll p c d }
-    ensures { IsReach p c d result }
+    ensures { IsEndSquare p c d result }
 {
     let from_c = dot(c, p, d);
     let from_d = dot(d, p, c);

@@ -4,11 +4,11 @@ ghost use Rattle.plane_base.specs.Plane.{IsNear, IsNearAll};
 ghost use Rattle.seg_gap.specs.Ends.{AreOpposite, DoCross, IsLeast, IsHalfRoot};
 ghost use Rattle.seg_gap.specs.Gaps.{IsGap};
 
-use crate::ends::reach;
+use crate::ends::end_square;
 use plane_base::{Pt, turn};
 
-/// The least distance of a point of the closed segment from `a` to `b` and a point of the closed segment from `c` to `d`,
-/// in millimetres, rounded half up. A segment may be a point.
+/// The least distance of a point of the closed segment from `a` to `b` and a point of the closed segment from `c`
+/// to `d`, in millimetres, rounded half up. A segment may be a point.
 pub fn gap(a: Pt, b: Pt, c: Pt, d: Pt) -> u64
     requires near_c { IsNearAll a b c }
     requires near_d { IsNearAll a b d }
@@ -45,8 +45,8 @@ fn least(a: Pt, b: Pt, c: Pt, d: Pt) -> u128
     requires near { IsNear c d }
     ensures { IsLeast a b c d result }
 {
-    let first = reach(a, c, d).min(reach(b, c, d));
-    let second = reach(c, a, b).min(reach(d, a, b));
+    let first = end_square(a, c, d).min(end_square(b, c, d));
+    let second = end_square(c, a, b).min(end_square(d, a, b));
     first.min(second)
 }
 
