@@ -1,0 +1,5 @@
+use Rattle.seg_walk.proofs.Outcomes.{outcome}
+use Rattle.seg_walk.proofs.laws.outcome_exists.Goals as goal
+
+pub returns : goal.returns
+returns c = outcome
