@@ -1,16 +1,16 @@
 -- The groups of copies of a drawing's entities.
-use Rattle.std.proofs.Common.{◌≡◌, ℕ, ◌+◌, refl, ap, sym, ◌∙◌, subst, List, [], ◌∷◌, ◌++◌, map, drop, length, flat_map, Bool, true, false, Option, None, Some, Ok, pos, arith}
+use Rattle.std.proofs.Common.{◌≡◌, ℕ, ◌+◌, refl, ap, sym, ◌∙◌, subst, List, [], ◌∷◌, ◌++◌, map, drop, length, flat_map, Bool, true, false, Option, None, Some, Ok, pos}
 use Rattle.std.specs.Prelude.{int_lt}
 use Rattle.std.specs.List.{prefix_len}
 use Rattle.plane_base.specs.declared.shapes.Pt.{Pt}
 use Rattle.dxf_pairs.specs.declared.pairs.Pair.{Pair}
-use Rattle.dxf_pairs.specs.Groups.{Group, groups_of, group_in, value_in}
+use Rattle.dxf_pairs.specs.Groups.{Group, group_in, value_in}
 use Rattle.dxf_pairs.specs.Pairs.{drawing}
 use Rattle.dxf_pairs.specs.Laws.{AreTiles, PairsTile}
 use Rattle.dxf_pairs.specs.InLines.{AreInLines, PairsAreInLines, GroupsFollow}
 use Rattle.dxf_layer.specs.declared.copies.Copied.{Copied}
 use Rattle.dxf_layer.specs.declared.copies.Value.{Value}
-use Rattle.dxf_layer.specs.Entities.{Entity, entity_of, is_no_head}
+use Rattle.dxf_layer.specs.Entities.{Entity, entity_of}
 use Rattle.dxf_layer.specs.Fields.{fields_of}
 use Rattle.dxf_layer.specs.Rendering.{value_for, new_handle, handle_behind, copy_text, line_copies, vertex_copies}
 use Rattle.dxf_layer.specs.Copies.{IsEntityOf, own_or, field_in_copy, groups_of_copy, line_values, vertex_values, CopiesAreOfEntities}

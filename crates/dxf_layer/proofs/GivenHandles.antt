@@ -1,5 +1,5 @@
 -- The handles that copies are given follow each other from the next handle of the drawing on.
-use Rattle.std.proofs.Common.{◌≡◌, ◌==◌, ℕ, zero, suc, ◌+◌, ◌-◌, ◌<◌, ◌≤◌, Bool, true, false, cond, refl, ap, sym, ◌∙◌, subst, List, [], ◌∷◌, ◌++◌, length, take, flat_map, get_or, Option, None, Some, Ok, arith}
+use Rattle.std.proofs.Common.{◌≡◌, ◌==◌, ℕ, zero, suc, ◌+◌, ◌-◌, ◌<◌, ◌≤◌, Bool, true, false, cond, refl, ap, sym, ◌∙◌, subst, List, [], ◌∷◌, ◌++◌, length, take, flat_map, Option, None, Some, arith}
 use Rattle.std.specs.Prelude.{nat_lt, sum_by, slice_index_or, filter}
 use Rattle.std.specs.List.{AllByRecursion, range_with_len}
 use Rattle.std.specs.List.Sorted.{IsStrictlyIncreasing}
@@ -18,7 +18,7 @@ use Rattle.sheet_base.proofs.Splicing.{no_edit}
 use Rattle.dxf_pairs.specs.Laws.{PairsTile}
 use Rattle.dxf_layer.specs.Entities.{Entity}
 use Rattle.dxf_layer.specs.Rendering.{Reading, run_of, entity_at, has_handle, taken_by, taken_as, taken, first_handle, next_at, next_behind, text_as, text_of, is_earlier}
-use Rattle.dxf_layer.specs.Copies.{line_values, vertex_values, handles_in, values_as, given_to, given, all_given, AreNewHandles, HandlesAreNew}
+use Rattle.dxf_layer.specs.Copies.{line_values, vertex_values, handles_in, values_as, given_to, given, all_given, HandlesAreNew}
 use Rattle.dxf_layer.proofs.Taking.{earlier_take}
 use Rattle.dxf_layer.proofs.Whole.{sheet_in_order}
 

@@ -1,28 +1,25 @@
 -- What is written of a drawing is a drawing: its last pair stays.
-use Rattle.std.proofs.Common.{◌≡◌, ◌==◌, ℕ, ◌+◌, ◌≤◌, ◌<◌, pos, Bool, true, false, refl, ap, sym, ◌∙◌, subst, List, [], ◌∷◌, ◌++◌, flat_map, filter, length, Result, Ok, Err, arith, inl, inr, None, find}
-use Rattle.std.specs.Prelude.{◌||◌, ◌⊎◌, ⊤, nat_lt, nat_le}
+use Rattle.std.proofs.Common.{◌≡◌, ℕ, ◌+◌, ◌≤◌, ◌<◌, true, false, refl, sym, subst, List, [], ◌∷◌, ◌++◌, flat_map, filter, Result, Ok, Err, arith, inl, inr, None, find}
+use Rattle.std.specs.Prelude.{⊤}
 use Rattle.std.specs.List.{list_any}
 use Rattle.std.proofs.lemmas.Bool.Decides.{nat_tests}
 use Rattle.std.proofs.lemmas.List.{append-nil}
 use Rattle.sheet_base.specs.declared.edits.Edit.{Edit}
-use Rattle.sheet_base.specs.declared.flags.How.{How}
-use Rattle.sheet_base.specs.Sheets.{Contents}
 use Rattle.sheet_base.specs.Splices.{spliced}
-use Rattle.sheet_base.specs.Fitting.{Runs, DoFit}
 use Rattle.dxf_pairs.specs.declared.pairs.Pair.{Pair}
 use Rattle.dxf_pairs.specs.declared.faults.PairFault.{PairFault}
 use Rattle.dxf_pairs.specs.Groups.{Group, groups_of}
 use Rattle.dxf_pairs.specs.Pairs.{drawing}
 use Rattle.dxf_pairs.specs.Laws.{AreTiles, PairsTile}
 use Rattle.dxf_pairs.specs.InLines.{AreInLines, PairsAreInLines, GroupsFollow}
-use Rattle.dxf_layer.specs.Drawings.{from_pairs, drawing_sheet}
+use Rattle.dxf_layer.specs.Drawings.{from_pairs}
 use Rattle.dxf_layer.specs.Rendering.{Reading, text_of, drawing_text}
 use Rattle.dxf_layer.specs.ReadBack.{begins_at, covers, is_of_value, groups_for}
 use Rattle.dxf_layer.specs.Copies.{WrittenIsADrawing}
 use Rattle.dxf_layer.proofs.EditedPairs.{StartsAt, StandsOn, StandOn, groups_in}
 use Rattle.dxf_layer.proofs.SplicedPairs.{no_end}
 use Rattle.dxf_layer.proofs.KeptSeeds.{either_true}
-use Rattle.dxf_layer.proofs.WrittenGroups.{AreRead, ends, is_drawing}
+use Rattle.dxf_layer.proofs.WrittenGroups.{ends, is_drawing}
 use Rattle.dxf_layer.proofs.WrittenPairs.{edits_stand, written}
 
 -- ---- no edit is at the last pair

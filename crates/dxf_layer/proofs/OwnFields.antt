@@ -1,21 +1,18 @@
 -- The room behind a vertex in fields stands behind its own fields of codes 10 and 20.
-use Rattle.std.proofs.Common.{◌≡◌, ℕ, ◌+◌, pos, List, [], ◌∷◌, ◌++◌, Bool, true, false, cond, refl, ap, sym, ◌∙◌, subst, Ok, Err, Option, Some}
+use Rattle.std.proofs.Common.{◌≡◌, ℕ, ◌+◌, pos, List, [], ◌∷◌, ◌++◌, Bool, true, false, cond, refl, ap, sym, ◌∙◌, subst, Ok, Err, Some}
 use Rattle.std.specs.Prelude.{int_lt}
 use Rattle.std.specs.List.{AllByRecursion, prefix_len}
 use Rattle.std.proofs.lemmas.List.{append_assoc}
-use Rattle.sheet_base.specs.Sheets.{Contents}
-use Rattle.sheet_base.specs.Fitting.{Runs}
 use Rattle.sheet_base.specs.declared.faults.LayerFault.TheVariants.{Count}
 use Rattle.dxf_pairs.specs.declared.pairs.Pair.{Pair}
 use Rattle.dxf_pairs.specs.Laws.{AreTiles, PairsTile}
 use Rattle.dxf_pairs.specs.InLines.{AreInLines, PairsAreInLines}
-use Rattle.dxf_pairs.specs.Pairs.{drawing}
 use Rattle.dxf_layer.specs.declared.drawing.Vertex.{Vertex}
 use Rattle.dxf_layer.specs.Entities.{Entity, has_code, entity_of}
 use Rattle.dxf_layer.specs.Fields.{and_then, fields_of}
 use Rattle.dxf_layer.specs.Polylines.{vertex_of, begins_vertex, is_number, vertices_in}
 use Rattle.dxf_layer.specs.Rendering.{Reading, coded_before}
-use Rattle.dxf_layer.specs.Copies.{IsEntityOf, HasOwnFields, VerticesCopyOwnFields}
+use Rattle.dxf_layer.specs.Copies.{HasOwnFields, VerticesCopyOwnFields}
 use Rattle.dxf_layer.proofs.Members.{went}
 use Rattle.dxf_layer.proofs.VertexOrder.{IsVertex, vertex_is, both_true}
 use Rattle.dxf_layer.proofs.CopiedPairs.{IsFront}
