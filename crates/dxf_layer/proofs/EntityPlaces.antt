@@ -60,12 +60,12 @@ of_entity bytes start line past (pair ∷ next ∷ pairs) tiles lines = by_test 
         proper = (refl, rest.proper);
       })
 
-front_taken : (n : ℕ) (pairs : List Pair) → IsFront (take n pairs) pairs
+pub front_taken : (n : ℕ) (pairs : List Pair) → IsFront (take n pairs) pairs
 front_taken zero pairs = tt
 front_taken (suc n) [] = tt
 front_taken (suc n) (pair ∷ pairs) = (refl, front_taken n pairs)
 
-front_proper : (fields body pairs : List Pair) → IsFront fields body → IsProper body pairs → IsProper fields pairs
+pub front_proper : (fields body pairs : List Pair) → IsFront fields body → IsProper body pairs → IsProper fields pairs
 front_proper [] [] [] front proper = proper
 front_proper [] (pair ∷ body) [] front proper = absurd proper
 front_proper [] body (pair ∷ pairs) front proper = tt

@@ -75,3 +75,7 @@ pub mod LightVertices
 pub mod LightRooms
 pub mod LightPlaces
 pub mod LightWritten
+pub mod LastPairs
+pub mod CopyLaws
+pub mod GivenHandles
+pub mod OwnFields

@@ -59,15 +59,15 @@ some_value bytes exact pair read is = some_between bytes pair (λ none.
     cc)
 
 -- a group ends at the start of a pair
-record EndsAt (pairs : List Pair) (upto : ℕ) : Type 0 where
-  group : List Pair
-  next : Pair
-  rest : List Pair
-  whole : pairs ≡ group ++ next ∷ rest
-  starts : next.start ≡ upto
-  are : AreGroup group
+pub record EndsAt (pairs : List Pair) (upto : ℕ) : Type 0 where
+  pub group : List Pair
+  pub next : Pair
+  pub rest : List Pair
+  pub whole : pairs ≡ group ++ next ∷ rest
+  pub starts : next.start ≡ upto
+  pub are : AreGroup group
 
-ends_at : (bytes : List ℕ) (start line past upto : ℕ) (fields pairs : List Pair) → AreTiles start line pairs past → IsProper fields pairs → past_group bytes start fields ≡ Ok upto → EndsAt pairs upto
+pub ends_at : (bytes : List ℕ) (start line past upto : ℕ) (fields pairs : List Pair) → AreTiles start line pairs past → IsProper fields pairs → past_group bytes start fields ≡ Ok upto → EndsAt pairs upto
 ends_at bytes start line past upto [] [] tiles proper is = absurd proper
 ends_at bytes start line past upto [] (pair ∷ pairs) tiles proper is =
     let same : start ≡ upto = cc in record { group = []; next = pair; rest = pairs; whole = refl; starts = tiles.0 ∙ same; are = tt }
@@ -106,7 +106,7 @@ copies_add : (bytes : List ℕ) (first second : Option Pair) (x y : Pair) (image
 copies_add bytes first second x y images first_is second_is each =
     subst AddsGroups (sym (ap (λ (o : Option Pair). field_copies bytes o second images) first_is ∙ ap (λ (o : Option Pair). field_copies bytes (Some x) o images) second_is)) (fields_add bytes x y images each)
 
-in_front_of : (front group rest : List Pair) (x y next : Pair) → front ++ (x ∷ y ∷ (group ++ next ∷ rest)) ≡ (front ++ (x ∷ y ∷ group)) ++ next ∷ rest
+pub in_front_of : (front group rest : List Pair) (x y next : Pair) → front ++ (x ∷ y ∷ (group ++ next ∷ rest)) ≡ (front ++ (x ∷ y ∷ group)) ++ next ∷ rest
 in_front_of front group rest x y next = sym (append_assoc front (x ∷ y ∷ group) (next ∷ rest))
 
 -- the room for crossings behind a vertex
@@ -126,10 +126,10 @@ pub number_stands : (read : Reading) (front : List Pair) (pair : Pair) (pairs : 
     → StandsOn read read.pairs (value_edit what pair)
 number_stands read front pair pairs what are no_head some text = stands_whole read front (pair ∷ pairs) (value_edit what pair) are (inl (record { start = refl; end = refl; some = some; no_head = no_head; text = text }))
 
-in_front_one : (front rest : List Pair) (x : Pair) → front ++ x ∷ rest ≡ (front ++ x ∷ []) ++ rest
+pub in_front_one : (front rest : List Pair) (x : Pair) → front ++ x ∷ rest ≡ (front ++ x ∷ []) ++ rest
 in_front_one front rest x = sym (append_assoc front (x ∷ []) rest)
 
-in_front_two : (front rest : List Pair) (x y : Pair) → front ++ (x ∷ y ∷ rest) ≡ (front ++ (x ∷ y ∷ [])) ++ rest
+pub in_front_two : (front rest : List Pair) (x y : Pair) → front ++ (x ∷ y ∷ rest) ≡ (front ++ (x ∷ y ∷ [])) ++ rest
 in_front_two front rest x y = sym (append_assoc front (x ∷ y ∷ []) rest)
 
 -- both values of a vertex are read

@@ -11,4 +11,5 @@ pub mod Held
 pub mod Rendering
 pub mod Paged
 pub mod ReadBack
+pub mod Copies
 pub mod Ordering

@@ -20,7 +20,10 @@ mod rendering;
 mod texts;
 mod walking;
 
-pub use laws::{drawings_read_back, written_pairs};
+pub use laws::{
+    copies_are_of_entities, drawings_read_back, handles_are_new, vertices_copy_own_fields,
+    written_is_a_drawing, written_pairs,
+};
 pub use layer::Dxf;
 pub use reading::read_drawing;
 pub use rendering::render_drawing;

@@ -11,3 +11,4 @@ pub mod Start
 pub mod Unused
 pub mod Walk
 pub mod Taking
+pub mod Outcomes

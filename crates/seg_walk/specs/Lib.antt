@@ -1,4 +1,5 @@
 -- The files of definitions of seg_walk.
 pub mod Steps
+pub mod Outcomes
 pub mod Beginning
 pub mod Leaving

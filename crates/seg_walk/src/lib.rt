@@ -4,10 +4,12 @@
 
 mod cutting;
 mod faults;
+mod laws;
 mod slicing;
 mod steps;
 mod walking;
 
 pub use cutting::{cut, cut_from};
 pub use faults::WalkFault;
+pub use laws::outcome_exists;
 pub use steps::{Step, Steps};

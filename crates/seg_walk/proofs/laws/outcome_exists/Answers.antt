@@ -1,0 +1,6 @@
+-- Answers to the goals of `outcome_exists` in src/laws.rt.
+use Rattle.seg_walk.proofs.Outcomes.{outcome}
+use Rattle.seg_walk.proofs.laws.outcome_exists.Goals as goal
+
+pub returns : goal.returns
+returns c = outcome
