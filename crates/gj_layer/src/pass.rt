@@ -1,6 +1,6 @@
 //! The sheet so far, while a layer is read.
 
-ghost use Rattle.std.specs.Prelude.{◌≡◌, ◌+◌, ◌<◌, ◌^◌, List, length, flat_map, OnOk};
+ghost use Rattle.std.specs.Prelude.{◌≡◌, ◌+◌, ◌<◌, ◌^◌, List, length, flat_map, OnOk, IfOk};
 ghost use Rattle.plane_base.specs.declared.shapes.Pt.{Pt};
 ghost use Rattle.gj_layer.specs.Paths.{Part, nothing, joined, text_for, points_in};
 ghost use Rattle.gj_layer.specs.Standing.{Holds, HoldsMore, path_part};
@@ -31,17 +31,18 @@ fn text_for(kind: PathKind, path: u32) -> What
 }
 
 impl Pass {
-    /// Nothing yet.
-    pub fn new(alloc: Global) -> Pass
-        ensures holds { Holds result nothing }
-        ensures empty { (length result.points.items ≡ 0) × (length result.paths.items ≡ 0) × (result.inexact ≡ 0) }
+    /// Nothing yet, of a document of so many nodes. There is room for a point in every 6 of them and
+    /// for a path in every 16, as in most documents; lists that become longer take more.
+    pub fn new(alloc: Global, nodes: usize) -> Result<Pass, AllocError>
+        ensures holds { IfOk result (λ pass. Holds pass nothing) }
+        ensures empty { IfOk result (λ pass. (length pass.points.items ≡ 0) × (length pass.paths.items ≡ 0) × (pass.inexact ≡ 0)) }
     {
-        Pass {
-            paths: Vec::new(alloc),
-            points: Vec::new(alloc),
-            edits: Vec::new(alloc),
+        Ok(Pass {
+            paths: Vec::with_capacity(alloc, nodes / 16)?,
+            points: Vec::with_capacity(alloc, nodes / 6)?,
+            edits: Vec::with_capacity(alloc, nodes / 16)?,
             inexact: 0,
-        }
+        })
     }
 
     /// The points from this number on are a path, which stands where the run does.

@@ -185,7 +185,7 @@ fn read_document(alloc: Global, doc: &Doc, bytes: &[u8], exact: bool) -> Result<
     ensures { (whole : Whole) → IsDocOf whole doc.now bytes.now
         → Gives (λ sheet part. sheet ≡ sheet_of part) result (layer_reading exact whole) }
 {
-    let mut pass = Pass::new(alloc);
+    let mut pass = Pass::new(alloc, doc.nodes.items().len())?;
     let mut frames = Frames::none(alloc);
     frames.push(Frame {
         form: Form::Object(Holder::Layer),

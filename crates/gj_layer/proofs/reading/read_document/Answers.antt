@@ -18,7 +18,7 @@ node_at-requires c =
 pub read_all-requires-clause-going : goal.read_all-requires-clause-going
 read_all-requires-clause-going c =
     let (whole, reading) = c.requires.read in
-    (layer_reading c.args.exact whole, rw (c.in_ok-push.ensures.ok, c.none-frames.ensures) (begins c.args.doc.now c.args.bytes.now c.args.exact whole c.node_at.result c.new-pass.result reading c.node_at.ensures c.new-pass.ensures.holds))
+    (layer_reading c.args.exact whole, rw (c.in_ok-push.ensures.ok, c.none-frames.ensures) (begins c.args.doc.now c.args.bytes.now c.args.exact whole c.node_at.result c.in_ok-pass.pass reading c.node_at.ensures c.in_ok-pass.ensures.holds))
 
 pub returns-in_err-read_all : goal.returns-in_err-read_all
 returns-in_err-read_all c whole reading =
@@ -26,18 +26,18 @@ returns-in_err-read_all c whole reading =
     give_fault (λ sheet part. sheet ≡ sheet_of part) c.from_residual-in_err-read_all.result (layer_reading c.args.exact whole) fault
     (passed_on fault c.from_residual-in_err-read_all.result c.from_residual-in_err-read_all.ensures.1)
     (c.in_err-read_all.ensures.reads (layer_reading c.args.exact whole)
-    (rw (c.in_ok-push.ensures.ok, c.none-frames.ensures) (begins c.args.doc.now c.args.bytes.now c.args.exact whole c.node_at.result c.new-pass.result reading c.node_at.ensures c.new-pass.ensures.holds)))
+    (rw (c.in_ok-push.ensures.ok, c.none-frames.ensures) (begins c.args.doc.now c.args.bytes.now c.args.exact whole c.node_at.result c.in_ok-pass.pass reading c.node_at.ensures c.in_ok-pass.ensures.holds)))
 
 pub of-requires-4 : goal.of-requires-4
 of-requires-4 c =
     let (whole, reading) = c.requires.read in
     let (part, read, held) = c.in_ok-read_all.ensures.reads (layer_reading c.args.exact whole)
-    (rw (c.in_ok-push.ensures.ok, c.none-frames.ensures) (begins c.args.doc.now c.args.bytes.now c.args.exact whole c.node_at.result c.new-pass.result reading c.node_at.ensures c.new-pass.ensures.holds)) in
+    (rw (c.in_ok-push.ensures.ok, c.none-frames.ensures) (begins c.args.doc.now c.args.bytes.now c.args.exact whole c.node_at.result c.in_ok-pass.pass reading c.node_at.ensures c.in_ok-pass.ensures.holds)) in
     rw (c.of.ensures, c.of-2.ensures, c.of-3.ensures)
     (held_is_sheet c.read_all.new.pass part c.args.exact whole held read (omega (arith, c.in_ok-read_all.ensures.room.points)))
 
 pub returns : goal.returns
 returns c whole reading =
     let (part, read, held) = c.in_ok-read_all.ensures.reads (layer_reading c.args.exact whole)
-    (rw (c.in_ok-push.ensures.ok, c.none-frames.ensures) (begins c.args.doc.now c.args.bytes.now c.args.exact whole c.node_at.result c.new-pass.result reading c.node_at.ensures c.new-pass.ensures.holds)) in
+    (rw (c.in_ok-push.ensures.ok, c.none-frames.ensures) (begins c.args.doc.now c.args.bytes.now c.args.exact whole c.node_at.result c.in_ok-pass.pass reading c.node_at.ensures c.in_ok-pass.ensures.holds)) in
     (part, read, c.of-4.ensures ∙ rw (c.of.ensures, c.of-2.ensures, c.of-3.ensures) (held_sheet c.read_all.new.pass part held))
