@@ -44,7 +44,7 @@ fn entries_of(alloc: Global, boxes: &[Rect], levels: &[Level]) -> Result<Vec<Ent
     ensures { IfOk result (λ entries. AreEntered boxes.now (length boxes.now) levels.now entries.items) }
 {
     let mut places = Vec::with_capacity(alloc, 4)?;
-    let mut entries = Vec::new(alloc);
+    let mut entries = Vec::with_capacity(alloc, boxes.len())?;
     for number in 0..boxes.len() {
         let rect = &boxes[number];
         collect(&levels[level_of(rect) as usize], rect, &mut places)?;

@@ -1,5 +1,5 @@
 -- Answers to the goals of `entries_of` in src/entering.rt.
-use Rattle.std.proofs.Common.{◌≡◌, ◌+◌, ◌++◌, map, List, ℕ, sym, subst, ap, ◌∙◌}
+use Rattle.std.proofs.Common.{◌≡◌, ◌+◌, ◌++◌, map, List, ℕ, sym, subst, ap, ◌∙◌, length, rules}
 use Rattle.number_groups.specs.declared.groups.Entry.{Entry}
 use Rattle.cell_grid.specs.Entering.{AreEntered, entered}
 use Rattle.cell_grid.proofs.Entered.{level_within, level_past, level_small}
@@ -25,3 +25,8 @@ loop-number-preserved c =
     subst (λ (l : List Entry). AreEntered c.args.boxes.now (c.loop-number.number + 1) c.args.levels.now l) (sym now)
     (entered_more c.args.boxes.now c.loop-number.number c.level_of.result c.args.levels.now c.index-levels-level_of.result c.collect.new.places.items c.loop-number.entries.items c.loop-number.invariant
     c.requires.laid c.loop-number-test.true c.level_of.ensures.level within c.index-levels-level_of.is c.in_ok-collect.ensures)
+
+pub returns : goal.returns
+returns c =
+    let same : c.loop-number.number ≡ length c.args.boxes.now = search rules in
+    subst (λ (n : ℕ). AreEntered c.args.boxes.now n c.args.levels.now c.loop-number.entries.items) same c.loop-number.invariant
