@@ -1,0 +1,5 @@
+pub mod Certificates
+pub mod Lines
+pub mod Laws
+pub mod Numbers
+pub mod PieceLists
