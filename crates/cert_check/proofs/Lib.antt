@@ -1,3 +1,7 @@
 pub mod Digits
 pub mod LineLaws
 pub mod PieceLines
+pub mod Spots
+pub mod Stretches
+pub mod Following
+pub mod Passing

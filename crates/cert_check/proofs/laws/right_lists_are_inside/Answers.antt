@@ -1,0 +1,5 @@
+use Rattle.cert_check.proofs.Following.{right_inside}
+use Rattle.cert_check.proofs.laws.right_lists_are_inside.Goals as goal
+
+pub returns : goal.returns
+returns c = right_inside
