@@ -2,6 +2,8 @@
 #![tactic(auto)]
 
 #[cfg(test)]
+mod cert_check_tests;
+#[cfg(test)]
 mod drawing_tests;
 #[cfg(test)]
 mod geojson_tests;

@@ -1,0 +1,207 @@
+-- Numbers below 2^32 in digits without leading zeros.
+use Rattle.std.specs.Prelude.{◌↔◌, IsTrue, IfSome, IfNone, Option}
+use Rattle.std.proofs.Common.{◌≡◌, ℕ, zero, suc, ◌+◌, ◌<◌, ◌≤◌, ◌^◌, Bool, true, false, cond, List, [], ◌∷◌, ◌++◌, length, take, drop, get_or, Result, Ok, Err, refl, sym, ◌∙◌, ap, ap₂, subst, arith}
+use Rattle.std.specs.Char.{is_ascii_digit}
+use Rattle.std.specs.List.{prefix_len}
+use Rattle.std.specs.Fmt.{decimal}
+use Rattle.std.specs.Result.{OkIff, result_ok}
+use Rattle.std.specs.Str.{all_ascii_digits, IsUtf8}
+use Rattle.std.specs.Str.Parse.{digits_value, ParsesUnsigned}
+use Rattle.std.proofs.lemmas.Bool.{and_parts}
+use Rattle.std.proofs.lemmas.Fmt.{decimal_is_IsNumeral, decimal-digits_value, first_decimal, IsAscii-from_digits, decimal_injective, decimal_digit, parse-decimal}
+use Rattle.std.proofs.lemmas.List.{take_at, drop_at, take-append-drop}
+use Rattle.std.proofs.lemmas.Str.{IsUtf8-from_ascii}
+use Rattle.std.proofs.lemmas.Str.Parse.{parse_digits}
+use Rattle.plain_laws.proofs.Digits.{digit_texts}
+use Rattle.cert_check.specs.Certificates.{separator}
+use Rattle.cert_check.specs.Numbers.{HasLeadingZero, Stops, IsNumber, IsEnded}
+
+pub digits_utf8 : (digits : List ℕ) → all_ascii_digits digits ≡ true → IsUtf8 digits
+digits_utf8 digits all = IsUtf8-from_ascii digits (IsAscii-from_digits digits (digit_texts.to digits all))
+
+wide : (n : ℕ) → n < 2 ^ 32 → n < 2 ^ 64
+wide n h = omega arith
+
+-- a written number has no leading zero
+pub no_leading_zero : (n : ℕ) (digits : List ℕ) → n < 2 ^ 32 → digits ≡ decimal n → HasLeadingZero digits → ⊥
+no_leading_zero zero digits small is lead =
+    let one : digits ≡ 48 ∷ [] = is ∙ decimal_digit 0 (omega arith) in
+    let long : length digits ≡ 1 = ap (λ (ds : List ℕ). length ds) one in
+    absurd (too_long (length digits) long lead.0)
+  where
+    too_long : (k : ℕ) → k ≡ 1 → 1 < k → ⊥
+    too_long k e h = absurd (omega arith)
+no_leading_zero (suc n) digits small is lead =
+    let first : 48 < get_or (decimal (suc n)) 0 0 = first_decimal (suc n) (omega arith) (wide (suc n) small) in
+    let here : get_or digits 0 0 ≡ get_or (decimal (suc n)) 0 0 = ap (λ (ds : List ℕ). get_or ds 0 0) is in
+    absurd (not_above (get_or digits 0 0) (get_or (decimal (suc n)) 0 0) here first lead.1)
+  where
+    not_above : (k m : ℕ) → k ≡ m → 48 < m → k ≡ 48 → ⊥
+    not_above k m e h f = absurd (omega arith)
+
+-- digits that are read are written so
+pub read_is_written : {E : Type 0} (digits : List ℕ) (answer : Result ℕ E) (n : ℕ) → all_ascii_digits digits ≡ true → (HasLeadingZero digits → ⊥)
+    → ParsesUnsigned 32 10 digits answer → answer ≡ Ok n → (digits ≡ decimal n) × (n < 2 ^ 32)
+read_is_written {E} digits answer n all plain is ok = by_answer (subst (λ (r : Result ℕ E). OkIff r ((0 < length digits) × (digits_value 10 digits < 2 ^ 32)) (digits_value 10 digits)) ok (parse_digits digit_texts 32 digits answer is all))
+  where
+    only : 0 < length digits → get_or digits 0 0 ≡ 48 → length digits ≡ 1
+    only some none = one (length digits) some (λ (more : 1 < length digits). plain (more, none))
+      where
+        few : (k : ℕ) → (1 < k → ⊥) → k ≤ 1
+        few k h = grind (arith, h)
+
+        one : (k : ℕ) → 0 < k → (1 < k → ⊥) → k ≡ 1
+        one k h f = let g = few k f in omega arith
+
+    by_answer : OkIff {E = E} (Ok n) ((0 < length digits) × (digits_value 10 digits < 2 ^ 32)) (digits_value 10 digits) → (digits ≡ decimal n) × (n < 2 ^ 32)
+    by_answer h = (same h, subst (λ (k : ℕ). k < 2 ^ 32) (sym h.1) h.0.1)
+      where
+        same : OkIff {E = E} (Ok n) ((0 < length digits) × (digits_value 10 digits < 2 ^ 32)) (digits_value 10 digits) → digits ≡ decimal n
+        same h = sym (decimal-digits_value digit_texts digits all h.0.0 (only h.0.0) (wide (digits_value 10 digits) h.0.1)) ∙ ap decimal (sym h.1)
+
+-- digits that are not read are no number's
+pub not_read : {E : Type 0} (digits : List ℕ) (answer : Result ℕ E) (e : E) (n : ℕ) → n < 2 ^ 32 → digits ≡ decimal n → ParsesUnsigned 32 10 digits answer → answer ≡ Err e → ⊥
+not_read digits answer e n small is parses err = let read = parse-decimal 32 n digits answer small (wide n small) is parses in cc
+
+-- ---- the digits at the front
+pub are_front_digits : (text : List ℕ) → all_ascii_digits (take (prefix_len is_ascii_digit text) text) ≡ true
+are_front_digits [] = refl
+are_front_digits (byte ∷ text) = by_test (are_front_digits text) (is_ascii_digit byte) refl
+  where
+    one_more : 1 + prefix_len is_ascii_digit text ≡ suc (prefix_len is_ascii_digit text)
+    one_more = omega arith
+
+    by_test : all_ascii_digits (take (prefix_len is_ascii_digit text) text) ≡ true → (test : Bool) → test ≡ is_ascii_digit byte
+        → all_ascii_digits (take (cond test (1 + prefix_len is_ascii_digit text) 0) (byte ∷ text)) ≡ true
+    by_test later true is = rw (one_more, ← is) later
+    by_test later false is = refl
+
+-- what is behind them stops
+pub front_stops : (text : List ℕ) → Stops (drop (prefix_len is_ascii_digit text) text)
+front_stops [] = tt
+front_stops (byte ∷ text) = by_test (front_stops text) (is_ascii_digit byte) refl
+  where
+    one_more : 1 + prefix_len is_ascii_digit text ≡ suc (prefix_len is_ascii_digit text)
+    one_more = omega arith
+
+    by_test : Stops (drop (prefix_len is_ascii_digit text) text) → (test : Bool) → test ≡ is_ascii_digit byte
+        → Stops (drop (cond test (1 + prefix_len is_ascii_digit text) 0) (byte ∷ text))
+    by_test later true is = rw one_more later
+    by_test later false is = sym is
+
+digits_end : (digits rest : List ℕ) → all_ascii_digits digits ≡ true → Stops rest → prefix_len is_ascii_digit (digits ++ rest) ≡ length digits
+digits_end [] [] all stops = refl
+digits_end [] (byte ∷ rest) all stops = rw stops refl
+digits_end (digit ∷ digits) rest all stops =
+    let parts = and_parts (is_ascii_digit digit) (all_ascii_digits digits) all in
+    let later = digits_end digits rest parts.1 stops in
+    rw (parts.0, later) (omega arith)
+
+-- a number's digits are all that are at the front
+pub record IsFront (text : List ℕ) (number : ℕ) (rest : List ℕ) : Type 0 where
+  pub digits : take (prefix_len is_ascii_digit text) text ≡ decimal number
+  pub behind : drop (prefix_len is_ascii_digit text) text ≡ rest
+
+pub front_of : (text : List ℕ) (number : ℕ) (rest : List ℕ) → IsNumber text number rest → IsFront text number rest
+front_of text number rest is = subst (λ (t : List ℕ). IsFront t number rest) (sym is.spelled) whole
+  where
+    all : all_ascii_digits (decimal number) ≡ true
+    all = digit_texts.from (decimal number) (decimal_is_IsNumeral number (wide number is.small)).0.1
+
+    count : prefix_len is_ascii_digit (decimal number ++ rest) ≡ length (decimal number)
+    count = digits_end (decimal number) rest all is.stops
+
+    whole : IsFront (decimal number ++ rest) number rest
+    whole = record {
+      digits = rw count (take_at (decimal number) rest _ refl);
+      behind = rw count (drop_at (decimal number) rest _ refl);
+    }
+
+-- a text begins with one number
+pub record AreSame (m n : ℕ) (rest more : List ℕ) : Type 0 where
+  pub number : m ≡ n
+  pub behind : rest ≡ more
+
+pub one_number : (text : List ℕ) (m n : ℕ) (rest more : List ℕ) → IsNumber text m rest → IsNumber text n more → AreSame m n rest more
+one_number text m n rest more h k =
+    let f = front_of text m rest h in
+    let g = front_of text n more k in
+    record {
+      number = decimal_injective m n (wide m h.small) (wide n k.small) (sym f.digits ∙ g.digits);
+      behind = sym f.behind ∙ g.behind;
+    }
+
+pub ended_is_number : (text : List ℕ) (n : ℕ) (last : Bool) (rest : List ℕ) → IsEnded text n last rest → IsNumber text n (separator last ∷ rest)
+ended_is_number text n true rest h = record { small = h.small; spelled = h.spelled; stops = refl }
+ended_is_number text n false rest h = record { small = h.small; spelled = h.spelled; stops = refl }
+
+-- ---- what ends a number
+same_head : (a b : ℕ) (xs ys : List ℕ) → a ∷ xs ≡ b ∷ ys → (a ≡ b) × (xs ≡ ys)
+same_head a b xs ys h = (cc, cc)
+
+same_end : (last also : Bool) → separator last ≡ separator also → last ≡ also
+same_end true true e = refl
+same_end false false e = refl
+same_end true false e = absurd (omega arith)
+same_end false true e = absurd (omega arith)
+
+pub record IsOneEnd (m n : ℕ) (last also : Bool) (rest more : List ℕ) : Type 0 where
+  pub number : m ≡ n
+  pub ends : last ≡ also
+  pub behind : rest ≡ more
+
+pub one_end : (text : List ℕ) (m n : ℕ) (last also : Bool) (rest more : List ℕ) → IsEnded text m last rest → IsEnded text n also more → IsOneEnd m n last also rest more
+one_end text m n last also rest more h k =
+    let same = one_number text m n (separator last ∷ rest) (separator also ∷ more) (ended_is_number text m last rest h) (ended_is_number text n also more k) in
+    let parts = same_head (separator last) (separator also) rest more same.behind in
+    record { number = same.number; ends = same_end last also parts.0; behind = parts.1 }
+
+-- ---- what `parse` gives
+pub parsed_some : {E : Type 0} (digits : List ℕ) (answer : Result ℕ E) (found : Option ℕ) (lead : Bool) → all_ascii_digits digits ≡ true → (IsTrue lead ↔ HasLeadingZero digits) → lead ≡ false
+    → ParsesUnsigned 32 10 digits answer → found ≡ result_ok answer → IfSome found (λ n. (digits ≡ decimal n) × (n < 2 ^ 32))
+parsed_some {E} digits answer found lead all is_lead no_lead parses e = subst (λ (o : Option ℕ). IfSome o (λ n. (digits ≡ decimal n) × (n < 2 ^ 32))) (sym e) (by_answer answer parses)
+  where
+    plain : HasLeadingZero digits → ⊥
+    plain h = let yes = is_lead.1 h in cc
+
+    by_answer : (r : Result ℕ E) → ParsesUnsigned 32 10 digits r → IfSome (result_ok r) (λ n. (digits ≡ decimal n) × (n < 2 ^ 32))
+    by_answer (Ok n) h = read_is_written {E = E} digits (Ok n) n all plain h refl
+    by_answer (Err e) h = tt
+
+pub parsed_none : {E : Type 0} (digits : List ℕ) (answer : Result ℕ E) (found : Option ℕ) → ParsesUnsigned 32 10 digits answer → found ≡ result_ok answer
+    → IfNone found ((n : ℕ) → n < 2 ^ 32 → digits ≡ decimal n → ⊥)
+parsed_none {E} digits answer found parses e = subst (λ (o : Option ℕ). IfNone o ((n : ℕ) → n < 2 ^ 32 → digits ≡ decimal n → ⊥)) (sym e) (by_answer answer parses)
+  where
+    by_answer : (r : Result ℕ E) → ParsesUnsigned 32 10 digits r → IfNone (result_ok r) ((n : ℕ) → n < 2 ^ 32 → digits ≡ decimal n → ⊥)
+    by_answer (Ok n) h = tt
+    by_answer (Err e) h = λ n small is. not_read {E = E} digits (Err e) e n small is h refl
+
+-- ---- the number at the front
+pub no_front : (text digits : List ℕ) (count : ℕ) → count ≡ prefix_len is_ascii_digit text → digits ≡ take count text → ((n : ℕ) → n < 2 ^ 32 → digits ≡ decimal n → ⊥)
+    → (n : ℕ) (rest : List ℕ) → IsNumber text n rest → ⊥
+no_front text digits count k is none n rest h =
+    let f = front_of text n rest h in
+    none n h.small (is ∙ ap (λ (m : ℕ). take m text) k ∙ f.digits)
+
+pub number_front : (text digits behind : List ℕ) (count n : ℕ) → count ≡ prefix_len is_ascii_digit text → digits ≡ take count text → behind ≡ drop count text → digits ≡ decimal n → n < 2 ^ 32 → IsNumber text n behind
+number_front text digits behind count n k is rest written small =
+    record {
+      small = small;
+      spelled = sym (take-append-drop count text) ∙ ap₂ (λ (xs ys : List ℕ). xs ++ ys) (sym is ∙ written) (sym rest);
+      stops = subst (λ (xs : List ℕ). Stops xs) (sym (rest ∙ ap (λ (m : ℕ). drop m text) k)) (front_stops text);
+    }
+
+pub not_ended : (text : List ℕ) (n : ℕ) (behind : List ℕ) → IsNumber text n behind → ((last : Bool) → get_or behind 0 0 ≡ separator last → ⊥)
+    → (m : ℕ) (last : Bool) (more : List ℕ) → IsEnded text m last more → ⊥
+not_ended text n behind h none m last more k =
+    let same = one_number text n m behind (separator last ∷ more) h (ended_is_number text m last more k) in
+    none last (ap (λ (xs : List ℕ). get_or xs 0 0) same.behind)
+
+pub nothing_behind : (text : List ℕ) (n : ℕ) (behind : List ℕ) → IsNumber text n behind → length behind ≡ 0 → (m : ℕ) (last : Bool) (more : List ℕ) → IsEnded text m last more → ⊥
+nothing_behind text n behind h e m last more k =
+    let same = one_number text n m behind (separator last ∷ more) h (ended_is_number text m last more k) in
+    let long = ap (λ (xs : List ℕ). length xs) same.behind in
+    none (length behind) (length more) e long
+  where
+    none : (i j : ℕ) → i ≡ 0 → i ≡ suc j → ⊥
+    none i j e f = absurd (omega arith)

@@ -1,0 +1,8 @@
+-- The files of lemmas of cert_check.
+pub mod Digits
+pub mod LineLaws
+pub mod PieceLines
+pub mod Spots
+pub mod Stretches
+pub mod Following
+pub mod Passing

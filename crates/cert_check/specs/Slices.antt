@@ -1,0 +1,42 @@
+-- The part of a segment that a triangle has, as the code finds it. Only private functions speak of it.
+use Rattle.std.specs.Prelude.{◌≡◌, ℕ, ◌<◌, ◌-ℤ◌, unsigned_abs, length, Option, Some, None}
+use Rattle.frac128.specs.declared.frac.Frac.{Frac}
+use Rattle.plane_base.specs.Plane.{corners}
+use Rattle.plane_base.specs.Slices.{IsParam, IsCommon, AreEnds}
+use Rattle.plane_base.specs.declared.shapes.Pt.{Pt}
+use Rattle.plane_base.specs.declared.shapes.Tri.{Tri}
+use Rattle.plane_base.specs.declared.slicing.Stretch.{Stretch}
+use Rattle.tin_base.specs.declared.frames.Frame.TheVariants.{Source}
+use Rattle.tin_base.specs.Triangulation.{Triangulation, numbers_of, places}
+use Rattle.tin_base.specs.Segments.{Spot, at_a, IsSameSpot, IsPart}
+
+-- the spot at a parameter from 0 to 1
+abbrev pub spot_of : Frac → Spot
+spot_of f = record { of_a = unsigned_abs (f.den -ℤ f.num); of_b = unsigned_abs f.num }
+
+-- the stretch is what the segment and triangle t have in common
+pub record HasStretch (tin : Triangulation) (a b : Pt) (t : ℕ) (stretch : Stretch) : Type 0 where
+  pub triangle : Tri
+  pub stands : corners triangle ≡ places tin Source (numbers_of tin t)
+  pub common : IsCommon a b triangle stretch
+  pub ends : AreEnds a b triangle stretch
+
+-- the stretch is the part of triangle t, and begins at the spot
+pub record IsPartAt (tin : Triangulation) (a b : Pt) (t : ℕ) (x : Spot) (stretch : Stretch) : Type 0 where
+  pub in_range : t < length tin.triangles
+  pub slice : HasStretch tin a b t stretch
+  pub part : IsPart tin a b t (spot_of stretch.lo) (spot_of stretch.hi)
+  pub begins : IsSameSpot (spot_of stretch.lo) x
+
+-- no part of triangle t begins at the spot
+abbrev pub HasNoPartAt : Triangulation → Pt → Pt → ℕ → Spot → Type 0
+HasNoPartAt tin a b t x = (first last : Spot) → IsPart tin a b t first last → IsSameSpot first x → ⊥
+
+-- where a part ends, or the first end of the segment where there is none
+abbrev pub spot_behind : Option Stretch → Spot
+spot_behind None = at_a
+spot_behind (Some stretch) = spot_of stretch.hi
+
+abbrev pub EndsAtParam : Option Stretch → Type 0
+EndsAtParam None = Unit {0}
+EndsAtParam (Some stretch) = IsParam stretch.hi.num stretch.hi.den

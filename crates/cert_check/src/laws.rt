@@ -1,0 +1,23 @@
+//! Laws of certificates.
+
+ghost use Rattle.cert_check.specs.Laws.{CertificatesAreOne, CertificatesHaveNoBadLine, PieceTrianglesAreRight, RightListsAreInside};
+
+/// A law: bytes are the certificate of one list of lists at most.
+pub fn certificates_are_one()
+    ensures { CertificatesAreOne }
+{}
+
+/// A law: a certificate has no line that is not of the form.
+pub fn certificates_have_no_bad_line()
+    ensures { CertificatesHaveNoBadLine }
+{}
+
+/// A law: a segment that has a right list in a sound triangulation is inside.
+pub fn right_lists_are_inside()
+    ensures { RightListsAreInside }
+{}
+
+/// A law: the triangles of the pieces of a segment that is inside a sound triangulation are a right list.
+pub fn piece_triangles_are_right()
+    ensures { PieceTrianglesAreRight }
+{}

@@ -1,0 +1,19 @@
+//! Certificates of migrated layers: the triangles of each segment's pieces, by which a receiver checks a migrated layer
+//! without a search.
+#![tactic(auto)]
+
+mod laws;
+mod lines;
+mod nearness;
+mod numbers;
+mod parts;
+mod right_lists;
+mod writing;
+
+pub use laws::{
+    certificates_are_one, certificates_have_no_bad_line, piece_triangles_are_right,
+    right_lists_are_inside,
+};
+pub use lines::list_count;
+pub use right_lists::is_right;
+pub use writing::write_cert;
