@@ -1,1 +1,2 @@
+-- The files of definitions of check_mode.
 pub mod Checks

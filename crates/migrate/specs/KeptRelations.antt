@@ -1,5 +1,5 @@
--- What a run says of how the pieces of its layers lie to each other: after rounding as in the source, or which of
--- them do not.
+-- What a run says of the relations of the pieces of its layers: they are after rounding as in the source, or which
+-- are not.
 use Rattle.std.specs.Prelude.{◌≡◌, ◌≢◌, ◌⊎◌, ℕ, ◌+◌, ◌<◌, List, [], ◌∷◌, ◌++◌, All, AllPairs, Contains, codes, length, slice_index_or, Option, Some, IfSome}
 use Rattle.shelf_io.specs.Files.{Files}
 use Rattle.sheet_base.specs.declared.flags.How.{How}
@@ -81,8 +81,8 @@ pub record ReportsChanges (tin : Triangulation) (pieces : List Piece) (made : Op
 
 -- What the status of a migration says of all pieces of all its layers, each of them with each later one, where the
 -- layers' files are among `layers` and the report among `made`.
--- After `Same` each two written segments lie to each other as their pieces do in the source; after `Changed` the
--- report names those that do not.
+-- After `Same` each two written segments have the relation of their pieces in the source; after `Changed` the
+-- report names those that have not.
 abbrev pub KeepsRelationsIn : Files → Migration → Status → Option Files → Option Files → Type 0
 KeepsRelationsIn files migration Same layers made = (tin : Triangulation) × (pieces : List Piece) × GivesPieces files migration layers tin pieces × AllPairs (KeepTheirRelation tin) pieces
 KeepsRelationsIn files migration Changed layers made = (tin : Triangulation) × (pieces : List Piece) × GivesPieces files migration layers tin pieces × ReportsChanges tin pieces made

@@ -1,3 +1,4 @@
+-- The files of definitions of migrate.
 pub mod Names
 pub mod LayerTexts
 pub mod LayerOutcomes

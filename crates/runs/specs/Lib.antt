@@ -1,3 +1,4 @@
+-- The files of definitions of runs.
 pub mod Status
 pub mod Lines
 pub mod Refusals

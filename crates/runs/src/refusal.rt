@@ -16,7 +16,7 @@ use tin_file::TinFault;
 /// Why nothing was carried. Layers are counted from 0.
 #[derive(Clone, Copy, Debug, PartialEq, Eq)]
 pub enum Refusal {
-    /// The words give no job.
+    /// The words are not understood.
     Words(WordsFault),
     /// The triangulation's file is missing or could not be read.
     TinUnread,

@@ -7,7 +7,7 @@ pub enum Status {
     Same,
     /// All is written and at least one change is listed.
     Changed,
-    /// The words give no job.
+    /// The words are not understood.
     Words,
     /// The triangulation is refused.
     Tin,

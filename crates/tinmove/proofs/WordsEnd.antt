@@ -25,7 +25,7 @@ pub end_as : (status result : Status) → (result ≡ status) ⊎ (result ≡ Wr
 end_as status result (inl is) may = rw is may
 end_as status result (inr is) may = rw is tt
 
--- where words give no job, the run ends so, or because memory ran out, or after a write fault
+-- where words are not understood, the run ends so, or because memory ran out, or after a write fault
 pub no_job_end : (fault : WordsFault) (result : Status) → (result ≡ status_of_words fault) ⊎ (result ≡ Write) → (result ≡ WordsStatus) ⊎ ((result ≡ Memory) ⊎ (result ≡ Write))
 no_job_end fault result (inr is) = inr (inr is)
 no_job_end WordsMemory result (inl is) = inr (inl is)

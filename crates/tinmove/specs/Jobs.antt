@@ -22,7 +22,7 @@ AsksCheck words name = (how : How) × IsJobOf words (Check name how)
 abbrev pub AsksMaking : List (List ℕ) → ℕ → Type 0
 AsksMaking words n = IsJobOf words (Make n)
 
--- the words give no job, but this fault
+-- the words are not understood, and this is their fault
 abbrev pub LacksJob : List (List ℕ) → Type 0
 LacksJob words = (fault : WordsFault) × IsWordsFault words fault
 

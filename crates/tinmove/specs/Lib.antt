@@ -1,3 +1,4 @@
+-- The files of definitions of tinmove.
 pub mod Jobs
 pub mod Outcome
 pub mod Ends

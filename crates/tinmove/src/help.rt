@@ -4,7 +4,7 @@ ghost use Rattle.std.specs.Prelude.{◌≡◌, ◌↔◌, ◌⊎◌, ◌∷◌, 
 ghost use Rattle.tinmove.specs.Help.{Asks, text_of};
 ghost use Rattle.tinmove.specs.declared.help.Help.{Help};
 
-/// One line for standard error, without its line feed, where the words give no job.
+/// One line for standard error, without its line feed, where the words are not understood.
 pub const USAGE: &str =
     "usage: tinmove migrate|check|make ARGUMENT... ('tinmove --help' explains them)";
 

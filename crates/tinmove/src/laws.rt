@@ -7,8 +7,8 @@ pub fn outcome_is_one()
     ensures { OutcomeIsOne }
 {}
 
-/// A law: however a run ends that is asked for a migration, the segments that it wrote lie to each other as their
-/// pieces do in the source, or its report lists those that do not.
+/// A law: however a run ends that is asked for a migration, the segments that it wrote have the relations of their
+/// pieces in the source, or its report lists those that have not.
 pub fn end_keeps_relations()
     ensures { EndKeepsRelations }
 {}

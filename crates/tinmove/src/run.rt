@@ -31,8 +31,8 @@ pub fn run<S: Shelf, P: Press>(
     // because memory ran out, or after a write fault.
     ensures ends { IfSome (S.files shelf.old) (λ files. EndsTold (map string_bytes words.now) files (Rose (S.faults shelf.old) (S.faults shelf.new)) (Rose (P.faults press.old) (P.faults press.new)) result (P.made press.new)) }
 
-    // Where a migration ends with `Same`, each two segments of the written layers lie to each other as their pieces
-    // do in the source; where it ends with `Changed`, the report lists each two that do not, and no others.
+    // Where a migration ends with `Same`, each two segments of the written layers have the relation of their pieces in
+    // the source; where it ends with `Changed`, the report lists each two that have not, and no others.
     ensures kept { IfSome (S.files shelf.old) (λ files. (migration : Migration) → AsksMigration (map string_bytes words.now) migration → KeepsRelations files migration result (P.made press.new)) }
 
     // Told or not, where the words give no job or ask for what is made, a run ends so over any files, and never by a

@@ -51,7 +51,7 @@ fn with_returns(alloc: Global, text: &str) -> Result<String, AllocError> {
 
 const MIGRATE: [&str; 6] = ["migrate", "--tin", "s.json", "--out", "o", "p.dxf"];
 
-/// Does a run that carries this drawing through the square end so, and make these files?
+/// Whether a run that carries this drawing through the square ends so, and makes these files.
 fn migrates(
     alloc: Global,
     texts: &[&str],

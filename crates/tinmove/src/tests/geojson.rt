@@ -28,7 +28,7 @@ const CARRIED_PARCELS: &str = r#"{
 ]
 }"#;
 
-/// Does a run that carries the layer of this name through `s.json` end so, and make these files?
+/// Whether a run that carries the layer of this name through `s.json` ends so, and makes these files.
 fn migrates(
     alloc: Global,
     tin: &str,

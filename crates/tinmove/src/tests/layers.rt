@@ -16,7 +16,7 @@ const WHEEL: &str =
 const BOW: &str =
     r#"{"file_type":"triangulation_file","format_version":"1.1","transformed_components":["horizontal"],"vertices_columns":["source_x","source_y","target_x","target_y"],"triangles_columns":["idx_vertex1","idx_vertex2","idx_vertex3"],"vertices":[[0,0,100,100],[10,0,110,100],[10,10,110,110],[-10,0,90,100],[-10,-10,90,90]],"triangles":[[0,1,2],[0,3,4]]}"#;
 
-/// Does a run that carries this layer through this triangulation end so, and make these files?
+/// Whether a run that carries this layer through this triangulation ends so, and makes these files.
 fn migrates(
     alloc: Global,
     tin: &str,

@@ -56,7 +56,7 @@ pub fn ran_over(
     Ok((status, press))
 }
 
-/// Has the press made these files with these texts? `None`: the file of this name was not begun.
+/// Whether the press has made these files with these texts. `None`: the file of this name was not begun.
 pub fn holds(press: &MemPress, made: &[(&str, Option<&str>)]) -> bool {
     for &(name, text) in made {
         if press.made_bytes(name) != text.map(|text| text.as_bytes()) {
@@ -66,7 +66,7 @@ pub fn holds(press: &MemPress, made: &[(&str, Option<&str>)]) -> bool {
     true
 }
 
-/// Does a run of these words over these files end so, and make these files? `None`: a file that is not begun.
+/// Whether a run of these words over these files ends so, and makes these files. `None`: a file that is not begun.
 pub fn makes(
     alloc: Global,
     texts: &[&str],

@@ -111,7 +111,7 @@ fn is_same_run(one: (Status, &MemPress), other: (Status, &MemPress)) -> bool {
         && is_same_file("-")
 }
 
-/// Is the run that is told to these two the same as one of which nothing is said?
+/// Whether the run that is told to these two is the same as one of which nothing is said.
 fn is_unchanged<W: Write + Drop>(
     alloc: Global,
     fails: (u64, u64),

@@ -8,7 +8,7 @@ use std::alloc::Global;
 const NATION: &str =
     r#"{"file_type":"triangulation_file","format_version":"1.1","transformed_components":["horizontal"],"vertices_columns":["source_x","source_y","target_x","target_y"],"triangles_columns":["idx_vertex1","idx_vertex2","idx_vertex3"],"vertices":[[590000,190000,2589999.8,1190000.1],[600000,190000,2600000,1190000.05],[610000,190000,2610000.25,1189999.85],[590000,200000,2589999.7,1200000.2],[600000,200000,2600000,1200000],[610000,200000,2610000.3,1200000.1],[590000,210000,2589999.75,1210000.3],[600000,210000,2599999.9,1210000.25],[610000,210000,2610000.4,1209999.8]],"triangles":[[0,1,4],[0,4,3],[1,2,5],[1,5,4],[3,4,7],[3,7,6],[4,5,8],[4,8,7]]}"#;
 
-/// Does a run that carries `nine.wkt` through `s.json` end so, and make these files?
+/// Whether a run that carries `nine.wkt` through `s.json` ends so, and makes these files.
 fn migrates(
     alloc: Global,
     tin: &str,

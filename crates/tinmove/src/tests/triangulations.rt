@@ -22,13 +22,13 @@ fn tin_text(alloc: Global, vertices: &str, triangles: &str) -> Result<String, Al
     Ok(text)
 }
 
-/// Does a check of this triangulation end so, and print this line?
+/// Whether a check of this triangulation ends so, and prints this line.
 fn checks(alloc: Global, tin: &str, wanted: Status, line: &str) -> bool {
     let made = [("-", Some(line))];
     makes(alloc, &CHECK, &[("t.json", tin)], wanted, &made)
 }
 
-/// Does a check of a triangulation of these rows end so, and print this line?
+/// Whether a check of a triangulation of these rows ends so, and prints this line.
 fn checks_rows(alloc: Global, vertices: &str, triangles: &str, wanted: Status, line: &str) -> bool {
     match tin_text(alloc, vertices, triangles) {
         Ok(tin) => checks(alloc, &tin, wanted, line),
@@ -36,7 +36,7 @@ fn checks_rows(alloc: Global, vertices: &str, triangles: &str, wanted: Status, l
     }
 }
 
-/// Does a run that carries this layer through a triangulation of these rows end so, and make these files?
+/// Whether a run that carries this layer through a triangulation of these rows ends so, and makes these files.
 fn migrates_through_rows(
     alloc: Global,
     (vertices, triangles): (&str, &str),

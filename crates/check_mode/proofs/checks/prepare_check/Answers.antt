@@ -1,4 +1,4 @@
--- Answers to the goals of `checked` in src/preparing.rt.
+-- Answers to the goals of `prepare_check` in src/checks.rt.
 use Rattle.std.proofs.Common.{◌≡◌, List, map, rules, refl, ap}
 use Rattle.runs.specs.declared.output.LayerFile.{LayerFile}
 use Rattle.runs.specs.Output.{file_of}

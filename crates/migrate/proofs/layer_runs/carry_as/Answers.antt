@@ -1,4 +1,4 @@
--- Answers to the goals of `carried_as` in src/carrying.rt.
+-- Answers to the goals of `carry_as` in src/layer_runs.rt.
 use Rattle.std.proofs.Common.{length}
 use Rattle.migrate.proofs.LayerRefusals.{uncarried_as}
 use Rattle.migrate.proofs.layer_runs.carry_as.Goals as goal

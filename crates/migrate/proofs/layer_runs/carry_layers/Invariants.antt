@@ -1,4 +1,4 @@
--- The invariants of `carried_layers` in src/carrying.rt.
+-- The invariants of `carry_layers` in src/layer_runs.rt.
 use Rattle.std.proofs.Common.{◌≡◌, ◌≤◌, take, vec_len}
 use Rattle.shelf_io.specs.Count.{counted}
 use Rattle.carry_map.specs.declared.limits.TheConstants.{MOST_PIECES}

@@ -1,4 +1,4 @@
--- Answers to the goals of `carry_next` in src/carrying.rt.
+-- Answers to the goals of `carry_next` in src/layer_runs.rt.
 use Rattle.std.proofs.Common.{◌≡◌, ◌+◌, ℕ, List, [], ◌∷◌, ◌++◌, map, length, Some, refl, ◌∙◌, ap, subst}
 use Rattle.std.proofs.lemmas.List.{map-append}
 use Rattle.report_text.specs.declared.rows.LayerRow.{LayerRow}

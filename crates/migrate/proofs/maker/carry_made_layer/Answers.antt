@@ -1,4 +1,4 @@
--- Answers to the goals of `made_run` in src/preparing.rt.
+-- Answers to the goals of `carry_made_layer` in src/maker.rt.
 use Rattle.std.proofs.Common.{◌≤◌, length, subst}
 use Rattle.runs.specs.declared.loads.TheConstants.{MOST_BYTES}
 use Rattle.runs.proofs.PassedRefusals.{handed_on}

@@ -1,4 +1,4 @@
--- Answers to the goals of `made` in src/preparing.rt.
+-- Answers to the goals of `prepare_making` in src/maker.rt.
 use Rattle.std.proofs.Common.{refl, sym, subst}
 use Rattle.tin_base.specs.Limits.{IsWithinLimits}
 use Rattle.tin_base.specs.Triangulation.{Triangulation}

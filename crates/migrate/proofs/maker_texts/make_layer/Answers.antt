@@ -1,4 +1,4 @@
--- Answers to the goals of `make_layer` in src/making.rt.
+-- Answers to the goals of `make_layer` in src/maker_texts.rt.
 use Rattle.std.proofs.Common.{arith, []}
 use Rattle.migrate.specs.MakerTexts.{layer_line}
 use Rattle.migrate.proofs.MakerRows.{one_more_text}

@@ -1,4 +1,4 @@
--- The invariants of `make_layer` in src/making.rt.
+-- The invariants of `make_layer` in src/maker_texts.rt.
 use Rattle.std.proofs.Common.{◌≤◌, ◌*◌, vec_len, ◌≡◌}
 use Rattle.std.specs.List.{flat_map}
 use Rattle.migrate.specs.MakerTexts.{below, layer_line}

@@ -1,4 +1,4 @@
--- Answers to the goals of `make_tin` in src/making.rt.
+-- Answers to the goals of `make_tin` in src/maker_texts.rt.
 use Rattle.std.proofs.Common.{◌≡◌, ◌∷◌, [], ◌++◌, ◌-◌, take, length, ap, ◌∙◌, rules}
 use Rattle.std.specs.List.{join_with_byte}
 use Rattle.migrate.specs.MakerTexts.{tin_front, tin_between, tin_end, vertex_rows, triangle_rows}

@@ -1,4 +1,4 @@
--- Answers to the goals of `put_line` in src/making.rt.
+-- Answers to the goals of `put_line` in src/maker_texts.rt.
 use Rattle.std.proofs.Common.{◌+◌, ◌*◌, ◌%◌, codes, decimal}
 use Rattle.migrate.specs.MakerTexts.{layer_line}
 use Rattle.migrate.proofs.MakerRows.{four_parts}

@@ -1,4 +1,4 @@
--- Answers to the goals of `put_triangles` in src/making.rt.
+-- Answers to the goals of `put_triangles` in src/maker_texts.rt.
 use Rattle.std.proofs.Common.{◌≡◌, ◌++◌, ℕ, subst, arith}
 use Rattle.std.specs.List.{flat_map}
 use Rattle.migrate.specs.MakerTexts.{below, cell_rows, ended_rows}

@@ -1,4 +1,4 @@
--- Answers to the goals of `put_vertex_line` in src/making.rt.
+-- Answers to the goals of `put_vertex_line` in src/maker_texts.rt.
 use Rattle.std.proofs.Common.{arith}
 use Rattle.migrate.specs.MakerTexts.{vertex_row}
 use Rattle.migrate.proofs.MakerRows.{one_more_row}

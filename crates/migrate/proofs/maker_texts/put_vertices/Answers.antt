@@ -1,4 +1,4 @@
--- Answers to the goals of `put_vertices` in src/making.rt.
+-- Answers to the goals of `put_vertices` in src/maker_texts.rt.
 use Rattle.std.proofs.Common.{arith, ◌+◌, map}
 use Rattle.migrate.specs.MakerTexts.{below, vertex_row}
 use Rattle.migrate.proofs.MakerRows.{one_more_list}

@@ -1,4 +1,4 @@
--- Answers to the goals of `reported` in src/preparing.rt.
+-- Answers to the goals of `report_on_run` in src/migration_output.rt.
 use Rattle.std.proofs.Common.{List, sym, subst}
 use Rattle.tin_base.specs.declared.pieces.Piece.{Piece}
 use Rattle.topo_check.specs.Changes.{AreAllComparable}

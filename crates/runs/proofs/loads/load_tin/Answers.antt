@@ -1,4 +1,4 @@
--- Answers to the goals of `loaded_tin` in src/loading.rt.
+-- Answers to the goals of `load_tin` in src/loads.rt.
 use Rattle.std.proofs.Common.{sym, subst, ◌≤◌}
 use Rattle.runs.specs.declared.loads.TheConstants.{MOST_BYTES}
 use Rattle.runs.specs.Loads.{no_tin}

@@ -1,4 +1,4 @@
--- Answers to the goals of `publish` in src/publishing.rt.
+-- Answers to the goals of `publish` in src/publication.rt.
 use Rattle.std.proofs.Common.{map, codes, [], ◌∷◌}
 use Rattle.runs.specs.Output.{file_of}
 use Rattle.tinmove.proofs.Fronts.{front_told, front_printed, lacks_dash}

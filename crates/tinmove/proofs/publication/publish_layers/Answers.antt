@@ -1,4 +1,4 @@
--- Answers to the goals of `publish_layers` in src/publishing.rt.
+-- Answers to the goals of `publish_layers` in src/publication.rt.
 use Rattle.shelf_io.proofs.Made.{on_err_always}
 use Rattle.tinmove.proofs.Fronts.{lacks_next, front_next}
 use Rattle.tinmove.proofs.publication.publish_layers.Goals as goal

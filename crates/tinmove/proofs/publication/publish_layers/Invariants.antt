@@ -1,4 +1,4 @@
--- The invariants of `publish_layers` in src/publishing.rt.
+-- The invariants of `publish_layers` in src/publication.rt.
 use Rattle.std.proofs.Common.{◌≡◌, false, IfSome, map, take}
 use Rattle.runs.specs.Output.{file_of}
 use Rattle.tinmove.proofs.publication.publish_layers.Given as goal

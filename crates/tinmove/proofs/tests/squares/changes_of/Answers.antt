@@ -1,4 +1,4 @@
--- Answers to the goals of `changes_of` in src/square_tests.rt.
+-- Answers to the goals of `changes_of` in src/tests/squares.rt.
 use Rattle.std.proofs.Common.{subst, sym, List, ◌++◌}
 use Rattle.tin_base.specs.declared.pieces.Piece.{Piece}
 use Rattle.tin_base.specs.Limits.{IsWithinLimits}
