@@ -1,4 +1,4 @@
-use Rattle.std.proofs.Common.{refl, arith}
+use Rattle.std.proofs.Common.{arith}
 use Rattle.tin_check.proofs.Progress.{first_of_all}
 use Rattle.tin_check.proofs.searching.first_unfit_pair.Goals as goal
 
