@@ -17,16 +17,12 @@ use Rattle.tin_check.specs.Meeting.{MeetOnlyIn}
 use Rattle.tin_check.specs.Marks.{points_of, marked_of, next_of, IsCounted}
 use Rattle.std.specs.Prelude.{IfSome}
 use Rattle.tin_check.specs.declared.pairs.Side.{Side}
-use Rattle.tin_check.specs.Numbers.{IsMarkedSide}
+use Rattle.tin_check.specs.Numbers.{AreCounted, IsMarkedSide}
 use Rattle.tin_check.proofs.Tests.{IsPositive, side_tells}
 use Rattle.tin_check.proofs.Counting.{counted_same, first_meet, second_meet, through, IsSide, fits_at_side}
 use Rattle.tin_check.proofs.Marking.{told}
 
 -- ---- a side by its numbers
--- the three numbers, counted from one of them on
-abbrev pub AreCounted : List ℕ → ℕ → ℕ → ℕ → Type 0
-AreCounted ns i j k = (ns ≡ i ∷ j ∷ k ∷ []) ⊎ ((ns ≡ k ∷ i ∷ j ∷ []) ⊎ (ns ≡ j ∷ k ∷ i ∷ []))
-
 -- the side from i to j has both corners in common with the other triangle, whose numbers are us, and the third corner is none of these
 pub record IsCommonSide (ns us : List ℕ) (i j : ℕ) : Type 0 where
   pub third : ℕ
@@ -54,10 +50,10 @@ common_side (a ∷ b ∷ c ∷ []) us marks i j three e side = go (subst (λ (ms
     go (inr (inr (f, g, h, p, q))) = it c a b (inr (inr refl)) f g h p q
 
 -- ---- the triangle of three numbers
-abbrev point_of : Triangulation → Frame → ℕ → Pt
+abbrev pub point_of : Triangulation → Frame → ℕ → Pt
 point_of tin frame n = record { x = x_in frame (corner_at tin n); y = y_in frame (corner_at tin n) }
 
-abbrev tri_of : Triangulation → Frame → ℕ → ℕ → ℕ → Tri
+abbrev pub tri_of : Triangulation → Frame → ℕ → ℕ → ℕ → Tri
 tri_of tin frame i j k = record { a = point_of tin frame i; b = point_of tin frame j; c = point_of tin frame k }
 
 -- ---- corners in common
@@ -168,7 +164,7 @@ turned_of tin frame ns us i j s = go s.counted
           side = inr (marked_ends (has us j) (has us k) (has us i) (point_of tin frame j) (point_of tin frame k) (point_of tin frame i) s.second_common s.third_apart s.first_common);
         })
 
-positive_of : (tin : Triangulation) (frame : Frame) (ns : List ℕ) (t : Tri) → corners t ≡ places tin frame ns → pos 0 <ℤ turn_of_three (places tin frame ns) → IsPositive t
+pub positive_of : (tin : Triangulation) (frame : Frame) (ns : List ℕ) (t : Tri) → corners t ≡ places tin frame ns → pos 0 <ℤ turn_of_three (places tin frame ns) → IsPositive t
 positive_of tin frame ns t e d = subst (λ (ps : List Point). pos 0 <ℤ turn_of_three ps) (sym e) d
 
 -- ---- the answer

@@ -15,4 +15,5 @@ pub mod Parted
 pub mod InBoxes
 pub mod Apart
 pub mod BySides
+pub mod ByCorner
 pub mod Partners

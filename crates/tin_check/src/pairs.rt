@@ -1,10 +1,14 @@
-//! Whether a pair of triangles of a triangulation fits, by the numbers of their corners.
-
-ghost use Rattle.std.specs.Prelude.{◌≡◌, ◌↔◌, ◌<◌, pos, ◌<ℤ◌, IsTrue, IfSome, map, length};
+ghost use Rattle.std.specs.Prelude.{◌≡◌, ◌↔◌, ◌<◌, pos, ◌<ℤ◌, IsTrue, IfSome, [], ◌∷◌, map, length};
+ghost use Rattle.plane_base.specs.Plane.{corners as corners_of};
+ghost use Rattle.tin_base.specs.Triangulation.{numbers_of, places};
+ghost use Rattle.tin_base.specs.Limits.{IsWithinLimits};
 ghost use Rattle.tin_base.specs.Soundness.{turn_in, has, DoFit};
-ghost use Rattle.tin_check.specs.Numbers.{IsMarkedSide};
+ghost use Rattle.tin_check.specs.Meeting.{MeetOnlyIn};
+ghost use Rattle.tin_check.specs.Numbers.{AreCounted, AreFrom, IsMarkedCorner, IsMarkedSide};
 
+use crate::parting::are_parted;
 use crate::{Common, fits};
+use plane_base::Tri;
 use tin_base::{Frame, Tin};
 
 /// Two triangles by their numbers, the lower one first.
@@ -60,6 +64,96 @@ fn marked_side(numbers: &[u32; 3], marks: [bool; 3]) -> Option<Side>
     }
 }
 
+/// The corners of a triangle, counted from one of them on, by their numbers.
+#[derive(Clone, Copy)]
+struct Corners {
+    first: u32,
+    second: u32,
+    third: u32,
+}
+
+/// The corners from the marked one on, where one is marked.
+fn marked_corner(numbers: &[u32; 3], marks: [bool; 3]) -> Option<Corners>
+    ensures { IfSome result (λ found. IsMarkedCorner marks numbers.now found.first found.second found.third) }
+{
+    match marks {
+        [true, false, false] => Some(Corners {
+            first: numbers[0],
+            second: numbers[1],
+            third: numbers[2],
+        }),
+        [false, true, false] => Some(Corners {
+            first: numbers[1],
+            second: numbers[2],
+            third: numbers[0],
+        }),
+        [false, false, true] => Some(Corners {
+            first: numbers[2],
+            second: numbers[0],
+            third: numbers[1],
+        }),
+        _ => None,
+    }
+}
+
+/// The corners from this number on, where it is one of the three.
+fn corners_from(numbers: &[u32; 3], number: u32) -> Option<Corners>
+    ensures { IfSome result (λ found. AreFrom numbers.now number found.first found.second found.third) }
+{
+    if numbers[0] == number {
+        return Some(Corners {
+            first: numbers[0],
+            second: numbers[1],
+            third: numbers[2],
+        });
+    }
+    if numbers[1] == number {
+        return Some(Corners {
+            first: numbers[1],
+            second: numbers[2],
+            third: numbers[0],
+        });
+    }
+    if numbers[2] == number {
+        return Some(Corners {
+            first: numbers[2],
+            second: numbers[0],
+            third: numbers[1],
+        });
+    }
+    None
+}
+
+/// Where the corners stand in a frame.
+fn tri_at(tin: &Tin, corners: Corners, frame: Frame) -> Tri
+    requires first { corners.first < length tin.now.corners }
+    requires second { corners.second < length tin.now.corners }
+    requires third { corners.third < length tin.now.corners }
+    ensures { corners_of result ≡ places tin.now frame (corners.first ∷ corners.second ∷ corners.third ∷ []) }
+{
+    Tri {
+        a: tin.place(corners.first, frame),
+        b: tin.place(corners.second, frame),
+        c: tin.place(corners.third, frame),
+    }
+}
+
+/// Whether turns at the first corner, which two triangles have in common, show that they meet nowhere else. `false` shows
+/// nothing.
+fn part_at(tin: &Tin, t: u32, u: u32, frame: Frame, corners: Corners, others: Corners) -> bool
+    requires t_in_range { t < length tin.now.triangles }
+    requires u_in_range { u < length tin.now.triangles }
+    requires t_positive { pos 0 <ℤ turn_in tin.now frame t }
+    requires u_positive { pos 0 <ℤ turn_in tin.now frame u }
+    requires t_counted { AreCounted (numbers_of tin.now t) corners.first corners.second corners.third }
+    requires u_counted { AreCounted (numbers_of tin.now u) others.first others.second others.third }
+    requires same { corners.first ≡ others.first }
+    requires limits { IsWithinLimits tin.now }
+    ensures { IsTrue result → MeetOnlyIn (places tin.now frame (corners.first ∷ corners.second ∷ corners.third ∷ [])) (places tin.now frame (others.first ∷ others.second ∷ others.third ∷ [])) (places tin.now frame (corners.first ∷ [])) }
+{
+    are_parted(&tri_at(tin, corners, frame), &tri_at(tin, others, frame))
+}
+
 /// Whether two triangles meet, in a frame, in their common corners and in what those span, and nowhere else.
 pub(crate) fn pair_fits(tin: &Tin, t: u32, u: u32, frame: Frame) -> bool
     requires t_in_range { t < length tin.now.triangles }
@@ -71,8 +165,16 @@ pub(crate) fn pair_fits(tin: &Tin, t: u32, u: u32, frame: Frame) -> bool
     let triangles = tin.triangles();
     let first = &triangles[t as usize];
     let second = &triangles[u as usize];
+    let of_t = marks(first, second);
+    if let Some(corners) = marked_corner(first, of_t) {
+        if let Some(others) = corners_from(second, corners.first) {
+            if part_at(tin, t, u, frame, corners, others) {
+                return true;
+            }
+        }
+    }
     let common = Common {
-        of_t: marks(first, second),
+        of_t,
         of_u: marks(second, first),
     };
     let side = marked_side(first, common.of_t);

@@ -1,6 +1,10 @@
 -- Answers to the goals of `pair_fits` in src/pairs.rt.
+use Rattle.std.proofs.Common.{refl}
+use Rattle.tin_base.specs.Triangulation.{numbers_of}
 use Rattle.tin_check.proofs.Marking.{all_near, marks_read, same_read, told_read}
 use Rattle.tin_check.proofs.BySides.{sides_tell, side_read}
+use Rattle.tin_check.proofs.ByCorner.{corner_read, from_read, from_counted, corner_tells}
+use Rattle.tin_base.proofs.Telling.{yes}
 use Rattle.tin_check.proofs.pairs.pair_fits.Goals as goal
 
 pub fits-requires-clause-near : goal.fits-requires-clause-near
@@ -11,15 +15,15 @@ fits-requires-clause-same c =
     let tin = c.args.tin.now in
     let rows = c.triangles-triangles.result.now in
     let is = c.triangles-triangles.ensures.triangles in
-    same_read tin c.args.frame c.args.t c.args.u c.tri.result c.tri-2.result c.marks.result c.marks-2.result
-    (marks_read tin rows c.args.t c.args.u c.marks.result is c.marks.ensures) (marks_read tin rows c.args.u c.args.t c.marks-2.result is c.marks-2.ensures)
+    same_read tin c.args.frame c.args.t c.args.u c.tri.result c.tri-2.result c.marks-of_t.result c.marks.result
+    (marks_read tin rows c.args.t c.args.u c.marks-of_t.result is c.marks-of_t.ensures) (marks_read tin rows c.args.u c.args.t c.marks.result is c.marks.ensures)
     c.tri.ensures.corners c.tri-2.ensures.corners
 
 pub returns : goal.returns
 returns c =
     let tin = c.args.tin.now in
-    told_read tin c.args.frame c.args.t c.args.u c.tri.result c.tri-2.result c.marks.result c.fits.result
-    (marks_read tin c.triangles-triangles.result.now c.args.t c.args.u c.marks.result c.triangles-triangles.ensures.triangles c.marks.ensures)
+    told_read tin c.args.frame c.args.t c.args.u c.tri.result c.tri-2.result c.marks-of_t.result c.fits.result
+    (marks_read tin c.triangles-triangles.result.now c.args.t c.args.u c.marks-of_t.result c.triangles-triangles.ensures.triangles c.marks-of_t.ensures)
     c.tri.ensures.corners c.tri-2.ensures.corners c.fits.ensures
 
 pub returns-in-Some-Some : goal.returns-in-Some-Some
@@ -31,5 +35,40 @@ returns-in-Some-Some c =
     let side = c.in-Some-Some.side in
     let other = c.in-Some-Some.other in
     sides_tell tin c.args.frame c.args.t c.args.u side.from side.to other.from other.to c.requires.t_positive c.requires.u_positive
-    (side_read tin rows c.args.t c.args.u c.marks.result c.marked_side-side.result side is (limits.three c.args.t c.requires.t_in_range) (marks_read tin rows c.args.t c.args.u c.marks.result is c.marks.ensures) c.marked_side-side.ensures c.in-Some-Some.is-0)
-    (side_read tin rows c.args.u c.args.t c.marks-2.result c.marked_side-other.result other is (limits.three c.args.u c.requires.u_in_range) (marks_read tin rows c.args.u c.args.t c.marks-2.result is c.marks-2.ensures) c.marked_side-other.ensures c.in-Some-Some.is-1)
+    (side_read tin rows c.args.t c.args.u c.marks-of_t.result c.marked_side-side.result side is (limits.three c.args.t c.requires.t_in_range) (marks_read tin rows c.args.t c.args.u c.marks-of_t.result is c.marks-of_t.ensures) c.marked_side-side.ensures c.in-Some-Some.is-0)
+    (side_read tin rows c.args.u c.args.t c.marks.result c.marked_side-other.result other is (limits.three c.args.u c.requires.u_in_range) (marks_read tin rows c.args.u c.args.t c.marks.result is c.marks.ensures) c.marked_side-other.ensures c.in-Some-Some.is-1)
+
+pub part_at-requires-clause-t_counted : goal.part_at-requires-clause-t_counted
+part_at-requires-clause-t_counted c =
+    let tin = c.args.tin.now in
+    let rows = c.triangles-triangles.result.now in
+    let is = c.triangles-triangles.ensures.triangles in
+    let limits = c.triangles-triangles.ensures.limits in
+    let at =
+    corner_read tin rows c.args.t c.args.u c.marks-of_t.result c.marked_corner.result c.in-Some.corners is (limits.three c.args.t c.requires.t_in_range)
+    (marks_read tin rows c.args.t c.args.u c.marks-of_t.result is c.marks-of_t.ensures) c.marked_corner.ensures c.in-Some.is in
+    at.counted
+
+pub part_at-requires-clause-u_counted : goal.part_at-requires-clause-u_counted
+part_at-requires-clause-u_counted c =
+    let tin = c.args.tin.now in
+    let rows = c.triangles-triangles.result.now in
+    let limits = c.triangles-triangles.ensures.limits in
+    let others = c.in-Some-corners_from.others in
+    from_counted (numbers_of tin c.args.u) c.in-Some.corners.first others.first others.second others.third (limits.three c.args.u c.requires.u_in_range)
+    (from_read tin rows c.args.u c.in-Some.corners.first c.corners_from.result others c.triangles-triangles.ensures.triangles c.corners_from.ensures c.in-Some-corners_from.is)
+
+pub returns-then-part_at : goal.returns-then-part_at
+returns-then-part_at c =
+    let tin = c.args.tin.now in
+    let rows = c.triangles-triangles.result.now in
+    let is = c.triangles-triangles.ensures.triangles in
+    let limits = c.triangles-triangles.ensures.limits in
+    let corners = c.in-Some.corners in
+    let others = c.in-Some-corners_from.others in
+    yes (corner_tells tin c.args.frame c.args.t c.args.u corners.first corners.second corners.third others.first others.second others.third
+    (corner_read tin rows c.args.t c.args.u c.marks-of_t.result c.marked_corner.result corners is (limits.three c.args.t c.requires.t_in_range)
+    (marks_read tin rows c.args.t c.args.u c.marks-of_t.result is c.marks-of_t.ensures) c.marked_corner.ensures c.in-Some.is)
+    (from_counted (numbers_of tin c.args.u) corners.first others.first others.second others.third (limits.three c.args.u c.requires.u_in_range)
+    (from_read tin rows c.args.u corners.first c.corners_from.result others is c.corners_from.ensures c.in-Some-corners_from.is))
+    (c.if-part_at.ensures refl))

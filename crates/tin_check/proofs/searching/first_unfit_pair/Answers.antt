@@ -1,5 +1,5 @@
 -- Answers to the goals of `first_unfit_pair` in src/searching.rt.
-use Rattle.std.proofs.Common.{refl, arith}
+use Rattle.std.proofs.Common.{arith}
 use Rattle.tin_check.proofs.Progress.{first_of_all}
 use Rattle.tin_check.proofs.searching.first_unfit_pair.Goals as goal
 
