@@ -9,6 +9,8 @@ mod carrying_tests;
 #[cfg(test)]
 mod change_tests;
 #[cfg(test)]
+mod copy_tests;
+#[cfg(test)]
 mod cut_tests;
 #[cfg(test)]
 mod fraction_tests;
@@ -24,6 +26,8 @@ mod location_tests;
 mod made_tins;
 #[cfg(test)]
 mod nearness;
+#[cfg(test)]
+mod pair_tests;
 #[cfg(test)]
 mod slice_tests;
 #[cfg(test)]
