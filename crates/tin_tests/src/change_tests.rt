@@ -13,7 +13,8 @@ use std::test::Fail;
 use tin_base::{Change, Corner, Frame, Piece, Place, Rel, SoundTin};
 use topo_check::{ChangesFault, MOST_COMPARED, changes};
 
-fn at(x: i16, y: i16) -> Pt
+/// A point, in millimetres.
+pub(crate) fn at(x: i16, y: i16) -> Pt
     ensures { IsSmall result }
 {
     Pt {
@@ -38,7 +39,14 @@ fn one_triangle(alloc: Global, corners: &[Corner]) -> Result<SoundTin, ChangesFa
 }
 
 /// The piece of a segment of the triangle.
-fn piece(tin: &SoundTin, a: Pt, b: Pt, ia: Pt, ib: Pt, path: u32) -> Result<Piece, ChangesFault>
+pub(crate) fn piece(
+    tin: &SoundTin,
+    a: Pt,
+    b: Pt,
+    ia: Pt,
+    ib: Pt,
+    path: u32,
+) -> Result<Piece, ChangesFault>
     requires one { length tin.now.triangles ≡ 1 }
     requires ia { IsSmall ia }
     requires ib { IsSmall ib }
@@ -85,7 +93,7 @@ fn does_hold(t: &Tri, p: Pt) -> bool
 }
 
 /// A triangle whose first target numbers are three parts in ten thousand greater.
-fn stretched(alloc: Global) -> Result<SoundTin, ChangesFault>
+pub(crate) fn stretched(alloc: Global) -> Result<SoundTin, ChangesFault>
     ensures { IfOk result (λ tin. length tin.triangles ≡ 1) }
 {
     let corners = [
@@ -97,7 +105,7 @@ fn stretched(alloc: Global) -> Result<SoundTin, ChangesFault>
 }
 
 /// A line whose image is turned about its first end.
-fn line(tin: &SoundTin) -> Result<Piece, ChangesFault>
+pub(crate) fn line(tin: &SoundTin) -> Result<Piece, ChangesFault>
     requires { length tin.now.triangles ≡ 1 }
     ensures { IfOk result (λ piece. IsTried tin.now piece) }
 {
@@ -106,7 +114,7 @@ fn line(tin: &SoundTin) -> Result<Piece, ChangesFault>
 }
 
 /// A point that keeps its numbers.
-fn dot(tin: &SoundTin, p: Pt, path: u32) -> Result<Piece, ChangesFault>
+pub(crate) fn dot(tin: &SoundTin, p: Pt, path: u32) -> Result<Piece, ChangesFault>
     requires one { length tin.now.triangles ≡ 1 }
     requires small { IsSmall p }
     ensures { IfOk result (λ piece. IsTried tin.now piece) }

@@ -9,6 +9,8 @@ mod carrying_tests;
 #[cfg(test)]
 mod change_tests;
 #[cfg(test)]
+mod copy_tests;
+#[cfg(test)]
 mod cut_tests;
 #[cfg(test)]
 mod fraction_tests;
@@ -25,7 +27,7 @@ mod made_tins;
 #[cfg(test)]
 mod nearness;
 #[cfg(test)]
-mod seg_gap_tests;
+mod pair_tests;
 #[cfg(test)]
 mod slice_tests;
 #[cfg(test)]
