@@ -29,6 +29,8 @@ mod nearness;
 #[cfg(test)]
 mod pair_tests;
 #[cfg(test)]
+mod seg_gap_tests;
+#[cfg(test)]
 mod slice_tests;
 #[cfg(test)]
 mod soundness_tests;
