@@ -1,5 +1,5 @@
 //! The tests of files, numerals, JSON text, triangulation files, pairs of drawings, splices,
-//! reports and words: here, so that the libraries that they call are proved once.
+//! reports, words and remarks: here, so that the libraries that they call are proved once.
 #![tactic(auto)]
 
 #[cfg(test)]
@@ -12,6 +12,8 @@ mod json_tests;
 mod numeral_tests;
 #[cfg(test)]
 mod pair_tests;
+#[cfg(test)]
+mod remark_tests;
 #[cfg(test)]
 mod report_tests;
 #[cfg(test)]

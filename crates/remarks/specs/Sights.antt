@@ -1,0 +1,72 @@
+-- What the bytes show at the place of a layer's fault, beyond the fault itself.
+use Rattle.std.specs.Prelude.{ℕ, ◌-◌, Bool, false, eqb, ◌&&◌, ◌||◌, List, [], ◌∷◌, length, take, drop, Option, Some, None, codes, if◌then◌else◌}
+use Rattle.std.specs.Char.{is_ascii_alphabetic, is_ascii_digit}
+use Rattle.std.specs.List.{suffix_len, starts_with, ends_with}
+use Rattle.sheet_base.specs.declared.faults.LayerFault.{LayerFault}
+use Rattle.sheet_base.specs.declared.faults.LayerFault.TheVariants as faults
+use Rattle.remarks.specs.declared.sights.Sight.{Sight}
+use Rattle.remarks.specs.declared.sights.Sight.TheVariants.{Plain, ByteOrderMark, SecondGeometry, ThirdNumber}
+use Rattle.remarks.specs.LayerTables.{finding_of, cure_of}
+
+-- ---- the bytes at a place
+-- the bytes begin with the byte order mark of UTF-8
+abbrev pub begins_with_mark : List ℕ → Bool
+begins_with_mark bytes = starts_with eqb bytes (0xEF ∷ 0xBB ∷ 0xBF ∷ [])
+
+-- the first byte passes the test
+abbrev pub is_first : (ℕ → Bool) → List ℕ → Bool
+is_first test [] = false
+is_first test (byte ∷ rest) = test byte
+
+-- a digit, a sign or a point
+abbrev pub begins_number : ℕ → Bool
+begins_number byte = is_ascii_digit byte || eqb byte 43 || eqb byte 45 || eqb byte 46
+
+-- a blank or a tab
+abbrev pub is_blank : ℕ → Bool
+is_blank byte = eqb byte 32 || eqb byte 9
+
+-- the bytes without the blanks at their end
+abbrev pub without_blanks : List ℕ → List ℕ
+without_blanks bytes = take (length bytes - suffix_len is_blank bytes) bytes
+
+-- the last byte that is no blank is a closing bracket
+abbrev pub ends_with_bracket : List ℕ → Bool
+ends_with_bracket bytes = ends_with eqb (without_blanks bytes) (41 ∷ [])
+
+-- a word begins at the place, on a line on which a closing bracket ended a geometry before it
+abbrev pub is_second_geometry : List ℕ → ℕ → Bool
+is_second_geometry bytes at = is_first is_ascii_alphabetic (drop at bytes) && ends_with_bracket (take at bytes)
+
+-- ---- of a fault
+abbrev pub sight_of_bad : List ℕ → ℕ → Sight
+sight_of_bad bytes at = if eqb at 0 && begins_with_mark bytes then ByteOrderMark else (if is_second_geometry bytes at then SecondGeometry else Plain)
+
+abbrev pub sight_of_code : List ℕ → ℕ → Sight
+sight_of_code bytes line = if eqb line 1 && begins_with_mark bytes then ByteOrderMark else Plain
+
+abbrev pub sight_of_height : List ℕ → ℕ → Sight
+sight_of_height bytes at = if is_first begins_number (drop at bytes) then ThirdNumber else Plain
+
+abbrev pub sight_in : LayerFault → List ℕ → Sight
+sight_in (faults.Bad at) bytes = sight_of_bad bytes at
+sight_in (faults.Code line) bytes = sight_of_code bytes line
+sight_in (faults.Height at) bytes = sight_of_height bytes at
+sight_in fault bytes = Plain
+
+abbrev pub sight_of : LayerFault → Option (List ℕ) → Sight
+sight_of fault None = Plain
+sight_of fault (Some bytes) = sight_in fault bytes
+
+-- ---- in words
+abbrev pub seen_finding : LayerFault → Sight → List ℕ
+seen_finding fault Plain = finding_of fault
+seen_finding fault ByteOrderMark = codes "a byte order mark"
+seen_finding fault SecondGeometry = codes "a second geometry on one line"
+seen_finding fault ThirdNumber = codes "a third number, here a height"
+
+abbrev pub seen_cure : LayerFault → Sight → Option (List ℕ)
+seen_cure fault Plain = cure_of fault
+seen_cure fault ByteOrderMark = Some (codes "save the file without it")
+seen_cure fault SecondGeometry = Some (codes "write one geometry a line")
+seen_cure fault ThirdNumber = cure_of fault

@@ -1,0 +1,176 @@
+//! What the bytes show at the place of a layer's fault, beyond the fault itself.
+
+ghost use Rattle.std.specs.Prelude.{◌≡◌, ◌≤◌, length, take, option_copied};
+ghost use Rattle.std.specs.List.{suffix_len};
+ghost use Rattle.std.specs.Char.{is_ascii_alphabetic};
+ghost use Rattle.remarks.specs.Sights.{begins_with_mark as has_mark, begins_number as is_of_number, is_blank as is_a_blank, is_first, without_blanks as without_blanks_of, ends_with_bracket as is_behind_bracket, is_second_geometry as is_second, sight_of_bad, sight_of_code, sight_of_height, sight_in as sight_inside, sight_of, seen_finding as seen_finding_of, seen_cure as seen_cure_of};
+
+use crate::layer_tables::{cure, finding};
+use crate::line_columns::{before, from_place};
+use sheet_base::LayerFault;
+
+/// What the bytes show at the place of a layer's fault.
+#[derive(Clone, Copy, Debug, PartialEq, Eq)]
+pub enum Sight {
+    /// No more than the fault says.
+    Plain,
+    /// The byte order mark of UTF-8 at the head of the file.
+    ByteOrderMark,
+    /// A word behind the closing bracket of a geometry on the same line.
+    SecondGeometry,
+    /// A digit, sign or point where the position ends.
+    ThirdNumber,
+}
+
+/// Whether the bytes begin with the byte order mark of UTF-8.
+fn begins_with_mark(bytes: &[u8]) -> bool
+    ensures { result ≡ has_mark bytes.now }
+{
+    bytes.starts_with(b"\xEF\xBB\xBF")
+}
+
+/// Whether the byte can begin a number.
+fn begins_number(byte: u8) -> bool
+    ensures { result ≡ is_of_number byte }
+{
+    byte.is_ascii_digit() || byte == b'+' || byte == b'-' || byte == b'.'
+}
+
+/// Whether the byte is a blank or a tab.
+fn is_blank(byte: u8) -> bool
+    ensures { result ≡ is_a_blank byte }
+{
+    byte == b' ' || byte == b'\t'
+}
+
+/// How many blanks stand at the end.
+fn blank_count(bytes: &[u8]) -> usize
+    ensures count { result ≡ suffix_len is_a_blank bytes.now }
+{
+    bytes
+        .iter()
+        .rev()
+        .take_while(|byte| is_blank(**byte))
+        .count()
+}
+
+/// The bytes without the blanks at their end.
+fn without_blanks(bytes: &[u8]) -> &[u8]
+    ensures { result.now ≡ without_blanks_of bytes.now }
+{
+    before(bytes, bytes.len().saturating_sub(blank_count(bytes)) as u64)
+}
+
+/// Whether the last byte that is no blank is a closing bracket.
+fn ends_with_bracket(bytes: &[u8]) -> bool
+    ensures { result ≡ is_behind_bracket bytes.now }
+{
+    without_blanks(bytes).ends_with(b")")
+}
+
+/// Whether the first byte is a letter.
+fn begins_with_letter(bytes: &[u8]) -> bool
+    ensures { result ≡ is_first is_ascii_alphabetic bytes.now }
+{
+    match bytes {
+        [] => false,
+        [byte, ..] => byte.is_ascii_alphabetic(),
+    }
+}
+
+/// Whether the first byte can begin a number.
+fn begins_with_number(bytes: &[u8]) -> bool
+    ensures { result ≡ is_first is_of_number bytes.now }
+{
+    match bytes {
+        [] => false,
+        [byte, ..] => begins_number(*byte),
+    }
+}
+
+/// Whether a word begins at the place behind the closing bracket of a geometry.
+fn is_second_geometry(bytes: &[u8], at: u64) -> bool
+    ensures { result ≡ is_second bytes.now at }
+{
+    begins_with_letter(from_place(bytes, at)) && ends_with_bracket(before(bytes, at))
+}
+
+/// What is seen where text may not stand.
+fn bad_sight(bytes: &[u8], at: u64) -> Sight
+    ensures { result ≡ sight_of_bad bytes.now at }
+{
+    if at == 0 && begins_with_mark(bytes) {
+        Sight::ByteOrderMark
+    } else if is_second_geometry(bytes, at) {
+        Sight::SecondGeometry
+    } else {
+        Sight::Plain
+    }
+}
+
+/// What is seen on a line that is no group code.
+fn code_sight(bytes: &[u8], line: u64) -> Sight
+    ensures { result ≡ sight_of_code bytes.now line }
+{
+    if line == 1 && begins_with_mark(bytes) {
+        Sight::ByteOrderMark
+    } else {
+        Sight::Plain
+    }
+}
+
+/// What is seen of a height.
+fn height_sight(bytes: &[u8], at: u64) -> Sight
+    ensures { result ≡ sight_of_height bytes.now at }
+{
+    if begins_with_number(from_place(bytes, at)) {
+        Sight::ThirdNumber
+    } else {
+        Sight::Plain
+    }
+}
+
+/// What these bytes show at the place of the fault.
+fn sight_in(fault: LayerFault, bytes: &[u8]) -> Sight
+    ensures { result ≡ sight_inside fault bytes.now }
+{
+    match fault {
+        LayerFault::Bad { at } => bad_sight(bytes, at),
+        LayerFault::Code { line } => code_sight(bytes, line),
+        LayerFault::Height { at } => height_sight(bytes, at),
+        _ => Sight::Plain,
+    }
+}
+
+/// What the bytes show at the place of the fault, where they are known.
+pub(crate) fn sight_for(fault: LayerFault, bytes: Option<&[u8]>) -> Sight
+    ensures { result ≡ sight_of fault (option_copied bytes.entry) }
+{
+    match bytes {
+        None => Sight::Plain,
+        Some(text) => sight_in(fault, text),
+    }
+}
+
+/// What stands at the place of a layer's fault, where this is seen there.
+pub(crate) fn seen_finding(fault: LayerFault, seen: Sight) -> &'static str
+    ensures { result.now ≡ seen_finding_of fault seen }
+{
+    match seen {
+        Sight::Plain => finding(fault),
+        Sight::ByteOrderMark => "a byte order mark",
+        Sight::SecondGeometry => "a second geometry on one line",
+        Sight::ThirdNumber => "a third number, here a height",
+    }
+}
+
+/// What helps it, where something is known that does.
+pub(crate) fn seen_cure(fault: LayerFault, seen: Sight) -> Option<&'static str>
+    ensures { option_copied result ≡ seen_cure_of fault seen }
+{
+    match seen {
+        Sight::Plain | Sight::ThirdNumber => cure(fault),
+        Sight::ByteOrderMark => Some("save the file without it"),
+        Sight::SecondGeometry => Some("write one geometry a line"),
+    }
+}
