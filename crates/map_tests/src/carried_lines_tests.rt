@@ -9,7 +9,7 @@ use sheet_base::How;
 use std::alloc::Global;
 use std::test::Fail;
 use tin_check::check_tin;
-use tin_file::read_tin;
+use tin_file::{MOST_BYTES, read_tin};
 use tin_index::TinIndex;
 use wkt_layer::Wkt;
 
@@ -22,6 +22,9 @@ const PLAIN: How = How {
 /// The index of the largest triangulation of the maker.
 fn index_of_cells(alloc: Global) -> Option<TinIndex> {
     let text = make_tin(alloc, CELLS).ok()?;
+    if text.len() > MOST_BYTES {
+        return None;
+    }
     let tin = read_tin(alloc, &text, PLAIN).ok()?;
     TinIndex::build(alloc, check_tin(alloc, tin).ok()?).ok()
 }

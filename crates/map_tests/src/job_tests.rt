@@ -1,7 +1,7 @@
 //! Checks, migrations and makings. The expected counts follow from the count of cells, and that of the pieces of made lines
 //! from exact fractions of another program.
 
-use crate::largest_maps::{lines_of_cells, shelf_of_cells};
+use crate::largest_maps::{add_file, lines_of_cells, shelf_of_cells};
 use check_mode::prepare_check;
 use job_words::{Job, read_words};
 use migrate::{Migration, prepare_making, prepare_migration};
@@ -61,7 +61,8 @@ fn half_a_million_triangles_are_checked(rt: HostRuntime) -> Result<(), Fail> {
 fn half_a_million_lines_are_carried_and_compared(rt: HostRuntime) -> Result<(), Fail> {
     let alloc = rt.alloc();
     let mut shelf = shelf_of_cells(alloc)?;
-    shelf.add("many.wkt", lines_of_cells(alloc)?.as_bytes())?;
+    let layer = lines_of_cells(alloc)?;
+    add_file(&mut shelf, "many.wkt", layer.as_bytes())?;
     let words = ["migrate", "--tin", "t.json", "--out", "o", "many.wkt"];
     let report = "tinmove report 1
 triangulation corners 263169 triangles 524288 inexact 0 name t.json

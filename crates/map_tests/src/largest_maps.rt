@@ -3,17 +3,25 @@
 ghost use Rattle.std.specs.Prelude.{◌<◌};
 
 use migrate::make_tin;
-use shelf_io::MemShelf;
+use shelf_io::{MemShelf, Shelf};
 use std::alloc::{AllocError, Global};
 
 /// The cells on each side.
 pub const CELLS: u32 = 512;
 
+/// Adds a file, where the shelf lacks its name.
+pub fn add_file(shelf: &mut MemShelf, name: &str, bytes: &[u8]) -> Result<(), AllocError> {
+    if shelf.begin(name) == Ok(false) {
+        shelf.add(name, bytes)?;
+    }
+    Ok(())
+}
+
 /// A shelf whose reads give at most 2^20 bytes, with the text of the triangulation.
 pub fn shelf_of_cells(alloc: Global) -> Result<MemShelf, AllocError> {
     let tin = make_tin(alloc, CELLS)?;
     let mut shelf = MemShelf::new(alloc, 1 << 20);
-    shelf.add("t.json", &tin)?;
+    add_file(&mut shelf, "t.json", &tin)?;
     Ok(shelf)
 }
 
