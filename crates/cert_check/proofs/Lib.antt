@@ -6,3 +6,4 @@ pub mod Spots
 pub mod Stretches
 pub mod Following
 pub mod Passing
+pub mod PieceRows

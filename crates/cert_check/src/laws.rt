@@ -1,6 +1,6 @@
 //! Laws of certificates.
 
-ghost use Rattle.cert_check.specs.Laws.{CertificatesAreOne, CertificatesHaveNoBadLine, PieceTrianglesAreRight, RightListsAreInside};
+ghost use Rattle.cert_check.specs.Laws.{CertificatesAreOne, CertificatesHaveNoBadLine, PieceTrianglesAreRight, PiecesAreRightlyCertified, RightListsAreInside};
 
 /// A law: bytes are the certificate of one list of lists at most.
 pub fn certificates_are_one()
@@ -20,4 +20,10 @@ pub fn right_lists_are_inside()
 /// A law: the triangles of the pieces of a segment that is inside a sound triangulation are a right list.
 pub fn piece_triangles_are_right()
     ensures { PieceTrianglesAreRight }
+{}
+
+/// A law: what `write_cert` makes of the pieces of a layer whose segments are all inside a sound triangulation is a
+/// certificate, and its lists are right for the segments, one for each.
+pub fn pieces_are_rightly_certified()
+    ensures { PiecesAreRightlyCertified }
 {}

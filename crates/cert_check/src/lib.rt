@@ -12,7 +12,7 @@ mod writing;
 
 pub use laws::{
     certificates_are_one, certificates_have_no_bad_line, piece_triangles_are_right,
-    right_lists_are_inside,
+    pieces_are_rightly_certified, right_lists_are_inside,
 };
 pub use lines::list_count;
 pub use right_lists::is_right;
