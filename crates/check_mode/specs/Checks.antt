@@ -4,6 +4,7 @@ use Rattle.std.specs.List.{concat}
 use Rattle.shelf_io.specs.Files.{Files}
 use Rattle.sheet_base.specs.declared.flags.How.{How}
 use Rattle.tin_base.specs.Triangulation.{Triangulation}
+use Rattle.tin_base.specs.Soundness.{IsSound}
 use Rattle.runs.specs.declared.status.Status.{Status}
 use Rattle.runs.specs.declared.status.Status.TheVariants.{Same, Changed, Layer, Outside}
 use Rattle.runs.specs.declared.refusal.Refusal.{Refusal}
@@ -24,9 +25,15 @@ pub record IsChecked (files : Files) (how : How) (name : List ℕ) (status : Sta
   pub status_is : status ≡ Same
   pub made_is : made ≡ (codes "-", sound_text tin) ∷ []
 
+-- the text is the line of some sound triangulation
+pub record IsSoundLine (said : List ℕ) : Type 0 where
+  pub tin : Triangulation
+  pub sound : IsSound tin
+  pub said_is : said ≡ sound_text tin
+
 -- what is written, whatever files hold, and the status: no layer, and the line of some sound triangulation
 abbrev pub IsCheckWritten : Files → List ℕ → Status → Type 0
-IsCheckWritten layers said status = (layers ≡ []) × (status ≡ Same) × (sound : Triangulation) × (said ≡ sound_text sound)
+IsCheckWritten layers said status = (layers ≡ []) × (status ≡ Same) × IsSoundLine said
 
 -- why it may be refused: by the file, or after a read fault of it, or because memory ran out
 abbrev pub MayRefuseCheck : Files → How → List ℕ → Type 0 → Refusal → Type 0

@@ -3,6 +3,7 @@
 ghost use Rattle.std.specs.Prelude.{◌≡◌, ◌+◌, ◌≤◌, IfOk, IfErr, IfSome, string_bytes, false};
 ghost use Rattle.shelf_io.specs.Count.{Rose, counted};
 ghost use Rattle.shelf_io.specs.Load.{LacksName};
+ghost use Rattle.tin_base.specs.Soundness.{IsSound};
 ghost use Rattle.runs.specs.declared.loads.TheConstants.{MOST_BYTES};
 ghost use Rattle.runs.specs.Status.{end_of};
 ghost use Rattle.runs.specs.Counts.{LeavesFaults};
@@ -18,7 +19,8 @@ use tin_base::SoundTin;
 
 /// The line of a triangulation that was found sound.
 fn sound_line(alloc: Global, tin: &SoundTin) -> Result<String, AllocError>
-    ensures { IfOk result (λ text. string_bytes text ≡ sound_text tin.now) }
+    ensures text { IfOk result (λ text. string_bytes text ≡ sound_text tin.now) }
+    ensures sound { IsSound tin.now }
 {
     let corners = tin.corners().len();
     let triangles = tin.triangles().len();

@@ -65,7 +65,7 @@ none-told (file ∷ layers) said made writable none front tells = named-file fil
 
 said-none : (job : Job) (layers : Files) (said : List ℕ) (status : Status) → IsWrittenOf job layers said status → TellsNone said
 said-none (Migrate tin out how inverse names) layers said status (named, on) = rw on.said_is (report-none on.report)
-said-none (CheckJob tin how) layers said status (none, same, sound, is_said) = rw is_said (at-first _ 115 refl (λ e. omega (arith, e)))
+said-none (CheckJob tin how) layers said status (none, same, line) = rw line.said_is (at-first _ 115 refl (λ e. omega (arith, e)))
 said-none (Make n) layers said status (none, on) = rw on.said_is (report-none on.report)
 
 front-done : (whole : Files) (changed : Bool) (result : Status) (made : Files) (press_rose : Type 0) → HasPrinted whole (end_of changed) result (Some made) press_rose → IsFrontOf made whole

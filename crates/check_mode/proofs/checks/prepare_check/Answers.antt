@@ -12,7 +12,7 @@ returns-clause-form g c =
     let said : c.of.result ≡ sound_text c.in_ok-tin.tin = search rules in
     record {
       writable = rw c.new.ensures.items tt;
-      is_of = (ap (λ (files : List LayerFile). map file_of files) c.new.ensures.items, refl, c.in_ok-tin.tin, said);
+      is_of = (ap (λ (files : List LayerFile). map file_of files) c.new.ensures.items, refl, record { tin = c.in_ok-tin.tin; sound = c.sound_line.ensures.sound; said_is = said });
     }
 
 pub returns-in_err-tin-clause-refused : goal.returns-in_err-tin-clause-refused
