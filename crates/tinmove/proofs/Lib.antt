@@ -5,3 +5,4 @@ mod RunEnds
 mod ReportLimits
 mod WordsEnd
 mod KeptRuns
+mod CheckEnds

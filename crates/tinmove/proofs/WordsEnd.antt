@@ -6,7 +6,7 @@ use Rattle.job_words.specs.declared.jobs.Job.{Job}
 use Rattle.job_words.specs.declared.jobs.Job.TheVariants.{Migrate, Check as CheckJob, Make}
 use Rattle.job_words.specs.Jobs.{IsJobOf, IsWordsFault}
 use Rattle.runs.specs.declared.status.Status.{Status}
-use Rattle.runs.specs.declared.status.Status.TheVariants.{Words as WordsStatus, Read, Write, Memory}
+use Rattle.runs.specs.declared.status.Status.TheVariants.{Same, Changed, Words as WordsStatus, Read, Write, Memory}
 use Rattle.tinmove.specs.Jobs.{LacksJob, AsksCheck, WantNoFile}
 use Rattle.runs.specs.Status.{end_of}
 use Rattle.runs.specs.Refusals.{status_of_words}
@@ -64,3 +64,9 @@ end_unread false = λ e. cc
 pub unread_as : (status result : Status) → (result ≡ status) ⊎ (result ≡ Write) → status ≢ Read → result ≢ Read
 unread_as status result (inl is) other = λ read. other (sym is ∙ read)
 unread_as status result (inr is) other = λ read. let e = sym is ∙ read in cc
+
+-- ---- a run that is not refused
+pub done_end : (changed : Bool) (result : Status) → (result ≡ end_of changed) ⊎ (result ≡ Write) → (result ≡ Same) ⊎ ((result ≡ Changed) ⊎ (result ≡ Write))
+done_end changed result (inr is) = inr (inr is)
+done_end true result (inl is) = inr (inl is)
+done_end false result (inl is) = inl is

@@ -7,6 +7,7 @@ mod jobs;
 mod laws;
 mod progress;
 mod publication;
+mod refused_files;
 mod run;
 mod sure_run;
 #[cfg(test)]
@@ -16,7 +17,8 @@ mod warnings;
 use help::{Help, USAGE, help_of};
 use job_words::{Job, read_words};
 use progress::{ToldPress, ToldShelf};
-use run::run;
+use refused_files::say_remarks;
+use run::run_to_end;
 use runs::Status;
 use shelf_io::{FilePress, FileShelf};
 use std::alloc::AllocError;
@@ -82,7 +84,8 @@ fn terminal(rt: &HostRuntime) -> Option<Stderr> {
 }
 
 /// Does what the words ask for over real files and standard output, and says on a terminal what it
-/// is doing.
+/// is doing. A line of usage behind words that give no job, and what is to be said of a refusal, go to
+/// standard error; that they cannot be written changes nothing.
 fn run_on_files(rt: &HostRuntime, words: &[String]) -> Status {
     let Ok(shelf) = FileShelf::new(rt, rt.alloc()) else {
         return Status::Memory;
@@ -91,16 +94,24 @@ fn run_on_files(rt: &HostRuntime, words: &[String]) -> Status {
         return Status::Memory;
     };
     let terminal = terminal(rt);
-    let layers = match read_words(rt.alloc(), words) {
-        Ok(job) => {
-            say_meetings(rt, &job);
-            layer_count(&job)
+    let job = read_words(rt.alloc(), words).ok();
+    let layers = match &job {
+        Some(job) => {
+            say_meetings(rt, job);
+            layer_count(job)
         }
-        Err(_) => None,
+        None => None,
     };
     let mut shelf = ToldShelf::new(shelf, terminal, layers);
     let mut press = ToldPress::new(press, terminal);
-    run(rt.alloc(), words, &mut shelf, &mut press)
+    let end = run_to_end(rt.alloc(), words, &mut shelf, &mut press);
+    if end.status == Status::Words {
+        let _ = rt.eprintln(USAGE);
+    }
+    if let Some(refusal) = end.refusal {
+        say_remarks(rt, job.as_ref(), refusal);
+    }
+    end.status
 }
 
 /// Prints what the program says of itself.
@@ -111,8 +122,7 @@ fn print_help(rt: &HostRuntime, help: Help) -> Status {
     }
 }
 
-/// Answers the words of the command line. Behind words that give no job a line of usage goes to
-/// standard error; that it cannot be written changes nothing.
+/// Answers the words of the command line.
 fn answer(rt: &HostRuntime) -> Status {
     let words = match words_of(rt) {
         Ok(words) => words,
@@ -121,11 +131,7 @@ fn answer(rt: &HostRuntime) -> Status {
     if let Some(help) = help_of(&words) {
         return print_help(rt, help);
     }
-    let status = run_on_files(rt, &words);
-    if status == Status::Words {
-        let _ = rt.eprintln(USAGE);
-    }
-    status
+    run_on_files(rt, &words)
 }
 
 fn main(rt: HostRuntime) -> ExitCode {

@@ -20,6 +20,7 @@ fn say<P: Press>(press: &mut P, said: &[u8], status: Status) -> Status
     ensures front { result ≡ Status.Write → IfSome (P.made press.new) (λ made. IsFrontOf made ((codes "-", said.now) ∷ [])) }
     ensures rose { result ≡ Status.Write → Rose (P.faults press.old) (P.faults press.new) }
     ensures same { result ≢ Status.Write → P.faults press.new ≡ P.faults press.old }
+    ensures at_hand { result ≢ Status.Write → P.at_hand press.new ≡ false }
 {
     match print(press, "-", said) {
         Ok(()) => status,
@@ -64,6 +65,7 @@ pub fn publish<P: Press>(press: &mut P, written: &Output) -> Status
     ensures front { result ≡ Status.Write → IfSome (P.made press.new) (λ made. IsFrontOf made (files_of written.now)) }
     ensures rose { result ≡ Status.Write → Rose (P.faults press.old) (P.faults press.new) }
     ensures same { result ≢ Status.Write → P.faults press.new ≡ P.faults press.old }
+    ensures at_hand { result ≢ Status.Write → P.at_hand press.new ≡ false }
 {
     match publish_layers(press, &written.layers) {
         Ok(()) => match print(press, "-", written.said.items()) {
@@ -83,6 +85,7 @@ pub fn refuse<P: Press>(press: &mut P, refusal: Refusal) -> Status
     ensures front { result ≡ Status.Write → IfSome (P.made press.new) (λ made. IsFrontOf made ((codes "-", line_of refusal) ∷ [])) }
     ensures rose { result ≡ Status.Write → Rose (P.faults press.old) (P.faults press.new) }
     ensures same { result ≢ Status.Write → P.faults press.new ≡ P.faults press.old }
+    ensures at_hand { result ≢ Status.Write → P.at_hand press.new ≡ false }
 {
     let line = refusal.line();
     say(press, line.as_bytes(), refusal.status())

@@ -1,4 +1,4 @@
--- Answers to the goals of `run` in src/run.rt.
+-- Answers to the goals of `run_to_end` in src/run.rt.
 use Rattle.std.proofs.Common.{inr, [], map, string_bytes, refl}
 use Rattle.runs.specs.declared.refusal.Refusal.TheVariants.{Words}
 use Rattle.runs.specs.Status.{end_of}
@@ -7,10 +7,11 @@ use Rattle.runs.specs.Output.{files_of}
 use Rattle.tinmove.proofs.RunEnds.{ends_so, never-write-end, makes_refusal, makes_no_job, makes_files, told, told_always, stands_refused, stands_done}
 use Rattle.runs.proofs.RefusalLines.{never-write}
 use Rattle.tinmove.proofs.ReportLimits.{limit_told, limit_done}
-use Rattle.tinmove.proofs.WordsEnd.{check_job, end_as, no_job_end, words_end, wants_none, words_unread, end_unread, unread_as}
+use Rattle.tinmove.proofs.WordsEnd.{check_job, end_as, no_job_end, words_end, wants_none, words_unread, end_unread, unread_as, done_end}
 use Rattle.tinmove.proofs.OneOutcome.{job_or_fault}
 use Rattle.tinmove.proofs.KeptRuns.{run_keeps, made_keeps}
-use Rattle.tinmove.proofs.run.run.Goals as goal
+use Rattle.tinmove.proofs.CheckEnds.{run_checks}
+use Rattle.tinmove.proofs.run.run_to_end.Goals as goal
 
 pub returns-in-Err-clause-ends : goal.returns-in-Err-clause-ends
 returns-in-Err-clause-ends g c =
@@ -22,6 +23,10 @@ returns-in-Err-clause-ends g c =
 pub returns-in-Err-clause-kept : goal.returns-in-Err-clause-kept
 returns-in-Err-clause-kept g c =
     run_keeps (map string_bytes c.args.words.now) (g.S.Shelf.files c.args.shelf.now) _ _ c.refuse.result (g.P.Press.made c.refuse.new.press) (returns-in-Err-clause-ends g c)
+
+pub returns-in-Err-clause-sound : goal.returns-in-Err-clause-sound
+returns-in-Err-clause-sound g c =
+    run_checks (map string_bytes c.args.words.now) (g.S.Shelf.files c.args.shelf.now) _ _ c.refuse.result (g.P.Press.made c.refuse.new.press) (returns-in-Err-clause-ends g c)
 
 pub returns-in-Err-clause-untold : goal.returns-in-Err-clause-untold
 returns-in-Err-clause-untold g c = λ none files.
@@ -68,6 +73,10 @@ pub returns-in-Ok-prepare-clause-kept : goal.returns-in-Ok-prepare-clause-kept
 returns-in-Ok-prepare-clause-kept g c =
     run_keeps (map string_bytes c.args.words.now) (g.S.Shelf.files c.args.shelf.now) _ _ c.publish.result (g.P.Press.made c.publish.new.press) (returns-in-Ok-prepare-clause-ends g c)
 
+pub returns-in-Ok-prepare-clause-sound : goal.returns-in-Ok-prepare-clause-sound
+returns-in-Ok-prepare-clause-sound g c =
+    run_checks (map string_bytes c.args.words.now) (g.S.Shelf.files c.args.shelf.now) _ _ c.publish.result (g.P.Press.made c.publish.new.press) (returns-in-Ok-prepare-clause-ends g c)
+
 pub returns-in-Ok-prepare-clause-untold : goal.returns-in-Ok-prepare-clause-untold
 returns-in-Ok-prepare-clause-untold g c = λ none files.
     let e = c.publish.ensures in
@@ -101,6 +110,9 @@ pub returns-in-Ok-prepare-clause-check : goal.returns-in-Ok-prepare-clause-check
 returns-in-Ok-prepare-clause-check g c = λ name check.
     end_as _ c.publish.result c.publish.ensures.status (check_job (map string_bytes c.args.words.now) c.in-Ok.job name _ c.in-Ok.ensures.job check c.in-Ok-prepare.ensures.may_end)
 
+pub returns-in-Ok-prepare-clause-none : goal.returns-in-Ok-prepare-clause-none
+returns-in-Ok-prepare-clause-none g c = done_end c.in-Ok-prepare.written.changed c.publish.result c.publish.ensures.status
+
 pub returns-in-Err-prepare-clause-ends : goal.returns-in-Err-prepare-clause-ends
 returns-in-Err-prepare-clause-ends g c =
     let e = c.refuse-in-Err-prepare.ensures in
@@ -112,6 +124,10 @@ returns-in-Err-prepare-clause-ends g c =
 pub returns-in-Err-prepare-clause-kept : goal.returns-in-Err-prepare-clause-kept
 returns-in-Err-prepare-clause-kept g c =
     run_keeps (map string_bytes c.args.words.now) (g.S.Shelf.files c.args.shelf.now) _ _ c.refuse-in-Err-prepare.result (g.P.Press.made c.refuse-in-Err-prepare.new.press) (returns-in-Err-prepare-clause-ends g c)
+
+pub returns-in-Err-prepare-clause-sound : goal.returns-in-Err-prepare-clause-sound
+returns-in-Err-prepare-clause-sound g c =
+    run_checks (map string_bytes c.args.words.now) (g.S.Shelf.files c.args.shelf.now) _ _ c.refuse-in-Err-prepare.result (g.P.Press.made c.refuse-in-Err-prepare.new.press) (returns-in-Err-prepare-clause-ends g c)
 
 pub returns-in-Err-prepare-clause-untold : goal.returns-in-Err-prepare-clause-untold
 returns-in-Err-prepare-clause-untold g c = λ none files.

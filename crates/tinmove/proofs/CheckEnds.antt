@@ -1,0 +1,86 @@
+-- A check that ends with `Same` says so of the triangulation of its file.
+use Rattle.std.proofs.Common.{◌≡◌, ◌≢◌, ℕ, List, Option, None, Some, IfSome, sym, ◌∙◌, subst}
+use Rattle.shelf_io.specs.Files.{Files}
+use Rattle.sheet_base.specs.declared.flags.How.{How}
+use Rattle.job_words.specs.declared.faults.WordsFault.{WordsFault}
+use Rattle.job_words.specs.declared.faults.WordsFault.TheVariants.{NoMode, Parse, Size, Many, Name, Suffix, SameName, NoMemory as WordsMemory}
+use Rattle.job_words.specs.declared.jobs.Job.{Job}
+use Rattle.job_words.specs.declared.jobs.Job.TheVariants.{Check as CheckJob}
+use Rattle.job_words.specs.Jobs.{IsJobOf}
+use Rattle.runs.specs.declared.status.Status.{Status}
+use Rattle.runs.specs.declared.status.Status.TheVariants.{Same, Write}
+use Rattle.runs.specs.declared.refusal.Refusal.{Refusal}
+use Rattle.runs.specs.declared.refusal.Refusal.TheVariants.{Words, TinUnread, TinLong, Tin, Check, LayerUnread, LayersLong, Layer, Outside, TooManyPieces, TooManyChanges, NoMemory}
+use Rattle.runs.specs.Refusals.{status_of, status_of_words, Refuses}
+use Rattle.runs.proofs.Faults.{IsOfTin, refused as refused_tin, limited, wanted, of_text, of_check, IsOfLayer, unread, without_room, of_layer}
+use Rattle.check_mode.specs.Checks.{IsChecked}
+use Rattle.tinmove.specs.Outcome.{IsJobDone, HasOutcome, no_job, refused, done}
+use Rattle.tinmove.specs.Ends.{Ends, by_outcome, after_read_fault, out_of_memory, made_whole, after_write_fault, EndsTold}
+use Rattle.tinmove.proofs.OneOutcome.{job_one, job_or_fault}
+
+-- ---- no refusal ends with `Same`
+words-same : (fault : WordsFault) → status_of_words fault ≢ Same
+words-same NoMode = λ e. cc
+words-same Parse = λ e. cc
+words-same Size = λ e. cc
+words-same Many = λ e. cc
+words-same (Name which) = λ e. cc
+words-same (Suffix layer) = λ e. cc
+words-same (SameName layer) = λ e. cc
+words-same WordsMemory = λ e. cc
+
+tin-same : (status : Status) → IsOfTin status → status ≢ Same
+tin-same status (refused_tin is) = rw is (λ e. cc)
+tin-same status (limited is) = rw is (λ e. cc)
+tin-same status (wanted is) = rw is (λ e. cc)
+
+layer-same : (status : Status) → IsOfLayer status → status ≢ Same
+layer-same status (unread is) = rw is (λ e. cc)
+layer-same status (without_room is) = rw is (λ e. cc)
+
+never-same : (refusal : Refusal) → status_of refusal ≢ Same
+never-same (Words fault) = words-same fault
+never-same TinUnread = λ e. cc
+never-same TinLong = λ e. cc
+never-same (Tin fault) = tin-same _ (of_text fault)
+never-same (Check fault) = tin-same _ (of_check fault)
+never-same (LayerUnread layer) = λ e. cc
+never-same LayersLong = λ e. cc
+never-same (Layer layer fault) = layer-same _ (of_layer fault)
+never-same (Outside layer path segment) = λ e. cc
+never-same TooManyPieces = λ e. cc
+never-same TooManyChanges = λ e. cc
+never-same NoMemory = λ e. cc
+
+refuses-same : (refusal : Refusal) (status : Status) (made : Files) → Refuses refusal status made → status ≢ Same
+refuses-same refusal status made is = λ same. never-same refusal (sym is.status_is ∙ same)
+
+write-same : (status : Status) → status ≡ Write → status ≢ Same
+write-same status is = λ same. let e = sym is ∙ same in cc
+
+-- ---- the end of a check
+outcome_checks : (words : List (List ℕ)) (files : Files) (name : List ℕ) (how : How) (status : Status) (made : Files) → IsJobOf words (CheckJob name how) → status ≡ Same → HasOutcome words files status made
+    → IsChecked files how name status made
+outcome_checks words files name how status made given same (no_job fault lacks is) = absurd (job_or_fault words (CheckJob name how) fault given lacks)
+outcome_checks words files name how status made given same (refused job also refusal why is) = absurd (refuses-same refusal status made is same)
+outcome_checks words files name how status made given same (done job also is) =
+    subst (λ (j : Job). IsJobDone files j status made) (job_one words job (CheckJob name how) also given) is
+
+-- an end with `Same` is that of the outcome
+outcome_of_same : (words : List (List ℕ)) (files : Files) (shelf_rose press_rose : Type 0) (status : Status) (made : Files) → status ≡ Same → Ends words files shelf_rose press_rose status made → HasOutcome words files status made
+outcome_of_same words files shelf_rose press_rose status made same (made_whole (by_outcome is)) = is
+outcome_of_same words files shelf_rose press_rose status made same (made_whole (after_read_fault rose job also refusal reached is)) = absurd (refuses-same refusal status made is same)
+outcome_of_same words files shelf_rose press_rose status made same (made_whole (out_of_memory is)) = absurd (refuses-same NoMemory status made is same)
+outcome_of_same words files shelf_rose press_rose status made same (after_write_fault is rose other others makes front) = absurd (write-same status is same)
+
+end_checks : (words : List (List ℕ)) (files : Files) (shelf_rose press_rose : Type 0) (name : List ℕ) (how : How) (status : Status) (made : Files) → IsJobOf words (CheckJob name how) → status ≡ Same
+    → Ends words files shelf_rose press_rose status made → IsChecked files how name status made
+end_checks words files shelf_rose press_rose name how status made given same ends =
+    outcome_checks words files name how status made given same (outcome_of_same words files shelf_rose press_rose status made same ends)
+
+-- of the files that a shelf tells
+pub run_checks : (words : List (List ℕ)) (told : Option Files) (shelf_rose press_rose : Type 0) (status : Status) (made : Option Files) → IfSome told (λ files. EndsTold words files shelf_rose press_rose status made)
+    → IfSome told (λ files. (name : List ℕ) (how : How) → IsJobOf words (CheckJob name how) → status ≡ Same → IfSome made (IsChecked files how name status))
+run_checks words None shelf_rose press_rose status made ends = tt
+run_checks words (Some files) shelf_rose press_rose status None ends = λ name how given same. tt
+run_checks words (Some files) shelf_rose press_rose status (Some made) ends = λ name how given same. end_checks words files shelf_rose press_rose name how status made given same ends
