@@ -14,7 +14,8 @@ crate=$work/crates/carry_bench
 mkdir -p "$crate/src"
 for name in $(sed -n 's/^\([a-z0-9_]*\):.*/\1/p' "$top/crates.txt"); do
     case $name in
-    *_tests | tinmove | topo_check | meet_rel | report_text | job_words | gj_layer | dxf_*) ;;
+    *_tests | tinmove | runs | remarks | migrate | check_mode | job_words | report_text) ;;
+    topo_check | meet_rel | seg_gap | cert_check | gj_layer | dxf_*) ;;
     *)
         cp -r "$top/crates/$name" "$work/crates/$name"
         grep -E "^$name:" "$top/crates.txt"
@@ -22,57 +23,92 @@ for name in $(sed -n 's/^\([a-z0-9_]*\):.*/\1/p' "$top/crates.txt"); do
     esac
 done > "$work/crates.txt"
 uses=$(for name in carry_map tin_file wkt_layer; do sed -n "s/^$name: *//p" "$top/crates.txt"; done | tr ' ' '\n' | sort -u | tr '\n' ' ')
-uses=$(printf '%s\n' $uses tin_check tin_file wkt_layer carry_map anyhow | sort -u | tr '\n' ' ')
+uses=$(printf '%s\n' $uses tin_check tin_file wkt_layer carry_map | sort -u | tr '\n' ' ')
 echo "carry_bench: $uses" >> "$work/crates.txt"
 cat > "$crate/src/main.rt" <<'END'
-//! Carries the layer `layer.wkt` through the triangulation `made.json`, and prints how long each step takes in microseconds.
+//! Carries the layer `layer.wkt` through the triangulation `made.json`, and prints on a line each how many images and pieces
+//! there are, and how long each step takes in microseconds.
 #![tactic(auto)]
 
 use carry_map::{MOST_PIECES, carry};
-use sheet_base::{How, Layer};
+use sheet_base::{How, Images, Layer, Sheet};
+use std::alloc::Global;
 use std::fs;
 use std::time::CpuClock;
+use tin_base::{Piece, SoundTin, Tin};
 use tin_check::check_tin;
 use tin_file::{MOST_BYTES, read_tin};
 use tin_index::TinIndex;
 use wkt_layer::Wkt;
 
-fn main(rt: HostRuntime) -> anyhow::Result<()> {
-    let alloc = rt.alloc();
-    let how = How {
-        exact: false,
-        drop_other: false,
-        inside_only: false,
-    };
-    let text = fs::read(&rt, "made.json")?;
-    let layer = fs::read(&rt, "layer.wkt")?;
-    if text.len() as u64 > MOST_BYTES as u64 || layer.len() > 1 << 26 {
-        return Ok(());
+const PLAIN: How = How {
+    exact: false,
+    drop_other: false,
+    inside_only: false,
+};
+
+const MOST_OF_LAYER: usize = 1 << 26;
+
+fn read_triangulation(rt: &HostRuntime) -> Option<Tin> {
+    let text = fs::read(rt, "made.json").ok()?;
+    if text.len() > MOST_BYTES {
+        return None;
     }
-    let Ok(tin) = read_tin(alloc, &text, how) else {
-        return Ok(());
-    };
-    let begun = rt.thread_cpu_time()?;
-    let Ok(sound) = check_tin(alloc, tin) else {
-        return Ok(());
-    };
-    let checked = rt.thread_cpu_time()?;
-    let Ok(index) = TinIndex::build(alloc, sound) else {
-        return Ok(());
-    };
-    let indexed = rt.thread_cpu_time()?;
-    let Ok(sheet) = <Wkt as Layer>::read(alloc, &layer, how) else {
-        return Ok(());
-    };
-    let read = rt.thread_cpu_time()?;
-    let mut pieces = Vec::new(alloc);
-    let Ok(images) = carry(alloc, &index, &sheet, 0, MOST_PIECES, &mut pieces) else {
-        return Ok(());
-    };
-    let carried = rt.thread_cpu_time()?;
-    println!(rt; "{} {} {} {} {} {}", images.points().len(), pieces.len(), checked.saturating_sub(begun).as_micros(),
-        indexed.saturating_sub(checked).as_micros(), read.saturating_sub(indexed).as_micros(), carried.saturating_sub(read).as_micros())?;
-    Ok(())
+    read_tin(rt.alloc(), &text, PLAIN).ok()
+}
+
+fn check_triangulation(alloc: Global, tin: Tin) -> Option<SoundTin> {
+    check_tin(alloc, tin).ok()
+}
+
+fn read_layer(rt: &HostRuntime) -> Option<Sheet> {
+    let text = fs::read(rt, "layer.wkt").ok()?;
+    if text.len() > MOST_OF_LAYER {
+        return None;
+    }
+    <Wkt as Layer>::read(rt.alloc(), &text, PLAIN).ok()
+}
+
+fn carry_sheet(alloc: Global, index: &TinIndex, sheet: &Sheet) -> Option<(Images, usize)> {
+    let mut pieces = Vec::<Piece>::new(alloc);
+    let images = carry(alloc, index, sheet, 0, MOST_PIECES, &mut pieces).ok()?;
+    Some((images, pieces.len()))
+}
+
+/// The processor time of this thread in microseconds.
+fn now(rt: &HostRuntime) -> u64 {
+    match rt.thread_cpu_time() {
+        Ok(time) => u64::try_from(time.as_micros()).unwrap_or(0),
+        Err(_) => 0,
+    }
+}
+
+fn say(rt: &HostRuntime, number: u64) {
+    let _ = println!(rt; "{number}");
+}
+
+fn carry_all(rt: &HostRuntime) -> Option<()> {
+    let tin = read_triangulation(rt)?;
+    let begun = now(rt);
+    let sound = check_triangulation(rt.alloc(), tin)?;
+    let checked = now(rt);
+    let index = TinIndex::build(rt.alloc(), sound).ok()?;
+    let indexed = now(rt);
+    let sheet = read_layer(rt)?;
+    let read = now(rt);
+    let (images, pieces) = carry_sheet(rt.alloc(), &index, &sheet)?;
+    let carried = now(rt);
+    say(rt, images.points().len() as u64);
+    say(rt, pieces as u64);
+    say(rt, checked.saturating_sub(begun));
+    say(rt, indexed.saturating_sub(checked));
+    say(rt, read.saturating_sub(indexed));
+    say(rt, carried.saturating_sub(read));
+    Some(())
+}
+
+fn main(rt: HostRuntime) {
+    let _ = carry_all(&rt);
 }
 END
 (cd "$crate" && rt run > "$work/log" 2>&1) || true
@@ -91,7 +127,7 @@ for _ in range(3):
     best = min(best, time.process_time() - start)
 print(best * 1e6)')
     # the file 'before' has the pieces and the microseconds of the row before
-    for _ in 1 2 3; do "$program"; done | sort -n -k 6 | head -n 1 | awk -v name="$1" -v json="$yardstick" '{
+    for _ in 1 2 3; do "$program" | paste -s -d ' ' -; done | sort -n -k 6 | head -n 1 | awk -v name="$1" -v json="$yardstick" '{
         growth = "-"
         if ((getline last < "before") > 0) {
             split(last, was, " ")
