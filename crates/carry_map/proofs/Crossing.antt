@@ -3,6 +3,7 @@ use Rattle.std.proofs.Common.{◌≡◌, ℤ, pos, negsuc, ◌+ℤ◌, ◌-ℤ�
 use Rattle.integer_ring.proofs.Ring.{num, neg, ◌⊕◌, ◌⊖◌, ◌⊗◌}
 use Rattle.integer_ring.proofs.Signs.{≡_of_mul, nonneg_of_mul, ≤_of_mul}
 use Rattle.integer_ring.proofs.Claims.{◌≐◌, ◌≼◌, ◌≺◌, gap, eqn, ◌⊞◌, ◌⊠◌, ◌because◌, ◌⇒◌, follows}
+use Rattle.plain_laws.proofs.Weights.{zero_mix}
 use Rattle.plane_base.specs.Plane.{Point, Same, whole, along, turn_of, IsMix}
 use Rattle.plane_base.specs.Laws.{HasParameter}
 use Rattle.plane_base.specs.Slices.{IsParam, IsParallel}
@@ -13,15 +14,12 @@ use Rattle.plane_base.proofs.Along.{turn_along, along-w}
 use Rattle.plane_base.proofs.Parameters.{segments_have_parameters}
 
 -- ---- the points of the segment are on its line
-none_of : (m n u v : ℤ) → u ≡ pos 0 → v ≡ pos 0 → m *ℤ u +ℤ n *ℤ v ≡ pos 0
-none_of = follows 4 (λ m n u v. u ≐ num (pos 0) ⇒ v ≐ num (pos 0) ⇒ m ⊗ u ⊕ n ⊗ v ≐ num (pos 0) because eqn 0 m ⊞ eqn 1 n) tt
-
 on_line : (a b : Pt) (n d : ℤ) → turn_of (whole a) (whole b) (along (whole a) (whole b) n d) ≡ pos 0
 on_line a b n d =
     let p = whole a in let q = whole b in
     let first : turn_of p q p ≡ pos 0 = sym (turn_cycle p p q) ∙ turn_twice p q in
     let last : turn_of p q q ≡ pos 0 = turn_cycle p q q ∙ turn_twice q p in
-    turn_along p q p q n d ∙ none_of (d -ℤ n) n (turn_of p q p) (turn_of p q q) first last
+    turn_along p q p q n d ∙ zero_mix (d -ℤ n) n (turn_of p q p) (turn_of p q q) first last
 
 zero_by : (w v s t : ℤ) → s ≡ pos 0 → v *ℤ s ≡ w *ℤ t → t *ℤ w ≡ pos 0 *ℤ w
 zero_by = follows 4 (λ w v s t. s ≐ num (pos 0) ⇒ v ⊗ s ≐ w ⊗ t ⇒ t ⊗ w ≐ num (pos 0) ⊗ w because eqn 0 v ⊞ eqn 1 (num (negsuc 0))) tt

@@ -1,5 +1,5 @@
 -- Where a step leaves its triangle: at the segment's end, or through one side.
-use Rattle.std.proofs.Common.{◌≡◌, ◌≢◌, ℕ, zero, suc, ◌<◌, ℤ, pos, ◌+ℤ◌, ◌-ℤ◌, ◌*ℤ◌, ◌<ℤ◌, Bool, true, false, ◌||◌, eqb, List, [], ◌∷◌, length, get_or, eq-eqb, refl, sym, ap, subst, arith}
+use Rattle.std.proofs.Common.{◌≡◌, ◌≢◌, ℕ, zero, suc, ◌<◌, ℤ, pos, ◌+ℤ◌, ◌-ℤ◌, ◌*ℤ◌, ◌<ℤ◌, true, List, [], ◌∷◌, length, get_or, refl, sym, ap, subst, arith}
 use Rattle.std.proofs.lemmas.Int.{ints}
 use Rattle.integer_ring.proofs.Ring.{num, ◌⊕◌, ◌⊖◌, ◌⊗◌}
 use Rattle.integer_ring.proofs.Claims.{◌≐◌, eqn, ◌⊞◌, ◌because◌, ◌⇒◌, follows}
@@ -19,6 +19,7 @@ use Rattle.tin_base.specs.Images.{IsInSome}
 use Rattle.tin_base.specs.Limits.{IsWithinLimits}
 use Rattle.tin_base.specs.Soundness.{has}
 use Rattle.tin_base.specs.Segments.{spot_at}
+use Rattle.tin_base.proofs.Members.{has_first, has_second, has_third}
 use Rattle.affine_image.specs.Rounded.{rounded, IsRoundedImage, IsRoundedImageAt}
 use Rattle.affine_image.specs.Cuts.{cut_of}
 use Rattle.affine_image.proofs.Cutting.{cuts_are_images}
@@ -103,26 +104,9 @@ pub record IsSide (tin : Triangulation) (a b : Pt) (t k : ℕ) (f : Frac) : Type
   pub has_from : has (numbers_of tin t) (corner_number tin t k) ≡ true
   pub has_to : has (numbers_of tin t) (corner_number tin t (next_corner k)) ≡ true
 
-or_left : (p q : Bool) → p ≡ true → (p || q) ≡ true
-or_left true q e = refl
-or_left false q e = cc
-
-or_right : (p q : Bool) → q ≡ true → (p || q) ≡ true
-or_right true q e = refl
-or_right false q e = e
-
 abbrev IsSideOf : Triangulation → Pt → Pt → List ℕ → ℕ → Frac → Type 0
 IsSideOf tin a b ns k f =
     (k < 3) × IsCrossed a b (source_at tin (get_or ns k 0)) (source_at tin (get_or ns (next_corner k) 0)) f × (has ns (get_or ns k 0) ≡ true) × (has ns (get_or ns (next_corner k) 0) ≡ true)
-
-has_first : (i j l : ℕ) → has (i ∷ j ∷ l ∷ []) i ≡ true
-has_first i j l = or_left (eqb i i) (has (j ∷ l ∷ []) i) (eq-eqb i i refl)
-
-has_second : (i j l : ℕ) → has (i ∷ j ∷ l ∷ []) j ≡ true
-has_second i j l = or_right (eqb i j) (has (j ∷ l ∷ []) j) (or_left (eqb j j) (has (l ∷ []) j) (eq-eqb j j refl))
-
-has_third : (i j l : ℕ) → has (i ∷ j ∷ l ∷ []) l ≡ true
-has_third i j l = or_right (eqb i l) (has (j ∷ l ∷ []) l) (or_right (eqb j l) (has (l ∷ []) l) (or_left (eqb l l) (has [] l) (eq-eqb l l refl)))
 
 side_of_three : (tin : Triangulation) (a b : Pt) (i j l k : ℕ) (f : Frac) (V : Type 0)
     → IsEnd V (IsCrossed a b (source_at tin i) (source_at tin j) f) (IsCrossed a b (source_at tin j) (source_at tin l) f) (IsCrossed a b (source_at tin l) (source_at tin i) f) (Side k)

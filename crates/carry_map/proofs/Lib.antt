@@ -8,3 +8,4 @@ pub mod Pathing
 pub mod Sheeting
 pub mod Counting
 pub mod Backing
+pub mod Outcomes

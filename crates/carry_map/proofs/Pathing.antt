@@ -89,7 +89,7 @@ path_start tin layer points path row most x r p image is room = record {
   more = omega arith;
 }
 
-next_begins : (points : List Pt) (row : PathRow) (j : ℕ) → j + 1 < points_in row → end_of points row j ≡ begin_of points row (j + 1)
+pub next_begins : (points : List Pt) (row : PathRow) (j : ℕ) → j + 1 < points_in row → end_of points row j ≡ begin_of points row (j + 1)
 next_begins points row j h = ap (λ (n : ℕ). point_at points n) (next (row.first + j) row.past row.first (within row.first row.past h) ∙ moved row.first)
   where
     within : (m n : ℕ) → j + 1 < n - m → m + j + 1 < n

@@ -3,3 +3,4 @@ pub mod Sides
 pub mod Carried
 pub mod Causes
 pub mod Layers
+pub mod Outcomes

@@ -5,6 +5,7 @@
 mod carrying;
 mod crossings;
 mod faults;
+mod laws;
 mod layers;
 mod limits;
 mod paths;
@@ -12,5 +13,6 @@ mod segments;
 
 pub use carrying::carry;
 pub use faults::CarryFault;
+pub use laws::{limits_are_stated, outcome_exists};
 pub use layers::{Carried, carry_layer};
 pub use limits::MOST_PIECES;

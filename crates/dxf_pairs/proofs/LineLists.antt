@@ -1,16 +1,13 @@
 -- The first line of a text, and those behind it.
-use Rattle.std.proofs.Common.{◌≡◌, ◌==◌, ◌<◌, ◌+◌, ℕ, List, [], ◌∷◌, ◌++◌, length, take, drop, get_or, All, Bool, true, false, refl, ◌∙◌, ap, arith, add-one, sym, subst, min}
-use Rattle.std.proofs.lemmas.List.Splits.{length-slice_split, slice_split_none, slice_split_at}
-use Rattle.std.proofs.lemmas.List.{get_or_default, take_rest, length-drop, get_or-take, length-take-le, drop-drop}
-use Rattle.std.proofs.Math.Seq.{split_at, drop-length}
+use Rattle.std.proofs.Common.{◌≡◌, ◌==◌, ◌<◌, ◌+◌, ℕ, List, [], ◌∷◌, length, take, drop, refl, ◌∙◌, ap, arith, sym, subst, min}
+use Rattle.std.proofs.lemmas.List.Splits.{length-slice_split}
+use Rattle.std.proofs.lemmas.List.{take_rest, length-drop, length-take-le, drop-drop}
+use Rattle.std.proofs.Math.Seq.{drop-length}
 use Rattle.std.specs.List.{slice_split}
 use Rattle.memchr.specs.Find.{is_byte, Nowhere, NoneBefore, Passes}
 use Rattle.dxf_pairs.specs.declared.line_ends.TheConstants.{LINE_FEED}
+use Rattle.text_places.proofs.LineParts.{part_alone, part_before}
 use Rattle.dxf_pairs.specs.Lines.{lines_of, without_empty_last, lines_from, placed, between}
-
-fails : (b : Bool) → (b ≡ true → ⊥) → b ≡ false
-fails true never = absurd (never refl)
-fails false never = refl
 
 -- a text has some part
 pub some_part : (text : List ℕ) → 0 < length (slice_split (λ byte. byte == LINE_FEED) text)
@@ -27,8 +24,7 @@ in_front line text = by (slice_split (λ byte. byte == LINE_FEED) text) (some_pa
 -- a text without a line feed is one line
 pub one_line : (text : List ℕ) → 0 < length text → Nowhere (Passes (is_byte LINE_FEED) text) 0 (length text) → lines_of text ≡ text ∷ []
 one_line text some nowhere =
-    let parts : slice_split (λ byte. byte == LINE_FEED) text ≡ text ∷ [] = slice_split_none (λ byte. byte == LINE_FEED) text
-    (λ k d within. fails (get_or text k d == LINE_FEED) (λ here. nowhere k (omega arith) within (rw (get_or_default text k 0 d within) here))) in
+    let parts : slice_split (λ byte. byte == LINE_FEED) text ≡ text ∷ [] = part_alone LINE_FEED text (λ k within. nowhere k (omega arith) within) in
     rw parts (alone text some)
   where
     alone : (line : List ℕ) → 0 < length line → without_empty_last (line ∷ []) ≡ line ∷ []
@@ -39,15 +35,8 @@ one_line text some nowhere =
 pub line_before : (text : List ℕ) (end : ℕ) → NoneBefore (Passes (is_byte LINE_FEED) text) 0 (length text) end → Passes (is_byte LINE_FEED) text end
     → lines_of text ≡ take end text ∷ lines_of (drop (end + 1) text)
 line_before text end first here =
-    let parts : text ≡ take end text ++ (get_or text end 0 ∷ drop (end + 1) text) = rw add-one (split_at text end 0 first.high) in
-    let size : length (take end text) ≡ end = length-take-le end text (omega (arith, first.high)) in
-    let front : All (λ byte. (byte == LINE_FEED) ≡ false) (take end text) =
-    λ k d within. let near : k < end = omega (arith, size, within) in let inside : k < length text = omega (arith, near, first.high) in
-    fails (get_or (take end text) k d == LINE_FEED) (λ feed.
-    let at : get_or (take end text) k d ≡ get_or text k 0 = get_or-take end text k d near ∙ get_or_default text k d 0 inside in
-    first.before k (omega arith) near (rw at at feed)) in
     let split : slice_split (λ byte. byte == LINE_FEED) text ≡ take end text ∷ slice_split (λ byte. byte == LINE_FEED) (drop (end + 1) text) =
-    ap (slice_split (λ byte. byte == LINE_FEED)) parts ∙ slice_split_at (λ byte. byte == LINE_FEED) (take end text) (get_or text end 0) (drop (end + 1) text) front here in
+    part_before LINE_FEED text end first.high (λ k. first.before k (omega arith)) here in
     rw split (in_front (take end text) (drop (end + 1) text))
 
 -- the first line with its places

@@ -1,8 +1,12 @@
 //! Laws of the definitions.
 
+ghost use Rattle.std.specs.Prelude.{◌≡◌, codes};
 ghost use Rattle.dxf_pairs.specs.CodeLines.{ValuesAreBetweenBlanks, CodesAreWholeNumbers};
 ghost use Rattle.dxf_pairs.specs.InLines.{GroupsFollow, PairsAreInLines};
 ghost use Rattle.dxf_pairs.specs.Laws.{LinesFollow, PairsTile, PairsAreWithin, PairsAreTheGroups};
+ghost use Rattle.dxf_pairs.specs.declared.codes.TheConstants.{MOST_CODE};
+ghost use Rattle.dxf_pairs.specs.declared.line_ends.TheConstants.{LINE_FEED};
+ghost use Rattle.dxf_pairs.specs.declared.reading.TheConstants.{BINARY, LAST_VALUE};
 
 /// The pairs of a drawing stand one behind the other without a gap, from the first byte on: each
 /// starts where the one before it ends, two lines further on. Each value lies in its pair, and each
@@ -37,4 +41,13 @@ pub fn lines_follow()
 pub fn pairs_are_in_lines()
     ensures stand { PairsAreInLines }
     ensures follow { GroupsFollow }
+{}
+
+/// Laws: the greatest group code, the byte that ends a line, what the binary form begins with and
+/// the value that ends a drawing are these.
+pub fn limits_are_stated()
+    ensures code { MOST_CODE ≡ 9999 }
+    ensures line_feed { LINE_FEED ≡ 10 }
+    ensures binary { BINARY.now ≡ codes "AutoCAD Binary DXF" }
+    ensures last { LAST_VALUE.now ≡ codes "EOF" }
 {}

@@ -14,7 +14,8 @@ mod reading;
 pub use codes::MOST_CODE;
 pub use faults::PairFault;
 pub use laws::{
-    codes_are_whole_numbers, lines_follow, pairs_are_in_lines, pairs_are_the_groups, pairs_tile,
+    codes_are_whole_numbers, limits_are_stated, lines_follow, pairs_are_in_lines,
+    pairs_are_the_groups, pairs_tile,
 };
 pub use line_ends::LINE_FEED;
 pub use pairs::Pair;

@@ -5,6 +5,7 @@ use Rattle.std.specs.List.{AllByRecursion}
 use Rattle.std.proofs.Math.Nat.{pow-succ', pow-le-pow_right, one-le-pow}
 use Rattle.std.proofs.Math.Seq.{take-length}
 use Rattle.std.proofs.lemmas.List.{take_more, append-nil}
+use Rattle.plain_laws.proofs.Lists.{all_append}
 use Rattle.mm_decimal.specs.Numerals.{Sign, Bare, Minus, Numeral, IsDigit, Value, HasValue, number_of, is_minus, sign_text, fraction_text, fraction_digits}
 use Rattle.mm_decimal.specs.Millimetres.{signed_of, IsRead}
 use Rattle.mm_decimal.specs.Rounding.{HasSize}
@@ -15,11 +16,6 @@ use Rattle.mm_decimal.specs.declared.reading.MmRead.{MmRead}
 use Rattle.mm_decimal.proofs.Values.{number_after, number_after-is, number_after-append, number_after-none}
 use Rattle.mm_decimal.proofs.Scales.{whole_rounds}
 use Rattle.mm_decimal.proofs.Floors.{value_read_so}
-
--- what holds of all digits of both parts
-pub all_behind : (xs ys : List ℕ) → AllByRecursion IsDigit xs → AllByRecursion IsDigit ys → AllByRecursion IsDigit (xs ++ ys)
-all_behind [] ys a b = b
-all_behind (x ∷ xs) ys a b = (a.0, all_behind xs ys a.1 b)
 
 number_behind : (digits more : List ℕ) → number_of (digits ++ more) ≡ number_of digits * 10 ^ length more + number_of more
 number_behind digits more =
@@ -32,7 +28,7 @@ pub writes_more : (text : List ℕ) (count number : ℕ) → count < length text
 writes_more text count number within digit h =
     let byte = get_or text count 0 in
     subst (λ digits. Write digits (number * 10 + (byte - 48))) (sym (take_more text count 0 within)) (record {
-      all = all_behind (take count text) (byte ∷ []) h.all (digit, tt);
+      all = all_append IsDigit (take count text) (byte ∷ []) h.all (digit, tt);
       worth = omega (arith, number_behind (take count text) (byte ∷ []), h.worth);
     })
 
