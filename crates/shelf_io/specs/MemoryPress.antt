@@ -12,27 +12,29 @@ pub record MemoryPress : Type 0 where
   -- the numbers of the calls that fail
   pub fail : List ℕ
   pub at_hand : Bool
+  -- whether the last call failed
+  pub broken : Bool
   pub calls : ℕ
   pub faults : ℕ
 
 abbrev pub empty_press : ℕ → MemoryPress
-empty_press most = record { made = []; most = most; fail = []; at_hand = false; calls = 0; faults = 0 }
+empty_press most = record { made = []; most = most; fail = []; at_hand = false; broken = false; calls = 0; faults = 0 }
 
 -- after a call that failed: one more call and one more fault
 abbrev pub after_fault : MemoryPress → MemoryPress
-after_fault p = record p { calls = counted p.calls 1; faults = counted p.faults 1 }
+after_fault p = record p { broken = true; calls = counted p.calls 1; faults = counted p.faults 1 }
 
 -- after an empty file of this name was begun
 abbrev pub after_begin : MemoryPress → List ℕ → MemoryPress
-after_begin p name = record p { made = with_file name p.made; at_hand = true; calls = counted p.calls 1 }
+after_begin p name = record p { made = with_file name p.made; at_hand = true; broken = false; calls = counted p.calls 1 }
 
 -- after these bytes were written at the end of the file at hand
 abbrev pub after_write : MemoryPress → List ℕ → MemoryPress
-after_write p bytes = record p { made = with_bytes bytes p.made; calls = counted p.calls 1 }
+after_write p bytes = record p { made = with_bytes bytes p.made; broken = false; calls = counted p.calls 1 }
 
 -- after the file at hand was ended
 abbrev pub after_end : MemoryPress → MemoryPress
-after_end p = record p { at_hand = false; calls = counted p.calls 1 }
+after_end p = record p { at_hand = false; broken = false; calls = counted p.calls 1 }
 
 -- after the end of the file at hand failed
 abbrev pub after_end_fault : MemoryPress → MemoryPress

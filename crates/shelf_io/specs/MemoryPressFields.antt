@@ -10,6 +10,7 @@ press_of p = record {
   most = p.most;
   fail = p.fail.items;
   at_hand = p.at_hand;
+  broken = p.broken;
   calls = p.calls;
   faults = p.faults;
 }

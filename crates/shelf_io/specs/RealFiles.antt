@@ -11,7 +11,9 @@ closed_shelf = record { at_hand = false; given = 0; faults = 0 }
 
 pub record RealPress : Type 0 where
   pub at_hand : Bool
+  -- whether the last call failed
+  pub broken : Bool
   pub faults : ℕ
 
 abbrev pub closed_press : RealPress
-closed_press = record { at_hand = false; faults = 0 }
+closed_press = record { at_hand = false; broken = false; faults = 0 }

@@ -1,6 +1,6 @@
 //! The press over real files and standard output.
 
-ghost use Rattle.std.specs.Prelude.{◌≡◌, ◌≤◌, length, None, IfOk};
+ghost use Rattle.std.specs.Prelude.{◌≡◌, ◌≤◌, length, None, true, IfOk};
 ghost use Rattle.shelf_io.specs.Count.{counted};
 ghost use Rattle.shelf_io.specs.RealFiles.{closed_press};
 
@@ -35,6 +35,7 @@ pub struct FilePress<R: Files + Print + Drop> {
     alloc: Global,
     output: Option<Output<R::File>>,
     names: Names,
+    broken: bool,
     faults: u64,
 }
 
@@ -44,7 +45,7 @@ impl<R: Files + Print + Drop> Model for FilePress<R> {
 
     ghost Value = { RealPress };
 
-    ghost view = { λ p. record { at_hand = is_some p.output; faults = p.faults } };
+    ghost view = { λ p. record { at_hand = is_some p.output; broken = p.broken; faults = p.faults } };
 }
 
 impl<R: Files + Print + Clone + Drop> FilePress<R> {
@@ -58,6 +59,7 @@ impl<R: Files + Print + Clone + Drop> FilePress<R> {
             alloc,
             output: None,
             names: Names::new(alloc)?,
+            broken: false,
             faults: 0,
         })
     }
@@ -66,9 +68,10 @@ impl<R: Files + Print + Clone + Drop> FilePress<R> {
 impl<R: Files + Print + Drop> FilePress<R> {
     /// Counts a fault.
     fn fail(&mut self) -> Failed
-        ensures fault { self.new ≡ record self.old { faults = counted self.old.faults 1 } }
+        ensures fault { self.new ≡ record self.old { broken = true; faults = counted self.old.faults 1 } }
         ensures later { self.old.faults ≤ self.new.faults }
     {
+        self.broken = true;
         self.faults = self.faults.saturating_add(1);
         Failed
     }
@@ -81,8 +84,11 @@ impl<R: Files + Print + Drop> Press for FilePress<R> {
 
     ghost faults = { λ p. p.faults };
 
+    ghost broken = { λ p. p.broken };
+
     /// First makes the folders in front of the file's name where they are missing.
     fn begin(&mut self, name: &str) -> Result<(), Failed> {
+        self.broken = false;
         let Ok(output) = open_output(&self.rt, self.alloc, &mut self.names, name) else {
             return Err(self.fail());
         };
@@ -92,6 +98,7 @@ impl<R: Files + Print + Drop> Press for FilePress<R> {
 
     /// After a fault nothing of a regular file is left but what its name had before.
     fn write(&mut self, piece: &[u8]) -> Result<usize, Failed> {
+        self.broken = false;
         let Some(output) = &mut self.output else {
             unreachable!()
         };
@@ -106,6 +113,7 @@ impl<R: Files + Print + Drop> Press for FilePress<R> {
 
     /// Brings a regular file to the disk and puts it under its name.
     fn end(&mut self) -> Result<(), Failed> {
+        self.broken = false;
         let Some(output) = self.output.take() else {
             unreachable!()
         };

@@ -58,6 +58,7 @@ pub fn load<S: Shelf>(
 
     ensures failed { IsErrOf result LoadFault.Failed → Rose (S.faults shelf.old) (S.faults shelf.new) }
     ensures later { S.faults shelf.old ≤ S.faults shelf.new }
+    ensures most { S.faults shelf.new ≤ S.faults shelf.old + 1 }
     ensures same { ¬ IsErrOf result LoadFault.Failed → S.faults shelf.new ≡ S.faults shelf.old }
 {
     match shelf.begin(name) {
@@ -82,6 +83,7 @@ fn read_rest<S: Shelf>(alloc: Global, shelf: &mut S, limit: u64) -> Result<Vec<u
     ensures long_given { IsErrOf result LoadFault.Long → counted (S.given shelf.old) (limit + 1) ≤ S.given shelf.new }
     ensures failed { IsErrOf result LoadFault.Failed → Rose (S.faults shelf.old) (S.faults shelf.new) }
     ensures later { S.faults shelf.old ≤ S.faults shelf.new }
+    ensures most { S.faults shelf.new ≤ S.faults shelf.old + 1 }
     ensures same { ¬ IsErrOf result LoadFault.Failed → S.faults shelf.new ≡ S.faults shelf.old }
 {
     let mut bytes = Vec::new(alloc);

@@ -1,6 +1,6 @@
 //! A press in memory, for tests: calls of chosen numbers fail.
 
-ghost use Rattle.std.specs.Prelude.{◌≡◌, ◌↔◌, ◌<◌, ◌≤◌, [], ◌∷◌, ◌++◌, length, map, min, take, true, false, Some, Contains, IsErr, IsTrue, IfOk, OnOk, OnErr, option_copied};
+ghost use Rattle.std.specs.Prelude.{◌≡◌, ◌↔◌, ◌<◌, ◌≤◌, [], ◌∷◌, ◌++◌, length, map, min, take, true, false, Some, Contains, IsErr, IsTrue, IfOk, OnOk, OnErr, option_copied, is_err};
 ghost use Rattle.shelf_io.specs.Count.{HasCause};
 ghost use Rattle.shelf_io.specs.Files.{bytes_of};
 ghost use Rattle.shelf_io.specs.Made.{Adds, Appends, IsKept, Lacks, with_bytes, with_file};
@@ -21,6 +21,7 @@ pub struct MemPress {
     most: usize,
     fail: Vec<u64>,
     at_hand: bool,
+    broken: bool,
     calls: u64,
     faults: u64,
 }
@@ -51,6 +52,7 @@ impl MemPress {
             most,
             fail: Vec::new(alloc),
             at_hand: false,
+            broken: false,
             calls: 0,
             faults: 0,
         }
@@ -90,6 +92,8 @@ impl Press for MemPress {
 
     ghost faults = { λ p. p.faults };
 
+    ghost broken = { λ p. p.broken };
+
     fn begin(&mut self, name: &str) -> Result<(), Failed>
         requires free { self.old.at_hand ≡ false }
         requires new { Lacks (Some self.old.made) name.now }
@@ -98,16 +102,19 @@ impl Press for MemPress {
         ensures err { OnErr result (IsKept (Some self.old.made) (Some self.new.made)) }
         ensures err_at_hand { OnErr result (self.new.at_hand ≡ false) }
         ensures cause { HasCause self.old.faults self.new.faults result }
+        ensures broken { self.new.broken ≡ is_err result }
 
         // Each call whose number is listed fails.
         ensures listed { Contains self.old.fail self.old.calls → IsErr result }
         ensures begun { OnOk result (self.new ≡ after_begin self.old name.now) }
         ensures failed { OnErr result (self.new ≡ after_fault self.old) }
     {
-        if fails(&self.fail, &mut self.calls, &mut self.faults) {
+        self.broken = fails(&self.fail, &mut self.calls, &mut self.faults);
+        if self.broken {
             return Err(Failed);
         }
         if add_file(self.alloc, &mut self.made, name).is_err() {
+            self.broken = true;
             self.faults = self.faults.saturating_add(1);
             return Err(Failed);
         }
@@ -123,17 +130,20 @@ impl Press for MemPress {
         ensures err { OnErr result (IsKept (Some self.old.made) (Some self.new.made)) }
         ensures at_hand { self.new.at_hand ≡ true }
         ensures cause { HasCause self.old.faults self.new.faults result }
+        ensures broken { self.new.broken ≡ is_err result }
 
         ensures listed { Contains self.old.fail self.old.calls → IsErr result }
         ensures most { IfOk result (λ count. count ≡ min (length piece.now) self.old.most) }
         ensures written { IfOk result (λ count. self.new ≡ after_write self.old (take count piece.now)) }
         ensures failed { OnErr result (self.new ≡ after_fault self.old) }
     {
-        if fails(&self.fail, &mut self.calls, &mut self.faults) {
+        self.broken = fails(&self.fail, &mut self.calls, &mut self.faults);
+        if self.broken {
             return Err(Failed);
         }
         let count = piece.len().min(self.most);
         if append_last(&mut self.made, &piece[..count]).is_err() {
+            self.broken = true;
             self.faults = self.faults.saturating_add(1);
             return Err(Failed);
         }
@@ -145,6 +155,7 @@ impl Press for MemPress {
         ensures made { IsKept (Some self.old.made) (Some self.new.made) }
         ensures at_hand { self.new.at_hand ≡ false }
         ensures cause { HasCause self.old.faults self.new.faults result }
+        ensures broken { self.new.broken ≡ is_err result }
 
         // Exactly the calls whose numbers are listed fail.
         ensures listed { IsErr result ↔ Contains self.old.fail self.old.calls }
@@ -152,7 +163,8 @@ impl Press for MemPress {
         ensures failed { OnErr result (self.new ≡ after_end_fault self.old) }
     {
         self.at_hand = false;
-        if fails(&self.fail, &mut self.calls, &mut self.faults) {
+        self.broken = fails(&self.fail, &mut self.calls, &mut self.faults);
+        if self.broken {
             return Err(Failed);
         }
         Ok(())

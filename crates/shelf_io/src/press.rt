@@ -1,6 +1,6 @@
 //! What a press is: files made one after the other, with a count of the calls that failed.
 
-ghost use Rattle.std.specs.Prelude.{◌≡◌, ◌<◌, ◌≤◌, ℕ, Bool, true, false, Option, length, take, IfOk, OnOk, OnErr, IsTrue};
+ghost use Rattle.std.specs.Prelude.{◌≡◌, ◌<◌, ◌≤◌, ℕ, Bool, true, false, Option, length, take, IfOk, OnOk, OnErr, IsTrue, is_err};
 ghost use Rattle.shelf_io.specs.Files.{Files};
 ghost use Rattle.shelf_io.specs.Count.{HasCause};
 ghost use Rattle.shelf_io.specs.Made.{Adds, Appends, IsKept, Lacks};
@@ -18,6 +18,9 @@ pub trait Press {
     /// How often a call has failed.
     ghost faults: { Self → ℕ };
 
+    /// Whether the last call failed.
+    ghost broken: { Self → Bool };
+
     /// Makes an empty file of this name and puts it at hand. The name `-` is standard output.
     fn begin(&mut self, name: &str) -> Result<(), Failed>
         requires free { at_hand self.old ≡ false }
@@ -26,7 +29,8 @@ pub trait Press {
         ensures ok_at_hand { OnOk result (at_hand self.new ≡ true) }
         ensures err { OnErr result (IsKept (made self.old) (made self.new)) }
         ensures err_at_hand { OnErr result (at_hand self.new ≡ false) }
-        ensures cause { HasCause (faults self.old) (faults self.new) result };
+        ensures cause { HasCause (faults self.old) (faults self.new) result }
+        ensures broken { broken self.new ≡ is_err result };
 
     /// Writes some first bytes of the piece at the end of the file at hand.
     fn write(&mut self, piece: &[u8]) -> Result<usize, Failed>
@@ -36,12 +40,14 @@ pub trait Press {
         ensures ok { IfOk result (λ count. Appends (made self.old) (made self.new) (take count piece.now)) }
         ensures err { OnErr result (IsKept (made self.old) (made self.new)) }
         ensures at_hand { at_hand self.new ≡ true }
-        ensures cause { HasCause (faults self.old) (faults self.new) result };
+        ensures cause { HasCause (faults self.old) (faults self.new) result }
+        ensures broken { broken self.new ≡ is_err result };
 
     /// Ends the file at hand.
     fn end(&mut self) -> Result<(), Failed>
         requires { IsTrue (at_hand self.old) }
         ensures made { IsKept (made self.old) (made self.new) }
         ensures at_hand { at_hand self.new ≡ false }
-        ensures cause { HasCause (faults self.old) (faults self.new) result };
+        ensures cause { HasCause (faults self.old) (faults self.new) result }
+        ensures broken { broken self.new ≡ is_err result };
 }

@@ -1,6 +1,6 @@
 //! One call makes a whole file through a press.
 
-ghost use Rattle.std.specs.Prelude.{◌≡◌, false, OnOk, OnErr};
+ghost use Rattle.std.specs.Prelude.{◌≡◌, false, OnOk, OnErr, is_err};
 ghost use Rattle.shelf_io.specs.Count.{HasCause};
 ghost use Rattle.shelf_io.specs.Made.{Becomes, Lacks, PrintsFront, with_whole};
 ghost use Rattle.shelf_io.specs.declared.printing.PrintFault.{PrintFault};
@@ -33,6 +33,7 @@ pub fn print<P: Press>(press: &mut P, name: &str, bytes: &[u8]) -> Result<(), Pr
     ensures ok_at_hand { OnOk result (P.at_hand press.new ≡ false) }
     ensures err { OnErr result (PrintsFront (P.made press.old) (P.made press.new) name.now bytes.now) }
     ensures cause { HasCause (P.faults press.old) (P.faults press.new) result }
+    ensures broken { P.broken press.new ≡ is_err result }
 {
     press.begin(name)?;
     put(press, bytes)?;

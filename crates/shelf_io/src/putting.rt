@@ -16,6 +16,7 @@ pub fn put<P: Press>(press: &mut P, piece: &[u8]) -> Result<(), Failed>
     ensures err { OnErr result (AppendsFront (P.made press.old) (P.made press.new) piece.now) }
     ensures at_hand { P.at_hand press.new ≡ true }
     ensures cause { HasCause (P.faults press.old) (P.faults press.new) result }
+    ensures broken { OnErr result (P.broken press.new ≡ true) }
 {
     let mut written = 0;
     while written < piece.len() {

@@ -1,6 +1,6 @@
 //! A press in memory of a fixed size, of which no call fails.
 
-ghost use Rattle.std.specs.Prelude.{◌≡◌, ◌<◌, ◌≤◌, length, take, IsTrue, IfOk, IfSome, OnOk, OnErr, Ok, Some, None, true, false, option_copied};
+ghost use Rattle.std.specs.Prelude.{◌≡◌, ◌<◌, ◌≤◌, length, take, IsTrue, IfOk, IfSome, OnOk, OnErr, Ok, Some, None, true, false, option_copied, is_err};
 ghost use Rattle.shelf_io.specs.Count.{HasCause};
 ghost use Rattle.shelf_io.specs.Files.{bytes_of};
 ghost use Rattle.shelf_io.specs.Made.{Adds, Appends, IsKept, Lacks};
@@ -65,6 +65,8 @@ impl Press for SurePress {
 
     ghost faults = { λ _. 0 };
 
+    ghost broken = { λ _. false };
+
     fn begin(&mut self, name: &str) -> Result<(), Failed>
         requires free { self.old.at_hand ≡ false }
         requires new { Lacks (made_of self.old) name.now }
@@ -73,6 +75,7 @@ impl Press for SurePress {
         ensures err { OnErr result (IsKept (made_of self.old) (made_of self.new)) }
         ensures err_at_hand { OnErr result (self.new.at_hand ≡ false) }
         ensures cause { HasCause 0 0 result }
+        ensures broken { false ≡ is_err result }
 
         ensures sure { result ≡ Ok tt }
         ensures adds { AddsWithin self.old.store self.new.store name.now }
@@ -94,6 +97,7 @@ impl Press for SurePress {
         ensures err { OnErr result (IsKept (made_of self.old) (made_of self.new)) }
         ensures at_hand { self.new.at_hand ≡ true }
         ensures cause { HasCause 0 0 result }
+        ensures broken { false ≡ is_err result }
 
         ensures whole { result ≡ Ok (length piece.now) }
         ensures appends { AppendsWithin self.old.store self.new.store piece.now }
@@ -111,6 +115,7 @@ impl Press for SurePress {
         ensures made { IsKept (made_of self.old) (made_of self.new) }
         ensures at_hand { self.new.at_hand ≡ false }
         ensures cause { HasCause 0 0 result }
+        ensures broken { false ≡ is_err result }
 
         ensures sure { result ≡ Ok tt }
         ensures kept { self.new.store ≡ self.old.store }

@@ -102,6 +102,8 @@ impl Press for Scale {
 
     ghost faults = { λ _. 0 };
 
+    ghost broken = { λ _. false };
+
     fn begin(&mut self, _name: &str) -> Result<(), Failed> {
         self.at_hand = true;
         Ok(())

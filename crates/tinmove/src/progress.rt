@@ -146,6 +146,8 @@ impl<P: Press + Drop, W: Write + Drop> Press for ToldPress<P, W> {
 
     ghost faults = { λ p. P.faults p.press };
 
+    ghost broken = { λ p. P.broken p.press };
+
     fn begin(&mut self, name: &str) -> Result<(), Failed> {
         if name != "-" {
             say(&mut self.to, Doing::Writing(name));
