@@ -13,6 +13,7 @@ pub mod CanEnd
 pub mod Passes
 pub mod Reaches
 pub mod Exclusion
+pub mod Outcomes
 pub mod Standing
 pub mod UnitLaws
 pub mod Saying

@@ -1,11 +1,13 @@
 -- A text has one value.
-use Rattle.std.proofs.Common.{◌≡◌, ◌≢◌, ℕ, zero, suc, ◌<◌, ◌≤◌, ◌⊎◌, inl, inr, Bool, true, false, List, [], ◌∷◌, ◌++◌, refl, sym, ◌∙◌, ap, subst, arith, append_assoc}
+use Rattle.std.proofs.Common.{◌≡◌, ◌≢◌, ℕ, zero, suc, ◌+◌, ◌<◌, ◌≤◌, ◌⊎◌, inl, inr, Bool, true, false, List, [], ◌∷◌, ◌++◌, length, refl, sym, ◌∙◌, ap, subst, arith, append_assoc}
 use Rattle.std.specs.List.{AllByRecursion}
 use Rattle.jtext.specs.Characters.{from_to, hexadecimal, Fits, Form, classes, Char, unescaped, escaped, coded, IsEscape, IsChar, AreChars, char_text, chars_text}
 use Rattle.jtext.specs.Numbers.{IsDigit, IsMinus, IsInt, IsFraction, IsMark, IsSign, IsExponent, IsNumber}
 use Rattle.jtext.specs.Values.{Json, Elements, Members, null, truth, numeral, quoted, array, object, no_element, element, no_member, member, quoted_text, spelling, elements_text, elements_behind, members_text, members_behind, IsBlank, AreBlank, IsArrayBlank, IsObjectBlank, IsValue, AreElements, AreMembers}
 use Rattle.jtext.specs.Texts.{Whole, mark_text, IsWhole}
-use Rattle.jtext.proofs.UnitLaws.{same_rest, one_byte, two_bytes, three_bytes, four_bytes}
+use Rattle.jtext.specs.Places.{whole_start}
+use Rattle.plain_laws.proofs.Lists.{same_rest}
+use Rattle.jtext.proofs.UnitLaws.{one_byte, two_bytes, three_bytes, four_bytes}
 
 -- the text does not go on with a byte of the class
 abbrev pub StopsAt : (ℕ → Type 0) → List ℕ → Type 0
@@ -505,19 +507,25 @@ no_mark [] [] tail blank begins same = absurd begins
 no_mark [] (byte ∷ rest) tail blank begins same = let e : 0xEF ≡ byte = cc in omega (arith, begins.2, e)
 no_mark (byte ∷ before) rest tail blank begins same = let e : 0xEF ≡ byte = cc in let low = low_blank byte blank.0 in omega (arith, low, e)
 
-unmarked : (v w : Json) (m n : ℕ) (a b c d : List ℕ) → IsValue m v → IsValue n w → AreBlank a → AreBlank b → AreBlank c → AreBlank d → a ++ (spelling v ++ c) ≡ b ++ (spelling w ++ d) → v ≡ w
+unmarked : (v w : Json) (m n : ℕ) (a b c d : List ℕ) → IsValue m v → IsValue n w → AreBlank a → AreBlank b → AreBlank c → AreBlank d → a ++ (spelling v ++ c) ≡ b ++ (spelling w ++ d) → (v ≡ w) × (a ≡ b)
 unmarked v w m n a b c d vs ws ba bb cs ds same =
     let front = blank_cut a b (spelling v ++ c) (spelling w ++ d) ba bb (begun_stops _ (value_begins v m c vs)) (begun_stops _ (value_begins w n d ws)) same in
-    (value_one v w m n vs ws c d (all_blank c cs) (all_blank d ds) front.1).0
+    ((value_one v w m n vs ws c d (all_blank c cs) (all_blank d ds) front.1).0, front.0)
 
 marked : (p q : Bool) (v w : Json) (m n : ℕ) (a b c d : List ℕ) → IsValue m v → IsValue n w → AreBlank a → AreBlank b → AreBlank c → AreBlank d
-    → mark_text p ++ (a ++ (spelling v ++ c)) ≡ mark_text q ++ (b ++ (spelling w ++ d)) → v ≡ w
-marked true true v w m n a b c d vs ws ba bb cs ds same = let rest : a ++ (spelling v ++ c) ≡ b ++ (spelling w ++ d) = cc in unmarked v w m n a b c d vs ws ba bb cs ds rest
+    → mark_text p ++ (a ++ (spelling v ++ c)) ≡ mark_text q ++ (b ++ (spelling w ++ d)) → (v ≡ w) × (length (mark_text p) + length a ≡ length (mark_text q) + length b)
+marked true true v w m n a b c d vs ws ba bb cs ds same =
+    let rest : a ++ (spelling v ++ c) ≡ b ++ (spelling w ++ d) = cc in
+    let both = unmarked v w m n a b c d vs ws ba bb cs ds rest in (both.0, ap (λ (t : List ℕ). 3 + length t) both.1)
 marked true false v w m n a b c d vs ws ba bb cs ds same = absurd (no_mark b (spelling w ++ d) _ bb (value_begins w n d ws) same)
 marked false true v w m n a b c d vs ws ba bb cs ds same = absurd (no_mark a (spelling v ++ c) _ ba (value_begins v m c vs) (sym same))
-marked false false v w m n a b c d vs ws ba bb cs ds same = unmarked v w m n a b c d vs ws ba bb cs ds same
+marked false false v w m n a b c d vs ws ba bb cs ds same =
+    let both = unmarked v w m n a b c d vs ws ba bb cs ds same in (both.0, ap (λ (t : List ℕ). 0 + length t) both.1)
 
--- a text has one value, whatever its depth
-pub one_value : (m n : ℕ) (bytes : List ℕ) (whole other : Whole) → IsWhole m whole bytes → IsWhole n other bytes → whole.value ≡ other.value
-one_value m n bytes whole other x y =
+-- a text has one value and one place of it, whatever its depth
+pub one_place : (m n : ℕ) (bytes : List ℕ) (whole other : Whole) → IsWhole m whole bytes → IsWhole n other bytes → (whole.value ≡ other.value) × (whole_start whole ≡ whole_start other)
+one_place m n bytes whole other x y =
     marked whole.marked other.marked whole.value other.value m n whole.before other.before whole.after other.after x.value y.value x.before y.before x.after y.after (sym x.all ∙ y.all)
+
+pub one_value : (m n : ℕ) (bytes : List ℕ) (whole other : Whole) → IsWhole m whole bytes → IsWhole n other bytes → whole.value ≡ other.value
+one_value m n bytes whole other x y = (one_place m n bytes whole other x y).0

@@ -3,6 +3,7 @@ use Rattle.std.proofs.Common.{◌≡◌, ℕ, ◌+◌, ◌*◌, ◌<◌, ◌≤�
 use Rattle.std.specs.Prelude.{nat_lt}
 use Rattle.std.proofs.lemmas.Bool.{cond_both}
 use Rattle.std.proofs.lemmas.List.{drop_more, length-drop}
+use Rattle.plain_laws.proofs.Lists.{same_first, same_rest}
 use Rattle.jtext.specs.Characters.{Class, from_to, hexadecimal, IsOf, Fits, Form, classes, IsUnescaped, Char, unescaped, escaped, coded, IsEscape, IsChar, IsHexadecimal, char_text, code_point, units_of_point, digit_value, hexadecimal_value, units_of_char}
 use Rattle.jtext.specs.Units.{IsOutside}
 
@@ -79,12 +80,6 @@ alone_or_wide Form.three_upper bytes fits = inr (wide_three 0xEE 0xEF 0x80 0xBF 
 alone_or_wide Form.four_first bytes fits = inr (wide_four 0xF0 0xF0 0x90 0xBF bytes fits (omega arith) (inr (omega arith)))
 alone_or_wide Form.four bytes fits = inr (wide_four 0xF1 0xF3 0x80 0xBF bytes fits (omega arith) (inl (omega arith)))
 alone_or_wide Form.four_last bytes fits = inr (wide_four 0xF4 0xF4 0x80 0x8F bytes fits (omega arith) (inl (omega arith)))
-
-same_first : (a b : ℕ) (xs ys : List ℕ) → a ∷ xs ≡ b ∷ ys → a ≡ b
-same_first a b xs ys h = cc
-
-pub same_rest : (a b : ℕ) (xs ys : List ℕ) → a ∷ xs ≡ b ∷ ys → xs ≡ ys
-same_rest a b xs ys h = cc
 
 outside_point : (point : ℕ) → 128 ≤ point → (unit : ℕ) × (more : List ℕ) × (units_of_point point ≡ unit ∷ more) × (128 ≤ unit)
 outside_point point above =

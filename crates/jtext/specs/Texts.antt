@@ -1,5 +1,5 @@
 -- JSON texts (RFC 8259, section 2, in UTF-8 by section 8.1), and why others are none.
-use Rattle.std.specs.Prelude.{◌≡◌, ℕ, ◌+◌, ◌<◌, Bool, true, false, List, [], ◌∷◌, ◌++◌, length, take}
+use Rattle.std.specs.Prelude.{◌≡◌, ◌⊎◌, ℕ, ◌+◌, ◌<◌, Bool, true, false, List, [], ◌∷◌, ◌++◌, length, take}
 use Rattle.text_places.specs.Places.{Begins, IsFirstFault}
 use Rattle.jtext.specs.Values.{Json, spelling, AreBlank, IsValue}
 use Rattle.jtext.specs.declared.reading.TheConstants.{DEEPEST}
@@ -46,3 +46,7 @@ pub record IsDeep (bytes : List ℕ) (at : ℕ) : Type 0 where
   pub within : at < length bytes
   pub fault : IsFirstFault (IsText DEEPEST) bytes at
   pub deeper : Begins IsAnyText (take (at + 1) bytes)
+
+-- the bytes are a text of the allowed depth, or have one of the faults
+abbrev pub HasOutcome : List ℕ → Type 0
+HasOutcome bytes = IsText DEEPEST bytes ⊎ (((at : ℕ) × IsBad bytes at) ⊎ ((at : ℕ) × IsDeep bytes at))

@@ -15,4 +15,7 @@ mod word;
 
 pub use document::{Doc, Kind, Node, Nodes};
 pub use lookup::{Repeat, each_node_has_a_value, member, same_text};
-pub use reading::{DEEPEST, JsonFault, answers_exclude_each_other, read_json, value_is_one};
+pub use reading::{
+    DEEPEST, JsonFault, answers_exclude_each_other, limits_are_stated, outcome_exists, read_json,
+    value_is_one,
+};

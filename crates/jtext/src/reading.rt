@@ -1,8 +1,8 @@
 //! Reading a JSON text.
 
 ghost use Rattle.std.specs.Prelude.{◌≡◌, ℕ, ◌^◌, ◌<◌, List, length, IfOk, IsErrOf};
-ghost use Rattle.jtext.specs.Texts.{Whole, IsWhole, IsText, IsBad, IsDeep};
-ghost use Rattle.jtext.specs.Places.{IsReadFrom};
+ghost use Rattle.jtext.specs.Texts.{Whole, IsWhole, IsText, IsBad, IsDeep, HasOutcome};
+ghost use Rattle.jtext.specs.Places.{IsReadFrom, whole_start};
 ghost use Rattle.jtext.specs.States.{GoesIn};
 
 use crate::document::{Doc, Nodes};
@@ -100,8 +100,21 @@ pub fn answers_exclude_each_other()
     ensures text_or_deep { (bytes : List ℕ) → (at : ℕ) → IsText DEEPEST bytes → IsDeep bytes at → ⊥ }
 {}
 
-/// A text has one value.
+/// A text has one value, and the value has one place.
 pub fn value_is_one()
-    ensures { (bytes : List ℕ) → (whole other : Whole) → IsWhole DEEPEST whole bytes
+    ensures value { (bytes : List ℕ) → (whole other : Whole) → IsWhole DEEPEST whole bytes
         → IsWhole DEEPEST other bytes → whole.value ≡ other.value }
+    ensures place { (bytes : List ℕ) → (whole other : Whole) → IsWhole DEEPEST whole bytes
+        → IsWhole DEEPEST other bytes → whole_start whole ≡ whole_start other }
+{}
+
+/// Any bytes are a text of the allowed depth, or have one of the faults. With the laws above, what
+/// bytes say is one function of them.
+pub fn outcome_exists()
+    ensures { (bytes : List ℕ) → HasOutcome bytes }
+{}
+
+/// A law: the limit is this number.
+pub fn limits_are_stated()
+    ensures deepest { DEEPEST ≡ 64 }
 {}

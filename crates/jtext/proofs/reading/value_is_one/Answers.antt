@@ -1,7 +1,10 @@
 -- The proof of the law `value_is_one` in src/reading.rt.
 use Rattle.jtext.specs.declared.reading.TheConstants.{DEEPEST}
-use Rattle.jtext.proofs.OneValue.{one_value}
+use Rattle.jtext.proofs.OneValue.{one_value, one_place}
 use Rattle.jtext.proofs.reading.value_is_one.Goals as goal
 
-pub returns : goal.returns
-returns c = one_value DEEPEST DEEPEST
+pub returns-clause-value : goal.returns-clause-value
+returns-clause-value c = one_value DEEPEST DEEPEST
+
+pub returns-clause-place : goal.returns-clause-place
+returns-clause-place c bytes whole other x y = (one_place DEEPEST DEEPEST bytes whole other x y).1
