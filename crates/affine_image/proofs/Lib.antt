@@ -14,3 +14,4 @@ pub mod Bearing
 pub mod OneCut
 pub mod Segmenting
 pub mod SegmentImages
+mod HeightLemmas
