@@ -12,8 +12,8 @@ use Rattle.cell_grid.specs.Boxes.{box_at, no_box}
 use Rattle.cell_grid.specs.Sizes.{longer_side, level_of, AreOfLevels}
 use Rattle.cell_grid.specs.Stripes.{IsPastCorner}
 use Rattle.cell_grid.specs.Cells.{numbers_at, cell_of, HasNumbersBelow, IsLevelOf, IsOnLevel, DoAscend}
-use Rattle.cell_grid.specs.Laying.{AreLaid, HasSamePlaces, HaveSamePlaces}
-use Rattle.cell_grid.specs.Entering.{AreEntered}
+use Rattle.cell_grid.specs.LevelLists.{AreLaid, HasSamePlaces, HaveSamePlaces}
+use Rattle.cell_grid.specs.Entries.{AreEntered}
 use Rattle.cell_grid.specs.declared.levels.Level.{Level}
 use Rattle.cell_grid.proofs.Sizes.{small_on}
 use Rattle.cell_grid.proofs.Places.{cell_within}

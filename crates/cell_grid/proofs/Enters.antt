@@ -15,8 +15,8 @@ use Rattle.plane_base.specs.Boxes.{HasPoint}
 use Rattle.cell_grid.specs.Boxes.{box_at}
 use Rattle.cell_grid.specs.Sizes.{level_of}
 use Rattle.cell_grid.specs.Cells.{cell_of, IsPlaceOf, IsOnLevel}
-use Rattle.cell_grid.specs.Laying.{AreLaid}
-use Rattle.cell_grid.specs.Entering.{entered, ArePlacesOf, AreEntered}
+use Rattle.cell_grid.specs.LevelLists.{AreLaid}
+use Rattle.cell_grid.specs.Entries.{entered, ArePlacesOf, AreEntered}
 use Rattle.cell_grid.specs.declared.levels.Level.{Level}
 
 -- ---- numbers of entries behind others

@@ -9,7 +9,7 @@ use Rattle.cell_grid.specs.Stripes.{IsPastCorner}
 use Rattle.cell_grid.specs.Cells.{numbers_at, cell_of, IsOnLevel, IsLevelOf}
 use Rattle.cell_grid.specs.Blocks.{IsBlockOf, place_at, index_of}
 use Rattle.cell_grid.specs.Around.{IsAround, cut_of}
-use Rattle.cell_grid.specs.Finding.{DoesFind, StandsIn, StandsBefore, IsOnFirst}
+use Rattle.cell_grid.specs.Searches.{DoesFind, StandsIn, StandsBefore, IsOnFirst}
 use Rattle.cell_grid.specs.declared.levels.Level.{Level}
 use Rattle.cell_grid.specs.declared.blocks.Block.{Block}
 use Rattle.cell_grid.proofs.Finds.{find_as, find_more, index_of_member}

@@ -7,7 +7,7 @@ use Rattle.cell_grid.specs.Boxes.{AreOrdered, IsHolder, box_at, no_box}
 use Rattle.cell_grid.specs.Sizes.{level_of, AreUsed}
 use Rattle.cell_grid.specs.Stripes.{IsPast, IsPastCorner}
 use Rattle.cell_grid.specs.Cells.{numbers_at, cell_of, HasNumbersBelow, IsLevelOf}
-use Rattle.cell_grid.specs.Laying.{AreLaid}
+use Rattle.cell_grid.specs.LevelLists.{AreLaid}
 use Rattle.cell_grid.specs.Around.{IsAround, corner_of, put_of}
 use Rattle.cell_grid.specs.declared.levels.Level.{Level}
 use Rattle.cell_grid.proofs.Spans.{past, past_corner, between_in, put_same}

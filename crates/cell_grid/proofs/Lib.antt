@@ -8,6 +8,7 @@ pub mod Places
 pub mod Placed
 pub mod Found
 pub mod Tells
+pub mod Windows
 pub mod Enters
 pub mod Keeps
 pub mod Collects

@@ -1,20 +1,19 @@
 -- Boxes that are kept by their offsets from a low corner.
-use Rattle.std.proofs.Common.{◌≡◌, ◌↔◌, ℕ, ◌+◌, ◌/◌, ◌^◌, ◌<◌, ◌≤◌, ℤ, pos, ◌+ℤ◌, ◌-ℤ◌, unsigned_abs, Bool, true, false, ◌&&◌, IsTrue, List, [], ◌∷◌, ◌++◌, length, map, take, get_or, refl, sym, ap, ◌∙◌, subst, arith}
+use Rattle.std.proofs.Common.{◌≡◌, ℕ, ◌+◌, ◌/◌, ◌^◌, ◌<◌, ℤ, pos, ◌+ℤ◌, ◌-ℤ◌, unsigned_abs, List, [], ◌∷◌, ◌++◌, length, map, take, get_or, sym, ap, ◌∙◌, subst, arith}
 use Rattle.std.proofs.lemmas.Int.{ints, int_max_is}
 use Rattle.std.proofs.lemmas.List.{map-append, take_more, get_or-map, length-map}
 use Rattle.std.specs.Int.{int_max}
 use Rattle.std.specs.Prelude.{max}
 use Rattle.plane_base.specs.declared.shapes.Pt.{Pt}
 use Rattle.plane_base.specs.declared.shapes.Rect.{Rect}
-use Rattle.plane_base.specs.Boxes.{IsOrdered, HasBox, ShareAPoint}
-use Rattle.plane_base.proofs.BoxLemmas.{shared, meeting}
+use Rattle.plane_base.specs.Boxes.{IsOrdered, HasBox}
 use Rattle.cell_grid.specs.Boxes.{AreOrdered, box_at, no_box}
 use Rattle.cell_grid.specs.Around.{IsAround, corner_of}
 use Rattle.cell_grid.specs.Offsets.{rect_of, PlacedBoxes}
 use Rattle.cell_grid.specs.Stripes.{stripe_of}
 use Rattle.cell_grid.specs.Cells.{column_of, row_of}
-use Rattle.cell_grid.specs.Telling.{least, IsTold}
-use Rattle.cell_grid.specs.declared.telling.Asked.{Asked}
+use Rattle.cell_grid.specs.LevelPartners.{least, IsTold}
+use Rattle.cell_grid.specs.declared.level_partners.Asked.{Asked}
 use Rattle.cell_grid.specs.declared.levels.Level.{Level}
 use Rattle.cell_grid.specs.declared.offsets.Offsets.{Offsets}
 
@@ -46,30 +45,6 @@ pub placed_within : (around : Rect) (items : List Offsets) (seen : PlacedBoxes) 
 placed_within around items seen number is h =
     subst (λ (n : ℕ). number < n) (length-map items (rect_of (corner_of around))) (subst (λ (v : PlacedBoxes). number < length v.boxes) (sym is) h)
 
--- ---- whether two share a point
-within_true : (a b : Bool) → IsTrue (a && b) → IsTrue a × IsTrue b
-within_true true true t = (refl, refl)
-within_true true false t = cc
-within_true false b t = cc
-
-both_true : (a b : Bool) → IsTrue a → IsTrue b → IsTrue (a && b)
-both_true true true s t = refl
-both_true true false s t = cc
-both_true false b s t = cc
-
-pub shared_by_offsets : (low : Pt) (p q : Offsets) (wide high : Bool) → IsOrdered (rect_of low p) → IsOrdered (rect_of low q) → IsTrue wide ↔ ((p.x0 ≤ q.x1) × (q.x0 ≤ p.x1)) → IsTrue high ↔ ((p.y0 ≤ q.y1) × (q.y0 ≤ p.y1))
-    → IsTrue (wide && high) ↔ ShareAPoint (rect_of low p) (rect_of low q)
-shared_by_offsets low p q wide high op oq first second = (
-  λ t.
-      let both = within_true wide high t in
-      let x = first.0 both.0 in
-      let y = second.0 both.1 in
-      shared (rect_of low p) (rect_of low q) op oq (record { left = omega (arith, ints, x.0); right = omega (arith, ints, x.1); bottom = omega (arith, ints, y.0); top = omega (arith, ints, y.1) }),
-  λ s.
-      let m = meeting (rect_of low p) (rect_of low q) s in
-      both_true wide high (first.1 (omega (arith, ints, m.left), omega (arith, ints, m.right))) (second.1 (omega (arith, ints, m.bottom), omega (arith, ints, m.top))),
-)
-
 -- ---- where the least common point is
 -- the greater of two offsets is that of the greater number
 greater_offset : (low : ℤ) (a b : ℕ) → int_max (low +ℤ pos a) (low +ℤ pos b) ≡ (low +ℤ pos (max a b))
@@ -77,6 +52,10 @@ greater_offset low a b = omega (arith, ints, int_max_is (low +ℤ pos a) (low +�
 
 offset_of : (low : ℤ) (n : ℕ) → unsigned_abs ((low +ℤ pos n) -ℤ low) ≡ n
 offset_of low n = omega (arith, ints)
+
+pub stripe_at : (low : ℤ) (shift n : ℕ) → stripe_of low shift (low +ℤ pos n) ≡ n / 2 ^ shift
+unfolding stripe_of
+stripe_at low shift n = ap (λ (k : ℕ). k / 2 ^ shift) (offset_of low n)
 
 stripe_past : (low : ℤ) (shift a b : ℕ) → stripe_of low shift (int_max (low +ℤ pos a) (low +ℤ pos b)) ≡ max a b / 2 ^ shift
 unfolding stripe_of

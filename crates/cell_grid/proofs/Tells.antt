@@ -20,8 +20,8 @@ use Rattle.cell_grid.specs.Stripes.{IsPast}
 use Rattle.cell_grid.specs.Cells.{numbers_at, cell_of, IsLevelOf, IsPlaceOf}
 use Rattle.cell_grid.specs.Blocks.{place_at}
 use Rattle.cell_grid.specs.Partners.{ArePartners}
-use Rattle.cell_grid.specs.Telling.{DoesTell, IsAsked, least, index_with, IsTellable, IsToldBefore, IsToldFrom, IsPartnerOn, IsPartnerOnFirst}
-use Rattle.cell_grid.specs.declared.telling.Asked.{Asked}
+use Rattle.cell_grid.specs.LevelPartners.{DoesTell, IsAsked, least, index_with, IsTellable, IsToldBefore, IsToldFrom, IsPartnerOn, IsPartnerOnFirst}
+use Rattle.cell_grid.specs.declared.level_partners.Asked.{Asked}
 use Rattle.cell_grid.proofs.Finds.{index_of_member}
 use Rattle.plane_base.proofs.BoxLemmas.{meeting}
 use Rattle.cell_grid.proofs.Indices.{place_there, index_within}

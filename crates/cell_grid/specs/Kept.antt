@@ -4,7 +4,7 @@ use Rattle.cell_grid.specs.Boxes.{AreOrdered}
 use Rattle.cell_grid.specs.Grids.{Boxes}
 use Rattle.cell_grid.specs.Sizes.{AreOfLevels, AreUsed}
 use Rattle.cell_grid.specs.Cells.{IsLevelOf, DoAscend, HasNumbersBelow}
-use Rattle.cell_grid.specs.Laying.{AreLaid}
+use Rattle.cell_grid.specs.LevelLists.{AreLaid}
 use Rattle.cell_grid.specs.Around.{IsAround, corner_of}
 use Rattle.cell_grid.specs.declared.grids.Grid.TheInside.{Inside}
 use Rattle.cell_grid.specs.declared.grids.TheConstants.{LIMIT}

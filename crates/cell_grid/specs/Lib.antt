@@ -10,8 +10,9 @@ pub mod KeptOffsets
 pub mod Stripes
 pub mod Cells
 pub mod Blocks
-pub mod Laying
-pub mod Entering
-pub mod Finding
-pub mod Telling
+pub mod LevelLists
+pub mod Entries
+pub mod Searches
+pub mod LevelPartners
+pub mod Windows
 pub mod Kept

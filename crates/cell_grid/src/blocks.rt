@@ -1,9 +1,16 @@
 //! The block of cells of a level that a box meets.
 
-ghost use Rattle.std.specs.Prelude.{◌≡◌, ◌+◌, ◌-◌, ◌*◌, ◌^◌, ◌<◌, ◌≤◌};
+ghost use Rattle.std.specs.Prelude.{◌≡◌, ◌+◌, ◌*◌, ◌/◌, ◌%◌, ◌^◌, ◌<◌, ◌≤◌};
 
 use crate::levels::Level;
 use plane_base::{Pt, Rect};
+
+/// A cell of a level: its column and its row, from the low corner on.
+#[derive(Clone, Copy, Debug)]
+pub(crate) struct Cell {
+    pub(crate) column: u32,
+    pub(crate) row: u32,
+}
 
 /// The cells of a level that a box meets, row after row.
 #[derive(Clone, Copy, Debug)]
@@ -18,7 +25,7 @@ pub(crate) struct Block {
 }
 
 impl Block {
-    ghost use Rattle.cell_grid.specs.Blocks.{IsBlockOf, place_at, index_of};
+    ghost use Rattle.cell_grid.specs.Blocks.{IsBlockOf, place_at};
     ghost use Rattle.cell_grid.specs.Stripes.{IsPastCorner};
 
     /// The cells that the box meets.
@@ -43,6 +50,31 @@ impl Block {
         self.columns as u64 * self.rows as u64
     }
 
+    /// One of them, from 0. The cells of the first two rows are found without a division.
+    pub(crate) fn cell_at(&self, index: u32) -> Cell
+        requires { index < self.now.columns * self.now.rows }
+        ensures column { result.column ≡ self.now.column + index % self.now.columns }
+        ensures row { result.row ≡ self.now.row + index / self.now.columns }
+    {
+        if index < self.columns {
+            return Cell {
+                column: self.column + index,
+                row: self.row,
+            };
+        }
+        let behind = index - self.columns;
+        if behind < self.columns {
+            return Cell {
+                column: self.column + behind,
+                row: self.row + 1,
+            };
+        }
+        Cell {
+            column: self.column + index % self.columns,
+            row: self.row + index / self.columns,
+        }
+    }
+
     /// The place of one of them, from 0.
     pub(crate) fn place_at(&self, level: &Level, index: u32) -> u32
         requires { index < self.now.columns * self.now.rows }
@@ -50,18 +82,7 @@ impl Block {
         ensures from { level.now.base ≤ result }
         ensures to { result ≤ level.now.base + level.now.mask }
     {
-        level.place(
-            self.column + index % self.columns,
-            self.row + index / self.columns,
-        )
-    }
-
-    /// Which of them is in this column and row, from 0.
-    pub(crate) fn index_of(&self, column: u32, row: u32) -> u64
-        requires column { self.now.column ≤ column }
-        requires row { self.now.row ≤ row }
-        ensures { result ≡ (row - self.now.row) * self.now.columns + (column - self.now.column) }
-    {
-        (row - self.row) as u64 * self.columns as u64 + (column - self.column) as u64
+        let cell = self.cell_at(index);
+        level.place(cell.column, cell.row)
     }
 }

@@ -1,7 +1,10 @@
-ghost use Rattle.std.specs.Prelude.{◌≡◌, ◌+◌, ◌*◌, ◌/◌, ◌^◌, ◌<◌, ◌≤◌};
+//! A level of a grid: its cells, and the places where they are kept.
+
+ghost use Rattle.std.specs.Prelude.{◌≡◌, ◌+◌, ◌*◌, ◌^◌, ◌<◌, ◌≤◌};
 ghost use Rattle.cell_grid.specs.Stripes.{IsPast, stripe_of};
 
 use crate::LIMIT;
+use crate::offsets::offset;
 use plane_base::Pt;
 
 /// A level: the boxes whose longer side has `number` binary digits, and their cells. The cells begin at a low corner, and
@@ -25,7 +28,7 @@ pub(crate) struct Level {
 
 impl Level {
     ghost use Rattle.cell_grid.specs.Cells.{column_of, row_of, place_of};
-    ghost use Rattle.cell_grid.specs.Laying.{HasSamePlaces};
+    ghost use Rattle.cell_grid.specs.LevelLists.{HasSamePlaces};
 
     /// A level with room for so many boxes. Its cells are as wide as `shift` says, but no less than its boxes need.
     pub(crate) fn new(low: Pt, number: u32, shift: u32, base: u32, count: u32) -> Self
@@ -84,11 +87,11 @@ impl Level {
         stripe(self.low.y, self.shift, y)
     }
 
-    /// The column or row that is so far past the low corner.
-    pub(crate) fn stripe_at(&self, offset: u32) -> u32
-        ensures { result ≡ offset / 2 ^ self.now.shift }
+    /// How wide and how high its cells are, in millimetres.
+    pub(crate) fn width(&self) -> u32
+        ensures { result ≡ 2 ^ self.now.shift }
     {
-        offset >> self.shift
+        1 << self.shift
     }
 
     /// The place of a cell. Neighbours have places of their own where there are eight places or more.
@@ -108,7 +111,7 @@ fn stripe(low: i64, shift: u32, x: i64) -> u32
     ensures stripe { result ≡ stripe_of low shift x }
     ensures within { result < 2 ^ 31 }
 {
-    (x.abs_diff(low) as u32) >> shift
+    offset(low, x) >> shift
 }
 
 // By how many places a row is behind the one below it: near the golden section of `size`, so that rows far apart seldom

@@ -4,15 +4,15 @@
 
 mod blocks;
 mod box_lists;
-mod entering;
-mod finding;
+mod entries;
 mod grids;
 mod laws;
-mod laying;
+mod level_lists;
+mod level_partners;
 mod levels;
 mod offsets;
 mod rects;
-mod telling;
+mod searches;
 mod widths;
 
 pub use grids::{Grid, LIMIT};

@@ -30,10 +30,10 @@ impl Offsets {
     }
 }
 
-// How far `x` is past `low`.
-fn offset(low: i64, x: i64) -> u32
+/// How far `x` is past `low`.
+pub(crate) fn offset(low: i64, x: i64) -> u32
     requires { IsPast low x }
     ensures { IsOffset low result x }
 {
-    x.abs_diff(low) as u32
+    (x - low) as u32
 }

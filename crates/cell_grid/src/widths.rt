@@ -3,9 +3,9 @@
 ghost use Rattle.std.specs.Prelude.{◌≡◌, length, All, IfOk, OnOk};
 ghost use Rattle.cell_grid.specs.Sizes.{AreOfLevels};
 ghost use Rattle.cell_grid.specs.Stripes.{IsPastCorner};
-ghost use Rattle.cell_grid.specs.Laying.{AreLaid, HasSamePlaces, HaveSamePlaces};
+ghost use Rattle.cell_grid.specs.LevelLists.{AreLaid, HasSamePlaces, HaveSamePlaces};
 
-use crate::laying::place_count;
+use crate::level_lists::place_count;
 use crate::levels::Level;
 use crate::rects::level_of;
 use plane_base::Rect;
@@ -25,12 +25,13 @@ pub(crate) fn area_of(rect: &Rect) -> u64 {
 }
 
 /// How many binary digits the width of cells may have, so that each has about one of `count` boxes if these are spread
-/// evenly over the area. Levels next to the highest, which is below `top`, keep the width of their boxes.
+/// evenly over the area. Levels next to the highest, which is below `top`, keep the width of their boxes, and so do levels
+/// without boxes.
 pub(crate) fn widest(number: u32, top: u32, area: u64, count: u32) -> u32 {
-    if number.saturating_add(2) >= top {
+    if count == 0 || number.saturating_add(2) >= top {
         return number;
     }
-    let share = area / u64::from(count.max(1));
+    let share = area / u64::from(count);
     let even = 63_u32.saturating_sub(share.leading_zeros()) / 2;
     even.min(top)
 }

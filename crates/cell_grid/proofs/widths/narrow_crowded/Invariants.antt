@@ -1,5 +1,5 @@
 -- The invariant of the loop of `narrow_crowded` in src/widths.rt.
-use Rattle.cell_grid.specs.Laying.{HaveSamePlaces}
+use Rattle.cell_grid.specs.LevelLists.{HaveSamePlaces}
 use Rattle.cell_grid.proofs.widths.narrow_crowded.Given as goal
 
 abbrev pub invariant-loop-round : goal.invariant-loop-round

@@ -1,0 +1,1 @@
+-- Answers to the goals of `Block::cell_at` in src/blocks.rt.

@@ -1,7 +1,0 @@
--- The invariant of the loop of `enter` in src/entering.rt.
-use Rattle.std.proofs.Common.{◌≡◌, ◌++◌, map, take}
-use Rattle.cell_grid.specs.Entering.{entered}
-use Rattle.cell_grid.proofs.entering.enter.Given as goal
-
-abbrev pub invariant-loop-place : goal.invariant-loop-place
-invariant-loop-place l = l.entries.items ≡ l.initial.entries.items ++ map (entered l.number) (take l.place-index l.places)

@@ -1,6 +1,0 @@
--- The invariant of the loop of `entries_of` in src/entering.rt.
-use Rattle.cell_grid.specs.Entering.{AreEntered}
-use Rattle.cell_grid.proofs.entering.entries_of.Given as goal
-
-abbrev pub invariant-loop-number : goal.invariant-loop-number
-invariant-loop-number l = AreEntered l.boxes l.number l.levels l.entries.items

@@ -1,0 +1,7 @@
+-- The invariant of the loop of `enter` in src/entries.rt.
+use Rattle.std.proofs.Common.{◌≡◌, ◌++◌, map, take}
+use Rattle.cell_grid.specs.Entries.{entered}
+use Rattle.cell_grid.proofs.entries.enter.Given as goal
+
+abbrev pub invariant-loop-place : goal.invariant-loop-place
+invariant-loop-place l = l.entries.items ≡ l.initial.entries.items ++ map (entered l.number) (take l.place-index l.places)
