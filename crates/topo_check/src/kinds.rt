@@ -6,7 +6,7 @@ ghost use Rattle.topo_check.specs.Changes.{AreAllComparable};
 ghost use Rattle.topo_check.specs.Kinds.{AreKindsOf};
 
 use crate::copies::kind_among;
-use crate::marks::{mark, seed_of};
+use crate::marks::{mark, seed_of, tag_of};
 use std::alloc::{AllocError, Global};
 use tin_base::{Piece, SoundTin};
 
@@ -102,9 +102,4 @@ fn no_seat() -> Seat {
         tag: 0,
         kind: NO_KIND,
     }
-}
-
-// The upper half of a mark.
-fn tag_of(mark: u64) -> u32 {
-    (mark >> 32) as u32
 }

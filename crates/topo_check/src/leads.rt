@@ -7,13 +7,14 @@ ghost use Rattle.topo_check.specs.Pairs.{AreCollected, AreInRange};
 
 use crate::collecting::changed_pairs;
 use crate::comparing::ChangedPair;
+use crate::crowds::may_have_copies;
 use crate::kinds::{Kinds, kinds_of};
 use crate::members::{members_of, spread};
 use std::alloc::{AllocError, Global};
 use tin_base::{Piece, SoundTin};
 
 /// The pairs of pieces that have changed, each once, in no order. It stops once there are more than `most`.
-/// Where pieces are copies of others, the first pieces of their kinds are compared for all.
+/// Where many pieces may be copies of others, the first pieces of their kinds are compared for all.
 pub(crate) fn changed_pairs_by_kinds(
     alloc: Global,
     tin: &SoundTin,
@@ -24,7 +25,7 @@ pub(crate) fn changed_pairs_by_kinds(
     requires count { length pieces.now ≤ MOST_COMPARED }
     ensures { IfOk result (λ pairs. AreCollected tin.now pieces.now most pairs.items) }
 {
-    {
+    if may_have_copies(alloc, pieces)? {
         let kinds = kinds_of(alloc, tin, pieces)?;
         if kinds.firsts.len() < pieces.len() {
             return pairs_of_kinds(alloc, tin, pieces, &kinds, most);

@@ -6,6 +6,7 @@ mod boxes;
 mod collecting;
 mod comparing;
 mod copies;
+mod crowds;
 mod faults;
 mod grids;
 mod kinds;

@@ -17,6 +17,11 @@ pub(crate) fn mark(piece: &Piece, seed: u64) -> u64 {
     mixed(ends.wrapping_add(u64::from(piece.tri)))
 }
 
+/// The upper half of a mark.
+pub(crate) fn tag_of(mark: u64) -> u32 {
+    (mark >> 32) as u32
+}
+
 fn of_point(p: Pt, seed: u64) -> u64 {
     mixed(p.x.cast_unsigned() ^ mixed(p.y.cast_unsigned() ^ seed))
 }
