@@ -1,5 +1,5 @@
 //! The tests of files, numerals, JSON text, triangulation files, pairs of drawings, splices,
-//! reports, words and remarks: here, so that the libraries that they call are proved once.
+//! reports, words, limits and remarks: here, so that the libraries that they call are proved once.
 #![tactic(auto)]
 
 #[cfg(test)]
@@ -8,6 +8,8 @@ mod bad_report_tests;
 mod file_tests;
 #[cfg(test)]
 mod json_tests;
+#[cfg(test)]
+mod limit_tests;
 #[cfg(test)]
 mod numeral_tests;
 #[cfg(test)]

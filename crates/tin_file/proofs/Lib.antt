@@ -23,4 +23,5 @@ pub mod RowsRead
 pub mod Whole
 pub mod TopValue
 pub mod ValueFaults
+pub mod Outcomes
 pub mod OneAnswer

@@ -33,18 +33,18 @@ use Rattle.tin_file.specs.declared.faults.Nearest.TheVariants as nearest
 use Rattle.tin_file.specs.declared.faults.TinFault.{TinFault}
 use Rattle.tin_file.specs.declared.faults.TinFault.TheVariants as faults
 
-abbrev IsOfValue : TinFault → Type 0
+abbrev pub IsOfValue : TinFault → Type 0
 IsOfValue (faults.Json at) = ⊥
 IsOfValue (faults.Deep at) = ⊥
 IsOfValue faults.NoMemory = ⊥
 IsOfValue fault = Unit {0}
 
-abbrev IsGoodAt : {A : Type 0} → Result A TinFault → Type 0
+abbrev pub IsGoodAt : {A : Type 0} → Result A TinFault → Type 0
 IsGoodAt (Ok value) = Unit {0}
 IsGoodAt (Err fault) = IsOfValue fault
 
-record IsGood {A : Type 0} (r : Result A TinFault) : Type 0 where
-  is : IsGoodAt r
+pub record IsGood {A : Type 0} (r : Result A TinFault) : Type 0 where
+  pub is : IsGoodAt r
 
 fine : {A : Type 0} (r : Result A TinFault) → IsGoodAt r → IsGood r
 fine r h = record { is = h }
@@ -242,7 +242,7 @@ good_rows how members columns =
     (good_vertices how columns.vertices members)
     (λ rows. good_then (within_spans rows) (triangles columns.triangles (length rows) members) (good_triangles columns.triangles (length rows) members) (good_within rows))
 
-good_reading : (how : How) (value : Json) → IsGood (reading how value)
+pub good_reading : (how : How) (value : Json) → IsGood (reading how value)
 good_reading how (object blank members) = good_then (rows_of how members) (heading how members) (good_heading how members) (good_rows how members)
 good_reading how null = fine _ tt
 good_reading how (truth is) = fine _ tt
@@ -251,7 +251,7 @@ good_reading how (quoted chars) = fine _ tt
 good_reading how (array blank elements) = fine _ tt
 
 -- ---- the answer to the bytes
-answer_by : (how : How) (bytes : List ℕ) (result wanted : Result Triangulation TinFault) → IsGood wanted → Equals result wanted
+pub answer_by : (how : How) (bytes : List ℕ) (result wanted : Result Triangulation TinFault) → IsGood wanted → Equals result wanted
     → ((answer : Result Triangulation TinFault) → wanted ≡ answer → IsReading how bytes answer) → Answers how bytes result
 answer_by how bytes (Ok tin) (Ok other) good h on = on (Ok tin) (ap Ok (sym h))
 answer_by how bytes (Ok tin) (Err fault) good h on = absurd h

@@ -1,4 +1,4 @@
--- The law of triangulation files.
+-- Laws of triangulation files.
 use Rattle.std.specs.Prelude.{◌≡◌, ◌≢◌, ℕ, List, Result, Err}
 use Rattle.sheet_base.specs.declared.flags.How.{How}
 use Rattle.tin_base.specs.Triangulation.{Triangulation}
@@ -11,3 +11,9 @@ abbrev pub AnswerIsOne : Type 0
 AnswerIsOne =
     (how : How) (bytes : List ℕ) (answer other : Result Triangulation TinFault) → Answers how bytes answer → answer ≢ Err NoMemory → Answers how bytes other → other ≢ Err NoMemory
     → answer ≡ other
+
+-- any bytes have an answer that is not want of memory
+abbrev pub OutcomeExists : Type 0
+OutcomeExists =
+    (how : How) (bytes : List ℕ) → (answer : Result Triangulation TinFault) × Answers how bytes answer
+    × (answer ≢ Err NoMemory)

@@ -15,5 +15,5 @@ mod triangles;
 mod vertices;
 
 pub use faults::{Nearest, Rows, TinFault, Top};
-pub use laws::answer_is_one;
+pub use laws::{answer_is_one, limits_are_stated, outcome_exists};
 pub use reading::{MOST_BYTES, read_tin};
