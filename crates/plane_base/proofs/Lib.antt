@@ -13,6 +13,7 @@ pub mod Parts
 pub mod Slices
 pub mod Exit
 pub mod Meeting
+pub mod LeftOfSide
 pub mod Naming
 pub mod BoxLemmas
 pub mod NearSide

@@ -15,7 +15,7 @@ use Rattle.tin_check.specs.Numbers.{AreCounted, AreAt, IsMarkedCorner, AreFrom}
 use Rattle.tin_check.proofs.Tests.{IsPositive}
 use Rattle.tin_check.proofs.Counting.{counted_same, first_meet, second_meet, first_near, second_near, fits_by}
 use Rattle.tin_check.proofs.Marking.{all_near, told}
-use Rattle.tin_check.proofs.BySides.{point_of, tri_of, positive_of}
+use Rattle.tin_check.proofs.BySides.{point_of, tri_of, positive_of, IsTurnedTo, turned_to}
 
 -- ---- the numbers, counted from a corner on
 -- the corner i is common, and the other two are not
@@ -70,18 +70,7 @@ counted_within ns i j k m (inl e) all = let l = subst (λ (xs : List ℕ). All (
 counted_within ns i j k m (inr (inl e)) all = let l = subst (λ (xs : List ℕ). All (λ n. n < m) xs) e all in (l 1 0 (omega arith), l 2 0 (omega arith), l 0 0 (omega arith))
 counted_within ns i j k m (inr (inr e)) all = let l = subst (λ (xs : List ℕ). All (λ n. n < m) xs) e all in (l 2 0 (omega arith), l 0 0 (omega arith), l 1 0 (omega arith))
 
--- ---- the triangle, counted from a corner on
-record IsTurnedTo (tin : Triangulation) (frame : Frame) (ns : List ℕ) (i j k : ℕ) : Type 0 where
-  tri : Tri
-  is : corners tri ≡ places tin frame ns
-  counted : IsCounted tri (tri_of tin frame i j k)
-
-turned_to : (tin : Triangulation) (frame : Frame) (ns : List ℕ) (i j k : ℕ) → AreCounted ns i j k → IsTurnedTo tin frame ns i j k
-turned_to tin frame ns i j k (inl e) = subst (λ (l : List ℕ). IsTurnedTo tin frame l i j k) (sym e) (record { tri = tri_of tin frame i j k; is = refl; counted = inl refl })
-turned_to tin frame ns i j k (inr (inl e)) = subst (λ (l : List ℕ). IsTurnedTo tin frame l i j k) (sym e) (record { tri = tri_of tin frame k i j; is = refl; counted = inr (inl refl) })
-turned_to tin frame ns i j k (inr (inr e)) = subst (λ (l : List ℕ). IsTurnedTo tin frame l i j k) (sym e) (record { tri = tri_of tin frame j k i; is = refl; counted = inr (inr refl) })
-
--- the same, with the marked corner
+-- ---- the triangle, counted from the marked corner on
 record IsTurnedAt (tin : Triangulation) (frame : Frame) (ns us : List ℕ) (i j k : ℕ) : Type 0 where
   tri : Tri
   is : corners tri ≡ places tin frame ns

@@ -6,15 +6,12 @@ use Rattle.std.proofs.lemmas.Bool.Decides.{eqb_tells}
 use Rattle.plane_base.specs.Plane.{Point, turn_of, whole, corners}
 use Rattle.plane_base.specs.declared.shapes.Pt.{Pt}
 use Rattle.plane_base.specs.declared.shapes.Tri.{Tri}
-use Rattle.plane_base.proofs.Points.{turn, solve_at}
 use Rattle.plane_base.proofs.Turns.{turn_twice}
-use Rattle.integer_ring.proofs.Ring.{num}
-use Rattle.integer_ring.proofs.Claims.{◌≐◌}
 use Rattle.tin_base.specs.declared.frames.Frame.{Frame}
 use Rattle.tin_base.specs.Triangulation.{Triangulation, x_in, y_in, corner_at, numbers_of, places}
 use Rattle.tin_base.specs.Soundness.{turn_of_three, turn_in, has, DoFit}
 use Rattle.tin_check.specs.Meeting.{MeetOnlyIn}
-use Rattle.tin_check.specs.Marks.{points_of, marked_of, next_of, IsCounted}
+use Rattle.tin_check.specs.Marks.{points_of, marked_of, IsAmong, next_of, IsCounted}
 use Rattle.std.specs.Prelude.{IfSome}
 use Rattle.tin_check.specs.declared.pairs.Side.{Side}
 use Rattle.tin_check.specs.Numbers.{AreCounted, IsMarkedSide}
@@ -57,12 +54,6 @@ abbrev pub tri_of : Triangulation → Frame → ℕ → ℕ → ℕ → Tri
 tri_of tin frame i j k = record { a = point_of tin frame i; b = point_of tin frame j; c = point_of tin frame k }
 
 -- ---- corners in common
-first_has : (n : ℕ) (ns : List ℕ) → has (n ∷ ns) n ≡ true
-first_has n ns = ap (λ (b : Bool). b || has ns n) (eq-eqb n n refl)
-
-true_or_false : true ≡ false → ⊥
-true_or_false e = cc
-
 -- a number of three is one of them
 one_of : (i j k x : ℕ) → has (i ∷ j ∷ k ∷ []) x ≡ true → (x ≡ i) ⊎ ((x ≡ j) ⊎ (x ≡ k))
 one_of i j k x h = go (eqb_tells i x) (eqb_tells j x) (eqb_tells k x)
@@ -90,30 +81,6 @@ one_counted ns i j k x (inr (inr e)) h = turned (one_of j k i x (subst (λ (l : 
     turned (inl h) = inr (inl h)
     turned (inr (inl h)) = inr (inr h)
     turned (inr (inr h)) = inl h
-
-or_right : (a b : Bool) → b ≡ true → (a || b) ≡ true
-or_right true b e = refl
-or_right false b e = e
-
--- the list has the three
-has_first : (ns : List ℕ) (i j k : ℕ) → AreCounted ns i j k → has ns i ≡ true
-has_first ns i j k (inl e) = subst (λ (l : List ℕ). has l i ≡ true) (sym e) (first_has i (j ∷ k ∷ []))
-has_first ns i j k (inr (inl e)) = subst (λ (l : List ℕ). has l i ≡ true) (sym e) (or_right (eqb k i) (has (i ∷ j ∷ []) i) (first_has i (j ∷ [])))
-has_first ns i j k (inr (inr e)) = subst (λ (l : List ℕ). has l i ≡ true) (sym e) (or_right (eqb j i) (has (k ∷ i ∷ []) i) (or_right (eqb k i) (has (i ∷ []) i) (first_has i [])))
-
-counted_on : (ns : List ℕ) (i j k : ℕ) → AreCounted ns i j k → AreCounted ns j k i
-counted_on ns i j k (inl e) = inr (inl e)
-counted_on ns i j k (inr (inl e)) = inr (inr e)
-counted_on ns i j k (inr (inr e)) = inl e
-
--- a common corner of the one triangle is one of the two of the other
-one_of_side : (ns us : List ℕ) (i j d e : ℕ) → IsCommonSide ns us i j → (s : IsCommonSide us ns d e) → (x : ℕ) → has ns x ≡ true → has us x ≡ true → (x ≡ d) ⊎ (x ≡ e)
-one_of_side ns us i j d e t s x in_t in_u = go (one_counted us d e s.third x s.counted in_u)
-  where
-    go : (x ≡ d) ⊎ ((x ≡ e) ⊎ (x ≡ s.third)) → (x ≡ d) ⊎ (x ≡ e)
-    go (inl h) = inl h
-    go (inr (inl h)) = inr h
-    go (inr (inr h)) = absurd (true_or_false (sym in_t ∙ ap (λ (n : ℕ). has ns n) h ∙ s.third_apart))
 
 -- ---- the triangle, counted from the common side on
 -- what stands of the triangle of some numbers
@@ -167,33 +134,39 @@ turned_of tin frame ns us i j s = go s.counted
 pub positive_of : (tin : Triangulation) (frame : Frame) (ns : List ℕ) (t : Tri) → corners t ≡ places tin frame ns → pos 0 <ℤ turn_of_three (places tin frame ns) → IsPositive t
 positive_of tin frame ns t e d = subst (λ (ps : List Point). pos 0 <ℤ turn_of_three ps) (sym e) d
 
+-- ---- the triangle, counted from a corner on
+pub record IsTurnedTo (tin : Triangulation) (frame : Frame) (ns : List ℕ) (i j k : ℕ) : Type 0 where
+  pub tri : Tri
+  pub is : corners tri ≡ places tin frame ns
+  pub counted : IsCounted tri (tri_of tin frame i j k)
+
+pub turned_to : (tin : Triangulation) (frame : Frame) (ns : List ℕ) (i j k : ℕ) → AreCounted ns i j k → IsTurnedTo tin frame ns i j k
+turned_to tin frame ns i j k (inl e) = subst (λ (l : List ℕ). IsTurnedTo tin frame l i j k) (sym e) (record { tri = tri_of tin frame i j k; is = refl; counted = inl refl })
+turned_to tin frame ns i j k (inr (inl e)) = subst (λ (l : List ℕ). IsTurnedTo tin frame l i j k) (sym e) (record { tri = tri_of tin frame k i j; is = refl; counted = inr (inl refl) })
+turned_to tin frame ns i j k (inr (inr e)) = subst (λ (l : List ℕ). IsTurnedTo tin frame l i j k) (sym e) (record { tri = tri_of tin frame j k i; is = refl; counted = inr (inr refl) })
+
 -- ---- the answer
 not_flat : (z : ℤ) → pos 0 <ℤ z → z ≡ pos 0 → ⊥
 not_flat z h e = absurd (omega (arith, ints))
-
-turn_ends : (a b : Point) → turn_of a b a ≡ pos 0
-turn_ends = solve_at 2 0 (λ a b. turn a b a ≐ num (pos 0)) tt
 
 -- two corners of a triangle that is not flat differ
 apart_first : (t : Tri) → IsPositive t → t.a ≡ t.b → ⊥
 apart_first t d e = not_flat (turn_of (whole t.a) (whole t.a) (whole t.c)) (subst (λ (p : Pt). pos 0 <ℤ turn_of (whole t.a) (whole p) (whole t.c)) (sym e) d) (turn_twice (whole t.a) (whole t.c))
 
-apart_last : (t : Tri) → IsPositive t → t.a ≡ t.c → ⊥
-apart_last t d e = not_flat (turn_of (whole t.a) (whole t.b) (whole t.a)) (subst (λ (p : Pt). pos 0 <ℤ turn_of (whole t.a) (whole t.b) (whole p)) (sym e) d) (turn_ends (whole t.a) (whole t.b))
+-- a triangle that is counted from the end of the common side on
+one_side : (r s : Tri) (same : Bool) → IsPositive r → IsPositive s → r.b ≡ s.a → (r.a ≡ s.a) ⊎ ((r.a ≡ s.b) ⊎ (r.a ≡ s.c)) → IsTrue same ↔ (r.a ≡ s.b) → IsTrue same ↔ MeetOnlyIn (corners r) (corners s) (whole r.a ∷ whole r.b ∷ [])
+one_side r s same d d' h k i = side_tells r s same d d' h (among k) i
+  where
+    among : (r.a ≡ s.a) ⊎ ((r.a ≡ s.b) ⊎ (r.a ≡ s.c)) → IsAmong (points_of s) r.a
+    among (inl e) = inl e
+    among (inr (inl e)) = inr (inl e)
+    among (inr (inr e)) = inr (inr (inl e))
 
--- of two triangles, counted from the common side on: whether it runs in opposite directions tells whether they have only that side in common
-opposite : (r s : Tri) (same : Bool) → IsPositive r → IsPositive s → (r.a ≡ s.a) ⊎ (r.a ≡ s.b) → (r.b ≡ s.a) ⊎ (r.b ≡ s.b) → IsTrue same ↔ (r.b ≡ s.a) → IsTrue same ↔ MeetOnlyIn (corners r) (corners s) (whole r.a ∷ whole r.b ∷ [])
-opposite r s same d d' (inl h) (inl k) i = absurd (apart_first r d (h ∙ sym k))
-opposite r s same d d' (inr h) (inr k) i = absurd (apart_first r d (h ∙ sym k))
-opposite r s same d d' (inr h) (inl k) i = side_tells r s same d d' k (inr (inl h)) (λ e. h, λ e. i.1 k)
-opposite r s same d d' (inl h) (inr k) i =
-    through (side_tells r (next_of s) same d (let is = counted_same s (next_of s) (inr (inl refl)) in is.positive d') k (inr (inr (inl h))) (λ e. absurd (apart_first s d' (sym (i.0 e) ∙ k)), λ e. absurd (apart_last s d' (sym h ∙ e))))
-    (second_meet r s (next_of s) (whole r.a ∷ whole r.b ∷ []) (inr (inl refl)))
-
-pub sides_tell : (tin : Triangulation) (frame : Frame) (t u i j d e : ℕ) → pos 0 <ℤ turn_in tin frame t → pos 0 <ℤ turn_in tin frame u → IsCommonSide (numbers_of tin t) (numbers_of tin u) i j → IsCommonSide (numbers_of tin u) (numbers_of tin t) d e
-    → IsTrue (eqb j d) ↔ DoFit tin frame t u
-sides_tell tin frame t u i j d e ht hu first second =
-    told tin frame t u x.tri y.tri (eqb j d) x.is y.is (fits_at_side x.tri y.tri r (marked_of (map (has us) ns) (points_of x.tri)) (eqb j d) x.side (through (opposite r s (eqb j d) positive_r positive_s at_first at_second same) meet))
+-- the side from i to j, and the other triangle from j on: whether it goes on to i tells whether the two have only the side in common
+pub side_tells_on : (tin : Triangulation) (frame : Frame) (t u i j e f : ℕ) → pos 0 <ℤ turn_in tin frame t → pos 0 <ℤ turn_in tin frame u → IsCommonSide (numbers_of tin t) (numbers_of tin u) i j → AreCounted (numbers_of tin u) j e f
+    → IsTrue (eqb e i) ↔ DoFit tin frame t u
+side_tells_on tin frame t u i j e f ht hu side counted =
+    told tin frame t u x.tri y.tri (eqb e i) x.is y.is (fits_at_side x.tri y.tri r (marked_of (map (has us) ns) (points_of x.tri)) (eqb e i) x.side (through (one_side r s (eqb e i) positive_r positive_s refl at same) meet))
   where
     ns : List ℕ
     ns = numbers_of tin t
@@ -201,17 +174,17 @@ sides_tell tin frame t u i j d e ht hu first second =
     us : List ℕ
     us = numbers_of tin u
 
-    x : IsTurned tin frame ns us i j first.third
-    x = turned_of tin frame ns us i j first
+    x : IsTurned tin frame ns us i j side.third
+    x = turned_of tin frame ns us i j side
 
-    y : IsTurned tin frame us ns d e second.third
-    y = turned_of tin frame us ns d e second
+    y : IsTurnedTo tin frame us j e f
+    y = turned_to tin frame us j e f counted
 
     r : Tri
-    r = tri_of tin frame i j first.third
+    r = tri_of tin frame i j side.third
 
     s : Tri
-    s = tri_of tin frame d e second.third
+    s = tri_of tin frame j e f
 
     positive_r : IsPositive r
     positive_r = let is = counted_same x.tri r x.counted in is.positive (positive_of tin frame ns x.tri x.is ht)
@@ -219,28 +192,27 @@ sides_tell tin frame t u i j d e ht hu first second =
     positive_s : IsPositive s
     positive_s = let is = counted_same y.tri s y.counted in is.positive (positive_of tin frame us y.tri y.is hu)
 
-    places_of : (k : ℕ) → (k ≡ d) ⊎ (k ≡ e) → (point_of tin frame k ≡ s.a) ⊎ (point_of tin frame k ≡ s.b)
-    places_of k (inl h) = inl (ap (λ (n : ℕ). point_of tin frame n) h)
-    places_of k (inr h) = inr (ap (λ (n : ℕ). point_of tin frame n) h)
+    positive_next : IsPositive (next_of s)
+    positive_next = let is = counted_same s (next_of s) (inr (inl refl)) in is.positive positive_s
 
-    of_first : (i ≡ d) ⊎ (i ≡ e)
-    of_first = one_of_side ns us i j d e first second i (has_first ns i j first.third first.counted) first.first_common
+    which : (i ≡ j) ⊎ ((i ≡ e) ⊎ (i ≡ f))
+    which = one_counted us j e f i counted side.first_common
 
-    of_second : (j ≡ d) ⊎ (j ≡ e)
-    of_second = one_of_side ns us i j d e first second j (has_first ns j first.third i (counted_on ns i j first.third first.counted)) first.second_common
-
-    at_first : (r.a ≡ s.a) ⊎ (r.a ≡ s.b)
-    at_first = places_of i of_first
-
-    at_second : (r.b ≡ s.a) ⊎ (r.b ≡ s.b)
-    at_second = places_of j of_second
-
-    same : IsTrue (eqb j d) ↔ (r.b ≡ s.a)
-    same = (λ yes. ap (λ (n : ℕ). point_of tin frame n) (eqb-true j d yes), λ h. go of_second h)
+    at : (r.a ≡ s.a) ⊎ ((r.a ≡ s.b) ⊎ (r.a ≡ s.c))
+    at = go which
       where
-        go : (j ≡ d) ⊎ (j ≡ e) → r.b ≡ s.a → IsTrue (eqb j d)
-        go (inl k) h = eq-eqb j d k
-        go (inr k) h = absurd (apart_first s positive_s (sym h ∙ ap (λ (n : ℕ). point_of tin frame n) k))
+        go : (i ≡ j) ⊎ ((i ≡ e) ⊎ (i ≡ f)) → (r.a ≡ s.a) ⊎ ((r.a ≡ s.b) ⊎ (r.a ≡ s.c))
+        go (inl h) = inl (ap (point_of tin frame) h)
+        go (inr (inl h)) = inr (inl (ap (point_of tin frame) h))
+        go (inr (inr h)) = inr (inr (ap (point_of tin frame) h))
+
+    same : IsTrue (eqb e i) ↔ (r.a ≡ s.b)
+    same = (λ yes. sym (ap (point_of tin frame) (eqb-true e i yes)), λ h. go which h)
+      where
+        go : (i ≡ j) ⊎ ((i ≡ e) ⊎ (i ≡ f)) → r.a ≡ s.b → IsTrue (eqb e i)
+        go (inl k) h = absurd (apart_first r positive_r (ap (point_of tin frame) k))
+        go (inr (inl k)) h = eq-eqb e i (sym k)
+        go (inr (inr k)) h = absurd (apart_first (next_of s) positive_next (sym h ∙ ap (point_of tin frame) k))
 
     meet : MeetOnlyIn (corners r) (corners s) (whole r.a ∷ whole r.b ∷ []) ↔ MeetOnlyIn (corners x.tri) (corners y.tri) (whole r.a ∷ whole r.b ∷ [])
     meet = through (second_meet r y.tri s (whole r.a ∷ whole r.b ∷ []) y.counted) (first_meet x.tri r y.tri (whole r.a ∷ whole r.b ∷ []) x.counted)

@@ -16,4 +16,5 @@ pub mod InBoxes
 pub mod Apart
 pub mod BySides
 pub mod ByCorner
+pub mod ByNumbers
 pub mod Partners

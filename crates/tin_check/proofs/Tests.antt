@@ -12,7 +12,7 @@ use Rattle.tin_base.proofs.Telling.{yes, no, denied}
 use Rattle.tin_check.proofs.Places.{side_bc_in, mix_next}
 use Rattle.tin_check.proofs.Sides.{IsSeenToMeet, meet_of_seen, seen_of_meet}
 use Rattle.tin_check.proofs.AtCorner.{meet_at_corner, not_only_at_corner, not_corner}
-use Rattle.tin_check.proofs.AtSide.{meet_at_side, overlap_at_side}
+use Rattle.tin_check.proofs.AtSide.{meet_at_side, overlap}
 
 abbrev pub IsPositive : Tri → Type 0
 IsPositive t = pos 0 <ℤ turn_of (whole t.a) (whole t.b) (whole t.c)
@@ -69,7 +69,7 @@ across t u d d' e f =
 
 not_across : (t u : Tri) → IsPositive t → IsPositive u → t.b ≡ u.a → t.a ≡ u.c → MeetOnlyIn (corners t) (corners u) (whole t.a ∷ whole t.b ∷ []) → ⊥
 not_across t u d d' e f only =
-    overlap_at_side (whole t.a) (whole t.b) (whole t.c) (whole u.b) one one one one d
+    overlap (whole t.a) (whole t.b) (whole t.c) (whole u.b) one one one one d
     (subst (λ (z : ℤ). pos 0 <ℤ z) (sym (turn_cycle (whole t.a) (whole t.b) (whole u.b)))
     (subst (λ (q : Pt). pos 0 <ℤ turn_of (whole t.b) (whole u.b) (whole q)) (sym f)
     (subst (λ (p : Pt). pos 0 <ℤ turn_of (whole p) (whole u.b) (whole u.c)) (sym e) d')))

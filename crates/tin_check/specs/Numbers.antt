@@ -21,6 +21,10 @@ AreAt ns i j k a b c = (i ≡ slice_index_or ns a 0) × (j ≡ slice_index_or ns
 abbrev pub IsMarkedAt : List Bool → ℕ → ℕ → ℕ → Type 0
 IsMarkedAt marks a b c = (slice_index_or marks a false ≡ true) × (slice_index_or marks b false ≡ false) × (slice_index_or marks c false ≡ false)
 
+-- no corner is marked
+abbrev pub AreUnmarked : List Bool → Type 0
+AreUnmarked marks = (slice_index_or marks 0 false ≡ false) × (slice_index_or marks 1 false ≡ false) × (slice_index_or marks 2 false ≡ false)
+
 -- the corners i, j and k, in the direction of the triangle: the first is marked, and no other
 abbrev pub IsMarkedCorner : List Bool → List ℕ → ℕ → ℕ → ℕ → Type 0
 IsMarkedCorner marks ns i j k = (IsMarkedAt marks 0 1 2 × AreAt ns i j k 0 1 2) ⊎ ((IsMarkedAt marks 1 2 0 × AreAt ns i j k 1 2 0) ⊎ (IsMarkedAt marks 2 0 1 × AreAt ns i j k 2 0 1))

@@ -47,6 +47,16 @@ fn meet(t: &Tri, u: &Tri) -> bool
     meets_side(t.c, t.a, u)
 }
 
+/// Whether the triangles have no common point.
+pub(crate) fn are_apart(t: &Tri, u: &Tri) -> bool
+    requires near { AreNearTris t.now u.now }
+    requires t_positive { pos 0 <ℤ turn_of (whole t.now.a) (whole t.now.b) (whole t.now.c) }
+    requires u_positive { pos 0 <ℤ turn_of (whole u.now.a) (whole u.now.b) (whole u.now.c) }
+    ensures { IsTrue result ↔ MeetOnlyIn (corners t.now) (corners u.now) [] }
+{
+    !meet(t, u)
+}
+
 /// Whether two triangles whose first corners are the same have no other common point.
 fn meet_at_corner(t: &Tri, u: &Tri) -> bool
     requires near { AreNearTris t.now u.now }
@@ -107,7 +117,7 @@ pub fn fits(t: &Tri, u: &Tri, common: Common) -> bool
     ensures { let points = marked_of common.of_t (points_of t.now) in IsTrue result ↔ (length points ≤ 2 × MeetOnlyIn (corners t.now) (corners u.now) (map whole points)) }
 {
     match read_marks(t, common.of_t) {
-        Marked::Nothing => !meet(t, u),
+        Marked::Nothing => are_apart(t, u),
         Marked::Corner(from_corner) => fit_at_corner(&from_corner, u),
         Marked::Side(from_side) => fit_at_side(&from_side, u),
         Marked::All => false,

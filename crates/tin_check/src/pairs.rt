@@ -1,11 +1,14 @@
+//! Whether two triangles of a triangulation fit together, by the numbers of their corners first.
+
 ghost use Rattle.std.specs.Prelude.{◌≡◌, ◌↔◌, ◌<◌, pos, ◌<ℤ◌, IsTrue, IfSome, [], ◌∷◌, map, length};
 ghost use Rattle.plane_base.specs.Plane.{corners as corners_of};
 ghost use Rattle.tin_base.specs.Triangulation.{numbers_of, places};
 ghost use Rattle.tin_base.specs.Limits.{IsWithinLimits};
 ghost use Rattle.tin_base.specs.Soundness.{turn_in, has, DoFit};
 ghost use Rattle.tin_check.specs.Meeting.{MeetOnlyIn};
-ghost use Rattle.tin_check.specs.Numbers.{AreCounted, AreFrom, IsMarkedCorner, IsMarkedSide};
+ghost use Rattle.tin_check.specs.Numbers.{AreCounted, AreFrom, AreUnmarked, IsMarkedCorner, IsMarkedSide};
 
+use crate::fitting::are_apart;
 use crate::parting::are_parted;
 use crate::{Common, fits};
 use plane_base::Tri;
@@ -34,6 +37,16 @@ fn marks(first: &[u32; 3], second: &[u32; 3]) -> [bool; 3]
         is_among(second, first[1]),
         is_among(second, first[2]),
     ]
+}
+
+/// Whether no corner is marked.
+fn are_unmarked(marks: [bool; 3]) -> bool
+    ensures { IsTrue result → AreUnmarked marks }
+{
+    match marks {
+        [false, false, false] => true,
+        _ => false,
+    }
 }
 
 /// A side of a triangle, in its direction, by the numbers of its corners.
@@ -155,7 +168,23 @@ fn part_at(tin: &Tin, t: u32, u: u32, frame: Frame, corners: Corners, others: Co
 }
 
 /// Whether two triangles meet, in a frame, in their common corners and in what those span, and nowhere else.
+#[inline(always)]
 pub(crate) fn pair_fits(tin: &Tin, t: u32, u: u32, frame: Frame) -> bool
+    requires t_in_range { t < length tin.now.triangles }
+    requires u_in_range { u < length tin.now.triangles }
+    requires t_positive { pos 0 <ℤ turn_in tin.now frame t }
+    requires u_positive { pos 0 <ℤ turn_in tin.now frame u }
+    ensures { IsTrue result ↔ DoFit tin.now frame t u }
+{
+    match frame {
+        Frame::Source => fit_in(tin, t, u, Frame::Source),
+        Frame::Target => fit_in(tin, t, u, Frame::Target),
+    }
+}
+
+/// The same. It is compiled once for each frame, so that no corner asks which frame it is.
+#[inline(always)]
+fn fit_in(tin: &Tin, t: u32, u: u32, frame: Frame) -> bool
     requires t_in_range { t < length tin.now.triangles }
     requires u_in_range { u < length tin.now.triangles }
     requires t_positive { pos 0 <ℤ turn_in tin.now frame t }
@@ -173,14 +202,17 @@ pub(crate) fn pair_fits(tin: &Tin, t: u32, u: u32, frame: Frame) -> bool
             }
         }
     }
+    if are_unmarked(of_t) {
+        return are_apart(&tin.tri(t, frame), &tin.tri(u, frame));
+    }
+    if let Some(side) = marked_side(first, of_t) {
+        if let Some(others) = corners_from(second, side.to) {
+            return others.second == side.from;
+        }
+    }
     let common = Common {
         of_t,
         of_u: marks(second, first),
     };
-    let side = marked_side(first, common.of_t);
-    let other = marked_side(second, common.of_u);
-    if let (Some(side), Some(other)) = (side, other) {
-        return side.to == other.from;
-    }
     fits(&tin.tri(t, frame), &tin.tri(u, frame), common)
 }

@@ -16,7 +16,7 @@ use Rattle.tin_base.proofs.Weights.{HasAll}
 use Rattle.tin_base.proofs.Alike.{alike_of, alike_in, alike_more}
 use Rattle.tin_index.specs.Sides.{HasCorner, corner_of, next_of, IsAcross, IsStar}
 use Rattle.tin_index.proofs.Corners.{Numbered, numbered, read_differ, own, first_has, second_has, third_has}
-use Rattle.tin_index.proofs.AtSide.{overlap_at_side}
+use Rattle.plane_base.proofs.LeftOfSide.{overlap_at_side}
 
 -- some of the corners, in another order or twice, have no other mixes
 pub mix_in : (tin : Triangulation) (ns ks : List ℕ) (p : Point) → HasAll ns ks → IsMix p (places tin Source ks) → IsMix p (places tin Source ns)

@@ -5,6 +5,5 @@ pub mod Round
 pub mod Least
 pub mod Corners
 pub mod Starring
-pub mod AtSide
 pub mod Across
 pub mod Inside
