@@ -8,3 +8,4 @@ pub mod SheetPieces
 pub mod SheetImages
 pub mod SheetLaws
 pub mod SegmentImages
+pub mod Sides
