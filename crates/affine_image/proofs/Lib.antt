@@ -14,4 +14,9 @@ pub mod Bearing
 pub mod OneCut
 pub mod Segmenting
 pub mod SegmentImages
-mod HeightLemmas
+pub mod Crossing
+pub mod Leaving
+pub mod PathVertices
+pub mod SheetPaths
+pub mod Runs
+pub mod Counting

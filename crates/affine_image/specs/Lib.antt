@@ -8,4 +8,4 @@ pub mod SheetPieces
 pub mod SheetImages
 pub mod SheetLaws
 pub mod SegmentImages
-pub mod Heights
+pub mod Sides

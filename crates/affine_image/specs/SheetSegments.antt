@@ -1,7 +1,9 @@
 -- The vertices of a sheet's paths in order, and the segments that begin at them.
-use Rattle.std.specs.Prelude.{ℕ, ◌+◌, nat_lt, if◌then◌else◌, Option, Some, None, List, [], ◌∷◌, ◌++◌, map, filter_map}
+use Rattle.std.specs.Prelude.{ℕ, ◌+◌, nat_lt, Bool, false, if◌then◌else◌, Option, Some, None, List, [], ◌∷◌, ◌++◌, map, filter_map}
 use Rattle.std.specs.List.{range_with_len}
 use Rattle.plane_base.specs.declared.shapes.Pt.{Pt}
+use Rattle.sheet_base.specs.declared.paths.PathKind.{PathKind}
+use Rattle.sheet_base.specs.declared.paths.PathKind.TheVariants.{Dot, Line, Loop}
 use Rattle.sheet_base.specs.declared.paths.PathRow.{PathRow}
 use Rattle.sheet_base.specs.Segments.{points_in, segments_in, begin_of, end_of}
 use Rattle.sheet_base.specs.Sheets.{Contents}
@@ -47,3 +49,13 @@ segments_begun vertices = filter_map (λ vertex. vertex.segment) vertices
 -- the segments of a sheet: path by path, and in each from point to point
 abbrev pub sheet_segments : Contents → List Segment
 sheet_segments sheet = segments_begun (sheet_vertices sheet)
+
+-- ---- how many
+-- the last point of a path begins no segment where it is a line of two points or more
+abbrev pub ends_open_of : PathKind → ℕ → Bool
+ends_open_of Dot count = false
+ends_open_of Line count = nat_lt 1 count
+ends_open_of Loop count = false
+
+abbrev pub ends_open : PathRow → Bool
+ends_open row = ends_open_of row.kind (points_in row)

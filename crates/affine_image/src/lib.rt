@@ -2,14 +2,16 @@
 //! Offsets are taken from a corner of the target frame, so that no product passes 128 bits.
 #![tactic(auto)]
 
-mod heights;
+mod counts;
+mod crossings;
 mod images;
 mod laws;
 mod mixing;
 mod quotients;
 mod weights;
 
-pub use heights::{ends_keep_heights, height_at, heights_agree, heights_are_between};
+pub use counts::{next_point, point_count, segment_count, segment_total};
+pub use crossings::end_image;
 pub use images::{image_cut, image_of};
 pub use laws::{
     cuts_are_images, doubled_numerators_are_small, image_segments_are_pieces, images_fit,

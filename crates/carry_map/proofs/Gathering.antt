@@ -13,6 +13,7 @@ use Rattle.affine_image.specs.SheetSegments.{Segment, PathVertex, segments_begun
 use Rattle.affine_image.specs.SheetPieces.{first_place, ArePiecesOfAll, AreInside}
 use Rattle.affine_image.specs.SheetImages.{AreCrossings, AreRuns, joined, begins_from}
 use Rattle.affine_image.proofs.Told.{inner_ends}
+use Rattle.affine_image.proofs.Runs.{runs_more, begins_more, inside_more}
 use Rattle.affine_image.proofs.Segmenting.{begun_append}
 use Rattle.carry_map.specs.Carried.{inner_images, AreSegmentTold, IsSegmentCarried, AreCarried}
 
@@ -26,20 +27,6 @@ behind_front before own all n e f = subst (λ (xs : List _). take (length xs - n
         enough : length (before ++ own) ≡ length before + length own → length own ≤ length (before ++ own) - length before
         enough h = omega arith
 
--- ---- runs
-pub runs_more : (tin : Triangulation) (vs ws : List PathVertex) (rs ss : List (List Pt)) → AreRuns tin vs rs → AreRuns tin ws ss → AreRuns tin (vs ++ ws) (rs ++ ss)
-runs_more tin [] ws [] ss h k = k
-runs_more tin [] ws (r ∷ rs) ss h k = absurd h
-runs_more tin (v ∷ vs) ws [] ss h k = absurd h
-runs_more tin (v ∷ vs) ws (r ∷ rs) ss h k = (h.0, runs_more tin vs ws rs ss h.1 k)
-
-pub begins_more : (n : ℕ) (rs ss : List (List Pt)) → begins_from n (rs ++ ss) ≡ begins_from n rs ++ begins_from (n + length (joined rs)) ss
-begins_more n [] ss = ap (λ (m : ℕ). begins_from m ss) (omega arith)
-begins_more n (r ∷ rs) ss = ap (λ (ms : List ℕ). n ∷ ms) (begins_more (n + length r) rs ss ∙ ap (λ (m : ℕ). begins_from (n + length r) rs ++ begins_from m ss) (moved (length-append r (joined rs))))
-  where
-    moved : length (r ++ joined rs) ≡ length r + length (joined rs) → n + length r + length (joined rs) ≡ n + length (r ++ joined rs)
-    moved h = omega arith
-
 -- ---- segments and pieces
 pub pieces_more : (tin : Triangulation) (layer : ℕ) (ss ts : List Segment) (ps qs : List Piece) → ArePiecesOfAll tin layer ss ps → ArePiecesOfAll tin layer ts qs → ArePiecesOfAll tin layer (ss ++ ts) (ps ++ qs)
 pieces_more tin layer [] ts ps qs h k = subst (λ (xs : List Piece). ArePiecesOfAll tin layer ts (xs ++ qs)) (sym h) k
@@ -50,10 +37,6 @@ pieces_more tin layer (s ∷ ss) ts ps qs h k = (
   h.3,
   pieces_more tin layer ss ts h.1 qs h.4 k,
 )
-
-pub inside_more : (tin : Triangulation) (ss ts : List Segment) → AreInside tin ss → AreInside tin ts → AreInside tin (ss ++ ts)
-inside_more tin [] ts h k = k
-inside_more tin (s ∷ ss) ts h k = (h.0, inside_more tin ss ts h.1 k)
 
 -- ---- carried
 pub carried_none : (tin : Triangulation) (layer : ℕ) (points : List Pt) (run : List ℕ) (pieces : List Piece) → AreCarried tin layer [] points points run run pieces pieces

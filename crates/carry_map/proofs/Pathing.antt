@@ -22,8 +22,8 @@ use Rattle.tin_base.specs.Images.{IsInSome}
 use Rattle.tin_base.specs.Segments.{IsInside}
 use Rattle.affine_image.specs.Rounded.{IsRoundedImage}
 use Rattle.affine_image.specs.SheetSegments.{Segment, PathVertex, segment_at, vertex_at, path_vertices, segments_begun}
-use Rattle.affine_image.proofs.Segmenting.{begun_append}
-use Rattle.seg_walk.proofs.Taking.{first_inside}
+use Rattle.affine_image.proofs.PathVertices.{AreFew, few, in_points, first_vertices, one_vertex_more, begins_one, begins_none, first_point_is, next_begins, split_at}
+use Rattle.tin_base.proofs.Spots.{first_inside}
 use Rattle.carry_map.specs.declared.segments.Way.{Way}
 use Rattle.carry_map.specs.declared.paths.Track.{Track}
 use Rattle.carry_map.specs.declared.faults.CarryFault.{CarryFault}
@@ -32,42 +32,6 @@ use Rattle.carry_map.specs.Causes.{IsFirstOutside, IsCause, IsWayCause}
 use Rattle.carry_map.proofs.Gathering.{carried_none, carried_on, carried_last, carried_way}
 use Rattle.carry_map.proofs.Stopping.{cause_of_way, cause_between}
 
--- ---- how many segments
-pub record AreFew (segments points : ℕ) : Type 0 where
-  pub some : 0 < segments
-  pub upto : segments ≤ points
-  pub least : points ≤ segments + 1
-
-few_of : (kind : PathKind) (n : ℕ) → 0 < n → (kind ≡ Dot → n ≡ 1) → AreFew (segments_of kind n) n
-few_of Dot n h dot = let e = dot refl in record { some = omega arith; upto = omega arith; least = omega arith }
-few_of Line n h dot = record { some = omega arith; upto = omega arith; least = omega arith }
-few_of Loop n h dot = record { some = h; upto = omega arith; least = omega arith }
-
-pub few : (row : PathRow) → IsPathFrom row.first row → AreFew (segments_in row) (points_in row)
-few row path = few_of row.kind (points_in row) (some row.first row.past path.some) (λ e. one row.first row.past (path.dot e))
-  where
-    some : (m n : ℕ) → m < n → 0 < n - m
-    some m n h = omega arith
-
-    one : (m n : ℕ) → n ≡ m + 1 → n - m ≡ 1
-    one m n e = omega arith
-
--- ---- the vertices so far
-abbrev pub first_vertices : List Pt → ℕ → PathRow → ℕ → List PathVertex
-first_vertices points path row j = map (vertex_at points path row) (range_with_len 0 j)
-
-one_vertex_more : (points : List Pt) (path : ℕ) (row : PathRow) (j : ℕ) → first_vertices points path row (j + 1) ≡ first_vertices points path row j ++ vertex_at points path row j ∷ []
-one_vertex_more points path row j = map-range_with_len_more (vertex_at points path row) 0 j j (omega arith)
-
-begins_one : (points : List Pt) (path : ℕ) (row : PathRow) (j : ℕ) → j < segments_in row → (vertex_at points path row j).segment ≡ Some (segment_at points path row j)
-begins_one points path row j h = ap (λ (b : Bool). cond b (Some (segment_at points path row j)) None) (lt-ltb j (segments_in row) h)
-
-not_below : (j n : ℕ) → n ≤ j → ltb j n ≡ false
-not_below j n h = grind arith
-
-begins_none : (points : List Pt) (path : ℕ) (row : PathRow) (j : ℕ) → segments_in row ≤ j → (vertex_at points path row j).segment ≡ None
-begins_none points path row j h = ap (λ (b : Bool). cond b (Some (segment_at points path row j)) None) (not_below j (segments_in row) h)
-
 -- ---- what stands after some vertices
 pub record IsPathCarried (tin : Triangulation) (layer : ℕ) (points : List Pt) (path : ℕ) (row : PathRow) (most : ℕ) (x x' : List Pt) (r r' : List ℕ) (p p' : List Piece) (j : ℕ) (image : Pt) : Type 0 where
   pub carried : AreCarried tin layer (first_vertices points path row j) x x' r r' p p'
@@ -75,9 +39,6 @@ pub record IsPathCarried (tin : Triangulation) (layer : ℕ) (points : List Pt) 
   pub room : length p' ≤ most
   pub count : length x' + length p ≡ length x + length p'
   pub more : j + length p ≤ length p'
-
-first_point_is : (points : List Pt) (n : ℕ) → point_at points n ≡ point_at points (n + 0)
-first_point_is points n = ap (λ (m : ℕ). point_at points m) (omega arith)
 
 pub path_start : (tin : Triangulation) (layer : ℕ) (points : List Pt) (path : ℕ) (row : PathRow) (most : ℕ) (x : List Pt) (r : List ℕ) (p : List Piece) (image : Pt) → IsRoundedImage tin (point_at points row.first) image → length p ≤ most
     → IsPathCarried tin layer points path row most x x r r p p 0 image
@@ -88,18 +49,6 @@ path_start tin layer points path row most x r p image is room = record {
   count = refl;
   more = omega arith;
 }
-
-pub next_begins : (points : List Pt) (row : PathRow) (j : ℕ) → j + 1 < points_in row → end_of points row j ≡ begin_of points row (j + 1)
-next_begins points row j h = ap (λ (n : ℕ). point_at points n) (next (row.first + j) row.past row.first (within row.first row.past h) ∙ moved row.first)
-  where
-    within : (m n : ℕ) → j + 1 < n - m → m + j + 1 < n
-    within m n h = omega arith
-
-    moved : (m : ℕ) → m + j + 1 ≡ m + (j + 1)
-    moved m = omega arith
-
-    next : (k n m : ℕ) → k + 1 < n → cond (ltb (k + 1) n) (k + 1) m ≡ k + 1
-    next k n m h = ap (λ (b : Bool). cond b (k + 1) m) (lt-ltb (k + 1) n h)
 
 -- the way is the path's segment of this number
 pub record IsWayAt (points : List Pt) (track : Track) (j : ℕ) (way : Way) : Type 0 where
@@ -168,27 +117,6 @@ path_but_last tin layer points path row most x x' y r r' s p p' j image from e o
         up n e = omega arith
 
 -- ---- why it is not carried
-split_at : (points : List Pt) (path : ℕ) (row : PathRow) (j : ℕ) → IsPathFrom row.first row → j < segments_in row
-    → segments_begun (path_vertices points path row) ≡ segments_begun (first_vertices points path row j) ++ ((segment_at points path row j ∷ []) ++ segments_begun (drop (suc j) (path_vertices points path row)))
-split_at points path row j from h =
-    ap segments_begun (sym (take-append-drop j (path_vertices points path row))) ∙ begun_append (take j (path_vertices points path row)) (drop j (path_vertices points path row))
-    ∙ ap₂ (λ (vs ws : List PathVertex). segments_begun vs ++ segments_begun ws) (take-map-range_with_len (vertex_at points path row) 0 (points_in row) j up)
-    (drop-cons (path_vertices points path row) j (vertex_at points path row j) (subst (λ (n : ℕ). j < n) (sym (length-map-range_with_len (vertex_at points path row) 0 (points_in row))) here)
-    ∙ ap (λ (v : PathVertex). v ∷ drop (suc j) (path_vertices points path row)) (get_or-map-range_with_len (vertex_at points path row) 0 (points_in row) j j (vertex_at points path row j) here (omega arith)))
-    ∙ ap (λ (s : Option Segment). segments_begun (first_vertices points path row j) ++ cons_option s (segments_begun (drop (suc j) (path_vertices points path row)))) (begins_one points path row j h)
-  where
-    here : j < points_in row
-    here = let f = few row from in within (segments_in row) (points_in row) h f.upto
-      where
-        within : (m n : ℕ) → j < m → m ≤ n → j < n
-        within m n h k = omega arith
-
-    up : j ≤ points_in row
-    up = below (points_in row) here
-      where
-        below : (n : ℕ) → j < n → j ≤ n
-        below n h = omega arith
-
 pub path_cause : (tin : Triangulation) (points : List Pt) (track : Track) (most : ℕ) (x x' : List Pt) (r r' : List ℕ) (p p' : List Piece) (j : ℕ) (image : Pt) (way : Way) (fault : CarryFault)
     → IsPathFrom track.row.first track.row → j < segments_in track.row → IsPathCarried tin track.from.layer points track.from.path track.row most x x' r r' p p' j image → IsWayAt points track j way → IsWayCause tin way (length p') most fault
     → IsCause tin track.from.layer (length p) most (segments_begun (path_vertices points track.from.path track.row)) fault
@@ -221,9 +149,3 @@ path_outside tin points track most p path room none =
 pub exits : {A : Type 0} (Q : CarryFault → Type 0) (fault : CarryFault) (r : Result A CarryFault) → IsErrAnd r (λ e. e ≡ fault) → Q fault → IfErr r Q
 exits Q fault (Ok value) h q = absurd h
 exits Q fault (Err e) h q = subst Q (sym h) q
-
-pub in_points : (row : PathRow) (j : ℕ) → IsPathFrom row.first row → j < segments_in row → j < points_in row
-in_points row j path h = let f = few row path in within (segments_in row) (points_in row) h f.upto
-  where
-    within : (m n : ℕ) → j < m → m ≤ n → j < n
-    within m n h k = omega arith

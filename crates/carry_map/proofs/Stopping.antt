@@ -9,7 +9,8 @@ use Rattle.carry_map.specs.declared.segments.Way.{Way}
 use Rattle.carry_map.specs.declared.faults.CarryFault.{CarryFault}
 use Rattle.carry_map.specs.declared.faults.CarryFault.TheVariants.{Layer, Outside, TooMany, NoMemory}
 use Rattle.carry_map.specs.Causes.{HaveRoom, IsReached, IsCause, IsWayCause}
-use Rattle.carry_map.proofs.Gathering.{pieces_more, inside_more}
+use Rattle.affine_image.proofs.Runs.{inside_more}
+use Rattle.carry_map.proofs.Gathering.{pieces_more}
 
 -- the segment of a way
 abbrev pub segment_of : Way → Segment

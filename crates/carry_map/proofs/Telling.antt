@@ -19,9 +19,10 @@ use Rattle.tin_base.proofs.Spots.{spot-w}
 use Rattle.affine_image.proofs.Joining.{same_or, point_same, AreInLine, in_line}
 use Rattle.affine_image.proofs.Told.{place_on, told_more, told_length}
 use Rattle.seg_walk.specs.declared.steps.Step.{Step}
-use Rattle.seg_walk.specs.Steps.{spot_of, part_of, point_of, IsSliceIn, HaveSlices, AreSteps}
-use Rattle.seg_walk.proofs.Beginning.{params, HasParams}
-use Rattle.seg_walk.proofs.Spots.{spot_some}
+use Rattle.tin_base.specs.Slices.{spot_of, IsSliceIn}
+use Rattle.seg_walk.specs.Steps.{part_of, point_of, HaveSlices, AreSteps}
+use Rattle.tin_base.proofs.SlicedParts.{params, HasParams}
+use Rattle.tin_base.proofs.Params.{spot_some}
 use Rattle.carry_map.specs.Carried.{AreSegmentTold}
 use Rattle.carry_map.specs.Causes.{IsWayTooMany}
 use Rattle.carry_map.specs.declared.segments.Way.{Way}

@@ -1,10 +1,6 @@
 -- What it is that a whole layer is carried, and that it is not: read, carried and rendered.
-use Rattle.std.specs.Prelude.{◌≡◌, ℕ, nat_lt, Bool, false, List, ◌++◌, length}
+use Rattle.std.specs.Prelude.{◌≡◌, ℕ, List, ◌++◌, length}
 use Rattle.sheet_base.specs.declared.edits.Edit.{Edit}
-use Rattle.sheet_base.specs.declared.paths.PathKind.{PathKind}
-use Rattle.sheet_base.specs.declared.paths.PathKind.TheVariants.{Dot, Line, Loop}
-use Rattle.sheet_base.specs.declared.paths.PathRow.{PathRow}
-use Rattle.sheet_base.specs.Segments.{points_in}
 use Rattle.sheet_base.specs.Sheets.{Contents}
 use Rattle.sheet_base.specs.Fitting.{Runs, DoFit}
 use Rattle.sheet_base.specs.Splices.{AreInOrder, spliced}
@@ -17,16 +13,6 @@ use Rattle.affine_image.specs.SheetImages.{AreImagesOf}
 use Rattle.affine_image.specs.SheetLaws.{image_ends}
 use Rattle.carry_map.specs.declared.layers.Carried.{Carried}
 use Rattle.carry_map.specs.Causes.{IsFirstOutside, IsFirstTooMany}
-
--- ---- how many segments
--- the last point of a path begins no segment where it is a line of two points or more
-abbrev pub ends_open_of : PathKind → ℕ → Bool
-ends_open_of Dot count = false
-ends_open_of Line count = nat_lt 1 count
-ends_open_of Loop count = false
-
-abbrev pub ends_open : PathRow → Bool
-ends_open row = ends_open_of row.kind (points_in row)
 
 -- ---- a layer
 -- it is read as some sheet, and this is so of the sheet

@@ -1,5 +1,4 @@
 -- The files of definitions of carry_map.
-pub mod Sides
 pub mod Carried
 pub mod Causes
 pub mod Layers

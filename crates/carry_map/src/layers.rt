@@ -1,14 +1,15 @@
 //! One call reads a layer, carries it and writes its bytes with the images in place of its points.
 
-ghost use Rattle.std.specs.Prelude.{◌≡◌, ◌≢◌, ℕ, ◌≤◌, ◌^◌, length, drop, vec_len, count_by, IfOk, OnOk, OnErr, IsErrOf};
+ghost use Rattle.std.specs.Prelude.{◌≡◌, ◌≢◌, ℕ, ◌≤◌, ◌^◌, length, drop, vec_len, IfOk, OnOk, OnErr, IsErrOf};
 ghost use Rattle.sheet_base.specs.declared.faults.LayerFault.{LayerFault};
 ghost use Rattle.sheet_base.specs.declared.faults.LayerFault.TheVariants.{NoMemory};
 ghost use Rattle.affine_image.specs.SheetSegments.{sheet_segments};
 ghost use Rattle.carry_map.specs.declared.limits.TheConstants.{MOST_PIECES};
-ghost use Rattle.carry_map.specs.Layers.{ends_open, IsLayerCarried, IsLayerOutside, IsLayerTooMany, IsBackAsPieces};
+ghost use Rattle.carry_map.specs.Layers.{IsLayerCarried, IsLayerOutside, IsLayerTooMany, IsBackAsPieces};
 
 use crate::{CarryFault, carry};
-use sheet_base::{How, Layer, LayerFault, Listed, PathKind, PathRow, Sheet};
+use affine_image::segment_total;
+use sheet_base::{How, Layer, LayerFault, Listed, Sheet};
 use std::alloc::{AllocError, Global};
 use tin_base::Piece;
 use tin_index::TinIndex;
@@ -23,29 +24,6 @@ pub struct Carried {
     pub pieces: u32,
     pub inexact: u64,
     pub dropped: u64,
-}
-
-/// Whether the path's last point begins no segment, as that of a line of two points or more.
-fn is_open(row: PathRow) -> bool
-    ensures { result ≡ ends_open row }
-{
-    match row.kind {
-        PathKind::Line => row.past.saturating_sub(row.first) > 1,
-        PathKind::Dot | PathKind::Loop => false,
-    }
-}
-
-fn open_count(rows: &[PathRow]) -> usize
-    ensures { result ≡ count_by ends_open rows.now }
-{
-    rows.iter().filter(|row| is_open(**row)).count()
-}
-
-/// How many segments a sheet has: one for each of its points, but for those at the ends of lines.
-fn segment_total(sheet: &Sheet) -> u32
-    ensures { result ≡ length (sheet_segments sheet.now) }
-{
-    (sheet.points().len() - open_count(sheet.paths())) as u32
 }
 
 /// How many paths.

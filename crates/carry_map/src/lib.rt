@@ -3,7 +3,6 @@
 #![tactic(auto)]
 
 mod carrying;
-mod crossings;
 mod faults;
 mod laws;
 mod layers;

@@ -14,9 +14,9 @@ ghost use Rattle.carry_map.specs.Causes.{IsCause};
 
 use crate::CarryFault;
 use crate::segments::{Way, carry_segment};
-use affine_image::image_of;
+use affine_image::{image_of, next_point, point_count, segment_count};
 use plane_base::Pt;
-use sheet_base::{PathKind, PathRow};
+use sheet_base::PathRow;
 use std::alloc::Global;
 use tin_base::{Piece, Place};
 use tin_index::TinIndex;
@@ -33,38 +33,6 @@ pub(crate) struct Gathered {
 pub(crate) struct Track {
     pub(crate) row: PathRow,
     pub(crate) from: Place,
-}
-
-/// How many points a path has.
-fn point_count(row: PathRow) -> u32
-    requires { row.first < row.past }
-    ensures { result ≡ points_in row }
-{
-    row.past - row.first
-}
-
-/// How many segments it has.
-fn segment_count(row: PathRow) -> u32
-    requires { row.first < row.past }
-    ensures { result ≡ segments_in row }
-{
-    match row.kind {
-        PathKind::Dot => 1,
-        PathKind::Line => (point_count(row) - 1).max(1),
-        PathKind::Loop => point_count(row),
-    }
-}
-
-/// The number of the point to which the segment goes that begins at this one.
-fn next_point(row: PathRow, point: u32) -> u32
-    requires { point < row.past }
-    ensures { result ≡ next_in row point }
-{
-    if point + 1 < row.past {
-        point + 1
-    } else {
-        row.first
-    }
 }
 
 /// A triangle that has a point, and the image of the point.

@@ -11,7 +11,7 @@ ghost use Rattle.carry_map.specs.Carried.{Grows, AreSegmentTold, IsSegmentCarrie
 ghost use Rattle.carry_map.specs.Causes.{IsCutCause, IsWayCause};
 
 use crate::CarryFault;
-use crate::crossings::end_image;
+use affine_image::end_image;
 use plane_base::Pt;
 use seg_walk::{Step, Steps, WalkFault, cut_from};
 use std::alloc::Global;
@@ -50,7 +50,7 @@ fn tell_pieces(
 {
     let mut start = image;
     for (number, step) in steps.iter().enumerate() {
-        let end = end_image(tin, way.a, way.b, step);
+        let end = end_image(tin, step.tri, way.a, way.b, step.slice);
         let from = Place {
             layer: way.from.layer,
             path: way.from.path,

@@ -2,7 +2,7 @@
 use Rattle.std.proofs.Common.{◌≡◌, ◌≢◌, ◌⊎◌, inl, inr, ℕ, suc, ◌+◌, ◌<◌, List, [], ◌∷◌, length, map, refl, sym, subst, arith}
 use Rattle.plane_base.specs.Plane.{whole}
 use Rattle.plane_base.specs.declared.shapes.Pt.{Pt}
-use Rattle.plane_base.proofs.Mixes.{same_trans, mix_moved, between_weights, weights_between}
+use Rattle.plane_base.proofs.Mixes.{mix_moved, between_weights}
 use Rattle.tin_base.specs.declared.frames.Frame.TheVariants.{Source}
 use Rattle.tin_base.specs.Triangulation.{Triangulation, numbers_of, places}
 use Rattle.tin_base.specs.Images.{IsInSome}
@@ -10,7 +10,7 @@ use Rattle.tin_base.specs.Soundness.{IsSound}
 use Rattle.tin_base.specs.Segments.{Spot, spot_at, at_a, at_b, IsBefore, IsNotAfter, IsSameSpot, IsInside, IsPart, Part, part_at, ArePieces, ArePiecesAt, ArePiecesOf, AreChain}
 use Rattle.tin_base.proofs.Ends.{IsSpot, before_or, no_later, no_later_trans, up_to_same, from_same}
 use Rattle.tin_base.proofs.Parts.{between_in}
-use Rattle.tin_base.proofs.Spots.{one, spot-w, spot_of_point, spot_first}
+use Rattle.tin_base.proofs.Spots.{spot-w, first_inside, point_inside}
 use Rattle.tin_base.proofs.Chain.{chain}
 use Rattle.affine_image.proofs.Joining.{same_or}
 use Rattle.cert_check.specs.RightLists.{AreFollowing, IsOneWith, IsRightList}
@@ -51,13 +51,6 @@ following_inside tin a b (t ∷ ts) sound follow p hp m =
     let has = covered tin a b at_a t ts s sound follow (omega arith) i.some (from_a s) in
     (has.0, has.1, mix_moved (spot_at a b s) p (places tin Source (numbers_of tin has.0)) (spot-w a b s i.some) i.same has.2)
 
-point_inside : (tin : Triangulation) (p : Pt) → IsInSome tin Source (whole p) → IsInside tin p p
-point_inside tin p has q hq m =
-    let i = between_weights (whole p) (whole p) q m in
-    let s : Spot = record { of_a = i.k; of_b = i.l } in
-    let same = same_trans q (spot_at p p s) (whole p) (spot-w p p s i.some) i.same (spot_of_point p s) in
-    (has.0, has.1, mix_moved (whole p) q (places tin Source (numbers_of tin has.0)) one same has.2)
-
 pub one_inside : (tin : Triangulation) (a : Pt) (numbers : List ℕ) → IsOneWith tin a numbers → IsInSome tin Source (whole a)
 one_inside tin a [] h = absurd h
 one_inside tin a (t ∷ []) h = (t, h.0, h.1)
@@ -73,58 +66,57 @@ right_inside tin a b numbers sound right = go (same_or a b)
 -- ---- the triangles of pieces
 
 -- what of the parts from x on is needed
-record IsRow (tin : Triangulation) (a b : Pt) (x : Spot) (parts : List Part) : Type 0 where
-  part : (i : ℕ) → i < length parts → IsPart tin a b (part_at parts i).triangle (part_at parts i).first (part_at parts i).last
-  begins : 0 < length parts → IsSameSpot (part_at parts 0).first x
-  joined : (i : ℕ) → suc i < length parts → IsSameSpot (part_at parts (suc i)).first (part_at parts i).last
-  ends : (i : ℕ) → suc i ≡ length parts → IsSameSpot (part_at parts i).last at_b
-  none : 0 ≡ length parts → IsSameSpot x at_b
+pub record IsRow (tin : Triangulation) (a b : Pt) (x : Spot) (parts : List Part) : Type 0 where
+  pub part : (i : ℕ) → i < length parts → IsPart tin a b (part_at parts i).triangle (part_at parts i).first (part_at parts i).last
+  pub begins : 0 < length parts → IsSameSpot (part_at parts 0).first x
+  pub joined : (i : ℕ) → suc i < length parts → IsSameSpot (part_at parts (suc i)).first (part_at parts i).last
+  pub ends : (i : ℕ) → suc i ≡ length parts → IsSameSpot (part_at parts i).last at_b
+  pub none : 0 ≡ length parts → IsSameSpot x at_b
+
+pub row_rest : (tin : Triangulation) (a b : Pt) (x : Spot) (p : Part) (ps : List Part) → IsRow tin a b x (p ∷ ps) → IsRow tin a b p.last ps
+row_rest tin a b x p ps row = record {
+  part = λ i h. row.part (suc i) (omega arith);
+  begins = λ some. row.joined 0 (omega arith);
+  joined = λ i h. row.joined (suc i) (omega arith);
+  ends = λ i e. row.ends (suc i) (omega arith);
+  none = λ e. row.ends 0 (omega arith);
+}
 
 following_of : (tin : Triangulation) (a b : Pt) (x : Spot) (parts : List Part) → IsRow tin a b x parts → AreFollowing tin a b x (map (λ (part : Part). part.triangle) parts)
 following_of tin a b x [] row = row.none refl
-following_of tin a b x (p ∷ ps) row = (
-  p.first,
-  p.last,
-  row.part 0 (omega arith),
-  row.begins (omega arith),
-  following_of tin a b p.last ps (record {
-    part = λ i h. row.part (suc i) (omega arith);
-    begins = λ some. row.joined 0 (omega arith);
-    joined = λ i h. row.joined (suc i) (omega arith);
-    ends = λ i e. row.ends (suc i) (omega arith);
-    none = λ e. row.ends 0 (omega arith);
-  }),
-)
-
-first_inside : (tin : Triangulation) (a : Pt) → IsInside tin a a → IsInSome tin Source (whole a)
-first_inside tin a inside = inside (whole a) one (weights_between (whole a) (whole a) (whole a) (record { k = 1; l = 0; some = omega arith; same = let e = spot_first a a in (sym e.0, sym e.1) }))
+following_of tin a b x (p ∷ ps) row = (p.first, p.last, row.part 0 (omega arith), row.begins (omega arith), following_of tin a b p.last ps (row_rest tin a b x p ps row))
 
 one_of : (tin : Triangulation) (a : Pt) (parts : List Part) → IsInside tin a a → ArePiecesAt tin a parts → IsOneWith tin a (map (λ (part : Part). part.triangle) parts)
-one_of tin a [] inside none = absurd (none (first_inside tin a inside))
+one_of tin a [] inside none = absurd (none (first_inside tin a a inside))
 one_of tin a (part ∷ []) inside h = (h.0, h.1)
 one_of tin a (part ∷ next ∷ parts) inside h = absurd h
 
-pub pieces_right : (tin : Triangulation) (a b : Pt) (parts : List Part) → IsSound tin → IsInside tin a b → ArePiecesOf tin a b parts → IsRightList tin a b (map (λ (part : Part). part.triangle) parts)
-pieces_right tin a b parts sound inside pieces = (λ e. one_of tin a parts (subst (λ (q : Pt). IsInside tin a q) (sym e) inside) (pieces.0 e), λ differ. go differ (pieces.1 differ) (chain tin a b parts sound differ inside (pieces.1 differ)))
+pub row_of : (tin : Triangulation) (a b : Pt) (parts : List Part) → IsSound tin → a ≢ b → IsInside tin a b → ArePieces tin a b parts → IsRow tin a b at_a parts
+row_of tin a b parts sound differ inside are = go (chain tin a b parts sound differ inside are)
   where
-    go : a ≢ b → ArePieces tin a b parts → AreChain parts → AreFollowing tin a b at_a (map (λ (part : Part). part.triangle) parts)
-    go differ are row =
-        following_of tin a b at_a parts (record {
-          part = are.part;
-          begins = λ some. row.begins;
-          joined = λ i h. sym (subst (λ (n : ℕ). IsSameSpot (part_at parts i).last (part_at parts n).first) (next i) (row.joined i (below i (length parts) h)));
-          ends = λ i e. row.ends i (last i (length parts) e);
-          none = λ e. absurd (nothing (length parts) e row.some);
-        })
-      where
-        next : (i : ℕ) → i + 1 ≡ suc i
-        next i = omega arith
+    next : (i : ℕ) → i + 1 ≡ suc i
+    next i = omega arith
 
-        below : (i n : ℕ) → suc i < n → i + 1 < n
-        below i n h = omega arith
+    below : (i n : ℕ) → suc i < n → i + 1 < n
+    below i n h = omega arith
 
-        last : (i n : ℕ) → suc i ≡ n → i + 1 ≡ n
-        last i n e = omega arith
+    last : (i n : ℕ) → suc i ≡ n → i + 1 ≡ n
+    last i n e = omega arith
 
-        nothing : (n : ℕ) → 0 ≡ n → 0 < n → ⊥
-        nothing n e h = absurd (omega arith)
+    nothing : (n : ℕ) → 0 ≡ n → 0 < n → ⊥
+    nothing n e h = absurd (omega arith)
+
+    go : AreChain parts → IsRow tin a b at_a parts
+    go row = record {
+      part = are.part;
+      begins = λ some. row.begins;
+      joined = λ i h. sym (subst (λ (n : ℕ). IsSameSpot (part_at parts i).last (part_at parts n).first) (next i) (row.joined i (below i (length parts) h)));
+      ends = λ i e. row.ends i (last i (length parts) e);
+      none = λ e. absurd (nothing (length parts) e row.some);
+    }
+
+pub pieces_right : (tin : Triangulation) (a b : Pt) (parts : List Part) → IsSound tin → IsInside tin a b → ArePiecesOf tin a b parts → IsRightList tin a b (map (λ (part : Part). part.triangle) parts)
+pieces_right tin a b parts sound inside pieces = (
+  λ e. one_of tin a parts (subst (λ (q : Pt). IsInside tin a q) (sym e) inside) (pieces.0 e),
+  λ differ. following_of tin a b at_a parts (row_of tin a b parts sound differ inside (pieces.1 differ)),
+)

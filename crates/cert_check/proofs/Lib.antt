@@ -2,7 +2,6 @@
 pub mod Digits
 pub mod LineLaws
 pub mod PieceLines
-pub mod Spots
 pub mod Stretches
 pub mod Following
 pub mod Passing

@@ -214,7 +214,7 @@ one_line text (n ∷ ns) (m ∷ ms) rest more h k =
         record { numbers = ap₂ (λ (k : ℕ) (ks : List ℕ). k ∷ ks) same.number later.numbers; behind = later.behind }
 
 -- the lines of lists are not nothing
-not_nothing : (numbers rest : List ℕ) → IsList numbers → [] ≡ line_text numbers ++ rest → ⊥
+pub not_nothing : (numbers rest : List ℕ) → IsList numbers → [] ≡ line_text numbers ++ rest → ⊥
 not_nothing numbers rest list e = none (length rest) (line_shorter [] rest (numbers, record { list = list; spelled = e }))
   where
     none : (k : ℕ) → k < length {A = ℕ} [] → ⊥

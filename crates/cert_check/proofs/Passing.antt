@@ -13,20 +13,18 @@ use Rattle.tin_base.specs.Soundness.{IsSound}
 use Rattle.tin_base.specs.Segments.{Spot, at_a, at_b, IsSameSpot, IsInside, IsPart}
 use Rattle.tin_base.proofs.Ends.{IsSpot, no_later_trans, up_to_same, from_same, same_of}
 use Rattle.cert_check.specs.RightLists.{AreFollowing, IsOneWith, IsRightList}
-use Rattle.cert_check.specs.Slices.{spot_of, spot_behind, IsPartAt, HasNoPartAt, EndsAtParam}
-use Rattle.cert_check.proofs.Spots.{spot_is}
+use Rattle.tin_base.specs.Slices.{spot_of}
+use Rattle.cert_check.specs.Slices.{spot_behind, IsPartAt, HasNoPartAt, EndsAtParam}
+use Rattle.tin_base.proofs.Params.{spot_is}
 use Rattle.cert_check.proofs.Following.{following_inside}
 
 -- ---- one spot in place of another
-same_trans : (s t u : Spot) → IsSpot t → IsSameSpot s t → IsSameSpot t u → IsSameSpot s u
+pub same_trans : (s t u : Spot) → IsSpot t → IsSameSpot s t → IsSameSpot t u → IsSameSpot s u
 same_trans s t u some h k =
     same_of s u (no_later_trans s t u some (up_to_same s t h) (up_to_same t u k)) (no_later_trans u t s some (from_same t u k) (from_same s t h))
 
-turned : (s t : Spot) → IsSameSpot s t → IsSameSpot t s
-turned s t h = same_of t s (from_same s t h) (up_to_same s t h)
-
 following_moved : (tin : Triangulation) (a b : Pt) (x y : Spot) (numbers : List ℕ) → IsSpot x → IsSameSpot x y → AreFollowing tin a b x numbers → AreFollowing tin a b y numbers
-following_moved tin a b x y [] some same ends = same_trans y x at_b some (turned x y same) ends
+following_moved tin a b x y [] some same ends = same_trans y x at_b some (sym same) ends
 following_moved tin a b x y (t ∷ ts) some same (first, last, part, begins, follow) = (first, last, part, same_trans first x y some begins same, follow)
 
 -- ---- the list is right exactly where the rest of it is right behind the part before
@@ -55,7 +53,7 @@ followed_more tin a b numbers i before s h far here = go here.part
 
     go : IsPart tin a b (get_or numbers i 0) (spot_of s.lo) (spot_of s.hi) → IsFollowedTo tin a b numbers (i + 1) (Some s)
     go part = subst (λ (n : ℕ). IsFollowedTo tin a b numbers n (Some s)) (sym next) (record {
-      param = (let slice = here.slice in let common = slice.common in common.1.0);
+      param = here.ends;
       to = λ follow. far.to (subst (λ (ns : List ℕ). AreFollowing tin a b (spot_behind before) ns) (sym split) (spot_of s.lo, spot_of s.hi, part, here.begins, follow));
       from = λ inside follow. behind part (subst (λ (ns : List ℕ). AreFollowing tin a b (spot_behind before) ns) split (far.from inside follow));
     })

@@ -1,30 +1,18 @@
 -- The part of a segment that a triangle has, as the code finds it. Only private functions speak of it.
-use Rattle.std.specs.Prelude.{◌≡◌, ℕ, ◌<◌, ◌-ℤ◌, unsigned_abs, length, Option, Some, None}
-use Rattle.frac128.specs.declared.frac.Frac.{Frac}
-use Rattle.plane_base.specs.Plane.{corners}
-use Rattle.plane_base.specs.Slices.{IsParam, IsCommon, AreEnds}
+use Rattle.std.specs.Prelude.{ℕ, ◌<◌, length, Option, Some, None}
+use Rattle.plane_base.specs.Slices.{IsParam}
 use Rattle.plane_base.specs.declared.shapes.Pt.{Pt}
-use Rattle.plane_base.specs.declared.shapes.Tri.{Tri}
 use Rattle.plane_base.specs.declared.slicing.Stretch.{Stretch}
-use Rattle.tin_base.specs.declared.frames.Frame.TheVariants.{Source}
-use Rattle.tin_base.specs.Triangulation.{Triangulation, numbers_of, places}
+use Rattle.tin_base.specs.Triangulation.{Triangulation}
 use Rattle.tin_base.specs.Segments.{Spot, at_a, IsSameSpot, IsPart}
-
--- the spot at a parameter from 0 to 1
-abbrev pub spot_of : Frac → Spot
-spot_of f = record { of_a = unsigned_abs (f.den -ℤ f.num); of_b = unsigned_abs f.num }
-
--- the stretch is what the segment and triangle t have in common
-pub record HasStretch (tin : Triangulation) (a b : Pt) (t : ℕ) (stretch : Stretch) : Type 0 where
-  pub triangle : Tri
-  pub stands : corners triangle ≡ places tin Source (numbers_of tin t)
-  pub common : IsCommon a b triangle stretch
-  pub ends : AreEnds a b triangle stretch
+use Rattle.tin_base.specs.Slices.{spot_of, IsSliceIn, AreNearTriangle}
 
 -- the stretch is the part of triangle t, and begins at the spot
 pub record IsPartAt (tin : Triangulation) (a b : Pt) (t : ℕ) (x : Spot) (stretch : Stretch) : Type 0 where
   pub in_range : t < length tin.triangles
-  pub slice : HasStretch tin a b t stretch
+  pub slice : IsSliceIn tin a b t stretch
+  pub near : AreNearTriangle tin a b t
+  pub ends : IsParam stretch.hi.num stretch.hi.den
   pub part : IsPart tin a b t (spot_of stretch.lo) (spot_of stretch.hi)
   pub begins : IsSameSpot (spot_of stretch.lo) x
 

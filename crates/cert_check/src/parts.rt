@@ -4,7 +4,8 @@ ghost use Rattle.std.specs.Prelude.{◌≡◌, ◌↔◌, ◌<◌, length, IsTru
 ghost use Rattle.frac128.specs.Fractions.{IsSameValue, IsBelow};
 ghost use Rattle.plane_base.specs.Slices.{IsParam};
 ghost use Rattle.tin_base.specs.Segments.{Spot, at_b, IsSameSpot, IsInside, IsShared};
-ghost use Rattle.cert_check.specs.Slices.{spot_of, spot_behind, HasStretch, IsPartAt, HasNoPartAt, EndsAtParam};
+ghost use Rattle.tin_base.specs.Slices.{spot_of, IsSliceIn, AreNearTriangle};
+ghost use Rattle.cert_check.specs.Slices.{spot_behind, IsPartAt, HasNoPartAt, EndsAtParam};
 
 use crate::nearness::are_near;
 use frac128::{Frac, order};
@@ -14,9 +15,10 @@ use tin_base::{Frame, SoundTin};
 
 /// What a segment and a triangle have in common. Where an end of the segment is far from the triangle, the segment is
 /// not inside.
-fn stretch_in(tin: &SoundTin, triangle: u32, a: Pt, b: Pt) -> Option<Stretch>
+pub(crate) fn stretch_in(tin: &SoundTin, triangle: u32, a: Pt, b: Pt) -> Option<Stretch>
     requires in_range { triangle < length tin.now.triangles }
-    ensures some { IfSome result (λ s. HasStretch tin.now a b triangle s) }
+    ensures some { IfSome result (λ s. IsSliceIn tin.now a b triangle s) }
+    ensures near { IfSome result (λ _. AreNearTriangle tin.now a b triangle) }
     ensures none { IfNone result (IsInside tin.now a b → (s : Spot) → IsShared tin.now a b triangle s → ⊥) }
 {
     let corners = tin.tri(triangle, Frame::Source);
@@ -45,6 +47,7 @@ fn part_from(tin: &SoundTin, triangle: u32, a: Pt, b: Pt, at: Frac) -> Option<St
     if triangle >= tin.triangle_count() {
         return None;
     }
+    tin.known();
     if let Some(stretch) = stretch_in(tin, triangle, a, b) {
         if goes_on_from(stretch, at) {
             return Some(stretch);

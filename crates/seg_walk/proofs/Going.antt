@@ -9,19 +9,14 @@ use Rattle.tin_base.specs.declared.frames.Frame.TheVariants.{Source}
 use Rattle.tin_base.specs.Triangulation.{Triangulation}
 use Rattle.tin_base.specs.Soundness.{IsSound}
 use Rattle.tin_base.specs.Segments.{Spot, IsSameSpot, IsShared, IsPart}
-use Rattle.tin_base.proofs.Ends.{IsSpot, not_both, no_later, before_trans_left}
+use Rattle.tin_base.proofs.Ends.{IsSpot, not_both, no_later, before_trans_left, up_to_same, from_same}
 use Rattle.tin_base.proofs.Parts.{between_in}
 use Rattle.tin_index.specs.Sides.{HasCorner, IsAcross, IsStar}
 use Rattle.seg_walk.specs.declared.steps.Step.{Step}
 use Rattle.seg_walk.specs.Beginning.{HasNoPartFrom, HasNoneFrom, IsPartFrom, IsLeastAmong, GoesOn}
 use Rattle.seg_walk.specs.Leaving.{IsLeftAt}
-use Rattle.seg_walk.proofs.Apart.{up_to_same, from_same}
 
--- a triangle whose part begins at the spot has it, and is not the one that is left there
-pub begun : (tin : Triangulation) (a b : Pt) (u : ℕ) (x f l : Spot) → IsSound tin → IsSpot x → IsPart tin a b u f l → IsSameSpot f x → IsShared tin a b u x
-begun tin a b u x f l sound some p same =
-    between_in tin a b u f l x (sound.positive Source u p.in_range) p.has_first p.has_last some (up_to_same f x same) (no_later x l (before_trans_left x f l some (from_same f x same) p.differ))
-
+-- it is not the one that is left there
 pub another : (tin : Triangulation) (a b : Pt) (t k u : ℕ) (x f l : Spot) → IsLeftAt tin a b t k x → IsPart tin a b u f l → IsSameSpot f x → t ≢ u
 another tin a b t k u x f l left p same e =
     let has_x = left.has in

@@ -18,11 +18,11 @@ use Rattle.tin_base.specs.Limits.{IsWithinLimits}
 use Rattle.tin_base.specs.Segments.{Spot, spot_at}
 use Rattle.tin_base.proofs.Slicing.{mix_by, one_axis}
 use Rattle.tin_index.specs.Sides.{next_of}
-use Rattle.seg_walk.specs.Steps.{spot_of, IsSliceIn}
+use Rattle.tin_base.specs.Slices.{spot_of, IsSliceIn}
 use Rattle.seg_walk.specs.Leaving.{place_at, IsOnLine, IsLeftAt}
-use Rattle.seg_walk.proofs.Standing.{stands}
-use Rattle.seg_walk.proofs.Spots.{at_spot, spot_some}
-use Rattle.seg_walk.proofs.Beginning.{within}
+use Rattle.tin_base.proofs.TrianglePlaces.{stands}
+use Rattle.tin_base.proofs.Params.{at_spot, spot_some}
+use Rattle.tin_base.proofs.SlicedParts.{within}
 
 -- ---- the point at a parameter is that of its spot
 mix_at : (a b : Pt) (f : Frac) (ps : List Point) → IsParam f.num f.den → IsMix (along (whole a) (whole b) f.num f.den) ps → IsMix (spot_at a b (spot_of f)) ps

@@ -11,7 +11,8 @@ use Rattle.seg_walk.specs.declared.steps.Step.{Step}
 use Rattle.seg_walk.specs.Beginning.{HasNoPartFrom, HasNoneFrom, IsPartFrom, IsLeastAmong, GoesOn}
 use Rattle.seg_walk.specs.Leaving.{IsOnLine, IsLeftAt}
 use Rattle.seg_walk.proofs.Sharing.{shares_first, shares_second, shares_side}
-use Rattle.seg_walk.proofs.Going.{begun, another, goes_around, goes_nowhere, goes_across}
+use Rattle.tin_base.proofs.Apart.{begun}
+use Rattle.seg_walk.proofs.Going.{another, goes_around, goes_nowhere, goes_across}
 
 pub around_first : (tin : Triangulation) (a b : Pt) (t k c : ℕ) (x : Spot) (star : List ℕ) (next : Option Step) → IsWithinLimits tin → IsSound tin → IsLeftAt tin a b t k x → c ≡ corner_of tin t k → IsOnLine tin a b c → IsStar tin c star
     → IfSome next (λ step. IsLeastAmong tin a b x star step) → IfNone next ((u : ℕ) → Contains star u → HasNoPartFrom tin a b x u) → GoesOn tin a b x next

@@ -11,11 +11,8 @@ use Rattle.tin_base.specs.declared.frames.Frame.TheVariants.{Source}
 use Rattle.tin_base.specs.Triangulation.{Triangulation, place, corner_at, numbers_of, places, IsInTriangle}
 use Rattle.tin_base.specs.Images.{IsInSome}
 use Rattle.tin_base.specs.Limits.{IsWithinLimits}
+use Rattle.tin_base.proofs.TrianglePlaces.{source_at}
 use Rattle.tin_index.specs.Boxes.{IsNearCorners}
-
--- where a corner stands
-abbrev pub source_at : Triangulation → ℕ → Pt
-source_at tin n = record { x = (corner_at tin n).sx; y = (corner_at tin n).sy }
 
 some_weight : (i j k : ℕ) → 0 < sum (i ∷ j ∷ k ∷ []) → pos 0 <ℤ (pos i +ℤ pos j +ℤ pos k)
 some_weight i j k h = omega (arith, ints)
@@ -93,30 +90,6 @@ near_triangle tin t r p limits ht is near = go (numbers_of tin t) (limits.three 
       near_by r.b (source_at tin j) p (ap (λ (ps : List Point). (get_or ps 1 nowhere).x) is) (ap (λ (ps : List Point). (get_or ps 1 nowhere).y) is) (near j (below 1 0 (omega arith))),
       near_by r.c (source_at tin k) p (ap (λ (ps : List Point). (get_or ps 2 nowhere).x) is) (ap (λ (ps : List Point). (get_or ps 2 nowhere).y) is) (near k (below 2 0 (omega arith))),
     )
-
--- ---- a triangle that stands where one does is this one
-abbrev point_of : Point → Pt
-point_of p = record { x = p.x; y = p.y }
-
-abbrev tri_of : List Point → Tri
-tri_of ps = record { a = point_of (get_or ps 0 nowhere); b = point_of (get_or ps 1 nowhere); c = point_of (get_or ps 2 nowhere) }
-
-same_tri : (r s : Tri) → corners r ≡ corners s → r ≡ s
-same_tri r s e = ap tri_of e
-
-pub moved_to : (P : Tri → Type 0) (r s : Tri) → corners r ≡ corners s → P r → P s
-moved_to P r s e p = subst P (same_tri r s e) p
-
--- ---- each triangle stands somewhere
-pub stands : (tin : Triangulation) (t : ℕ) → IsWithinLimits tin → t < length tin.triangles → (r : Tri) × (corners r ≡ places tin Source (numbers_of tin t))
-stands tin t limits ht = go (numbers_of tin t) (limits.three t ht)
-  where
-    go : (ns : List ℕ) → length ns ≡ 3 → (r : Tri) × (corners r ≡ places tin Source ns)
-    go [] e = absurd (omega arith)
-    go (i ∷ []) e = absurd (omega arith)
-    go (i ∷ j ∷ []) e = absurd (omega arith)
-    go (i ∷ j ∷ k ∷ l ∷ ns) e = absurd (omega arith)
-    go (i ∷ j ∷ k ∷ []) e = (record { a = source_at tin i; b = source_at tin j; c = source_at tin k }, refl)
 
 -- ---- such a point is near a corner, wherever that stands
 pub near_place : (tin : Triangulation) (n : ℕ) (p q : Pt) → n < length tin.corners → whole q ≡ place Source (corner_at tin n) → IsNearCorners tin p → IsNear p q

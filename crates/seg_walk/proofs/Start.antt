@@ -13,16 +13,16 @@ use Rattle.tin_base.specs.Triangulation.{Triangulation, numbers_of, places, IsIn
 use Rattle.tin_base.specs.Soundness.{IsSound}
 use Rattle.tin_base.specs.Limits.{IsWithinLimits}
 use Rattle.tin_base.specs.Segments.{Spot, spot_at, at_a, IsBefore, IsNotAfter, IsSameSpot, IsShared}
-use Rattle.tin_base.proofs.Ends.{IsSpot, before_or, no_later_trans}
+use Rattle.tin_base.proofs.Ends.{IsSpot, before_or, no_later_trans, up_to_same}
 use Rattle.tin_base.proofs.Further.{start_is}
 use Rattle.tin_base.proofs.Spots.{one, spot-w}
 use Rattle.seg_walk.specs.declared.steps.Step.{Step}
-use Rattle.seg_walk.specs.Steps.{spot_of, IsSliceIn}
+use Rattle.tin_base.specs.Slices.{spot_of, IsSliceIn}
 use Rattle.seg_walk.specs.Beginning.{MissesTriangle, IsStepFrom}
-use Rattle.seg_walk.proofs.Apart.{up_to_same}
-use Rattle.seg_walk.proofs.Beginning.{params, not_missed, part_told, within}
-use Rattle.seg_walk.proofs.Spots.{spot_some, below}
-use Rattle.seg_walk.proofs.Going.{begun}
+use Rattle.tin_base.proofs.SlicedParts.{params, part_told, within}
+use Rattle.seg_walk.proofs.Beginning.{not_missed}
+use Rattle.tin_base.proofs.Params.{spot_some, below}
+use Rattle.tin_base.proofs.Apart.{begun}
 
 -- ---- the first point as a spot
 shared_a : (tin : Triangulation) (a b : Pt) (t : ℕ) → IsInTriangle tin Source t (whole a) → IsShared tin a b t at_a

@@ -17,12 +17,14 @@ use Rattle.tin_base.specs.Limits.{IsWithinLimits}
 use Rattle.tin_base.specs.Soundness.{IsSound}
 use Rattle.tin_base.specs.Segments.{Spot, spot_at, at_a, Part, IsInside}
 use Rattle.seg_walk.specs.declared.steps.Step.{Step}
-use Rattle.seg_walk.specs.Steps.{spot_of, spot_by, part_of, point_of, IsSliceIn, HaveSlices, AreSteps}
+use Rattle.tin_base.specs.Slices.{spot_of, spot_by, IsSliceIn}
+use Rattle.seg_walk.specs.Steps.{part_of, point_of, HaveSlices, AreSteps}
 use Rattle.seg_walk.specs.Beginning.{IsPartFrom, IsStepFrom, MissesTriangle, GoesOn}
-use Rattle.seg_walk.proofs.Beginning.{HasParams, params, not_missed}
+use Rattle.tin_base.proofs.SlicedParts.{HasParams, params}
+use Rattle.seg_walk.proofs.Beginning.{not_missed}
 use Rattle.tin_base.proofs.Further.{start_is}
-use Rattle.seg_walk.proofs.Unused.{unused, less_left}
-use Rattle.seg_walk.proofs.Walk.{IsWalked, Follows, start, more, not_again, all_walked, all_inside, stuck}
+use Rattle.tin_base.proofs.Unused.{unused, less_left}
+use Rattle.tin_base.proofs.Walk.{IsWalked, Follows, start, more, not_again, all_walked, all_inside, stuck}
 
 have_more : (tin : Triangulation) (a b : Pt) (steps : List Step) (step : Step) → HaveSlices tin a b steps → IsSliceIn tin a b step.tri step.slice → HaveSlices tin a b (steps ++ step ∷ [])
 have_more tin a b [] step h k = (k, tt)
@@ -94,29 +96,8 @@ one_step tin p step h has least slice =
       slices = (slice, tt);
     }
 
-point_axis : (k l a : ℤ) → (k *ℤ a +ℤ (l *ℤ a +ℤ pos 0)) *ℤ pos 1 ≡ a *ℤ (k *ℤ pos 1 +ℤ (l *ℤ pos 1 +ℤ pos 0))
-point_axis = solve 3 (λ k l a. (k ⊗ a ⊕ (l ⊗ a ⊕ num (pos 0))) ⊗ num (pos 1) ≐ a ⊗ (k ⊗ num (pos 1) ⊕ (l ⊗ num (pos 1) ⊕ num (pos 0)))) tt
-
 one : pos 0 <ℤ pos 1
 one = lt_z_yes tt
-
-pub point_inside : (tin : Triangulation) (p : Pt) → IsInSome tin Source (whole p) → IsInside tin p p
-point_inside tin p has q hq m =
-    let i = between_weights (whole p) (whole p) q m in
-    let same = same_trans q (mixed i.k i.l (whole p) (whole p)) (whole p) (between-w (whole p) (whole p) q i one one) i.same (point_axis (pos i.k) (pos i.l) p.x, point_axis (pos i.k) (pos i.l) p.y) in
-    (has.0, has.1, mix_moved (whole p) q (places tin Source (numbers_of tin has.0)) one same has.2)
-
-first_axis : (a b : ℤ) → a *ℤ (pos 1 *ℤ pos 1 +ℤ (pos 0 *ℤ pos 1 +ℤ pos 0)) ≡ (pos 1 *ℤ a +ℤ (pos 0 *ℤ b +ℤ pos 0)) *ℤ pos 1
-first_axis = solve 2 (λ a b. a ⊗ (num (pos 1) ⊗ num (pos 1) ⊕ (num (pos 0) ⊗ num (pos 1) ⊕ num (pos 0))) ≐ (num (pos 1) ⊗ a ⊕ (num (pos 0) ⊗ b ⊕ num (pos 0))) ⊗ num (pos 1)) tt
-
-last_axis : (a b : ℤ) → b *ℤ (pos 0 *ℤ pos 1 +ℤ (pos 1 *ℤ pos 1 +ℤ pos 0)) ≡ (pos 0 *ℤ a +ℤ (pos 1 *ℤ b +ℤ pos 0)) *ℤ pos 1
-last_axis = solve 2 (λ a b. b ⊗ (num (pos 0) ⊗ num (pos 1) ⊕ (num (pos 1) ⊗ num (pos 1) ⊕ num (pos 0))) ≐ (num (pos 0) ⊗ a ⊕ (num (pos 1) ⊗ b ⊕ num (pos 0))) ⊗ num (pos 1)) tt
-
-pub first_inside : (tin : Triangulation) (a b : Pt) → IsInside tin a b → IsInSome tin Source (whole a)
-first_inside tin a b inside = inside (whole a) one (weights_between (whole a) (whole b) (whole a) (record { k = 1; l = 0; some = omega arith; same = (first_axis a.x b.x, first_axis a.y b.y) }))
-
-pub last_inside : (tin : Triangulation) (a b : Pt) → IsInside tin a b → IsInSome tin Source (whole b)
-last_inside tin a b inside = inside (whole b) one (weights_between (whole a) (whole b) (whole b) (record { k = 0; l = 1; some = omega arith; same = (last_axis a.x b.x, last_axis a.y b.y) }))
 
 pub point_not_missed : (tin : Triangulation) (p : Pt) (t : ℕ) → IsWithinLimits tin → t < length tin.triangles → IsInTriangle tin Source t (whole p) → MissesTriangle tin p p t → ⊥
 point_not_missed tin p t limits h has misses =

@@ -8,7 +8,8 @@ use Rattle.tin_base.specs.declared.frames.Frame.TheVariants.{Source}
 use Rattle.tin_base.specs.Triangulation.{Triangulation, numbers_of, places}
 use Rattle.tin_base.specs.Segments.{Spot, IsSameSpot, IsPart}
 use Rattle.seg_walk.specs.declared.steps.Step.{Step}
-use Rattle.seg_walk.specs.Steps.{spot_of, part_of, IsSliceIn}
+use Rattle.tin_base.specs.Slices.{spot_of, IsSliceIn}
+use Rattle.seg_walk.specs.Steps.{part_of}
 
 -- no point of the segment is in triangle t
 abbrev pub MissesTriangle : Triangulation → Pt → Pt → ℕ → Type 0

@@ -1,5 +1,4 @@
 -- The files of definitions of seg_walk.
 pub mod Steps
-pub mod Outcomes
 pub mod Beginning
 pub mod Leaving

@@ -1,22 +1,10 @@
 -- The steps of a segment through a triangulation: its pieces, each with the slice of its triangle.
-use Rattle.std.specs.Prelude.{◌≡◌, ◌≢◌, ℕ, ℤ, ◌-ℤ◌, unsigned_abs, List, [], ◌∷◌, map}
-use Rattle.frac128.specs.declared.frac.Frac.{Frac}
-use Rattle.plane_base.specs.Plane.{corners}
-use Rattle.plane_base.specs.Slices.{IsCommon, AreEnds, IsWholeWay}
+use Rattle.std.specs.Prelude.{◌≡◌, ◌≢◌, List, [], ◌∷◌, map}
 use Rattle.plane_base.specs.declared.shapes.Pt.{Pt}
-use Rattle.plane_base.specs.declared.shapes.Tri.{Tri}
-use Rattle.plane_base.specs.declared.slicing.Stretch.{Stretch}
-use Rattle.tin_base.specs.declared.frames.Frame.TheVariants.{Source}
-use Rattle.tin_base.specs.Triangulation.{Triangulation, numbers_of, places}
-use Rattle.tin_base.specs.Segments.{Spot, at_a, Part, ArePiecesOf}
+use Rattle.tin_base.specs.Triangulation.{Triangulation}
+use Rattle.tin_base.specs.Segments.{at_a, Part, ArePiecesOf}
+use Rattle.tin_base.specs.Slices.{spot_of, IsSliceIn}
 use Rattle.seg_walk.specs.declared.steps.Step.{Step}
-
--- the spot at the parameter n/d, from 0 to 1
-abbrev pub spot_by : ℤ → ℤ → Spot
-spot_by n d = record { of_a = unsigned_abs (d -ℤ n); of_b = unsigned_abs n }
-
-abbrev pub spot_of : Frac → Spot
-spot_of f = spot_by f.num f.den
 
 -- the piece that a step tells
 abbrev pub part_of : Step → Part
@@ -25,10 +13,6 @@ part_of step = record { triangle = step.tri; first = spot_of step.slice.lo; last
 -- and where the segment is one point
 abbrev pub point_of : Step → Part
 point_of step = record { triangle = step.tri; first = at_a; last = at_a }
-
--- the stretch is the part of the segment in triangle t, wherever the triangle stands
-abbrev pub IsSliceIn : Triangulation → Pt → Pt → ℕ → Stretch → Type 0
-IsSliceIn tin a b t slice = (r : Tri) → corners r ≡ places tin Source (numbers_of tin t) → IsCommon a b r slice × AreEnds a b r slice × (a ≡ b → IsWholeWay slice)
 
 -- each step has the slice of its triangle
 abbrev pub HaveSlices : Triangulation → Pt → Pt → List Step → Type 0

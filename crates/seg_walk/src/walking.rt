@@ -10,7 +10,7 @@ ghost use Rattle.tin_base.specs.Segments.{at_a};
 ghost use Rattle.tin_base.specs.Triangulation.{IsInTriangle};
 ghost use Rattle.tin_index.specs.Boxes.{IsNearCorners};
 ghost use Rattle.tin_index.specs.Sides.{corner_of, next_of};
-ghost use Rattle.seg_walk.specs.Steps.{spot_of, IsSliceIn};
+ghost use Rattle.tin_base.specs.Slices.{spot_of, IsSliceIn};
 ghost use Rattle.seg_walk.specs.Beginning.{GoesOn};
 ghost use Rattle.seg_walk.specs.Leaving.{IsOnLine, IsLeftAt};
 

@@ -1,13 +1,16 @@
 -- The points of a segment by their spots: each has a positive weight, and the first and the last are its ends.
-use Rattle.std.proofs.Common.{◌≡◌, ℤ, pos, ◌+ℤ◌, ◌*ℤ◌, ◌<ℤ◌}
+use Rattle.std.proofs.Common.{◌≡◌, ℤ, pos, ◌+ℤ◌, ◌*ℤ◌, ◌<ℤ◌, sym, arith}
 use lib.Signed.{lt_z_yes}
 use Rattle.integer_ring.proofs.Ring.{num, ◌⊕◌, ◌⊗◌}
 use Rattle.integer_ring.proofs.Claims.{◌≐◌, solve}
 use Rattle.plain_laws.proofs.Weights.{same_axis}
 use Rattle.plane_base.specs.Plane.{Same, whole}
 use Rattle.plane_base.specs.declared.shapes.Pt.{Pt}
-use Rattle.plane_base.proofs.Mixes.{same_refl, between-w}
-use Rattle.tin_base.specs.Segments.{Spot, spot_at, at_a, at_b}
+use Rattle.plane_base.proofs.Mixes.{same_refl, same_trans, mix_moved, between-w, between_weights, weights_between}
+use Rattle.tin_base.specs.declared.frames.Frame.TheVariants.{Source}
+use Rattle.tin_base.specs.Triangulation.{Triangulation, numbers_of, places}
+use Rattle.tin_base.specs.Images.{IsInSome}
+use Rattle.tin_base.specs.Segments.{Spot, spot_at, at_a, at_b, IsInside}
 use Rattle.tin_base.proofs.Ends.{IsSpot}
 
 pub one : pos 0 <ℤ pos 1
@@ -31,3 +34,17 @@ spot_last a b = (last_axis a.x b.x, last_axis a.y b.y)
 -- all spots of a segment from a point to itself are this point
 pub spot_of_point : (a : Pt) (s : Spot) → Same (spot_at a a s) (whole a)
 spot_of_point a s = (same_axis (pos s.of_a) (pos s.of_b) a.x, same_axis (pos s.of_a) (pos s.of_b) a.y)
+
+-- the ends of a segment that is inside are in triangles
+pub first_inside : (tin : Triangulation) (a b : Pt) → IsInside tin a b → IsInSome tin Source (whole a)
+first_inside tin a b inside = inside (whole a) one (weights_between (whole a) (whole b) (whole a) (record { k = 1; l = 0; some = omega arith; same = let e = spot_first a b in (sym e.0, sym e.1) }))
+
+pub last_inside : (tin : Triangulation) (a b : Pt) → IsInside tin a b → IsInSome tin Source (whole b)
+last_inside tin a b inside = inside (whole b) one (weights_between (whole a) (whole b) (whole b) (record { k = 0; l = 1; some = omega arith; same = let e = spot_last a b in (sym e.0, sym e.1) }))
+
+pub point_inside : (tin : Triangulation) (p : Pt) → IsInSome tin Source (whole p) → IsInside tin p p
+point_inside tin p has q hq m =
+    let i = between_weights (whole p) (whole p) q m in
+    let s : Spot = record { of_a = i.k; of_b = i.l } in
+    let same = same_trans q (spot_at p p s) (whole p) (spot-w p p s i.some) i.same (spot_of_point p s) in
+    (has.0, has.1, mix_moved (whole p) q (places tin Source (numbers_of tin has.0)) one same has.2)

@@ -1,7 +1,7 @@
 -- Answers to the goals of `path_count` in src/layers.rt.
 use Rattle.std.proofs.Common.{◌≡◌, length, ap, List, arith}
 use Rattle.sheet_base.specs.declared.paths.PathRow.{PathRow}
-use Rattle.carry_map.proofs.Sheeting.{few_paths}
+use Rattle.affine_image.proofs.SheetPaths.{few_paths}
 use Rattle.carry_map.proofs.layers.path_count.Goals as goal
 
 pub overflow_cast-result : goal.overflow_cast-result

@@ -5,7 +5,8 @@ use Rattle.affine_image.specs.SheetSegments.{path_vertices, segments_begun}
 use Rattle.plane_base.specs.declared.shapes.Pt.{Pt}
 use Rattle.sheet_base.specs.Segments.{segments_in}
 use Rattle.carry_map.specs.Causes.{IsFirstOutside, IsCause, IsWayCause}
-use Rattle.carry_map.proofs.Pathing.{path_start, path_next, path_but_last, path_cause, path_outside, exits, in_points}
+use Rattle.affine_image.proofs.PathVertices.{in_points}
+use Rattle.carry_map.proofs.Pathing.{path_start, path_next, path_but_last, path_cause, path_outside, exits}
 use Rattle.carry_map.proofs.paths.carry_path.Goals as goal
 
 pub returns-in_default-clause-cause : goal.returns-in_default-clause-cause

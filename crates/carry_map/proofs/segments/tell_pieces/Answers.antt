@@ -1,5 +1,6 @@
 -- Answers to the goals of `tell_pieces` in src/segments.rt.
 use Rattle.std.proofs.Common.{arith}
+use Rattle.tin_base.proofs.NearTriangles.{ends_near}
 use Rattle.carry_map.proofs.Telling.{told_none, told_next, told_all, step_told}
 use Rattle.carry_map.proofs.segments.tell_pieces.Goals as goal
 
@@ -13,6 +14,11 @@ end_image-end-requires-clause-in_range c =
 pub end_image-end-requires-clause-slice : goal.end_image-end-requires-clause-slice
 end_image-end-requires-clause-slice c =
     let known = step_told c.args.tin.now c.args.way.a c.args.way.b c.args.steps.now c.loop-number.number c.index-steps-number.result c.requires.limits c.requires.steps (omega arith) c.index-steps-number.is in known.slice
+
+pub end_image-end-requires-clause-near : goal.end_image-end-requires-clause-near
+end_image-end-requires-clause-near c =
+    let known = step_told c.args.tin.now c.args.way.a c.args.way.b c.args.steps.now c.loop-number.number c.index-steps-number.result c.requires.limits c.requires.steps (omega arith) c.index-steps-number.is in
+    ends_near c.args.tin.now c.args.way.a c.args.way.b c.index-steps-number.result.tri c.requires.limits known.in_range c.requires.inside
 
 pub loop-number-preserved : goal.loop-number-preserved
 loop-number-preserved c =

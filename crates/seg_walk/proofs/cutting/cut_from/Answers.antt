@@ -7,7 +7,7 @@ use Rattle.tin_base.specs.Triangulation.{Triangulation, IsInTriangle}
 use Rattle.tin_base.specs.Segments.{IsInside}
 use Rattle.tin_base.proofs.Telling.{told}
 use Rattle.seg_walk.specs.Steps.{AreSteps}
-use Rattle.seg_walk.proofs.Taking.{point_inside, first_inside, last_inside}
+use Rattle.tin_base.proofs.Spots.{point_inside, first_inside, last_inside}
 use Rattle.seg_walk.proofs.cutting.cut_from.Goals as goal
 
 always : {A E P : Type 0} (answer : Result A E) → P → IfOk answer (λ _. P)

@@ -1,7 +1,7 @@
 -- The invariant and the measure of the loop of `cut_way` in src/cutting.rt.
 use Rattle.std.proofs.Common.{map, length}
 use Rattle.seg_walk.specs.Steps.{part_of}
-use Rattle.seg_walk.proofs.Unused.{unused}
+use Rattle.tin_base.proofs.Unused.{unused}
 use Rattle.seg_walk.proofs.Taking.{IsOnWay}
 use Rattle.seg_walk.proofs.cutting.cut_way.Given as goal
 

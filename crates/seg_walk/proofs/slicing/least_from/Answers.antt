@@ -2,7 +2,7 @@
 use Rattle.std.proofs.Common.{◌≡◌, ℕ, ◌<◌, get_or, Option, Some, None, IfSome, IfNone, subst}
 use borrow.Author.Count.{below_more}
 use Rattle.seg_walk.specs.declared.steps.Step.{Step}
-use Rattle.seg_walk.specs.Steps.{spot_of}
+use Rattle.tin_base.specs.Slices.{spot_of}
 use Rattle.seg_walk.specs.Beginning.{HasNoPartFrom, IsPartFrom}
 use Rattle.seg_walk.proofs.Going.{known_before, known_all}
 use Rattle.seg_walk.proofs.slicing.least_from.Goals as goal

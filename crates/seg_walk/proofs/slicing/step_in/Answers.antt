@@ -1,9 +1,10 @@
 -- Answers to the goals of `step_in` in src/slicing.rt.
 use Rattle.std.proofs.Common.{◌≡◌, Option, Some, None, IfSome, IfNone, subst}
 use Rattle.tin_base.proofs.Telling.{told, denied}
-use Rattle.seg_walk.specs.Steps.{IsSliceIn}
-use Rattle.seg_walk.proofs.Beginning.{params, part_told, not_begun, not_missed}
-use Rattle.seg_walk.proofs.Spots.{same_spot}
+use Rattle.tin_base.specs.Slices.{IsSliceIn}
+use Rattle.tin_base.proofs.SlicedParts.{params, part_told, not_begun}
+use Rattle.seg_walk.proofs.Beginning.{not_missed}
+use Rattle.tin_base.proofs.Params.{same_spot}
 use Rattle.seg_walk.proofs.slicing.step_in.Goals as goal
 
 some_told : {A : Type 0} (P : A → Type 0) (answer : Option A) (x : A) → answer ≡ Some x → IfSome answer P → P x

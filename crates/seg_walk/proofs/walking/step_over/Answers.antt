@@ -7,7 +7,7 @@ use Rattle.tin_base.specs.Triangulation.{Triangulation}
 use Rattle.tin_base.proofs.Telling.{told, denied}
 use Rattle.tin_index.specs.Boxes.{IsNearCorners}
 use Rattle.tin_index.specs.Sides.{corner_of, IsStar, IsAcross}
-use Rattle.seg_walk.specs.Steps.{spot_of}
+use Rattle.tin_base.specs.Slices.{spot_of}
 use Rattle.seg_walk.specs.Beginning.{GoesOn, HasNoneFrom}
 use Rattle.seg_walk.specs.Leaving.{IsLeftAt}
 use Rattle.seg_walk.proofs.Passing.{around_first, around_second, across_none, across_some, star_below}

@@ -4,7 +4,7 @@ use Rattle.std.proofs.lemmas.Int.{ints}
 use Rattle.integer_ring.proofs.Ring.{num, ◌⊕◌, ◌⊖◌, ◌⊗◌}
 use Rattle.integer_ring.proofs.Claims.{◌≐◌, eqn, ◌⊞◌, ◌because◌, ◌⇒◌, follows}
 use Rattle.frac128.specs.declared.frac.Frac.{Frac}
-use Rattle.plane_base.specs.Plane.{Point, Same, whole, along, turn_of, IsMix, corners, IsNear, IsNearAll}
+use Rattle.plane_base.specs.Plane.{Point, Same, whole, along, turn_of, IsMix, corners, IsNear, IsNearAll, IsNearTri}
 use Rattle.plane_base.specs.Slices.{IsParam, IsCommon, AreEnds, IsWholeWay, IsCrossed, IsEnd, LiesAt}
 use Rattle.plane_base.specs.declared.shapes.Pt.{Pt}
 use Rattle.plane_base.specs.declared.shapes.Tri.{Tri}
@@ -15,7 +15,6 @@ use Rattle.plane_base.proofs.Mixes.{same_refl, same_sym, same_trans, same_moved,
 use Rattle.plane_base.proofs.Along.{along-w}
 use Rattle.tin_base.specs.declared.frames.Frame.TheVariants.{Source, Target}
 use Rattle.tin_base.specs.Triangulation.{Triangulation, place, corner_at, numbers_of, places, IsInTriangle}
-use Rattle.tin_base.specs.Images.{IsInSome}
 use Rattle.tin_base.specs.Limits.{IsWithinLimits}
 use Rattle.tin_base.specs.Soundness.{has}
 use Rattle.tin_base.specs.Segments.{spot_at}
@@ -24,16 +23,12 @@ use Rattle.affine_image.specs.Rounded.{rounded, IsRoundedImage, IsRoundedImageAt
 use Rattle.affine_image.specs.Cuts.{cut_of}
 use Rattle.affine_image.proofs.Cutting.{cuts_are_images}
 use Rattle.affine_image.proofs.Moving.{rounded_moved}
-use Rattle.seg_walk.specs.Steps.{spot_of, IsSliceIn}
-use Rattle.seg_walk.proofs.Spots.{at_spot}
-use Rattle.seg_walk.proofs.Beginning.{params}
-use Rattle.seg_walk.proofs.Standing.{source_at, near_corner, near_ends, stands}
-use Rattle.carry_map.specs.Sides.{corner_number, next_corner}
-use Rattle.carry_map.proofs.Crossing.{parallel, crossing, IsOnSide}
-
--- ---- near each other
-turned : (p q : Pt) → IsNear p q → IsNear q p
-turned p q h = (h.1, h.0, h.3, h.2)
+use Rattle.tin_base.specs.Slices.{spot_of, IsSliceIn, AreNearTriangle}
+use Rattle.tin_base.proofs.Params.{at_spot}
+use Rattle.tin_base.proofs.SlicedParts.{params}
+use Rattle.tin_base.proofs.TrianglePlaces.{source_at, stands}
+use Rattle.affine_image.specs.Sides.{corner_number, next_corner}
+use Rattle.affine_image.proofs.Crossing.{parallel, crossing, IsOnSide}
 
 abbrev point_of : Point → Pt
 point_of p = record { x = p.x; y = p.y }
@@ -41,11 +36,31 @@ point_of p = record { x = p.x; y = p.y }
 stands_at : (tin : Triangulation) (n : ℕ) (p : Pt) → whole p ≡ place Source (corner_at tin n) → source_at tin n ≡ p
 stands_at tin n p e = sym (ap point_of e)
 
--- the ends of a segment are near a corner
-pub near_one : (tin : Triangulation) (a b p : Pt) (n : ℕ) → IsWithinLimits tin → n < length tin.corners → IsInSome tin Source (whole a) → IsInSome tin Source (whole b) → whole p ≡ place Source (corner_at tin n) → IsNearAll a b p
-near_one tin a b p n limits hn has_a has_b e =
-    subst (λ (q : Pt). IsNearAll a b q) (stands_at tin n p e)
-    (near_ends tin a b limits has_a has_b, turned (source_at tin n) a (near_corner tin n a limits hn has_a), turned (source_at tin n) b (near_corner tin n b limits hn has_b))
+turned : (p q : Pt) → IsNear p q → IsNear q p
+turned p q h = (h.1, h.0, h.3, h.2)
+
+-- the ends of a segment are near a corner of the triangle
+pub near_one : (tin : Triangulation) (a b : Pt) (t k m : ℕ) → IsWithinLimits tin → t < length tin.triangles → k < 3 → AreNearTriangle tin a b t → m ≡ corner_number tin t k → (p : Pt) → whole p ≡ place Source (corner_at tin m) → IsNearAll a b p
+near_one tin a b t k m limits ht hk near em p e =
+    subst (λ (q : Pt). IsNearAll a b q) (stands_at tin m p e) (subst (λ (n : ℕ). IsNearAll a b (source_at tin n)) (sym em) (go (numbers_of tin t) (limits.three t ht) near k hk))
+  where
+    each : (c : Pt) → IsNear c a → IsNear c b → IsNear a b → IsNearAll a b c
+    each c to_a to_b ab = (ab, turned c a to_a, turned c b to_b)
+
+    go : (ns : List ℕ) → length ns ≡ 3 → ((r : Tri) → corners r ≡ places tin Source ns → IsNearTri r a × IsNearTri r b × IsNear a b) → (k : ℕ) → k < 3 → IsNearAll a b (source_at tin (get_or ns k 0))
+    go [] three is k h = absurd (omega arith)
+    go (i ∷ []) three is k h = absurd (omega arith)
+    go (i ∷ j ∷ []) three is k h = absurd (omega arith)
+    go (i ∷ j ∷ l ∷ m ∷ ns) three is k h = absurd (omega arith)
+    go (i ∷ j ∷ l ∷ []) three is zero h = let n = is (record { a = source_at tin i; b = source_at tin j; c = source_at tin l }) refl in each (source_at tin i) n.0.0 n.1.0 n.2
+    go (i ∷ j ∷ l ∷ []) three is (suc zero) h = let n = is (record { a = source_at tin i; b = source_at tin j; c = source_at tin l }) refl in each (source_at tin j) n.0.1 n.1.1 n.2
+    go (i ∷ j ∷ l ∷ []) three is (suc (suc zero)) h = let n = is (record { a = source_at tin i; b = source_at tin j; c = source_at tin l }) refl in each (source_at tin l) n.0.2 n.1.2 n.2
+    go (i ∷ j ∷ l ∷ []) three is (suc (suc (suc k))) h = absurd (omega arith)
+
+pub next_below : (k : ℕ) → next_corner k < 3
+next_below zero = omega arith
+next_below (suc zero) = omega arith
+next_below (suc (suc k)) = omega arith
 
 -- ---- the spot of a parameter
 one_axis : (n d k l a b : ℤ) → n ≡ k → d -ℤ n ≡ l → (d -ℤ n) *ℤ a +ℤ n *ℤ b ≡ l *ℤ a +ℤ (k *ℤ b +ℤ pos 0)

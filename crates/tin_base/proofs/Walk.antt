@@ -10,9 +10,9 @@ use Rattle.tin_base.specs.Triangulation.{Triangulation, numbers_of, places}
 use Rattle.tin_base.specs.Images.{IsInSome}
 use Rattle.tin_base.specs.Soundness.{IsSound}
 use Rattle.tin_base.specs.Segments.{Spot, spot_at, at_a, IsBefore, IsNotAfter, IsSameSpot, IsInside, IsShared, IsPart, Part, no_part, part_at, ArePieces}
-use Rattle.tin_base.proofs.Ends.{IsSpot, before_or, not_both, no_later, no_later_trans, before_trans_left, before_trans_right}
+use Rattle.tin_base.proofs.Ends.{IsSpot, before_or, not_both, no_later, no_later_trans, before_trans_left, before_trans_right, up_to_same, from_same, same_of}
 use Rattle.tin_base.proofs.Parts.{between_in}
-use Rattle.seg_walk.proofs.Apart.{up_to_same, from_same, same_of, apart, same_last}
+use Rattle.tin_base.proofs.Apart.{apart, same_last}
 use Rattle.tin_base.proofs.Spots.{spot-w}
 use Rattle.tin_base.proofs.Further.{NextPart, next_part, start_is}
 

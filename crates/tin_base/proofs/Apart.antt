@@ -1,28 +1,13 @@
 -- Two parts that begin at one spot end at one spot, and a part that begins later begins no sooner than the earlier one ends.
-use Rattle.std.proofs.Common.{◌≡◌, ◌≢◌, ◌⊎◌, inl, inr, ℕ, ◌*◌, ◌<◌, ◌≤◌, pos, ◌<ℤ◌, length, sym, arith}
+use Rattle.std.proofs.Common.{◌≢◌, ◌⊎◌, inl, inr, ℕ, ◌<◌, pos, ◌<ℤ◌, length}
 use Rattle.plane_base.specs.declared.shapes.Pt.{Pt}
 use Rattle.tin_base.specs.declared.frames.Frame.TheVariants.{Source}
 use Rattle.tin_base.specs.Triangulation.{Triangulation, numbers_of, places}
 use Rattle.tin_base.specs.Soundness.{turn_of_three, IsSound}
 use Rattle.tin_base.specs.Segments.{Spot, IsBefore, IsNotAfter, IsSameSpot, IsShared, IsPart}
-use Rattle.tin_base.proofs.Ends.{before_or, not_both, no_later, no_later_trans, before_trans_left}
+use Rattle.tin_base.proofs.Ends.{IsSpot, before_or, not_both, no_later, no_later_trans, before_trans_left, up_to_same, from_same, same_of}
 use Rattle.tin_base.proofs.Parts.{between_in}
 use Rattle.tin_base.proofs.Overlap.{same_spots}
-
-same_up : (m n : ℕ) → m ≡ n → m ≤ n
-same_up m n e = omega arith
-
-both_up : (m n : ℕ) → m ≤ n → n ≤ m → m ≡ n
-both_up m n h k = omega arith
-
-pub up_to_same : (s t : Spot) → IsSameSpot s t → IsNotAfter s t
-up_to_same s t e = same_up (s.of_b * t.of_a) (t.of_b * s.of_a) e
-
-pub from_same : (s t : Spot) → IsSameSpot s t → IsNotAfter t s
-from_same s t e = same_up (t.of_b * s.of_a) (s.of_b * t.of_a) (sym e)
-
-pub same_of : (s t : Spot) → IsNotAfter s t → IsNotAfter t s → IsSameSpot s t
-same_of s t h k = both_up (s.of_b * t.of_a) (t.of_b * s.of_a) h k
 
 -- two parts, the first of which begins no later, with a common way behind the second's first spot: the second does not begin later, and they end at one spot
 pub record Meeting (f l f' l' : Spot) : Type 0 where
@@ -68,3 +53,8 @@ pub same_last : (tin : Triangulation) (a b : Pt) (t u : ℕ) (f l f' l' : Spot) 
 same_last tin a b t u f l f' l' sound differ p q same =
     let first' = q.has_first in
     let m = meeting tin a b t u f l f' l' sound differ p q (up_to_same f f' same) (before_trans_left f' f l first'.some (from_same f f' same) p.differ) in m.ends
+
+-- a triangle whose part begins at the spot has it
+pub begun : (tin : Triangulation) (a b : Pt) (u : ℕ) (x f l : Spot) → IsSound tin → IsSpot x → IsPart tin a b u f l → IsSameSpot f x → IsShared tin a b u x
+begun tin a b u x f l sound some p same =
+    between_in tin a b u f l x (sound.positive Source u p.in_range) p.has_first p.has_last some (up_to_same f x same) (no_later x l (before_trans_left x f l some (from_same f x same) p.differ))

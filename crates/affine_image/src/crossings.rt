@@ -1,20 +1,19 @@
-//! The image of the last point of a step: of the segment's end, or of a crossing with a side.
+//! The image of the last point of a part: of the segment's end, or of a crossing with a side.
 
 ghost use Rattle.std.specs.Prelude.{◌≡◌, ◌≢◌, ◌<◌, ℤ, pos, ◌*ℤ◌, length};
-ghost use Rattle.plane_base.specs.Plane.{whole, turn_of, along};
-ghost use Rattle.seg_walk.specs.Steps.{spot_of, IsSliceIn};
+ghost use Rattle.plane_base.specs.Plane.{whole, turn_of, along, IsNearAll};
+ghost use Rattle.plane_base.specs.declared.shapes.Pt.{Pt};
+ghost use Rattle.tin_base.specs.Slices.{spot_of, IsSliceIn, AreNearTriangle};
 ghost use Rattle.tin_base.specs.declared.frames.Frame.TheVariants.{Source};
-ghost use Rattle.tin_base.specs.Images.{IsInSome};
 ghost use Rattle.tin_base.specs.Limits.{IsWithinLimits};
-ghost use Rattle.tin_base.specs.Segments.{spot_at, IsInside};
+ghost use Rattle.tin_base.specs.Segments.{spot_at};
 ghost use Rattle.tin_base.specs.Triangulation.{place, corner_at};
 ghost use Rattle.affine_image.specs.Rounded.{IsRoundedImageAt};
-ghost use Rattle.carry_map.specs.Sides.{corner_number, next_corner};
+ghost use Rattle.affine_image.specs.Sides.{corner_number, next_corner};
 
-use affine_image::{image_cut, image_of};
+use crate::{image_cut, image_of};
 use frac128::Frac;
-use plane_base::{End, Pt, edge_param};
-use seg_walk::Step;
+use plane_base::{End, Pt, Stretch, edge_param};
 use tin_base::{Frame, SoundTin};
 
 /// A side of a triangle, by the numbers of the corners at its ends.
@@ -54,8 +53,8 @@ fn side_of(tin: &SoundTin, triangle: u32, side: u8) -> Side
 fn side_param(tin: &SoundTin, a: Pt, b: Pt, side: Side) -> Frac
     requires from_in_range { side.from < length tin.now.corners }
     requires to_in_range { side.to < length tin.now.corners }
-    requires has_a { IsInSome tin.now Source (whole a) }
-    requires has_b { IsInSome tin.now Source (whole b) }
+    requires near_from { (p : Pt) → whole p ≡ place Source (corner_at tin.now side.from) → IsNearAll a b p }
+    requires near_to { (p : Pt) → whole p ≡ place Source (corner_at tin.now side.to) → IsNearAll a b p }
     requires differ { turn_of (whole a) (whole b) (place Source (corner_at tin.now side.from)) ≢ turn_of (whole a) (whole b) (place Source (corner_at tin.now side.to)) }
     ensures meets { turn_of (whole a) (whole b) (along (place Source (corner_at tin.now side.from)) (place Source (corner_at tin.now side.to)) result.num result.den) ≡ pos 0 }
     ensures once { (n d : ℤ) → turn_of (whole a) (whole b) (along (place Source (corner_at tin.now side.from)) (place Source (corner_at tin.now side.to)) n d) ≡ pos 0 → n *ℤ result.den ≡ result.num *ℤ d }
@@ -68,19 +67,19 @@ fn side_param(tin: &SoundTin, a: Pt, b: Pt, side: Side) -> Frac
     )
 }
 
-/// The image of the last point of a step: of the segment's end, or of the point on the side at which the step leaves its
-/// triangle.
-pub(crate) fn end_image(tin: &SoundTin, a: Pt, b: Pt, step: &Step) -> Pt
-    requires in_range { step.now.tri < length tin.now.triangles }
-    requires slice { IsSliceIn tin.now a b step.now.tri step.now.slice }
-    requires inside { IsInside tin.now a b }
+/// The image, in millimetres of the target frame, of the last point of a segment's part in a triangle: of the segment's
+/// end, or of the point on the side at which the part leaves the triangle.
+pub fn end_image(tin: &SoundTin, triangle: u32, a: Pt, b: Pt, part: Stretch) -> Pt
+    requires in_range { triangle < length tin.now.triangles }
+    requires slice { IsSliceIn tin.now a b triangle part }
+    requires near { AreNearTriangle tin.now a b triangle }
     requires limits { IsWithinLimits tin.now }
-    ensures { IsRoundedImageAt tin.now (spot_at a b (spot_of step.now.slice.hi)) result }
+    ensures { IsRoundedImageAt tin.now (spot_at a b (spot_of part.hi)) result }
 {
-    match step.slice.leave {
-        End::Vertex => image_of(tin, step.tri, b),
+    match part.leave {
+        End::Vertex => image_of(tin, triangle, b),
         End::Side(number) => {
-            let side = side_of(tin, step.tri, number);
+            let side = side_of(tin, triangle, number);
             image_cut(tin, side.from, side.to, side_param(tin, a, b, side))
         }
     }

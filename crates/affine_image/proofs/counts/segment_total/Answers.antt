@@ -1,12 +1,12 @@
--- Answers to the goals of `segment_total` in src/layers.rt.
+-- Answers to the goals of `segment_total` in src/counts.rt.
 use Rattle.std.proofs.Common.{◌≡◌, ℕ, ◌+◌, ◌-◌, ◌≤◌, length, ap, List, ◌∙◌, arith}
 use Rattle.std.specs.List.{count_by}
 use Rattle.plane_base.specs.declared.shapes.Pt.{Pt}
 use Rattle.sheet_base.specs.declared.paths.PathRow.{PathRow}
 use Rattle.affine_image.specs.SheetSegments.{sheet_segments}
-use Rattle.carry_map.specs.Layers.{ends_open}
-use Rattle.carry_map.proofs.Counting.{begun_by_points}
-use Rattle.carry_map.proofs.layers.segment_total.Goals as goal
+use Rattle.affine_image.specs.SheetSegments.{ends_open}
+use Rattle.affine_image.proofs.Counting.{begun_by_points}
+use Rattle.affine_image.proofs.counts.segment_total.Goals as goal
 
 pub overflow_sub-result : goal.overflow_sub-result
 overflow_sub-result c =

@@ -10,16 +10,14 @@ use Rattle.tin_base.specs.declared.frames.Frame.TheVariants.{Source}
 use Rattle.tin_base.specs.Triangulation.{Triangulation, place, corner_at, numbers_of, places, IsInTriangle}
 use Rattle.tin_base.specs.Soundness.{IsSound, turn_of_three}
 use Rattle.tin_base.specs.Segments.{Spot, spot_at, at_a, IsBefore, IsNotAfter, IsSameSpot, IsInside, IsShared, IsPart, Part, ArePieces, ArePiecesOf}
-use Rattle.tin_base.proofs.Spots.{one, spot-w, spot_first}
+use Rattle.tin_base.proofs.Spots.{one, spot-w, spot_first, first_inside, point_inside}
 use Rattle.tin_base.proofs.Stepping.{turn_mixed}
-use Rattle.tin_base.proofs.Ends.{IsSpot, IsKeptAt, AreKeptAt, last_of_three, before_or, not_both, no_later_trans}
+use Rattle.tin_base.proofs.Ends.{IsSpot, IsKeptAt, AreKeptAt, last_of_three, before_or, not_both, no_later_trans, from_same, same_of}
 use Rattle.tin_base.proofs.Parts.{Reaching, part_of}
-use Rattle.seg_walk.specs.Outcomes.{OutcomeExists}
-use Rattle.seg_walk.proofs.Apart.{from_same, same_of}
-use Rattle.seg_walk.proofs.Going.{begun}
-use Rattle.seg_walk.proofs.Taking.{point_inside, first_inside}
-use Rattle.seg_walk.proofs.Unused.{unused, less_left}
-use Rattle.seg_walk.proofs.Walk.{IsWalked, start, Follows, more, all_walked, all_inside, stuck, not_again}
+use Rattle.tin_base.specs.Outcomes.{OutcomeExists}
+use Rattle.tin_base.proofs.Apart.{begun}
+use Rattle.tin_base.proofs.Unused.{unused, less_left}
+use Rattle.tin_base.proofs.Walk.{IsWalked, start, Follows, more, all_walked, all_inside, stuck, not_again}
 
 -- ---- the least number of some kind
 record Least (P : ℕ → Type 0) (n : ℕ) : Type 0 where

@@ -10,7 +10,7 @@ use Rattle.plane_base.specs.Slices.{IsParam}
 use Rattle.tin_base.specs.Segments.{Spot, IsBefore, IsSameSpot}
 use Rattle.tin_base.proofs.Ends.{IsSpot}
 use Rattle.tin_base.proofs.Slicing.{IsSpotAt}
-use Rattle.cert_check.specs.Slices.{spot_of}
+use Rattle.tin_base.specs.Slices.{spot_of}
 
 abs_is : (z : ℤ) → pos 0 ≤ℤ z → z ≡ pos (unsigned_abs z)
 abs_is z h = omega (arith, ints)

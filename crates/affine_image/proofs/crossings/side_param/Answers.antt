@@ -1,14 +1,13 @@
 -- Answers to the goals of `side_param` in src/crossings.rt.
 use Rattle.tin_base.specs.declared.frames.Frame.TheVariants.{Source}
 use Rattle.tin_base.proofs.Standing.{near_points}
-use Rattle.carry_map.proofs.Leaving.{near_one}
-use Rattle.carry_map.proofs.crossings.side_param.Goals as goal
+use Rattle.affine_image.proofs.crossings.side_param.Goals as goal
 
 pub edge_param-requires-clause-near_p : goal.edge_param-requires-clause-near_p
-edge_param-requires-clause-near_p c = near_one c.args.tin.now c.args.a c.args.b c.place.result c.args.side.from c.place.ensures.limits c.requires.from_in_range c.requires.has_a c.requires.has_b c.place.ensures.place
+edge_param-requires-clause-near_p c = c.requires.near_from c.place.result c.place.ensures.place
 
 pub edge_param-requires-clause-near_q : goal.edge_param-requires-clause-near_q
-edge_param-requires-clause-near_q c = near_one c.args.tin.now c.args.a c.args.b c.place-2.result c.args.side.to c.place.ensures.limits c.requires.to_in_range c.requires.has_a c.requires.has_b c.place-2.ensures.place
+edge_param-requires-clause-near_q c = c.requires.near_to c.place-2.result c.place-2.ensures.place
 
 pub edge_param-requires-clause-near_pq : goal.edge_param-requires-clause-near_pq
 edge_param-requires-clause-near_pq c =

@@ -12,8 +12,8 @@ use Rattle.sheet_base.specs.Segments.{points_in, segments_of, segments_in}
 use Rattle.sheet_base.specs.Sheets.{Contents, IsPathFrom, AreTiled, IsSheet}
 use Rattle.affine_image.specs.SheetSegments.{Segment, segment_at, vertex_at, path_vertices, vertices_from, segments_begun, sheet_segments}
 use Rattle.affine_image.proofs.Segmenting.{begun_append}
-use Rattle.carry_map.specs.Layers.{ends_open_of, ends_open}
-use Rattle.carry_map.proofs.Pathing.{few}
+use Rattle.affine_image.specs.SheetSegments.{ends_open_of, ends_open}
+use Rattle.affine_image.proofs.PathVertices.{few}
 
 -- ---- the segments of a path
 -- some vertices of a path from the one of number k on: each whose number is below that of the segments begins one
@@ -34,7 +34,7 @@ begun_from points path row k (suc n) = go (ltb k (segments_in row)) refl (begun_
     go true e h = one (length rest) (segments_in row) (ltb-true k (segments_in row) e) h
     go false e h = none (length rest) (segments_in row) (ltb-false k (segments_in row) e) h
 
-begun_in : (points : List Pt) (path : ℕ) (row : PathRow) → IsPathFrom row.first row → length (segments_begun (path_vertices points path row)) ≡ segments_in row
+pub begun_in : (points : List Pt) (path : ℕ) (row : PathRow) → IsPathFrom row.first row → length (segments_begun (path_vertices points path row)) ≡ segments_in row
 begun_in points path row from = let f = few row from in begun_from points path row 0 (points_in row) ∙ upto (points_in row) (segments_in row) f.upto
   where
     upto : (m n : ℕ) → n ≤ m → min m (n - 0) ≡ n
