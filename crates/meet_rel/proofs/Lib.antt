@@ -17,3 +17,4 @@ pub mod Sliced
 pub mod Clipping
 pub mod Keeping
 pub mod SmallClips
+pub mod CommonSides

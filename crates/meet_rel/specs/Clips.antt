@@ -5,6 +5,7 @@ use Rattle.frac128.specs.declared.frac.Frac.{Frac}
 use Rattle.plane_base.specs.Plane.{Point, Same, IsMix, whole, corners, along, turn_of, IsNear, IsNearAll, IsNearTri}
 use Rattle.plane_base.specs.Slices.{IsParam}
 use Rattle.plane_base.specs.declared.shapes.Pt.{Pt}
+use Rattle.plane_base.specs.declared.shapes.Tri.{Tri}
 use Rattle.meet_rel.specs.declared.clips.Clip.{Clip}
 use Rattle.tin_base.specs.declared.relations.Rel.{Rel}
 use Rattle.tin_base.specs.declared.relations.Rel.TheVariants.{Apart, Touching, Crossing, Overlapping}
@@ -51,6 +52,11 @@ pub record IsCut (clip : Clip) (u v : Pt) (lo hi : Frac) : Type 0 where
   pub order : IsAtMost lo hi
   pub forth : (r : Point) → pos 0 <ℤ r.w → IsMix r (at u v lo ∷ at u v hi ∷ []) → IsOf clip r
   pub back : (r : Point) → pos 0 <ℤ r.w → IsOf clip r → IsMix r (at u v lo ∷ at u v hi ∷ [])
+
+-- ---- a side of a triangle
+-- a side of the triangle goes from c to d
+abbrev pub IsSideFrom : Tri → Pt → Pt → Type 0
+IsSideFrom t c d = ((c ≡ t.a) × (d ≡ t.b)) ⊎ (((c ≡ t.b) × (d ≡ t.c)) ⊎ ((c ≡ t.c) × (d ≡ t.a)))
 
 -- ---- two ends of a way
 -- p is before q, or they have the same first number and p is below

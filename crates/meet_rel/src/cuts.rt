@@ -10,6 +10,7 @@ ghost use Rattle.meet_rel.specs.Signs.{AreOnOneLine};
 ghost use Rattle.meet_rel.specs.Clips.{AreEnds, IsRelOf, IsProper, AreClose, IsCut, IsBefore, IsNotAfter, AreOuter, IsWayFor, StandsAt};
 
 use crate::clips::Clip;
+use crate::sides::touch_at_side;
 use frac128::{Frac, earlier, later, order};
 use plane_base::{Pt, slice};
 use std::cmp::Ordering;
@@ -44,7 +45,7 @@ pub(crate) fn own_span(clip: &Clip) -> Span
     }
 }
 
-/// Of two clips of one segment: both parts by parameters of the segment.
+/// Of two clips of one segment: by a common side of the triangles, or else both parts by parameters of the segment.
 pub(crate) fn rel_on_one(p: &Clip, q: &Clip) -> Rel
     requires p { IsProper p.now }
     requires q { IsProper q.now }
@@ -53,6 +54,9 @@ pub(crate) fn rel_on_one(p: &Clip, q: &Clip) -> Rel
     requires differ { p.now.a ≢ p.now.b }
     ensures { (first last start end : Point) → AreEnds p.now first last → AreEnds q.now start end → HaveRelation result first last start end }
 {
+    if touch_at_side(p, q) {
+        return Rel::Touching;
+    }
     let on_p = own_span(p);
     let on_q = own_span(q);
     rel_of_spans(later(on_p.lo, on_q.lo), earlier(on_p.hi, on_q.hi))

@@ -9,6 +9,7 @@ mod lines;
 mod meetings;
 mod pieces;
 mod segments;
+mod sides;
 #[cfg(test)]
 mod tests;
 
