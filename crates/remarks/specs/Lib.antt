@@ -6,3 +6,6 @@ pub mod TinTables
 pub mod RefusalTables
 pub mod Spots
 pub mod Remarks
+pub mod StrayLines
+pub mod FileLines
+pub mod FlawLines

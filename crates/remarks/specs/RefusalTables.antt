@@ -8,7 +8,7 @@ use Rattle.runs.specs.declared.refusal.Refusal.TheVariants.{Words, TinUnread, Ti
 use Rattle.remarks.specs.Sights.{sight_of, seen_finding, seen_cure}
 use Rattle.remarks.specs.TinTables.{tin_finding, tin_cure, check_finding, check_cure}
 
--- ---- words that give no job
+-- ---- words that are refused
 abbrev pub words_finding : WordsFault → List ℕ
 words_finding faults.NoMode = codes "no mode: the first word is to be migrate, check or make"
 words_finding faults.Parse = codes "an option or a word that is unknown, missing or too many"
@@ -57,7 +57,7 @@ refusal_cure (Check fault) bytes = check_cure fault
 refusal_cure (LayerUnread layer) bytes = Some (codes "look at its name, and at who may read it")
 refusal_cure LayersLong bytes = Some (codes "carry fewer layers a run")
 refusal_cure (Layer layer fault) bytes = seen_cure fault (sight_of fault bytes)
-refusal_cure (Outside layer path segment) bytes = Some (codes "carried already, or --inverse? recipes/outside.sh lists all that is outside")
+refusal_cure (Outside layer path segment) bytes = Some (codes "recipes/outside.sh lists all that is outside")
 refusal_cure TooManyPieces bytes = Some (codes "carry fewer layers a run")
 refusal_cure TooManyChanges bytes = Some (codes "remove lines that are on top of each other")
 refusal_cure NoMemory bytes = Some (codes "carry smaller layers, or one a run")

@@ -2,17 +2,25 @@
 #![tactic(auto)]
 
 mod excerpts;
+mod file_lines;
+mod flaw_lines;
 mod layer_tables;
 mod line_columns;
 mod refusal_tables;
 mod remark_lines;
 mod sights;
 mod spots;
+mod stray_lines;
 mod tin_tables;
 
 pub use excerpts::MOST_SHOWN;
+pub use file_lines::{
+    KindCount, degrees_line, left_out_line, rounded_line, unread_line, unwritten_lines,
+};
+pub use flaw_lines::{WordFlaw, word_lines};
 pub use layer_tables::{cure, finding};
 pub use line_columns::{LineColumn, line_and_column};
 pub use remark_lines::refusal_remarks;
 pub use sights::Sight;
 pub use spots::Spot;
+pub use stray_lines::{Stray, outside_lines};

@@ -8,8 +8,8 @@ use crate::tin_tables::{check_cure, check_finding, tin_cure, tin_finding};
 use job_words::{Which, WordsFault};
 use runs::Refusal;
 
-/// What is wrong with words that give no job.
-fn words_finding(fault: WordsFault) -> &'static str
+/// What is wrong with words that are refused.
+pub(crate) fn words_finding(fault: WordsFault) -> &'static str
     ensures { result.now ≡ words_finding_of fault }
 {
     match fault {
@@ -33,7 +33,7 @@ fn words_finding(fault: WordsFault) -> &'static str
 }
 
 /// What helps them, where something is known that does.
-fn words_cure(fault: WordsFault) -> Option<&'static str>
+pub(crate) fn words_cure(fault: WordsFault) -> Option<&'static str>
     ensures { option_copied result ≡ words_cure_of fault }
 {
     match fault {
@@ -87,9 +87,7 @@ pub(crate) fn refusal_cure(refusal: Refusal, bytes: Option<&[u8]>) -> Option<&'s
         Refusal::LayerUnread { .. } => Some("look at its name, and at who may read it"),
         Refusal::LayersLong => Some("carry fewer layers a run"),
         Refusal::Layer { fault, .. } => seen_cure(fault, sight_for(fault, bytes)),
-        Refusal::Outside { .. } => {
-            Some("carried already, or --inverse? recipes/outside.sh lists all that is outside")
-        }
+        Refusal::Outside { .. } => Some("recipes/outside.sh lists all that is outside"),
         Refusal::TooManyPieces => Some("carry fewer layers a run"),
         Refusal::TooManyChanges => Some("remove lines that are on top of each other"),
         Refusal::NoMemory => Some("carry smaller layers, or one a run"),

@@ -15,7 +15,7 @@ use std::alloc::{AllocError, Global};
 use tin_file::Rows;
 
 /// Puts a text and a number in digits behind what is there.
-fn put_number(text: &mut String, before: &str, number: u64) -> Result<(), AllocError>
+pub(crate) fn put_number(text: &mut String, before: &str, number: u64) -> Result<(), AllocError>
     ensures { OnOk result (string_bytes text.new ≡ string_bytes text.old ++ before.now ++ decimal number) }
 {
     let mut digits = Buffer::new();
@@ -158,7 +158,7 @@ fn put_first_line(
 }
 
 /// Puts the line of what helps.
-fn put_second_line(text: &mut String, cure: Option<&str>) -> Result<(), AllocError>
+pub(crate) fn put_second_line(text: &mut String, cure: Option<&str>) -> Result<(), AllocError>
     ensures { OnOk result (string_bytes text.new ≡ string_bytes text.old ++ cure_line (option_copied cure.entry)) }
 {
     text.push_str("tinmove: nothing was written")?;

@@ -15,6 +15,8 @@ mod numeral_tests;
 #[cfg(test)]
 mod pair_tests;
 #[cfg(test)]
+mod remark_line_tests;
+#[cfg(test)]
 mod remark_tests;
 #[cfg(test)]
 mod report_tests;

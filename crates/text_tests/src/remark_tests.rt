@@ -169,7 +169,7 @@ tinmove: nothing was written; see recipes/readable_drawing.py, or leave such ent
         },
         "roads.wkt",
         "tinmove: roads.wkt: path 3 segment 4: not wholly inside the triangles
-tinmove: nothing was written; carried already, or --inverse? recipes/outside.sh lists all that is outside
+tinmove: nothing was written; recipes/outside.sh lists all that is outside
 ",
     ),
     (

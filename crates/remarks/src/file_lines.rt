@@ -1,0 +1,136 @@
+//! What standard error says of a file: why it could not be read or written, what was left out of it, and what its
+//! numbers look like.
+
+ghost use Rattle.std.specs.Prelude.{◌≡◌, ◌++◌, IfOk, OnOk, codes, decimal, string_bytes, option_copied, map};
+ghost use Rattle.std.specs.List.{flat_map};
+ghost use Rattle.remarks.specs.FileLines.{unread_line_of, reason_words, unwritten_lines_of, kind_words, further_kind, kinds_words, left_out_line_of, rounded_line_of, degrees_line_of};
+
+use crate::remark_lines::put_number;
+use std::alloc::{AllocError, Global};
+
+/// How many entities of a kind there are.
+#[derive(Debug, Drop)]
+pub struct KindCount {
+    pub name: String,
+    pub count: u64,
+}
+
+/// Puts the head of a line on a file.
+fn put_name(text: &mut String, name: &str) -> Result<(), AllocError>
+    ensures { OnOk result (string_bytes text.new ≡ string_bytes text.old ++ codes "tinmove: " ++ name.now) }
+{
+    text.push_str("tinmove: ")?;
+    text.push_str(name)?;
+    Ok(())
+}
+
+/// The line that says why the system did not let a file be read.
+pub fn unread_line(alloc: Global, name: &str, reason: &str) -> Result<String, AllocError>
+    ensures { IfOk result (λ text. string_bytes text ≡ unread_line_of name.now reason.now) }
+{
+    let mut text = String::new(alloc);
+    put_name(&mut text, name)?;
+    text.push_str(": the system says: ")?;
+    text.push_str(reason)?;
+    text.push_str("\n")?;
+    Ok(text)
+}
+
+/// Puts a reason, where there is one.
+fn put_reason(text: &mut String, reason: Option<&str>) -> Result<(), AllocError>
+    ensures { OnOk result (string_bytes text.new ≡ string_bytes text.old ++ reason_words (option_copied reason.entry)) }
+{
+    if let Some(words) = reason {
+        text.push_str(": ")?;
+        text.push_str(words)?;
+    }
+    Ok(())
+}
+
+/// The lines that say which file could not be written, why where that is known, and what helps.
+pub fn unwritten_lines(
+    alloc: Global,
+    name: &str,
+    reason: Option<&str>,
+) -> Result<String, AllocError>
+    ensures { IfOk result (λ text. string_bytes text ≡ unwritten_lines_of name.now (option_copied reason.entry)) }
+{
+    let mut text = String::new(alloc);
+    put_name(&mut text, name)?;
+    text.push_str(": could not be written")?;
+    put_reason(&mut text, reason)?;
+    text.push_str("\n")?;
+    text.push_str("tinmove: look at the disk's room, at who may write in the folder, and at ulimit -f\n")?;
+    Ok(text)
+}
+
+/// Puts a kind and its count behind a text.
+fn put_kind(text: &mut String, before: &str, kind: &KindCount) -> Result<(), AllocError>
+    ensures { OnOk result (string_bytes text.new ≡ string_bytes text.old ++ before.now ++ kind_words kind.now) }
+{
+    text.push_str(before)?;
+    text.push_str(kind.name.as_str())?;
+    put_number(text, " ", kind.count)?;
+    Ok(())
+}
+
+/// Puts further kinds.
+fn put_further(text: &mut String, kinds: &[KindCount]) -> Result<(), AllocError>
+    ensures { OnOk result (string_bytes text.new ≡ string_bytes text.old ++ flat_map further_kind kinds.now) }
+{
+    for kind in kinds {
+        put_kind(text, ", ", kind)?;
+    }
+    Ok(())
+}
+
+/// Puts the kinds in brackets, where there is one.
+fn put_kinds(text: &mut String, kinds: &[KindCount]) -> Result<(), AllocError>
+    ensures { OnOk result (string_bytes text.new ≡ string_bytes text.old ++ kinds_words kinds.now) }
+{
+    if let [first, rest @ ..] = kinds {
+        put_kind(text, " (", first)?;
+        put_further(text, rest)?;
+        text.push_str(")")?;
+    }
+    Ok(())
+}
+
+/// The line that says how many entities of a drawing were left out, of which kinds.
+pub fn left_out_line(
+    alloc: Global,
+    name: &str,
+    count: u64,
+    kinds: &[KindCount],
+) -> Result<String, AllocError>
+    ensures { IfOk result (λ text. string_bytes text ≡ left_out_line_of name.now count kinds.now) }
+{
+    let mut text = String::new(alloc);
+    put_name(&mut text, name)?;
+    put_number(&mut text, ": ", count)?;
+    text.push_str(" entities left out")?;
+    put_kinds(&mut text, kinds)?;
+    text.push_str(": the written drawing is not whole\n")?;
+    Ok(text)
+}
+
+/// The line that says how many numbers of a layer were rounded, and how that is avoided.
+pub fn rounded_line(alloc: Global, name: &str, count: u64) -> Result<String, AllocError>
+    ensures { IfOk result (λ text. string_bytes text ≡ rounded_line_of name.now count) }
+{
+    let mut text = String::new(alloc);
+    put_name(&mut text, name)?;
+    put_number(&mut text, ": ", count)?;
+    text.push_str(" numbers were rounded to the millimetre: ogr2ogr -lco COORDINATE_PRECISION=3 writes no more digits\n")?;
+    Ok(text)
+}
+
+/// The line that says that a triangulation may be in degrees.
+pub fn degrees_line(alloc: Global, name: &str) -> Result<String, AllocError>
+    ensures { IfOk result (λ text. string_bytes text ≡ degrees_line_of name.now) }
+{
+    let mut text = String::new(alloc);
+    put_name(&mut text, name)?;
+    text.push_str(": all source corners are within 360: these look like degrees, and are read as metres\n")?;
+    Ok(text)
+}
