@@ -20,3 +20,4 @@ pub mod PathVertices
 pub mod SheetPaths
 pub mod Runs
 pub mod Counting
+mod HeightLemmas

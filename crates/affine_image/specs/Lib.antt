@@ -9,3 +9,4 @@ pub mod SheetImages
 pub mod SheetLaws
 pub mod SegmentImages
 pub mod Sides
+pub mod Heights

@@ -4,6 +4,7 @@
 
 mod counts;
 mod crossings;
+mod heights;
 mod images;
 mod laws;
 mod mixing;
@@ -12,6 +13,7 @@ mod weights;
 
 pub use counts::{next_point, point_count, segment_count, segment_total};
 pub use crossings::end_image;
+pub use heights::{ends_keep_heights, height_at, heights_agree, heights_are_between};
 pub use images::{image_cut, image_of};
 pub use laws::{
     cuts_are_images, doubled_numerators_are_small, image_segments_are_pieces, images_fit,

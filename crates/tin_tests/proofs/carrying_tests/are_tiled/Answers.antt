@@ -1,6 +1,6 @@
 -- Answers to the goals of `are_tiled` in src/carrying_tests.rt.
 use Rattle.std.proofs.Common.{refl, arith}
-use Rattle.carry_map.proofs.Sheeting.{no_row}
+use Rattle.affine_image.proofs.SheetPaths.{no_row}
 use Rattle.tin_tests.proofs.Tiling.{tiled_more}
 use Rattle.tin_tests.proofs.carrying_tests.are_tiled.Goals as goal
 
