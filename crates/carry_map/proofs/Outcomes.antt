@@ -38,7 +38,8 @@ use Rattle.carry_map.proofs.Pathing.{AreFew, few, next_begins}
 two_some : (m n : ℕ) → 0 < m + n → 0 < sum (m ∷ n ∷ [])
 two_some m n h = omega arith
 
-spot_image : (tin : Triangulation) (a b : Pt) (s : Spot) → IsInside tin a b → 0 < s.of_a + s.of_b → (image : Pt) × IsRoundedImageAt tin (spot_at a b s) image
+spot_image : (tin : Triangulation) (a b : Pt) (s : Spot) → IsInside tin a b → 0 < s.of_a + s.of_b
+    → (image : Pt) × IsRoundedImageAt tin (spot_at a b s) image
 spot_image tin a b s inside some =
     let w = spot-w a b s some in
     let mix : IsMix (spot_at a b s) (whole a ∷ whole b ∷ []) = (s.of_a ∷ s.of_b ∷ [], refl, two_some s.of_a s.of_b some, same_refl (spot_at a b s)) in
@@ -79,9 +80,11 @@ some_parts tin a b parts cut = by (same_or a b)
     by (inl same) = at_point parts (cut.0 same)
     by (inr other) =
         let are = cut.1 other in
-        some_each parts (λ i below. let part = are.part i below in let first = part.has_first in let last = part.has_last in (first.some, last.some))
+        some_each parts (λ i below.
+            let part = are.part i below in let first = part.has_first in let last = part.has_last in (first.some, last.some))
 
-told_parts : (tin : Triangulation) (a b : Pt) → IsInside tin a b → (from : Place) (parts : List Part) → AreSome parts → (pieces : List Piece) × AreTold tin a b from parts pieces
+told_parts : (tin : Triangulation) (a b : Pt) → IsInside tin a b → (from : Place) (parts : List Part) → AreSome parts
+    → (pieces : List Piece) × AreTold tin a b from parts pieces
 told_parts tin a b inside from [] some = ([], tt)
 told_parts tin a b inside from (part ∷ parts) some =
     let (first, first_is) = spot_image tin a b part.first inside some.0 in
@@ -96,8 +99,10 @@ abbrev HaveOutcome : Triangulation → ℕ → ℕ → ℕ → List Segment → 
 HaveOutcome tin layer old most segments =
     HaveRoom tin layer old most segments ⊎ (((path number : ℕ) × IsFirstOutside tin layer old most segments path number) ⊎ IsFirstTooMany tin layer old most segments)
 
-segments_outcome : (tin : Triangulation) → IsSound tin → (layer old most : ℕ) → old ≤ most → (segments : List Segment) → HaveOutcome tin layer old most segments
-segments_outcome tin sound layer old most below [] = inl (record { inside = tt; pieces = []; are = refl; room = omega (arith, below) })
+segments_outcome : (tin : Triangulation) → IsSound tin → (layer old most : ℕ) → old ≤ most → (segments : List Segment)
+    → HaveOutcome tin layer old most segments
+segments_outcome tin sound layer old most below [] =
+    inl (record { inside = tt; pieces = []; are = refl; room = omega (arith, below) })
 segments_outcome tin sound layer old most below (segment ∷ segments) =
     by (λ more room. segments_outcome tin sound layer more most room segments) (walks.outcome tin sound segment.a segment.b)
   where
@@ -107,7 +112,8 @@ segments_outcome tin sound layer old most below (segment ∷ segments) =
     more_room : (m n k : ℕ) → k ≡ m + n → old + m + n ≤ most → old + k ≤ most
     more_room m n k e h = omega arith
 
-    on : (inside : IsInside tin segment.a segment.b) (own : List Piece) → ArePiecesOfSegment tin layer segment own → HaveOutcome tin layer (old + length own) most segments → HaveOutcome tin layer old most (segment ∷ segments)
+    on : (inside : IsInside tin segment.a segment.b) (own : List Piece) → ArePiecesOfSegment tin layer segment own
+        → HaveOutcome tin layer (old + length own) most segments → HaveOutcome tin layer old most (segment ∷ segments)
     on inside own of_segment (inl room) = inl (record {
       inside = (inside, room.inside);
       pieces = own ++ room.pieces;
@@ -125,7 +131,9 @@ segments_outcome tin sound layer old most below (segment ∷ segments) =
         inr (inr (subst (λ (ss : List Segment). IsFirstTooMany tin layer old most (segment ∷ ss)) (append-nil segments)
         (cause_between tin layer old most (segment ∷ []) segments [] own TooMany (inside, tt) (own, [], sym (append-nil own), of_segment, refl) first)))
 
-    by_room : ((more : ℕ) → more ≤ most → HaveOutcome tin layer more most segments) → (parts : List Part) → ArePiecesOf tin segment.a segment.b parts → IsInside tin segment.a segment.b → (own : List Piece) → AreTold tin segment.a segment.b (first_place layer segment) parts own
+    by_room : ((more : ℕ) → more ≤ most → HaveOutcome tin layer more most segments) → (parts : List Part)
+        → ArePiecesOf tin segment.a segment.b parts → IsInside tin segment.a segment.b → (own : List Piece)
+        → AreTold tin segment.a segment.b (first_place layer segment) parts own
         → (most < old + length own) ⊎ (old + length own ≤ most) → HaveOutcome tin layer old most (segment ∷ segments)
     by_room rest parts cut inside own told (inl full) = inr (inr (record {
       segment = segment;
@@ -167,17 +175,20 @@ abbrev AreReady : Triangulation → List PathVertex → Type 0
 AreReady tin [] = Unit {0}
 AreReady tin (vertex ∷ vertices) = IsInSome tin Source (whole vertex.point) × IsSegmentInside tin vertex.segment × AreReady tin vertices
 
-crossings : (tin : Triangulation) → IsSound tin → (segment : Option Segment) → IsSegmentInside tin segment → (images : List Pt) × AreCrossings tin segment images
+crossings : (tin : Triangulation) → IsSound tin → (segment : Option Segment) → IsSegmentInside tin segment
+    → (images : List Pt) × AreCrossings tin segment images
 crossings tin sound None inside = ([], refl)
 crossings tin sound (Some segment) inside = by (walks.outcome tin sound segment.a segment.b)
   where
-    by : ((parts : List Part) × ArePiecesOf tin segment.a segment.b parts × IsInside tin segment.a segment.b) ⊎ (IsInside tin segment.a segment.b → ⊥) → (images : List Pt) × AreCrossings tin (Some segment) images
+    by : ((parts : List Part) × ArePiecesOf tin segment.a segment.b parts × IsInside tin segment.a segment.b) ⊎ (IsInside tin segment.a segment.b → ⊥)
+        → (images : List Pt) × AreCrossings tin (Some segment) images
     by (inl (parts, cut, also)) =
         let (own, told) = told_parts tin segment.a segment.b inside (first_place 0 segment) parts (some_parts tin segment.a segment.b parts cut) in
         (end_images (take (length own - 1) own), (parts, cut, inner_ends tin segment.a segment.b (first_place 0 segment) parts own told))
     by (inr outside) = absurd (outside inside)
 
-runs_of : (tin : Triangulation) → IsSound tin → (vertices : List PathVertex) → AreReady tin vertices → (runs : List (List Pt)) × AreRuns tin vertices runs
+runs_of : (tin : Triangulation) → IsSound tin → (vertices : List PathVertex) → AreReady tin vertices
+    → (runs : List (List Pt)) × AreRuns tin vertices runs
 runs_of tin sound [] ready = ([], tt)
 runs_of tin sound (vertex ∷ vertices) ready =
     let (image, is) = point_image tin vertex.point ready.0 in
@@ -186,11 +197,13 @@ runs_of tin sound (vertex ∷ vertices) ready =
     ((image ∷ behind) ∷ runs, ((is, are), rest))
 
 -- ---- the vertices of a sheet whose segments are inside
-ready_more : (tin : Triangulation) (vs ws : List PathVertex) → AreReady tin vs → AreReady tin ws → AreReady tin (vs ++ ws)
+ready_more : (tin : Triangulation) (vs ws : List PathVertex) → AreReady tin vs → AreReady tin ws
+    → AreReady tin (vs ++ ws)
 ready_more tin [] ws h k = k
 ready_more tin (v ∷ vs) ws h k = (h.0, h.1, ready_more tin vs ws h.2 k)
 
-inside_parts : (tin : Triangulation) (ss ts : List Segment) → AreInside tin (ss ++ ts) → AreInside tin ss × AreInside tin ts
+inside_parts : (tin : Triangulation) (ss ts : List Segment) → AreInside tin (ss ++ ts)
+    → AreInside tin ss × AreInside tin ts
 inside_parts tin [] ts h = (tt, h)
 inside_parts tin (s ∷ ss) ts h = let rest = inside_parts tin ss ts h.1 in ((h.0, rest.0), rest.1)
 
@@ -205,7 +218,8 @@ module _ (tin : Triangulation) (points : List Pt) (path : ℕ) (row : PathRow) (
       k + n ≡ points_in row → IsPlaced k → AreInside tin (segments_begun (map (vertex_at points path row) (range_with_len k n)))
       → AreReady tin (map (vertex_at points path row) (range_with_len k n))
 
-  ready_from : (k n : ℕ) → k + n ≡ points_in row → IsPlaced k → AreInside tin (segments_begun (map (vertex_at points path row) (range_with_len k n)))
+  ready_from : (k n : ℕ) → k + n ≡ points_in row → IsPlaced k
+      → AreInside tin (segments_begun (map (vertex_at points path row) (range_with_len k n)))
       → AreReady tin (map (vertex_at points path row) (range_with_len k n))
   ready_from k zero size placed inside = tt
   ready_from k (suc n) size placed inside =
@@ -214,8 +228,10 @@ module _ (tin : Triangulation) (points : List Pt) (path : ℕ) (row : PathRow) (
       rest : List PathVertex
       rest = map (vertex_at points path row) (range_with_len (k + 1) n)
 
-      next : AreReadyFrom (k + 1) n → (m : ℕ) → n ≡ m → IsInside tin (begin_of points row k) (end_of points row k) → AreInside tin (segments_begun rest) → AreReady tin rest
-      next on zero none here others = subst (λ (m : ℕ). AreReady tin (map (vertex_at points path row) (range_with_len (k + 1) m))) (sym none) tt
+      next : AreReadyFrom (k + 1) n → (m : ℕ) → n ≡ m → IsInside tin (begin_of points row k) (end_of points row k)
+          → AreInside tin (segments_begun rest) → AreReady tin rest
+      next on zero none here others =
+          subst (λ (m : ℕ). AreReady tin (map (vertex_at points path row) (range_with_len (k + 1) m))) (sym none) tt
       next on (suc m) some here others =
           let follows : end_of points row k ≡ begin_of points row (k + 1) = next_begins points row k (omega (arith, size, some)) in
           on (omega (arith, size))
@@ -228,14 +244,18 @@ module _ (tin : Triangulation) (points : List Pt) (path : ℕ) (row : PathRow) (
       last : segments_in row ≤ k → n ≡ 0
       last past = let least = are_few.least in omega (arith, least, past, size)
 
-      by : AreReadyFrom (k + 1) n → (b : Bool) → ltb k (segments_in row) ≡ b → AreInside tin (cons_option (cond b (Some (segment_at points path row k)) None) (segments_begun rest))
+      by : AreReadyFrom (k + 1) n → (b : Bool) → ltb k (segments_in row) ≡ b
+          → AreInside tin (cons_option (cond b (Some (segment_at points path row k)) None) (segments_begun rest))
           → IsInSome tin Source (whole (begin_of points row k)) × IsSegmentInside tin (cond b (Some (segment_at points path row k)) None) × AreReady tin rest
-      by on true below both = (first_inside tin (begin_of points row k) (end_of points row k) both.0, both.0, next on n refl both.0 both.1)
+      by on true below both =
+          (first_inside tin (begin_of points row k) (end_of points row k) both.0, both.0, next on n refl both.0 both.1)
       by on false past others =
           let behind = ltb-false k (segments_in row) past in
           (placed_here placed behind, tt, subst (λ (m : ℕ). AreReady tin (map (vertex_at points path row) (range_with_len (k + 1) m))) (sym (last behind)) tt)
 
-ready_paths : (tin : Triangulation) (points : List Pt) (n : ℕ) (rows : List PathRow) (first past : ℕ) → AreTiled rows first past → AreInside tin (segments_begun (vertices_from points n rows)) → AreReady tin (vertices_from points n rows)
+ready_paths : (tin : Triangulation) (points : List Pt) (n : ℕ) (rows : List PathRow) (first past : ℕ)
+    → AreTiled rows first past → AreInside tin (segments_begun (vertices_from points n rows))
+    → AreReady tin (vertices_from points n rows)
 ready_paths tin points n [] first past tiled inside = tt
 ready_paths tin points n (row ∷ rows) first past tiled inside =
     let path = tiled.0 in
@@ -248,9 +268,11 @@ ready_paths tin points n (row ∷ rows) first past tiled inside =
 
 -- ---- a sheet
 pub outcome : OutcomeExists
-outcome tin sound layer old most below sheet is = by (segments_outcome tin sound layer old most below (sheet_segments sheet))
+outcome tin sound layer old most below sheet is =
+    by (segments_outcome tin sound layer old most below (sheet_segments sheet))
   where
-    by : HaveOutcome tin layer old most (sheet_segments sheet) → HasCarried tin layer old most sheet ⊎ HasFirstFault tin layer old most sheet
+    by : HaveOutcome tin layer old most (sheet_segments sheet)
+        → HasCarried tin layer old most sheet ⊎ HasFirstFault tin layer old most sheet
     by (inl room) =
         let (runs, are) = runs_of tin sound (sheet_vertices sheet) (ready_paths tin sheet.points 0 sheet.paths 0 (length sheet.points) is.tiled room.inside) in
         inl (record {

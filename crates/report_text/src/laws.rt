@@ -1,3 +1,7 @@
+//! Laws of the texts of reports.
+
+ghost use Rattle.std.specs.Prelude.{◌≡◌};
+ghost use Rattle.report_text.specs.declared.lines.TheConstants.{LINE_FEED};
 ghost use Rattle.report_text.specs.Laws.{BadLinesAreOne, OutcomeExists, ReadIsWritten, TextsAreOne, WrittenIsRead};
 
 /// A law: no two reports have one text. So what is read of the text that was written of a report is that report.
@@ -24,4 +28,9 @@ pub fn written_is_read()
 /// A law: of a report that was read the same bytes are written.
 pub fn read_is_written()
     ensures { ReadIsWritten }
+{}
+
+/// A law: the byte that ends each line is this one.
+pub fn limits_are_stated()
+    ensures line_feed { LINE_FEED ≡ 10 }
 {}

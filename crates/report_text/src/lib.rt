@@ -15,7 +15,8 @@ mod writing;
 
 pub use faults::ReportFault;
 pub use laws::{
-    bad_lines_are_one, outcome_exists, read_is_written, texts_are_one, written_is_read,
+    bad_lines_are_one, limits_are_stated, outcome_exists, read_is_written, texts_are_one,
+    written_is_read,
 };
 pub use lines::LINE_FEED;
 pub use reading::read_report;

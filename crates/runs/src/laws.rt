@@ -1,8 +1,15 @@
 //! What is true of the definitions that the contracts cite.
 
+ghost use Rattle.std.specs.Prelude.{◌≡◌, ◌^◌};
 ghost use Rattle.runs.specs.Laws.{TinEndIsOne};
+ghost use Rattle.runs.specs.declared.loads.TheConstants.{MOST_BYTES};
 
 /// A law: the file of a name gives one sound triangulation, or is refused by one refusal.
 pub fn tin_end_is_one()
     ensures { TinEndIsOne }
+{}
+
+/// A law: the limit is this number.
+pub fn limits_are_stated()
+    ensures bytes { MOST_BYTES ≡ 2 ^ 26 }
 {}

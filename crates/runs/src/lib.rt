@@ -11,7 +11,7 @@ mod refusal;
 mod status;
 mod triangulations;
 
-pub use laws::tin_end_is_one;
+pub use laws::{limits_are_stated, tin_end_is_one};
 pub use lines::{LINE_ROOM, Line};
 pub use loads::{MOST_BYTES, load_file, load_tin};
 pub use output::{LayerFile, Output};

@@ -12,7 +12,7 @@ AnswerIsOne =
     (how : How) (bytes : List ℕ) (answer other : Result Triangulation TinFault) → Answers how bytes answer → answer ≢ Err NoMemory → Answers how bytes other → other ≢ Err NoMemory
     → answer ≡ other
 
--- any bytes have an answer that is not want of memory
+-- any bytes have an answer other than out of memory
 abbrev pub OutcomeExists : Type 0
 OutcomeExists =
     (how : How) (bytes : List ℕ) → (answer : Result Triangulation TinFault) × Answers how bytes answer
