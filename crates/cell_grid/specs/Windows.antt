@@ -8,7 +8,8 @@ use Rattle.cell_grid.specs.declared.level_partners.Window.{Window}
 abbrev pub IsBetween : Bounds → ℕ → Type 0
 IsBetween bounds n = (bounds.first ≤ n) × (n ≤ bounds.last)
 
--- they are the numbers up to `last` of which the greater of the number and `first` is in a stripe, where stripes of two to the power of `shift` begin at 0
+-- just the numbers up to `last` for which the greater of the number and `first` is in a stripe, where stripes of two
+-- to the power of `shift` begin at 0
 abbrev pub AreBoundsOf : ℕ → ℕ → ℕ → ℕ → Bounds → Type 0
 AreBoundsOf shift stripe first last bounds = (n : ℕ) → IsBetween bounds n ↔ ((n ≤ last) × (max n first / 2 ^ shift ≡ stripe))
 

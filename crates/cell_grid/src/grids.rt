@@ -48,8 +48,8 @@ impl Model for Grid {
 }
 
 impl Grid {
-    /// The grid of these boxes, in millimetres. It takes memory for half of what the boxes take, for their numbers in at most four cells each,
-    /// twice while it sorts them, and for about as many cells as boxes.
+    /// The grid of these boxes, in millimetres. It takes memory for half of what the boxes take, for their numbers in at
+    /// most four cells each, twice while it sorts them, and for about as many cells as boxes.
     pub fn build(alloc: Global, boxes: &[Rect]) -> Result<Self, AllocError>
         requires ordered { AreOrdered boxes.now }
         requires span { AreWithinSpan boxes.now }

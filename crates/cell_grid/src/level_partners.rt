@@ -126,8 +126,8 @@ impl Asked {
         }
     }
 
-    // Tells those of the numbers that are told at the cell of the window. They ascend, so it begins at the last one and stops
-    // at the first one that is not asked for. What it compares with is best read where it is kept.
+    // Tells those of the numbers that are told at the cell of the window. They ascend, so it begins at the last one
+    // and stops at the first one that is not asked for. What it compares with is best read where it is kept.
     #[inline(never)]
     fn tell_among(
         &self,
@@ -192,8 +192,8 @@ impl Asked {
     }
 }
 
-// Where a span begins if the greater of where it and another span begin is in a stripe of the level, and not behind the end
-// of the other one.
+// Where a span begins if the greater of where it and another span begin is in a stripe of the level, and not behind
+// the end of the other one.
 fn bounds_in(level: &Level, stripe: u32, first: u32, last: u32) -> Bounds
     requires from { first / 2 ^ level.now.shift ≤ stripe }
     requires to { stripe ≤ last / 2 ^ level.now.shift }

@@ -25,8 +25,8 @@ pub(crate) fn area_of(rect: &Rect) -> u64 {
 }
 
 /// How many binary digits the width of cells may have, so that each has about one of `count` boxes if these are spread
-/// evenly over the area. Levels next to the highest, which is below `top`, keep the width of their boxes, and so do levels
-/// without boxes.
+/// evenly over the area. Levels next to the highest, which is below `top`, keep the width of their boxes, and so do
+/// levels without boxes.
 pub(crate) fn widest(number: u32, top: u32, area: u64, count: u32) -> u32 {
     if count == 0 || number.saturating_add(2) >= top {
         return number;

@@ -162,7 +162,7 @@ one_side r s same d d' h k i = side_tells r s same d d' h (among k) i
     among (inr (inl e)) = inr (inl e)
     among (inr (inr e)) = inr (inr (inl e))
 
--- the side from i to j, and the other triangle from j on: whether it goes on to i tells whether the two have only the side in common
+-- the side from i to j, and the other triangle from j on: they have only the side in common where it goes on to i
 pub side_tells_on : (tin : Triangulation) (frame : Frame) (t u i j e f : ℕ) → pos 0 <ℤ turn_in tin frame t → pos 0 <ℤ turn_in tin frame u → IsCommonSide (numbers_of tin t) (numbers_of tin u) i j → AreCounted (numbers_of tin u) j e f
     → IsTrue (eqb e i) ↔ DoFit tin frame t u
 side_tells_on tin frame t u i j e f ht hu side counted =
