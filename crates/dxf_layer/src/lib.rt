@@ -10,6 +10,7 @@ mod fields;
 mod handles;
 mod laws;
 mod layer;
+mod lengths;
 mod ordering;
 mod own_vertices;
 mod pages;

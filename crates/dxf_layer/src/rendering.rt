@@ -9,6 +9,7 @@ ghost use Rattle.dxf_layer.specs.Rendering.{number_at, coded_before, field_copie
 
 use crate::copies::{push_all_fields, push_handle};
 use crate::counting::{first_handle, handle_behind, taken};
+use crate::lengths::written_length;
 use crate::pages::{Page, number_at};
 use crate::texts::{
     crossings_of, first_entity, image_of, last_coded, push_lines, push_vertices, run_of,
@@ -17,6 +18,10 @@ use dxf_pairs::read_pairs;
 use itoa::Buffer;
 use sheet_base::{Edit, How, Images, Sheet, What, between, push_mm};
 use std::alloc::{AllocError, Global};
+
+/// How many bytes a written drawing has at most. One that could have more is answered as want of
+/// memory, which is not asked for.
+const MOST_WRITTEN: u64 = 2_147_483_648;
 
 /// The handles that are given: the next one where an edit stands, the first one, and the one behind
 /// all.
@@ -119,8 +124,11 @@ pub fn render_page(alloc: Global, page: &Page) -> Result<Vec<u8>, AllocError>
     let first = first_handle(page);
     let behind = handle_behind(page, first);
     let mut next = first;
-    // copies and longer numbers seldom add more than a third
-    let mut out = Vec::with_capacity(alloc, page.bytes.len() + page.bytes.len() / 3)?;
+    let length = written_length(page);
+    if length > MOST_WRITTEN {
+        return Err(AllocError);
+    }
+    let mut out = Vec::with_capacity(alloc, length as usize)?;
     let mut from = 0;
     let mut number = 0;
     for edit in page.sheet.edits() {

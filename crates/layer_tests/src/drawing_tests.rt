@@ -314,6 +314,28 @@ fn stays_and_leaves_out(rt: HostRuntime) {
     assert!(rt; is_read);
 }
 
+/// A drawing that is cut directly before the end of a line ends with a code without a value, or before its end of file.
+#[test]
+fn refuses_each_drawing_that_is_cut(rt: HostRuntime) {
+    let mut line = 0u64;
+    for (place, byte) in LINES.iter().enumerate() {
+        if *byte == b'\n' {
+            line = line.saturating_add(1);
+            let wanted = if line % 2 == 1 {
+                LayerFault::Odd { line }
+            } else {
+                LayerFault::NoEof
+            };
+            assert_eq!(rt;
+                fault(rt.alloc(), &LINES[..place], LOOSE),
+                Some(wanted),
+                "at line {line}"
+            );
+        }
+    }
+    assert_eq!(rt; line, 69);
+}
+
 #[test]
 fn a_polyline_on_paper_takes_its_vertices_along(rt: HostRuntime) {
     let text =

@@ -460,6 +460,20 @@ const MOVED_PARCELS: &str = r#"{
 }
 "#;
 
+/// A text that ends before its last brace is bad at its end.
+#[test]
+fn refuses_each_prefix(rt: HostRuntime) {
+    let text = PARCELS.as_bytes();
+    for length in 0..text.len().saturating_sub(1) {
+        let wanted = LayerFault::Bad { at: length as u64 };
+        assert_eq!(rt;
+            read(rt.alloc(), &text[..length], false).err(),
+            Some(wanted),
+            "at {length}"
+        );
+    }
+}
+
 #[test]
 fn keeps_the_layout_of_ogr2ogr(rt: HostRuntime) {
     assert!(rt; is_written_as(rt.alloc(), SQUARE, PARCELS, MOVED_PARCELS));

@@ -13,3 +13,5 @@ mod moves;
 mod sheets;
 #[cfg(test)]
 mod wkt_tests;
+#[cfg(test)]
+mod written_drawing_tests;

@@ -166,13 +166,13 @@ fn refuses_other_tokens(rt: HostRuntime) {
     }
 }
 
-/// So many collections in each other, the innermost with one point.
-fn nested(rt: HostRuntime, depth: u64) -> Result<String, AllocError> {
+/// So many collections in each other, each begun so, the innermost with this point.
+fn nested(rt: HostRuntime, depth: u64, begin: &str, point: &str) -> Result<String, AllocError> {
     let mut text = String::new(rt.alloc());
     for _ in 0..depth {
-        text.push_str("geometrycollection(")?;
+        text.push_str(begin)?;
     }
-    text.push_str("POINT EMPTY")?;
+    text.push_str(point)?;
     for _ in 0..depth {
         text.push(')')?;
     }
@@ -181,13 +181,18 @@ fn nested(rt: HostRuntime, depth: u64) -> Result<String, AllocError> {
 
 #[test]
 fn refuses_deep_collections(rt: HostRuntime) -> Result<(), AllocError> {
-    let text = nested(rt, 64)?;
-    assert_eq!(rt; read(rt.alloc(), text.as_bytes(), false).err(), None);
-    let text = nested(rt, 65)?;
-    assert_eq!(rt;
-        read(rt.alloc(), text.as_bytes(), false).err(),
-        Some(LayerFault::Deep { at: 1216 })
-    );
+    for (begin, point, at) in [
+        ("geometrycollection(", "POINT EMPTY", 1216),
+        ("GEOMETRYCOLLECTION (", "POINT (5 0)", 1280),
+    ] {
+        let text = nested(rt, 64, begin, point)?;
+        assert_eq!(rt; read(rt.alloc(), text.as_bytes(), false).err(), None);
+        let text = nested(rt, 65, begin, point)?;
+        assert_eq!(rt;
+            read(rt.alloc(), text.as_bytes(), false).err(),
+            Some(LayerFault::Deep { at })
+        );
+    }
     Ok(())
 }
 
