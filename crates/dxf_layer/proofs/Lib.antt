@@ -79,3 +79,4 @@ pub mod LastPairs
 pub mod CopyLaws
 pub mod GivenHandles
 pub mod OwnFields
+mod DrawingOutcomes

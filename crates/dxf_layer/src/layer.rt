@@ -27,6 +27,10 @@ impl Layer for Dxf {
         read_drawing(alloc, bytes, how)
     }
 
+    fn outcome_is_one() {}
+
+    fn outcome_exists() {}
+
     fn render(
         alloc: Global,
         bytes: &[u8],

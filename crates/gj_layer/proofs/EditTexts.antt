@@ -1,5 +1,5 @@
 -- The texts of a sheet's edits: those of paths are their images, and the others are values of one level.
-use Rattle.std.proofs.Common.{◌≡◌, ℕ, ◌-◌, ◌≤◌, Bool, true, false, List, [], ◌∷◌, ◌++◌, take, drop, refl, sym, ap, ◌∙◌, ℤ, append-nil, append_assoc}
+use Rattle.std.proofs.Common.{◌≡◌, ℕ, ◌-◌, ◌≤◌, Bool, true, false, List, [], ◌∷◌, ◌++◌, take, drop, refl, sym, ap, ◌∙◌, subst, ℤ, append-nil, append_assoc}
 use Rattle.std.specs.Prelude.{flat_map, fold, int_lt, unsigned_abs, if◌then◌else◌}
 use Rattle.std.specs.Int.{int_min, int_max}
 use Rattle.std.specs.List.{AllByRecursion}
@@ -17,6 +17,7 @@ use Rattle.sheet_base.proofs.ImageRuns.{all_of}
 use Rattle.gj_layer.specs.Paths.{Part, text_for, rows_from, sheet_of}
 use Rattle.plane_base.specs.Boxes.{box_of_point, widened}
 use Rattle.gj_layer.specs.Texts.{box_text, bounds_text, what_text, edit_text}
+use Rattle.gj_layer.proofs.BoxLemmas.{box_is}
 use Rattle.gj_layer.proofs.Redrawing.{kind_text}
 use Rattle.gj_layer.proofs.ImageValues.{number_is}
 use Rattle.gj_layer.proofs.Turns.{IsFlat, DoesSay}
@@ -69,7 +70,8 @@ box_flat box within = record {
 bounds_flat : (images : List Pt) → AllByRecursion IsWithinReach images → IsFlat (bounds_text images)
 bounds_flat [] all = record { value = null; text = refl; valid = λ depth. tt }
 bounds_flat (image ∷ images) all =
-    box_flat (fold widened (box_of_point image) images) (widened_within (box_of_point image) images (record { x0 = all.0.0; y0 = all.0.1; x1 = all.0.0; y1 = all.0.1 }) all.1)
+    subst (λ (box : Rect). IsFlat (box_text box)) (box_is image images)
+    (box_flat (fold widened (box_of_point image) images) (widened_within (box_of_point image) images (record { x0 = all.0.0; y0 = all.0.1; x1 = all.0.0; y1 = all.0.1 }) all.1))
 
 -- ---- all images are within reach
 reach_append : (xs ys : List Pt) → AllByRecursion IsWithinReach xs → AllByRecursion IsWithinReach ys → AllByRecursion IsWithinReach (xs ++ ys)

@@ -28,10 +28,11 @@ use Rattle.gj_layer.specs.declared.positions.Position.{Position}
 use Rattle.gj_layer.specs.Faults.{and_then}
 use Rattle.gj_layer.specs.Members.{Member, members_at, all_named, find_member}
 use Rattle.gj_layer.specs.Positions.{position_from, number, pair, position, positions, in_front, point_of}
-use Rattle.gj_layer.specs.Paths.{Path, Part, nothing, joined, path_of, end_of, is_closed, dot_of, line_of, ring_of, traced, part_of, edits_from, rows_from, points_in, sheet_of}
+use Rattle.sheet_base.specs.Rings.{is_closed}
+use Rattle.sheet_base.proofs.RingLemmas.{closed_many}
+use Rattle.gj_layer.specs.Paths.{Path, Part, nothing, joined, path_of, end_of, dot_of, line_of, ring_of, traced, part_of, edits_from, rows_from, points_in, sheet_of}
 use Rattle.gj_layer.specs.Objects.{content_key, content_form, find_crs, type_in, object_type, with_content, member_edits, object_part}
 use Rattle.gj_layer.specs.Reading.{item_form, null_part, part_in, reading, readings, content_reading}
-use Rattle.gj_layer.proofs.Tracing.{closed_some}
 use Rattle.gj_layer.proofs.Laying.{MembersFine}
 use Rattle.gj_layer.proofs.Looking.{kept_type}
 use Rattle.gj_layer.proofs.Opened.{no_content_read, fits_content, fits_without, at_most_is, at_most_none}
@@ -188,7 +189,7 @@ traced_fine exact traces.Ring number start blank elements part is =
     let (all, all_is, ring) = split_then (ring_of start) (positions exact (inner_place start blank) elements) paths read in
     let points = map point_of all in
     let (closed, same) = closed_ring start all paths ring in
-    let four = closed_some points closed in
+    let four = closed_many points closed in
     let kept = length-take (length points - 1) points in
     path_fine number start (start + length (spelling (array blank elements))) kinds.Loop (take (length points - 1) points) all part (array_spanned exact start blank elements all all_is)
     (λ some. (omega (arith, kept, four), λ dot. cc)) (ap (part_of number) same ∙ made)

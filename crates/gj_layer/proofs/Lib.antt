@@ -16,6 +16,8 @@ pub mod Walking
 pub mod Fine
 pub mod Documents
 pub mod OneSheet
+mod SomeOutcome
+mod BoxLemmas
 pub mod Redrawing
 pub mod ImageValues
 pub mod Turns

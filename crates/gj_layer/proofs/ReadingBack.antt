@@ -1,6 +1,6 @@
 -- What is written of a layer is read as its images.
 use Rattle.std.proofs.Common.{◌≡◌, ℕ, Bool, List, ◌++◌, length, refl, sym, ap, ◌∙◌, subst, arith}
-use Rattle.std.specs.Prelude.{map, Ok}
+use Rattle.std.specs.Prelude.{Ok}
 use Rattle.jtext.specs.Values.{spelling}
 use Rattle.jtext.specs.Texts.{Whole, IsWhole, mark_text, whole_text}
 use Rattle.jtext.specs.Places.{whole_start}
@@ -8,7 +8,8 @@ use Rattle.jtext.specs.declared.reading.TheConstants.{DEEPEST}
 use Rattle.sheet_base.specs.Sheets.{Contents}
 use Rattle.sheet_base.specs.Fitting.{Runs, DoFit, path_images}
 use Rattle.sheet_base.specs.Splices.{AreInOrder, spliced}
-use Rattle.sheet_base.specs.ReadBack.{ends_of, imaged, IsReadBack}
+use Rattle.sheet_base.specs.ReadBack.{IsReadBack}
+use Rattle.sheet_base.proofs.WrittenLayers.{IsReadAgain, read_back}
 use Rattle.sheet_base.proofs.Swaps.{Swapped, spliced_on, on_from, swapped_all, front_swapped, behind_swapped}
 use Rattle.gj_layer.specs.declared.forms.Holder.TheVariants as holders
 use Rattle.gj_layer.specs.declared.forms.Form.TheVariants as forms
@@ -22,18 +23,10 @@ use Rattle.gj_layer.proofs.EditTexts.{texts_say}
 use Rattle.gj_layer.proofs.ValueTurns.{value_turned}
 use Rattle.gj_layer.proofs.SheetTurns.{sheet_suits, points_again, rows_again}
 
--- a text is read as a sheet of just these images, with the first sheet's paths over them, and no number lost digits
-pub record IsReadAgain (exact : Bool) (text : List ℕ) (sheet : Contents) (images : Runs) : Type 0 where
-  pub back : Contents
-  pub is_read : IsReadAs exact text back
-  pub points : back.points ≡ images.points
-  pub paths : back.paths ≡ map (imaged images) sheet.paths
-  pub exact_all : back.inexact ≡ 0
-
 -- the whole text of the value that the layer's value turns into
 whole_again : (exact : Bool) (bytes : List ℕ) (part : Part) (images : Runs) (whole : Whole) → IsWhole DEEPEST whole bytes → layer_reading exact whole ≡ Ok part → DoFit (sheet_of part) images
     → ValueTurned exact (edit_text (sheet_of part) images) (path_images (rows_from 0 part.paths) images) (forms.Object holders.Layer) 0 (whole_start whole) DEEPEST whole.value part
-    → IsReadAgain exact (spliced bytes (edit_text (sheet_of part) images) part.edits) (sheet_of part) images
+    → IsReadAgain (IsReadAs exact) (spliced bytes (edit_text (sheet_of part) images) part.edits) (sheet_of part) images
 whole_again exact bytes part images whole is read fit v =
     let text = edit_text (sheet_of part) images in
     let start = whole_start whole in
@@ -56,7 +49,7 @@ whole_again exact bytes part images whole is read fit v =
     }
 
 part_again : (exact : Bool) (bytes : List ℕ) (part : Part) (images : Runs) (whole : Whole) → IsWhole DEEPEST whole bytes → layer_reading exact whole ≡ Ok part → DoFit (sheet_of part) images
-    → IsReadAgain exact (spliced bytes (edit_text (sheet_of part) images) part.edits) (sheet_of part) images
+    → IsReadAgain (IsReadAs exact) (spliced bytes (edit_text (sheet_of part) images) part.edits) (sheet_of part) images
 part_again exact bytes part images whole is read fit =
     let start = whole_start whole in
     let fine = value_fine whole.value exact (forms.Object holders.Layer) 0 start part read in
@@ -65,17 +58,11 @@ part_again exact bytes part images whole is read fit =
     (sheet_suits part images fit fine.sound))
 
 pub read_again : (exact : Bool) (bytes : List ℕ) (sheet : Contents) (images : Runs) → IsReadAs exact bytes sheet → DoFit sheet images
-    → IsReadAgain exact (spliced bytes (edit_text sheet images) sheet.edits) sheet images
+    → IsReadAgain (IsReadAs exact) (spliced bytes (edit_text sheet images) sheet.edits) sheet images
 read_again exact bytes sheet images (part, (whole, text, read), same) fit =
-    subst (λ (s : Contents). IsReadAgain exact (spliced bytes (edit_text s images) s.edits) s images) (sym same) (part_again exact bytes part images whole text read (subst (λ (s : Contents). DoFit s images) same fit))
+    subst (λ (s : Contents). IsReadAgain (IsReadAs exact) (spliced bytes (edit_text s images) s.edits) s images) (sym same) (part_again exact bytes part images whole text read (subst (λ (s : Contents). DoFit s images) same fit))
 
 pub reads_back : (exact : Bool) (bytes : List ℕ) (sheet : Contents) (images : Runs) → IsReadAs exact bytes sheet → DoFit sheet images
     → IsReadBack (IsReadAs exact) sheet images (spliced bytes (edit_text sheet images) sheet.edits)
-reads_back exact bytes sheet images is fit = go (read_again exact bytes sheet images is fit)
-  where
-    go : IsReadAgain exact (spliced bytes (edit_text sheet images) sheet.edits) sheet images → IsReadBack (IsReadAs exact) sheet images (spliced bytes (edit_text sheet images) sheet.edits)
-    go again = record {
-      back = again.back;
-      is_read = again.is_read;
-      segments = ap (λ points. ends_of points again.back.paths) again.points ∙ ap (ends_of images.points) again.paths;
-    }
+reads_back exact bytes sheet images is fit =
+    read_back (IsReadAs exact) (spliced bytes (edit_text sheet images) sheet.edits) sheet images (read_again exact bytes sheet images is fit)

@@ -1,11 +1,8 @@
 -- How coordinates that are one path at most turn into the path's images.
-use Rattle.std.proofs.Common.{◌≡◌, ℕ, ◌-◌, ◌<◌, ◌≤◌, ℤ, Bool, true, ◌&&◌, List, [], ◌∷◌, ◌++◌, length, map, take, refl, sym, ap, ◌∙◌, subst, arith, length-append}
+use Rattle.std.proofs.Common.{◌≡◌, ℕ, ◌-◌, ◌<◌, ◌≤◌, Bool, true, List, [], ◌∷◌, ◌++◌, length, map, take, refl, sym, ap, ◌∙◌, subst, arith, length-append}
 use Rattle.std.specs.Prelude.{Ok, Err, sum_by, if◌then◌else◌}
-use Rattle.std.specs.Ordering.{int_eq}
 use Rattle.std.specs.List.{AllByRecursion}
 use Rattle.std.proofs.Math.Seq.{take-append_seam}
-use Rattle.std.proofs.lemmas.Bool.{le-leb}
-use Rattle.std.proofs.lemmas.Bool.Decides.{Decides-int_eq}
 use Rattle.std.proofs.lemmas.List.{length-take}
 use Rattle.jtext.specs.Values.{Json, Elements, array, no_element, element, spelling, IsValue}
 use Rattle.jtext.specs.Nodes.{inner_place, element_start, next_place}
@@ -22,9 +19,10 @@ use Rattle.gj_layer.specs.declared.forms.Form.TheVariants as forms
 use Rattle.gj_layer.specs.declared.positions.Position.{Position}
 use Rattle.gj_layer.specs.Faults.{and_then}
 use Rattle.gj_layer.specs.Positions.{position, positions, in_front, point_of, lost_of}
-use Rattle.gj_layer.specs.Paths.{Path, Part, nothing, path_of, end_of, is_same, is_closed, dot_of, line_of, ring_of, traced, part_of}
+use Rattle.sheet_base.specs.Rings.{is_closed}
+use Rattle.sheet_base.proofs.RingLemmas.{closed_by, closed_many}
+use Rattle.gj_layer.specs.Paths.{Path, Part, nothing, path_of, end_of, dot_of, line_of, ring_of, traced, part_of}
 use Rattle.gj_layer.specs.Texts.{list_text, ring_text}
-use Rattle.gj_layer.proofs.Tracing.{closed_some}
 use Rattle.gj_layer.proofs.Fine.{split_then, position_is, closed_ring}
 use Rattle.gj_layer.proofs.Redrawing.{AllSuit, IsDrawn}
 use Rattle.gj_layer.proofs.ImageValues.{image_value, ArePositionsAt, ring_spelled}
@@ -42,12 +40,6 @@ some_images [] some = absurd (omega (arith, some))
 some_images (image ∷ others) some = (image, others, refl)
 
 -- ---- a ring that is closed by its first image
-int_same : (z : ℤ) → int_eq z z ≡ true
-int_same z = (Decides-int_eq z z).1 refl
-
-same_again : (p : Pt) → is_same p p ≡ true
-same_again p = ap (λ b. b && int_eq p.y p.y) (int_same p.x) ∙ int_same p.y
-
 last_at : (points : List Pt) (p : Pt) → point_at (points ++ p ∷ []) (length points) ≡ p
 last_at [] p = refl
 last_at (q ∷ points) p = last_at points p
@@ -57,8 +49,7 @@ closed_again image others many =
     let points = (image ∷ others) ++ image ∷ [] in
     let size = length-append (image ∷ others) (image ∷ []) in
     let last : length points - 1 ≡ length (image ∷ others) = omega (arith, size) in
-    ap (λ b. b && is_same (point_at points 0) (point_at points (length points - 1))) (le-leb 4 (length points) (omega (arith, size, many)))
-    ∙ ap (λ n. is_same image (point_at points n)) last ∙ ap (is_same image) (last_at (image ∷ others) image) ∙ same_again image
+    closed_by points (omega (arith, size, many)) (sym (ap (point_at points) last ∙ last_at (image ∷ others) image))
 
 ring_made : (at : ℕ) (all : List Position) (points : List Pt) → map point_of all ≡ points → is_closed points ≡ true → ring_of at all ≡ Ok (path_of kinds.Loop (take (length points - 1) points) all)
 ring_made at all points are closed =
@@ -180,6 +171,6 @@ module _ (exact : Bool) (text : Edit → List ℕ) (images : ℕ → List Pt) (s
       let (all, all_is, ring) = split_then (ring_of start) here paths read in
       let (one, more, all_are) = some_all exact (inner_place start blank) before value after rest all all_is in
       let (closed, same) = closed_ring start all paths ring in
-      let four = closed_some (map point_of all) closed in
+      let four = closed_many (map point_of all) closed in
       ring_turned number start depth blank before value after rest one more part valid (all_is ∙ ap Ok all_are) (subst (λ ps. 4 ≤ length (map point_of ps)) all_are four)
       (ap (λ ps. part_of number (path_of kinds.Loop (take (length (map point_of ps) - 1) (map point_of ps)) ps)) (sym all_are) ∙ ap (part_of number) same ∙ made) suit

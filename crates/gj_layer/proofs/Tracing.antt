@@ -1,9 +1,8 @@
 -- The path of coordinates that were read.
 use Rattle.std.proofs.Common.{◌≡◌, ℕ, ◌+◌, ◌-◌, ◌<◌, ◌≤◌, List, [], ◌∷◌, ◌++◌, length, map, take, drop, refl, sym, ap, ◌∙◌, arith, length-drop, get_or, Bool, true, false}
-use Rattle.std.specs.Prelude.{◌&&◌, nat_le, sum_by, Result, Ok, Err, pos, if◌then◌else◌}
+use Rattle.std.specs.Prelude.{sum_by, Result, Ok, Err, pos, if◌then◌else◌}
 use Rattle.std.proofs.lemmas.List.{take_more, take_all, drop_at}
 use Rattle.std.proofs.lemmas.List.Sums.{sum_by-cons}
-use Rattle.std.proofs.lemmas.Bool.{leb-true}
 use Rattle.jtext.specs.Values.{Json, Elements, null, truth, numeral, quoted, array, object, no_element, element}
 use Rattle.jtext.specs.Nodes.{kind_of, node_count, inner_place}
 use Rattle.jtext.proofs.Standing.{node_count_positive}
@@ -13,13 +12,13 @@ use Rattle.sheet_base.specs.declared.paths.PathKind.{PathKind}
 use Rattle.sheet_base.specs.declared.paths.PathKind.TheVariants as paths
 use Rattle.sheet_base.specs.declared.faults.LayerFault.{LayerFault}
 use Rattle.sheet_base.specs.declared.faults.LayerFault.TheVariants.{Shape, Ring as RingFault}
-use Rattle.sheet_base.specs.Segments.{point_at}
 use Rattle.gj_layer.specs.declared.forms.Trace.{Trace}
 use Rattle.gj_layer.specs.declared.forms.Trace.TheVariants as traces
 use Rattle.gj_layer.specs.declared.positions.Position.{Position}
 use Rattle.gj_layer.specs.Faults.{and_then}
 use Rattle.gj_layer.specs.Positions.{position, positions, point_of, lost_of}
-use Rattle.gj_layer.specs.Paths.{Path, nothing, path_of, is_same, is_closed, dot_of, line_of, ring_of, traced, part_of, end_of}
+use Rattle.sheet_base.specs.Rings.{is_closed}
+use Rattle.gj_layer.specs.Paths.{Path, nothing, path_of, dot_of, line_of, ring_of, traced, part_of, end_of}
 use Rattle.gj_layer.specs.Standing.{AreFrom, path_part}
 
 -- the path of these points that was read in this run
@@ -74,14 +73,6 @@ module _ (exact : Bool) (number start : ℕ) (blank : List ℕ) (elements : Elem
   ring_open all is closed =
       ap (λ r. and_then (part_of number) (and_then (ring_of start) r)) is
       ∙ ap (λ b. and_then (part_of number) (if b then Ok (path_of paths.Loop (take (length (map point_of all) - 1) (map point_of all)) all) else Err (RingFault start))) closed
-
-both_true : (a b : Bool) → (a && b) ≡ true → a ≡ true
-both_true true b is = refl
-both_true false b is = cc
-
--- a ring has some points
-pub closed_some : (points : List Pt) → is_closed points ≡ true → 4 ≤ length points
-closed_some points is = leb-true 4 (length points) (both_true (nat_le 4 (length points)) (is_same (point_at points 0) (point_at points (length points - 1))) is)
 
 -- a list that is not empty has a last one
 pub last_split : (points : List Pt) → 0 < length points → (last : Pt) × (points ≡ take (length points - 1) points ++ last ∷ [])

@@ -1,6 +1,5 @@
 -- Paths of positions, and the sheet of a list of paths.
-use Rattle.std.specs.Prelude.{ℕ, ◌+◌, ◌-◌, Bool, ◌&&◌, nat_le, List, [], ◌∷◌, ◌++◌, take, length, map, flat_map, sum_by, Result, Ok, Err, if◌then◌else◌}
-use Rattle.std.specs.Ordering.{int_eq}
+use Rattle.std.specs.Prelude.{ℕ, ◌+◌, ◌-◌, Bool, List, [], ◌∷◌, ◌++◌, take, length, map, flat_map, sum_by, Result, Ok, Err, if◌then◌else◌}
 use Rattle.jtext.specs.Values.{Json, array, no_element}
 use Rattle.jtext.specs.Nodes.{inner_place}
 use Rattle.plane_base.specs.declared.shapes.Pt.{Pt}
@@ -12,7 +11,7 @@ use Rattle.sheet_base.specs.declared.paths.PathRow.{PathRow}
 use Rattle.sheet_base.specs.declared.edits.Edit.{Edit}
 use Rattle.sheet_base.specs.declared.edits.What.{What}
 use Rattle.sheet_base.specs.declared.edits.What.TheVariants.{GeoList, GeoRing}
-use Rattle.sheet_base.specs.Segments.{point_at}
+use Rattle.sheet_base.specs.Rings.{is_closed}
 use Rattle.sheet_base.specs.Sheets.{Contents}
 use Rattle.gj_layer.specs.declared.forms.Trace.{Trace}
 use Rattle.gj_layer.specs.declared.forms.Trace.TheVariants as traces
@@ -38,20 +37,13 @@ abbrev pub path_of : PathKind → List Pt → List Position → List Path
 path_of kind points [] = []
 path_of kind points (one ∷ more) = record { kind = kind; points = points; lost = sum_by lost_of (one ∷ more); start = one.start; end = end_of one more } ∷ []
 
-abbrev pub is_same : Pt → Pt → Bool
-is_same p q = int_eq p.x q.x && int_eq p.y q.y
-
--- a linear ring has four or more positions, and the last is the first again, to the millimetre (RFC 7946, section 3.1.6)
-abbrev pub is_closed : List Pt → Bool
-is_closed points = nat_le 4 (length points) && is_same (point_at points 0) (point_at points (length points - 1))
-
 abbrev pub dot_of : Position → Result (List Path) LayerFault
 dot_of one = Ok (path_of kinds.Dot (point_of one ∷ []) (one ∷ []))
 
 abbrev pub line_of : List Position → Result (List Path) LayerFault
 line_of all = Ok (path_of kinds.Line (map point_of all) all)
 
--- a ring is kept without its closing point
+-- a linear ring is closed (RFC 7946, section 3.1.6), and is kept without its closing point
 abbrev pub ring_of : ℕ → List Position → Result (List Path) LayerFault
 ring_of start all =
     let points = map point_of all in

@@ -1,13 +1,27 @@
-//! A law of GeoJSON layers: bytes have one sheet or one fault.
+//! Laws of GeoJSON layers: bytes have one sheet or one fault, and one of the two.
 
 ghost use Rattle.std.specs.Prelude.{◌≡◌, ℕ, List, Bool};
 ghost use Rattle.sheet_base.specs.Sheets.{Contents};
+ghost use Rattle.sheet_base.specs.Outcomes.{HasOutcome};
 ghost use Rattle.sheet_base.specs.declared.faults.LayerFault.{LayerFault};
 ghost use Rattle.gj_layer.specs.Layers.{IsReadAs, IsRefusedBy};
+ghost use Rattle.gj_layer.specs.Texts.{BoxesAreLeast};
 
 /// A layer is read as one sheet, or refused by one fault.
 pub fn sheet_is_one()
     ensures one { (exact : Bool) → (bytes : List ℕ) → (sheet other : Contents) → IsReadAs exact bytes sheet → IsReadAs exact bytes other → sheet ≡ other }
     ensures apart { (exact : Bool) → (bytes : List ℕ) → (sheet : Contents) → (fault : LayerFault) → IsReadAs exact bytes sheet → IsRefusedBy exact bytes fault → ⊥ }
     ensures first { (exact : Bool) → (bytes : List ℕ) → (fault other : LayerFault) → IsRefusedBy exact bytes fault → IsRefusedBy exact bytes other → fault ≡ other }
+{}
+
+/// Each text is a layer of some sheet, or has a fault.
+pub fn text_outcome_exists()
+    ensures { (exact : Bool) → (bytes : List ℕ) → HasOutcome (IsReadAs exact bytes) (IsRefusedBy exact bytes) }
+{
+    jtext::outcome_exists();
+}
+
+/// The box that is written of some images has on each axis the least and the greatest of their numbers.
+pub fn boxes_are_least()
+    ensures { BoxesAreLeast }
 {}

@@ -1,5 +1,6 @@
 //! The format.
 
+use crate::laws::{sheet_is_one, text_outcome_exists};
 use crate::reading::read;
 use crate::texts::Texts;
 use sheet_base::{How, Images, Layer, LayerFault, Sheet, splice};
@@ -22,6 +23,14 @@ impl Layer for GeoJson {
 
     fn read(alloc: Global, bytes: &[u8], how: How) -> Result<Sheet, LayerFault> {
         read(alloc, bytes, how.exact)
+    }
+
+    fn outcome_is_one() {
+        sheet_is_one();
+    }
+
+    fn outcome_exists() {
+        text_outcome_exists();
     }
 
     fn render(

@@ -14,5 +14,5 @@ mod positions;
 mod reading;
 mod texts;
 
-pub use laws::sheet_is_one;
+pub use laws::{boxes_are_least, sheet_is_one, text_outcome_exists};
 pub use layer::GeoJson;

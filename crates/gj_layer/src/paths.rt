@@ -6,7 +6,7 @@ ghost use Rattle.jtext.specs.Places.{IsReadFrom, Stands, HasKind};
 ghost use Rattle.jtext.specs.declared.document.Node.{Node};
 ghost use Rattle.plane_base.specs.declared.shapes.Pt.{Pt};
 ghost use Rattle.gj_layer.specs.Faults.{and_then};
-ghost use Rattle.gj_layer.specs.Paths.{Part, is_same, is_closed, traced, part_of};
+ghost use Rattle.gj_layer.specs.Paths.{Part, traced, part_of};
 ghost use Rattle.gj_layer.specs.Standing.{Holds, Joins, HasRoom, Grows};
 
 use crate::forms::Trace;
@@ -15,24 +15,7 @@ use crate::pass::Pass;
 use crate::positions::{Run, lost_of, point_of, read_position, read_positions};
 use jtext::{Doc, Kind};
 use plane_base::Pt;
-use sheet_base::{LayerFault, PathKind};
-
-/// Two points are one.
-fn is_same(p: Pt, q: Pt) -> bool
-    ensures { result ≡ is_same p q }
-{
-    p == q
-}
-
-/// A ring has at least four points, of which the last is the first again.
-fn is_closed(points: &[Pt]) -> bool
-    ensures { result ≡ is_closed points.now }
-{
-    if points.len() < 4 {
-        return false;
-    }
-    is_same(points[0], points[points.len() - 1])
-}
+use sheet_base::{LayerFault, PathKind, is_closed};
 
 /// Reads a position as a path.
 fn read_dot(

@@ -1,8 +1,10 @@
 -- The files of definitions of sheet_base.
 pub mod Sheets
 pub mod Segments
+pub mod Rings
 pub mod Fitting
 pub mod Kept
 pub mod Splices
 pub mod ReadBack
+pub mod Outcomes
 pub mod ImageLists

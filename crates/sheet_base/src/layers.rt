@@ -9,6 +9,7 @@ ghost use Rattle.sheet_base.specs.Sheets.{Contents};
 ghost use Rattle.sheet_base.specs.Fitting.{Runs, DoFit};
 ghost use Rattle.sheet_base.specs.Splices.{AreInOrder, spliced, DoKeep};
 ghost use Rattle.sheet_base.specs.ReadBack.{IsReadBack};
+ghost use Rattle.sheet_base.specs.Outcomes.{OutcomeIsOne, OutcomeExists};
 
 use crate::{How, Images, LayerFault, Sheet};
 use std::alloc::{AllocError, Global};
@@ -34,6 +35,14 @@ pub trait Layer {
         ensures sheet { IfOk result (λ sheet. reads how bytes.now sheet) }
         ensures edits { IfOk result (λ sheet. AreInOrder 0 sheet.edits (length bytes.now)) }
         ensures refused { (fault : LayerFault) → IsErrOf result fault → fault ≢ NoMemory → refuses how bytes.now fault };
+
+    /// A law: bytes are a layer of one sheet, or have one first fault, and not both.
+    fn outcome_is_one()
+        ensures { OutcomeIsOne reads refuses };
+
+    /// A law: any bytes are a layer of some sheet, or have a first fault.
+    fn outcome_exists()
+        ensures { OutcomeExists reads refuses };
 
     /// The layer's bytes with the images in place of its points: each edit's bytes are replaced by
     /// its text, and all other bytes are kept. It is a layer again, unless the format excepts it, and its

@@ -11,6 +11,7 @@ mod layers;
 mod lists;
 mod numbers;
 mod paths;
+mod rings;
 mod sheets;
 mod splices;
 
@@ -23,5 +24,6 @@ pub use layers::Layer;
 pub use lists::{Listed, between};
 pub use numbers::push_mm;
 pub use paths::{PathKind, PathRow};
+pub use rings::is_closed;
 pub use sheets::Sheet;
 pub use splices::{EditTexts, splice, splices_keep_the_rest};

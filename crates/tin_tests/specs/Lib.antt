@@ -2,3 +2,4 @@
 pub mod Small
 pub mod SmallBoxes
 pub mod Within
+pub mod Diagonals

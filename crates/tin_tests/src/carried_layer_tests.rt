@@ -1,6 +1,7 @@
 //! Tests of a layer that is read, carried and written, in a format of one line.
 
 ghost use Rattle.std.specs.Prelude.{◌≡◌, []};
+ghost use Rattle.tin_tests.specs.Diagonals.{diagonal};
 
 use crate::carrying_tests::are_pieces;
 use crate::made_tins::square;
@@ -14,7 +15,7 @@ use std::test::Fail;
 struct Diagonal;
 
 impl Layer for Diagonal {
-    ghost reads = { λ how bytes sheet. sheet.edits ≡ [] };
+    ghost reads = { λ how bytes sheet. sheet ≡ diagonal };
 
     ghost refuses = { λ how bytes fault. ⊥ };
 
@@ -45,6 +46,10 @@ impl Layer for Diagonal {
             _ => Err(LayerFault::NoMemory),
         }
     }
+
+    fn outcome_is_one() {}
+
+    fn outcome_exists() {}
 
     fn render(
         alloc: Global,

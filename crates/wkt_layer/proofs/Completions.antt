@@ -17,6 +17,7 @@ use Rattle.wkt_layer.specs.declared.places.Group.{Group}
 use Rattle.wkt_layer.specs.declared.places.Group.TheVariants as groups
 use Rattle.wkt_layer.specs.Geometries.{last_behind}
 use Rattle.wkt_layer.proofs.Items.{are_none, no_points}
+use Rattle.wkt_layer.proofs.Rings.{ring_closes_by}
 
 -- the points and the number that were read fit
 abbrev pub AreRead : Bool → Spot → Type 0
@@ -68,10 +69,8 @@ ring_closes : (exact : Bool) (p : Point) (read : List Point) → IsPoint exact p
 ring_closes exact p read is = (
   p ∷ p ∷ p ∷ p ∷ [],
   (is, (is, (is, (is, tt)))),
-  (
-    omega (arith, length_four p read),
-    ap place_of (ap (last_behind p) (sym (append_assoc read (p ∷ p ∷ p ∷ []) (p ∷ []))) ∙ last_at p (read ++ p ∷ p ∷ p ∷ []) p),
-  ),
+  ring_closes_by p (read ++ p ∷ p ∷ p ∷ p ∷ []) (omega (arith, length_four p read))
+      (ap place_of (ap (last_behind p) (sym (append_assoc read (p ∷ p ∷ p ∷ []) (p ∷ []))) ∙ last_at p (read ++ p ∷ p ∷ p ∷ []) p)),
 )
 
 can_go_on : (exact : Bool) (listing : Listing) (read : List Point) → ArePoints exact read → CanGoOn exact listing read

@@ -1,16 +1,13 @@
 -- The code goes where the pass goes.
-use Rattle.std.proofs.Common.{◌≡◌, ℕ, suc, ◌-◌, Bool, true, List, [], ◌∷◌, ◌++◌, length, get_or, refl, ap, ◌∙◌, subst, arith}
-use Rattle.std.specs.Prelude.{Some, None, Ok, if◌then◌else◌, map}
-use Rattle.plane_base.specs.declared.shapes.Pt.{Pt}
+use Rattle.std.proofs.Common.{◌≡◌, ℕ, Bool, true, List, [], ◌∷◌, ◌++◌, refl, ◌∙◌, subst}
+use Rattle.std.specs.Prelude.{Some, None, Ok, if◌then◌else◌}
 use Rattle.mm_decimal.specs.Measured.{measured}
 use Rattle.mm_decimal.specs.declared.reading.MmRead.{MmRead}
 use Rattle.wkt_layer.specs.Tokens.{Number, Token, opening, closing, comma, word, number, stray}
-use Rattle.wkt_layer.specs.Numbers.{Point, place_of}
-use Rattle.wkt_layer.specs.Geometries.{last_behind}
+use Rattle.wkt_layer.specs.Numbers.{Point}
 use Rattle.wkt_layer.specs.Paths.{Path, path_of}
 use Rattle.wkt_layer.specs.States.{Spot, item, content, first, second, whole, bare_second, bare_whole, behind, State, state, enter_step, tag_step, item_step, number_step, whole_step, behind_step, may_end, kind_of, opened_by, IsLast}
 use Rattle.wkt_layer.specs.Passes.{token_for, Shows, AreSome, IsFit, IsUnfit, points_at}
-use Rattle.wkt_layer.proofs.Holding.{length_places}
 use Rattle.wkt_layer.specs.declared.places.Content.{Content}
 use Rattle.wkt_layer.specs.declared.places.Content.TheVariants.{Points, Items}
 use Rattle.wkt_layer.specs.declared.places.Listing.{Listing}
@@ -126,22 +123,6 @@ item_goes group outer stack paths at text sign is some = rw (is, some) refl
 pub close_goes : (group : Group) (outer stack : List Group) (paths : List Path) (at : ℕ) (text : List ℕ) (sign : Sign) → sign ≡ signs.Closing → stack ≡ group ∷ outer
     → behind_step stack paths (token_for at text sign) ≡ Some (state behind outer paths)
 close_goes group outer stack paths at text sign is some = rw (is, some) refl
-
--- the first and the last of points
-pub first_place : (points : List Pt) (one : Point) (more : List Point) (d : Pt) → points ≡ map place_of (one ∷ more) → get_or points 0 d ≡ place_of one
-first_place points one more d is = rw is refl
-
-last_of : (one : Point) (more : List Point) (d : Pt) → get_or (map place_of (one ∷ more)) (length more) d ≡ place_of (last_behind one more)
-last_of one [] d = refl
-last_of one (next ∷ more) d = last_of next more d
-
-pub last_place : (points : List Pt) (one : Point) (more : List Point) (d : Pt) → points ≡ map place_of (one ∷ more) → get_or points (length points - 1) d ≡ place_of (last_behind one more)
-last_place points one more d is =
-    let size : length points - 1 ≡ length more = let e = length_places more in let s : length points ≡ suc (length (map place_of more)) = ap length is in omega (arith, e, s) in
-    ap (λ n. get_or points n d) size ∙ ap (λ ps. get_or ps (length more) d) is ∙ last_of one more d
-
-pub closed_size : (points : List Pt) (one : Point) (more : List Point) → points ≡ map place_of (one ∷ more) → length points ≡ length (one ∷ more)
-closed_size points one more is = ap length is ∙ length_places (one ∷ more)
 
 pub some_push : (points : List Point) (p : Point) → AreSome (points ++ p ∷ [])
 some_push [] p = tt

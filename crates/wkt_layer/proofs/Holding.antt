@@ -17,6 +17,7 @@ use Rattle.wkt_layer.specs.Geometries.{last_behind}
 use Rattle.wkt_layer.specs.Paths.{Path, kept_of, kept_points, points_before_last, lost_on, rows_from, edits_from, edit_of, text_for}
 use Rattle.wkt_layer.specs.Passes.{Held, AreFrom}
 use Rattle.wkt_layer.specs.declared.pass.Pass.{Pass}
+use Rattle.wkt_layer.proofs.Rings.{length_places}
 
 -- the row of a path whose first point has this number
 abbrev pub row_at : Path → ℕ → PathRow
@@ -64,10 +65,6 @@ none_first size first now sum none = eq-eqb size first (let h : length now ≡ 0
 some_first : (size first : ℕ) (now : List Point) → size ≡ first + length now → (now ≡ [] → ⊥) → (size == first) ≡ false
 some_first size first [] sum some = absurd (some refl)
 some_first size first (one ∷ now) sum some = ne_eqb size first (λ e. absurd (omega (arith, sum, e)))
-
-pub length_places : (points : List Point) → length (map place_of points) ≡ length points
-length_places [] = refl
-length_places (one ∷ more) = let e = length_places more in ap suc e
 
 -- one point more
 pub held_add : (old new : Pass) (x y : MmRead) (start end : ℕ)

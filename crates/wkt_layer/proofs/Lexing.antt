@@ -111,7 +111,7 @@ not_empty [] next more e = cc
 not_empty (one ∷ front) next more e = cc
 
 -- a token that is refused is the line's fault
-refused_token : (exact : Bool) (line front more : List Placed) (next : Placed) (s : State) (opened end : ℕ) → line ≡ front ++ next ∷ more → run (step exact) start (tokens_in front) ≡ Some s
+pub refused_token : (exact : Bool) (line front more : List Placed) (next : Placed) (s : State) (opened end : ℕ) → line ≡ front ++ next ∷ more → run (step exact) start (tokens_in front) ≡ Some s
     → step exact s next.token ≡ None → IsIn front opened s.spot → IsLineFault exact line end (fault_of exact s.spot s.stack next.token next.start opened)
 refused_token exact line front more next s opened end split ran refused inside =
     let tokens : tokens_in line ≡ tokens_in front ++ next.token ∷ tokens_in more = ap tokens_in split ∙ map-append (λ (p : Placed). p.token) front (next ∷ more) in
@@ -145,7 +145,7 @@ reached_fault exact base line at front s opened sign size within black some firs
 all_read : (exact : Bool) (base : ℕ) (line : List ℕ) (at : ℕ) (front : List Placed) (s : State) (opened : ℕ) → length line ≤ at → Reached exact base line at front s opened → tokens_of base line ≡ front
 all_read exact base line at front s opened end r = r.lexed ∙ ap (λ bytes. front ++ tokens_of (base + at) bytes) (drop_all at line end) ∙ append-nil front
 
-line_of : (exact : Bool) (line : List Placed) (s : State) → line ≢ [] → run (step exact) start (tokens_in line) ≡ Some s → IsEnd s → IsLineOf exact line s.paths
+pub line_of : (exact : Bool) (line : List Placed) (s : State) → line ≢ [] → run (step exact) start (tokens_in line) ≡ Some s → IsEnd s → IsLineOf exact line s.paths
 line_of exact [] s some ran end = absurd (some refl)
 line_of exact (one ∷ more) s some ran end = read_line exact (tokens_in (one ∷ more)) s ran end
 
@@ -154,19 +154,22 @@ pub reached_end : (exact : Bool) (base : ℕ) (line : List ℕ) (at : ℕ) (fron
 reached_end exact base line at front s opened end some r last =
     line_of exact (tokens_of base line) s some (ap (λ ts. run (step exact) start (tokens_in ts)) (all_read exact base line at front s opened end r) ∙ r.ran) last
 
+-- a line that may not end behind its tokens
+pub open_line : (exact : Bool) (line : List Placed) (end : ℕ) (s : State) → line ≢ [] → run (step exact) start (tokens_in line) ≡ Some s → (IsEnd s → ⊥) → IsLineFault exact line end (faults.Bad end)
+open_line exact line end s some ran open_still =
+    let size : length line ≤ length (tokens_in line) = let e = tokens_length line in omega (arith, e) in
+    some_fault exact line end (faults.Bad end) some
+    (record {
+      at = length (tokens_in line);
+      first = fault_at_end exact (tokens_in line) s ran open_still;
+      named = subst (λ b. IsFaultBehind exact (take (length (tokens_in line)) line) b end (faults.Bad end)) (sym (drop_all (length (tokens_in line)) line size)) refl;
+    })
+
 pub reached_open : (exact : Bool) (base : ℕ) (line : List ℕ) (at : ℕ) (front : List Placed) (s : State) (opened : ℕ) → length line ≤ at → tokens_of base line ≢ []
     → Reached exact base line at front s opened → (IsEnd s → ⊥) → IsLineFault exact (tokens_of base line) (base + length line) (faults.Bad (base + length line))
 reached_open exact base line at front s opened end some r open_still =
-    let all = all_read exact base line at front s opened end r in
-    let ran : run (step exact) start (tokens_in (tokens_of base line)) ≡ Some s = ap (λ ts. run (step exact) start (tokens_in ts)) all ∙ r.ran in
-    let size : length (tokens_of base line) ≤ length (tokens_in (tokens_of base line)) = let e = tokens_length (tokens_of base line) in omega (arith, e) in
-    some_fault exact (tokens_of base line) (base + length line) (faults.Bad (base + length line)) some
-    (record {
-      at = length (tokens_in (tokens_of base line));
-      first = fault_at_end exact (tokens_in (tokens_of base line)) s ran open_still;
-      named = subst (λ b. IsFaultBehind exact (take (length (tokens_in (tokens_of base line))) (tokens_of base line)) b (base + length line) (faults.Bad (base + length line)))
-          (sym (drop_all (length (tokens_in (tokens_of base line))) (tokens_of base line) size)) refl;
-    })
+    open_line exact (tokens_of base line) (base + length line) s some
+    (ap (λ ts. run (step exact) start (tokens_in ts)) (all_read exact base line at front s opened end r) ∙ r.ran) open_still
 
 -- blanks alone
 pub blank_tokens : (at : ℕ) (line : List ℕ) → list_all is_blank line ≡ true → tokens_of at line ≡ []
@@ -182,33 +185,6 @@ black_tokens at (byte ∷ bytes) all none = by_test (is_blank byte) refl all (λ
     by_test : (b : Bool) → is_blank byte ≡ b → (b && list_all is_blank bytes) ≡ false → (list_all is_blank bytes ≡ false → tokens_of (at + 1) bytes ≡ [] → ⊥) → ⊥
     by_test true is others on = on others (sym (blank_first at byte bytes is) ∙ none)
     by_test false is others on = let e = sym (black_first at byte bytes is) ∙ none in cc
-
--- the fault of a step
-pub leads_fault : (exact : Bool) (s : State) (t : Token) (at : ℕ) (before : List Path) (old : Pass) (fault : LayerFault) (new : Pass) → (fault ≡ faults.NoMemory → ⊥)
-    → Leads exact s t at before old (Err fault) new → (step exact s t ≡ None) × (fault ≡ fault_of exact s.spot s.stack t at old.opened)
-leads_fault exact s t at before old (faults.Bad place) new memory leads = leads
-leads_fault exact s t at before old (faults.Deep place) new memory leads = leads
-leads_fault exact s t at before old (faults.Repeat place) new memory leads = leads
-leads_fault exact s t at before old (faults.Shape place) new memory leads = leads
-leads_fault exact s t at before old (faults.Kind place) new memory leads = leads
-leads_fault exact s t at before old (faults.Height place) new memory leads = leads
-leads_fault exact s t at before old (faults.Number place fault) new memory leads = leads
-leads_fault exact s t at before old (faults.Inexact place) new memory leads = leads
-leads_fault exact s t at before old (faults.Ring place) new memory leads = leads
-leads_fault exact s t at before old (faults.Binary) new memory leads = leads
-leads_fault exact s t at before old (faults.NoEof) new memory leads = leads
-leads_fault exact s t at before old (faults.Code line) new memory leads = leads
-leads_fault exact s t at before old (faults.Odd line) new memory leads = leads
-leads_fault exact s t at before old (faults.Entity line) new memory leads = leads
-leads_fault exact s t at before old (faults.Extrusion line) new memory leads = leads
-leads_fault exact s t at before old (faults.Flags line) new memory leads = leads
-leads_fault exact s t at before old (faults.Count line) new memory leads = leads
-leads_fault exact s t at before old (faults.Bulge line) new memory leads = leads
-leads_fault exact s t at before old (faults.Width line) new memory leads = leads
-leads_fault exact s t at before old (faults.Slope line) new memory leads = leads
-leads_fault exact s t at before old (faults.Attribs line) new memory leads = leads
-leads_fault exact s t at before old (faults.Seed line) new memory leads = leads
-leads_fault exact s t at before old faults.NoMemory new memory leads = absurd (memory refl)
 
 -- a token was read
 pub token_reads : (exact : Bool) (base : ℕ) (line : List ℕ) (at : ℕ) (sign : Sign) (size : ℕ) (piece text : List ℕ) (before : List Path) (old new : Pass) (next : Place)
@@ -231,8 +207,7 @@ pub token_fails : (exact : Bool) (base : ℕ) (line : List ℕ) (at : ℕ) (sign
     → (front : List Placed) (s : State) → Leads exact s (token_for (base + at) text sign) (base + at) before old (Err fault) new → Reached exact base line at front s old.opened
     → (fault ≡ faults.NoMemory → ⊥) → IsLineFault exact (tokens_of base line) (base + length line) fault
 token_fails exact base line at sign size piece text before old new fault is_piece is_text within black some first front s leads r memory =
-    let (refused, name) = leads_fault exact s (token_for (base + at) (take size (drop at line)) sign) (base + at) before old fault new memory
-    (subst (λ (t : List ℕ). Leads exact s (token_for (base + at) t sign) (base + at) before old (Err fault) new) is_text leads) in
+    let (refused, name) = subst (λ (t : List ℕ). Leads exact s (token_for (base + at) t sign) (base + at) before old (Err fault) new) is_text leads memory in
     let here : IsFirstToken (drop at line) sign size = subst (λ (p : List ℕ). IsFirstToken p sign size) is_piece first in
     subst (IsLineFault exact (tokens_of base line) (base + length line)) (sym name) (reached_fault exact base line at front s old.opened sign size within black some here refused r)
 

@@ -26,3 +26,4 @@ pub mod LineTurns
 pub mod SheetTurns
 pub mod ReadingBack
 pub mod OneFault
+mod SomeOutcome

@@ -20,6 +20,7 @@ use Rattle.wkt_layer.specs.Texts.{image_text, texts_behind, list_text, ring_text
 use Rattle.wkt_layer.specs.declared.words.Word.TheVariants.{Empty}
 use Rattle.wkt_layer.proofs.EditOrder.{number_token}
 use Rattle.wkt_layer.proofs.TokenCuts.{lexed, Clear, MayFollow, Cut, first_cut, Kept, kept_cut, gap_lexed, clear_closing}
+use Rattle.wkt_layer.proofs.Rings.{ring_closes_by, ring_has_four}
 use Rattle.wkt_layer.proofs.ImageTexts.{new_point, new_points, points_lexed, new_place, new_places, new_is_point, new_are_points, new_loses_none, new_lose_none, new_count}
 use Rattle.wkt_layer.proofs.Turns.{drawn, redrawn, IsRead, Turned, EachTurns, single, led, after_empty}
 
@@ -210,7 +211,7 @@ are_read exact Loop image images q qs points places size one many =
     let (front, last) = before_last q qs (image ∷ images) image places in
     let first : place_of q ≡ image = cc in
     record {
-      good = (points, (let e = many refl in let f = length-append images (image ∷ []) in omega (arith, e, f, size), last ∙ sym first));
+      good = (points, ring_closes_by q qs (let e = many refl in let f = length-append images (image ∷ []) in omega (arith, e, f, size)) (last ∙ sym first));
       drawn_are = ap (λ ps. let is : Drawn = record { kind = Loop; points = ps } in is) front;
     }
 
@@ -224,7 +225,7 @@ ring_keeps : (exact : Bool) (kind : PathKind) (first : Point) (more : List Point
     → (let path : Path = record { kind = kind; first = first; more = more } in 3 ≤ length (kept_points path))
 ring_keeps exact Dot first more good is = cc
 ring_keeps exact Line first more good is = cc
-ring_keeps exact Loop first more good is = let few = good.1.0 in let e = kept_count first more in omega (arith, few, e)
+ring_keeps exact Loop first more good is = let few = ring_has_four first more good.1 in let e = kept_count first more in omega (arith, few, e)
   where
     kept_count : (p : Point) (ps : List Point) → length (map place_of (points_before_last p ps)) ≡ length ps
     kept_count p [] = refl

@@ -1,10 +1,10 @@
 -- What is written of a layer is read as its images.
-use Rattle.std.proofs.Common.{◌≡◌, ℕ, ◌+◌, Bool, List, [], ◌∷◌, length, refl, sym, ap, ◌∙◌, subst}
-use Rattle.std.specs.Prelude.{map}
+use Rattle.std.proofs.Common.{ℕ, ◌+◌, Bool, List, [], ◌∷◌, length, refl, sym, subst}
 use Rattle.sheet_base.specs.Sheets.{Contents}
 use Rattle.sheet_base.specs.Fitting.{Runs, path_images, IsWithinReach, DoFit}
 use Rattle.sheet_base.specs.Splices.{AreInOrder, spliced}
-use Rattle.sheet_base.specs.ReadBack.{ends_of, imaged, IsReadBack}
+use Rattle.sheet_base.specs.ReadBack.{IsReadBack}
+use Rattle.sheet_base.proofs.WrittenLayers.{IsReadAgain, read_back}
 use Rattle.sheet_base.proofs.ListParts.{all_listed}
 use Rattle.wkt_layer.specs.Tokens.{tokens_of}
 use Rattle.wkt_layer.specs.Paths.{Path, rows_from, edits_from, sheet_of}
@@ -16,27 +16,19 @@ use Rattle.wkt_layer.proofs.Sheets.{whole_append, line_paths_whole}
 use Rattle.wkt_layer.proofs.LineTurns.{IsWritten, text_turned}
 use Rattle.wkt_layer.proofs.SheetTurns.{texts_plain, texts_say, sheet_suits, points_again, rows_again}
 
--- a text is read as a sheet of just these images, with the first sheet's paths over them, and no number lost digits
-pub record IsReadAgain (exact : Bool) (text : List ℕ) (sheet : Contents) (images : Runs) : Type 0 where
-  pub back : Contents
-  pub is_read : IsReadAs exact text back
-  pub points : back.points ≡ images.points
-  pub paths : back.paths ≡ map (imaged images) sheet.paths
-  pub exact_all : back.inexact ≡ 0
-
 lines_whole : (exact : Bool) (at : ℕ) (lines : List (List ℕ)) (paths : List Path) → AreLinesOf exact at lines paths → AreWhole paths
 lines_whole exact at [] paths none = subst AreWhole (sym none) tt
 lines_whole exact at (line ∷ lines) paths (here, others, is, are, same) =
     subst AreWhole (sym same) (whole_append here others (line_paths_whole exact (tokens_of at line) here is) (lines_whole exact (at + length line + 1) lines others are))
 
 paths_again : (exact : Bool) (bytes : List ℕ) (paths : List Path) (images : Runs) → AreLinesOf exact 0 (lines_of bytes) paths → AreInOrder 0 (edits_from 0 paths) (length bytes) → DoFit (sheet_of paths) images
-    → IsReadAgain exact (spliced bytes (edit_text (sheet_of paths) images) (edits_from 0 paths)) (sheet_of paths) images
+    → IsReadAgain (IsReadAs exact) (spliced bytes (edit_text (sheet_of paths) images) (edits_from 0 paths)) (sheet_of paths) images
 paths_again exact bytes paths images are order fit =
     go (text_turned exact (edit_text (sheet_of paths) images) (path_images (rows_from 0 paths) images) (texts_say (sheet_of paths) images)
     (texts_plain (sheet_of paths) images (all_listed IsWithinReach images.points fit.in_reach)) bytes paths (sheet_suits paths images fit (lines_whole exact 0 (lines_of bytes) paths are)) are order)
   where
     go : IsWritten exact (path_images (rows_from 0 paths) images) 0 paths (AreLinesOf exact 0 (lines_of (spliced bytes (edit_text (sheet_of paths) images) (edits_from 0 paths))))
-        → IsReadAgain exact (spliced bytes (edit_text (sheet_of paths) images) (edits_from 0 paths)) (sheet_of paths) images
+        → IsReadAgain (IsReadAs exact) (spliced bytes (edit_text (sheet_of paths) images) (edits_from 0 paths)) (sheet_of paths) images
     go w = record {
       back = sheet_of w.others;
       is_read = (w.others, w.are_of, refl);
@@ -46,19 +38,13 @@ paths_again exact bytes paths images are order fit =
     }
 
 pub read_again : (exact : Bool) (bytes : List ℕ) (sheet : Contents) (images : Runs) → IsReadAs exact bytes sheet → DoFit sheet images
-    → IsReadAgain exact (spliced bytes (edit_text sheet images) sheet.edits) sheet images
+    → IsReadAgain (IsReadAs exact) (spliced bytes (edit_text sheet images) sheet.edits) sheet images
 read_again exact bytes sheet images (paths, are, same) fit =
-    subst (λ (s : Contents). IsReadAgain exact (spliced bytes (edit_text s images) s.edits) s images) (sym same)
+    subst (λ (s : Contents). IsReadAgain (IsReadAs exact) (spliced bytes (edit_text s images) s.edits) s images) (sym same)
     (paths_again exact bytes paths images are (subst (λ (s : Contents). AreInOrder 0 s.edits (length bytes)) same (read_in_order exact bytes sheet (paths, are, same)))
     (subst (λ (s : Contents). DoFit s images) same fit))
 
 pub reads_back : (exact : Bool) (bytes : List ℕ) (sheet : Contents) (images : Runs) → IsReadAs exact bytes sheet → DoFit sheet images
     → IsReadBack (IsReadAs exact) sheet images (spliced bytes (edit_text sheet images) sheet.edits)
-reads_back exact bytes sheet images is fit = go (read_again exact bytes sheet images is fit)
-  where
-    go : IsReadAgain exact (spliced bytes (edit_text sheet images) sheet.edits) sheet images → IsReadBack (IsReadAs exact) sheet images (spliced bytes (edit_text sheet images) sheet.edits)
-    go again = record {
-      back = again.back;
-      is_read = again.is_read;
-      segments = ap (λ points. ends_of points again.back.paths) again.points ∙ ap (ends_of images.points) again.paths;
-    }
+reads_back exact bytes sheet images is fit =
+    read_back (IsReadAs exact) (spliced bytes (edit_text sheet images) sheet.edits) sheet images (read_again exact bytes sheet images is fit)

@@ -1,31 +1,34 @@
--- The test of a ring says that it is closed.
-use Rattle.std.proofs.Common.{◌≡◌, true, List, [], ◌∷◌, length, refl, sym, ap, ◌∙◌, ℤ}
-use Rattle.std.specs.Prelude.{nat_le}
-use Rattle.std.specs.Ordering.{int_eq}
-use Rattle.std.proofs.lemmas.Bool.{leb-true, le-leb, and_parts}
-use Rattle.std.proofs.lemmas.Bool.Decides.{Decides-int_eq}
-use Rattle.plane_base.specs.declared.shapes.Pt.{Pt}
+-- Rings whose points close.
+use Rattle.std.proofs.Common.{◌≡◌, suc, ◌-◌, ◌≤◌, true, List, [], ◌∷◌, length, refl, sym, ap, ◌∙◌, arith}
+use Rattle.std.specs.Prelude.{map}
+use Rattle.sheet_base.specs.Segments.{point_at}
+use Rattle.sheet_base.proofs.RingLemmas.{closed_by, closed_many}
 use Rattle.wkt_layer.specs.Numbers.{Point, place_of}
 use Rattle.wkt_layer.specs.Geometries.{IsClosed, last_behind}
-use Rattle.wkt_layer.specs.States.{is_closed, is_same}
+use Rattle.wkt_layer.specs.States.{may_close}
 
-same_is : (p q : Pt) → p ≡ q → is_same p q ≡ true
-same_is p q same =
-    rw ((Decides-int_eq p.x q.x).1 (ap (λ (r : Pt). r.x) same), (Decides-int_eq p.y q.y).1 (ap (λ (r : Pt). r.y) same)) refl
-
-pub is_same_is : (p q : Pt) → is_same p q ≡ true → p ≡ q
-is_same_is p q same =
-    let parts = and_parts (int_eq p.x q.x) (int_eq p.y q.y) same in
-    let x : p.x ≡ q.x = (Decides-int_eq p.x q.x).0 parts.0 in
-    let y : p.y ≡ q.y = (Decides-int_eq p.y q.y).0 parts.1 in
-    ap (λ (a : ℤ). let r : Pt = record { x = a; y = p.y } in r) x ∙ ap (λ (b : ℤ). let r : Pt = record { x = q.x; y = b } in r) y
-
-pub closed_is : (points : List Point) → IsClosed points → is_closed points ≡ true
+pub closed_is : (points : List Point) → IsClosed points → may_close points ≡ true
 closed_is [] closed = refl
-closed_is (one ∷ more) closed = rw (le-leb 4 (length (one ∷ more)) closed.0, same_is (place_of one) (place_of (last_behind one more)) (sym closed.1)) refl
+closed_is (one ∷ more) closed = closed
 
-pub is_closed_is : (points : List Point) → is_closed points ≡ true → IsClosed points
+pub is_closed_is : (points : List Point) → may_close points ≡ true → IsClosed points
 is_closed_is [] closed = tt
-is_closed_is (one ∷ more) closed =
-    let parts = and_parts (nat_le 4 (length (one ∷ more))) (is_same (place_of one) (place_of (last_behind one more))) closed in
-    (leb-true 4 (length (one ∷ more)) parts.0, sym (is_same_is (place_of one) (place_of (last_behind one more)) parts.1))
+is_closed_is (one ∷ more) closed = closed
+
+-- ---- four points, of which the last is the first
+pub length_places : (points : List Point) → length (map place_of points) ≡ length points
+length_places [] = refl
+length_places (one ∷ more) = let e = length_places more in ap suc e
+
+last_place : (one : Point) (more : List Point) → point_at (map place_of (one ∷ more)) (length more) ≡ place_of (last_behind one more)
+last_place one [] = refl
+last_place one (next ∷ more) = last_place next more
+
+pub ring_closes_by : (one : Point) (more : List Point) → 4 ≤ length (one ∷ more) → place_of (last_behind one more) ≡ place_of one → IsClosed (one ∷ more)
+ring_closes_by one more many same =
+    let size : length (map place_of (one ∷ more)) ≡ length (one ∷ more) = length_places (one ∷ more) in
+    let last : length (map place_of (one ∷ more)) - 1 ≡ length more = omega (arith, size) in
+    closed_by (map place_of (one ∷ more)) (omega (arith, size, many)) (sym (ap (point_at (map place_of (one ∷ more))) last ∙ last_place one more ∙ same))
+
+pub ring_has_four : (one : Point) (more : List Point) → IsClosed (one ∷ more) → 4 ≤ length (one ∷ more)
+ring_has_four one more closed = let e = length_places (one ∷ more) in let f = closed_many (map place_of (one ∷ more)) closed in omega (arith, e, f)

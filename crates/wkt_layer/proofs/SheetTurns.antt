@@ -1,13 +1,11 @@
 -- The images of a sheet that fit it, path by path: their texts, that they may take the place of the points, and that they make up all images.
 use Rattle.std.proofs.Common.{◌≡◌, ◌==◌, ℕ, ◌+◌, ◌<◌, Bool, true, false, List, [], ◌∷◌, ◌++◌, length, refl, ap, ◌∙◌, subst, arith}
-use Rattle.std.specs.Prelude.{map, flat_map}
+use Rattle.std.specs.Prelude.{map, flat_map, Option, Some, None}
 use Rattle.std.specs.List.{list_all, AllByRecursion}
 use Rattle.std.proofs.lemmas.Bool.{and_parts, eqb-true}
 use Rattle.mm_decimal.specs.Writing.{written}
 use Rattle.plane_base.specs.declared.shapes.Pt.{Pt}
 use Rattle.sheet_base.specs.declared.edits.Edit.{Edit}
-use Rattle.sheet_base.specs.declared.edits.What.{What}
-use Rattle.sheet_base.specs.declared.edits.What.TheVariants.{WktList, WktRing, GeoList, GeoRing, Bounds, Null, X, Y, Vertices, Tally, Lines, Vertex, NextHandle, Drop}
 use Rattle.sheet_base.specs.declared.paths.PathKind.{PathKind}
 use Rattle.sheet_base.specs.declared.paths.PathKind.TheVariants.{Dot, Line, Loop}
 use Rattle.sheet_base.specs.declared.paths.PathRow.{PathRow}
@@ -21,7 +19,7 @@ use Rattle.wkt_layer.specs.Tokens.{is_numeric}
 use Rattle.wkt_layer.specs.Numbers.{Point, place_of}
 use Rattle.wkt_layer.specs.Paths.{Path, kept_of, kept_points, rows_from, text_for, sheet_of}
 use Rattle.wkt_layer.specs.Passes.{IsWholeOf, AreWhole}
-use Rattle.wkt_layer.specs.Texts.{image_text, texts_behind, list_text, ring_text, what_text, edit_text}
+use Rattle.wkt_layer.specs.Texts.{image_text, texts_behind, list_text, ring_text, Writing, list, ring, writing_of, writing_text, what_text, edit_text}
 use Rattle.wkt_layer.specs.declared.limits.TheConstants.{LINE_FEED}
 use Rattle.wkt_layer.proofs.ImageTexts.{written_number}
 use Rattle.wkt_layer.proofs.Turns.{drawn, redrawn, AllSuit}
@@ -58,24 +56,13 @@ ring_plain : (images : List Pt) → AllByRecursion IsWithinReach images → IsPl
 ring_plain [] within = refl
 ring_plain (image ∷ images) within = plain_append (list_text (image ∷ images)) (texts_behind (image ∷ [])) (list_plain (image ∷ images) within) (behind_plain (image ∷ []) (within.0, tt))
 
-what_plain : (rows : List PathRow) (images : Runs) → AllByRecursion IsWithinReach images.points → (what : What) → IsPlain (what_text rows images what)
-what_plain rows images within (WktList nth) = list_plain (path_images rows images nth) (path_within rows images nth within)
-what_plain rows images within (WktRing nth) = ring_plain (path_images rows images nth) (path_within rows images nth within)
-what_plain rows images within (GeoList nth) = refl
-what_plain rows images within (GeoRing nth) = refl
-what_plain rows images within (Bounds first past) = refl
-what_plain rows images within Null = refl
-what_plain rows images within (X nth) = refl
-what_plain rows images within (Y nth) = refl
-what_plain rows images within (Vertices nth) = refl
-what_plain rows images within (Tally first past) = refl
-what_plain rows images within (Lines nth) = refl
-what_plain rows images within (Vertex nth) = refl
-what_plain rows images within NextHandle = refl
-what_plain rows images within Drop = refl
+writing_plain : (rows : List PathRow) (images : Runs) → AllByRecursion IsWithinReach images.points → (writing : Option Writing) → IsPlain (writing_text rows images writing)
+writing_plain rows images within None = refl
+writing_plain rows images within (Some (list nth)) = list_plain (path_images rows images nth) (path_within rows images nth within)
+writing_plain rows images within (Some (ring nth)) = ring_plain (path_images rows images nth) (path_within rows images nth within)
 
 pub texts_plain : (sheet : Contents) (images : Runs) → AllByRecursion IsWithinReach images.points → (edit : Edit) → IsPlain (edit_text sheet images edit)
-texts_plain sheet images within edit = what_plain sheet.paths images within edit.what
+texts_plain sheet images within edit = writing_plain sheet.paths images within (writing_of edit.what)
 
 -- ---- the texts of edits are those of the paths' images
 says_kind : (rows : List PathRow) (images : Runs) (kind : PathKind) (nth : ℕ) → what_text rows images (text_for kind nth) ≡ kind_text kind (path_images rows images nth)

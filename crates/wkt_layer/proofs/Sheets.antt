@@ -11,6 +11,7 @@ use Rattle.wkt_layer.specs.Geometries.{Member, dot, bare, Geometry, point, line_
 use Rattle.wkt_layer.specs.Paths.{Path, path_of, member_path, geometry_paths, geometries_paths, kept_of, kept_points, rows_from, sheet_of}
 use Rattle.wkt_layer.specs.Lines.{IsLineOf}
 use Rattle.wkt_layer.specs.Passes.{IsWhole, AreWhole}
+use Rattle.wkt_layer.proofs.Rings.{ring_has_four}
 
 pub whole_append : (xs ys : List Path) → AreWhole xs → AreWhole ys → AreWhole (xs ++ ys)
 whole_append [] ys are more = more
@@ -27,7 +28,7 @@ line_whole (one ∷ more) = (tt, tt)
 
 ring_whole : (exact : Bool) (points : List Point) → IsRing exact points → AreWhole (path_of Loop points)
 ring_whole exact [] is = tt
-ring_whole exact (one ∷ []) is = absurd (omega (arith, is.1.0))
+ring_whole exact (one ∷ []) is = let four = ring_has_four one [] is.1 in absurd (omega (arith, four))
 ring_whole exact (one ∷ next ∷ more) is = (tt, tt)
 
 rings_whole : (exact : Bool) (rings : List (List Point)) → AllByRecursion (IsRing exact) rings → AreWhole (flat_map (path_of Loop) rings)

@@ -1,6 +1,7 @@
 -- The grammar of well-known text (OGC 06-103r4, section 7.2.2), in this project's profile: seven plane kinds, and in a multipoint points without brackets.
-use Rattle.std.specs.Prelude.{◌≡◌, ℕ, zero, suc, ◌≤◌, Bool, List, [], ◌∷◌, ◌++◌, length}
+use Rattle.std.specs.Prelude.{◌≡◌, ℕ, zero, suc, ◌≤◌, Bool, true, List, [], ◌∷◌, ◌++◌, length, map}
 use Rattle.std.specs.List.{AllByRecursion}
+use Rattle.sheet_base.specs.Rings.{is_closed}
 use Rattle.wkt_layer.specs.Tokens.{Token, opening, closing, comma, word, number}
 use Rattle.wkt_layer.specs.Numbers.{Point, IsPoint, place_of}
 use Rattle.wkt_layer.specs.declared.words.Kind.TheVariants as kinds
@@ -77,10 +78,10 @@ abbrev pub last_behind : Point → List Point → Point
 last_behind p [] = p
 last_behind p (next ∷ more) = last_behind next more
 
--- a ring has at least four points, of which the last is the first again, to the millimetre
+-- a ring is closed, to the millimetre, unless it has no point
 abbrev pub IsClosed : List Point → Type 0
 IsClosed [] = Unit {0}
-IsClosed (first ∷ more) = (4 ≤ length (first ∷ more)) × (place_of (last_behind first more) ≡ place_of first)
+IsClosed (first ∷ more) = is_closed (map place_of (first ∷ more)) ≡ true
 
 abbrev pub ArePoints : Bool → List Point → Type 0
 ArePoints exact points = AllByRecursion (IsPoint exact) points

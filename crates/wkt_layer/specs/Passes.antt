@@ -100,8 +100,7 @@ Goes to token at before old (Err fault) new = ⊤
 -- the same with the fault
 abbrev pub Leads : Bool → State → Token → ℕ → List Path → Pass → Result Place LayerFault → Pass → Type 0
 Leads exact s token at before old (Ok place) new = (next : State) × (step exact s token ≡ Some next) × Stands new place before next × (new.opened ≡ opened_by token at old.opened)
-Leads exact s token at before old (Err faults.NoMemory) new = ⊤
-Leads exact s token at before old (Err fault) new = (step exact s token ≡ None) × (fault ≡ fault_of exact s.spot s.stack token at old.opened)
+Leads exact s token at before old (Err fault) new = (fault ≡ faults.NoMemory → ⊥) → (step exact s token ≡ None) × (fault ≡ fault_of exact s.spot s.stack token at old.opened)
 
 -- the lists are no longer than the text before this place
 pub record HasRoom (pass : Pass) (at : ℕ) : Type 0 where

@@ -1,17 +1,15 @@
 -- The states of a pass over the tokens of a line. Only private functions speak of them.
-use Rattle.std.specs.Prelude.{◌≡◌, ℕ, ◌&&◌, Bool, true, false, not, nat_le, nat_lt, if◌then◌else◌, List, [], ◌∷◌, ◌++◌, length, Option, Some, None, Result, Ok, Err}
-use Rattle.std.specs.Ordering.{int_eq}
+use Rattle.std.specs.Prelude.{◌≡◌, ℕ, ◌&&◌, Bool, true, false, not, nat_lt, if◌then◌else◌, List, [], ◌∷◌, ◌++◌, length, map, Option, Some, None, Result, Ok, Err}
 use Rattle.mm_decimal.specs.Measured.{measured}
 use Rattle.mm_decimal.specs.declared.reading.MmRead.{MmRead}
 use Rattle.mm_decimal.specs.declared.reading.NumFault.{NumFault}
-use Rattle.plane_base.specs.declared.shapes.Pt.{Pt}
 use Rattle.sheet_base.specs.declared.faults.LayerFault.{LayerFault}
 use Rattle.sheet_base.specs.declared.faults.LayerFault.TheVariants as faults
+use Rattle.sheet_base.specs.Rings.{is_closed}
 use Rattle.sheet_base.specs.declared.paths.PathKind.{PathKind}
 use Rattle.sheet_base.specs.declared.paths.PathKind.TheVariants.{Dot, Line, Loop}
 use Rattle.wkt_layer.specs.Tokens.{Number, Token, opening, closing, comma, word, number}
 use Rattle.wkt_layer.specs.Numbers.{Point, does_fit, place_of}
-use Rattle.wkt_layer.specs.Geometries.{last_behind}
 use Rattle.wkt_layer.specs.Paths.{Path, path_of}
 use Rattle.wkt_layer.specs.declared.limits.TheConstants.{DEEPEST}
 use Rattle.wkt_layer.specs.declared.words.Kind.{Kind}
@@ -97,17 +95,14 @@ kind_of listings.Dot = Dot
 kind_of listings.List = Line
 kind_of listings.Ring = Loop
 
-abbrev pub is_same : Pt → Pt → Bool
-is_same p q = int_eq p.x q.x && int_eq p.y q.y
-
-abbrev pub is_closed : List Point → Bool
-is_closed [] = true
-is_closed (one ∷ more) = nat_le 4 (length (one ∷ more)) && is_same (place_of one) (place_of (last_behind one more))
+abbrev pub may_close : List Point → Bool
+may_close [] = true
+may_close (one ∷ more) = is_closed (map place_of (one ∷ more))
 
 abbrev pub may_end : Listing → List Point → Bool
 may_end listings.Dot points = true
 may_end listings.List points = true
-may_end listings.Ring points = is_closed points
+may_end listings.Ring points = may_close points
 
 abbrev pub whole_step : Listing → List Point → List Group → List Path → Token → Option State
 whole_step listings.Dot points stack paths comma = None

@@ -1,5 +1,5 @@
 -- The texts that take the place of edits in well-known text.
-use Rattle.std.specs.Prelude.{ℕ, List, [], ◌∷◌, ◌++◌, codes}
+use Rattle.std.specs.Prelude.{ℕ, List, [], ◌∷◌, ◌++◌, codes, Option, Some, None}
 use Rattle.mm_decimal.specs.Writing.{written}
 use Rattle.plane_base.specs.declared.shapes.Pt.{Pt}
 use Rattle.sheet_base.specs.declared.paths.PathRow.{PathRow}
@@ -26,10 +26,24 @@ list_text images = lists.list_text (codes ", ") image_text images
 abbrev pub ring_text : List Pt → List ℕ
 ring_text images = lists.ring_text (codes ", ") image_text images
 
+-- the images of the path of a number, as a list or as a ring
+pub data Writing : Type 0 where
+  list : ℕ → Writing
+  ring : ℕ → Writing
+
+-- what an edit writes, where it is one of this format
+abbrev pub writing_of : What → Option Writing
+writing_of (WktList number) = Some (list number)
+writing_of (WktRing number) = Some (ring number)
+writing_of what = None
+
+abbrev pub writing_text : List PathRow → Runs → Option Writing → List ℕ
+writing_text paths images None = []
+writing_text paths images (Some (list number)) = list_text (path_images paths images number)
+writing_text paths images (Some (ring number)) = ring_text (path_images paths images number)
+
 abbrev pub what_text : List PathRow → Runs → What → List ℕ
-what_text paths images (WktList number) = list_text (path_images paths images number)
-what_text paths images (WktRing number) = ring_text (path_images paths images number)
-what_text paths images what = []
+what_text paths images what = writing_text paths images (writing_of what)
 
 -- the text of an edit, for the images of a sheet
 abbrev pub edit_text : Contents → Runs → Edit → List ℕ

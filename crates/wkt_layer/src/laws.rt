@@ -1,7 +1,8 @@
-//! Laws of layers of well-known text: bytes have one sheet or one first fault.
+//! Laws of layers of well-known text: bytes have one sheet or one first fault, and one of the two.
 
 ghost use Rattle.std.specs.Prelude.{◌≡◌, ℕ, List, Bool};
 ghost use Rattle.sheet_base.specs.Sheets.{Contents};
+ghost use Rattle.sheet_base.specs.Outcomes.{HasOutcome};
 ghost use Rattle.sheet_base.specs.declared.faults.LayerFault.{LayerFault};
 ghost use Rattle.wkt_layer.specs.Layers.{IsReadAs, IsRefusedBy};
 
@@ -14,4 +15,9 @@ pub fn sheet_is_one()
 /// A layer that is refused has one first fault.
 pub fn fault_is_one()
     ensures { (exact : Bool) → (bytes : List ℕ) → (fault other : LayerFault) → IsRefusedBy exact bytes fault → IsRefusedBy exact bytes other → fault ≡ other }
+{}
+
+/// Each text is a layer of some sheet, or has a first fault.
+pub fn text_outcome_exists()
+    ensures { (exact : Bool) → (bytes : List ℕ) → HasOutcome (IsReadAs exact bytes) (IsRefusedBy exact bytes) }
 {}

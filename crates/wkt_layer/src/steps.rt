@@ -5,7 +5,7 @@ ghost use Rattle.mm_decimal.specs.Measured.{measured};
 ghost use Rattle.wkt_layer.specs.Tokens.{Number};
 ghost use Rattle.wkt_layer.specs.Numbers.{Point, does_fit, place_of};
 ghost use Rattle.wkt_layer.specs.Paths.{Path, path_of};
-ghost use Rattle.wkt_layer.specs.States.{State, Spot, IsEnd, state, innermost, pair, kind_of, may_end, is_closed, is_same, is_geometry_spot, other_fault, word_fault, answer_fault, number_fault, closing_fault, fault_of, tag_step, enter_step, number_step, item_step, whole_step, behind_step, step};
+ghost use Rattle.wkt_layer.specs.States.{State, Spot, IsEnd, state, innermost, pair, kind_of, may_end, is_geometry_spot, other_fault, word_fault, answer_fault, number_fault, closing_fault, fault_of, tag_step, enter_step, number_step, item_step, whole_step, behind_step, step};
 ghost use Rattle.wkt_layer.specs.Passes.{token_for, IsFit, IsUnfit, Shows, Held, Stands, Goes, Leads, HasRoom, BeginsBefore, LeavesRoom, SameSheet};
 ghost use Rattle.sheet_base.specs.declared.paths.PathKind.TheVariants.{Dot};
 
@@ -16,8 +16,7 @@ use crate::stack::Stack;
 use crate::tokens::{Sign, Token};
 use crate::words::{Kind, Word};
 use mm_decimal::{MmRead, read_mm};
-use plane_base::Pt;
-use sheet_base::{LayerFault, PathKind};
+use sheet_base::{LayerFault, PathKind, is_closed};
 use std::alloc::AllocError;
 
 /// What was read fits: where exact numbers are wanted it is exact.
@@ -163,23 +162,6 @@ fn path_kind(listing: Listing) -> PathKind
         Listing::List => PathKind::Line,
         Listing::Ring => PathKind::Loop,
     }
-}
-
-/// Two points are one.
-fn are_same(p: Pt, q: Pt) -> bool
-    ensures { result ≡ is_same p q }
-{
-    p == q
-}
-
-/// A ring has at least four points, of which the last is the first again.
-fn is_closed(points: &[Pt]) -> bool
-    ensures { (one : Point) → (more : List Point) → points.now ≡ map place_of (one ∷ more) → result ≡ is_closed (one ∷ more) }
-{
-    if points.len() < 4 {
-        return false;
-    }
-    are_same(points[0], points[points.len() - 1])
 }
 
 /// Points in brackets may end so.

@@ -10,13 +10,15 @@ use Rattle.gj_layer.specs.Faults.{and_then}
 use Rattle.gj_layer.specs.Positions.{point_of}
 use Rattle.sheet_base.specs.declared.faults.LayerFault.TheVariants.{Ring as RingFault}
 use Rattle.jtext.specs.declared.document.Node.{Node}
-use Rattle.gj_layer.specs.Paths.{joined, is_closed, traced, part_of}
+use Rattle.sheet_base.specs.Rings.{is_closed}
+use Rattle.sheet_base.proofs.RingLemmas.{closed_many}
+use Rattle.gj_layer.specs.Paths.{joined, traced, part_of}
 use Rattle.gj_layer.specs.Standing.{Holds, path_part}
 use Rattle.gj_layer.proofs.There.{node_there, first_is, kind_within, array_here}
 use Rattle.sheet_base.proofs.HandedOn.{passed_on}
 use Rattle.gj_layer.proofs.Giving.{give_fault}
 use Rattle.gj_layer.proofs.Holding.{held_more, held_first}
-use Rattle.gj_layer.proofs.Tracing.{run_path, ring_refused, ring_traced, ring_open, closed_some, last_split, slice_from}
+use Rattle.gj_layer.proofs.Tracing.{run_path, ring_refused, ring_traced, ring_open, last_split, slice_from}
 use Rattle.gj_layer.proofs.paths.read_ring.Goals as goal
 
 pub returns-in_err-run-clause-path : goal.returns-in_err-run-clause-path
@@ -76,7 +78,7 @@ returns-clause-path c start is part h held =
     let kept = take (length points - 1) points in
     let ring = slice_from c.deref.result.now c.args.pass.now.points.items points c.len-first.result (c.deref.ensures.value ∙ run.points) (c.len-first.ensures ∙ long) in
     let closed : is_closed points ≡ true = ap is_closed (sym ring) ∙ sym c.is_closed.ensures ∙ c.if-not-is_closed.false in
-    let four = closed_some points closed in
+    let four = closed_many points closed in
     let some : 0 < length all = omega (arith, four, length-map all point_of) in
     let (last, split) = last_split points (omega (arith, four)) in
     let dropped = c.drop_last.ensures.front (c.args.pass.now.points.items ++ kept) last

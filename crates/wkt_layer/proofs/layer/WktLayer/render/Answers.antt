@@ -1,9 +1,9 @@
 -- Answers to the goals of `Wkt::render`, a call of the trait `Layer`, in src/layer.rt.
-use Rattle.std.proofs.Common.{◌≡◌, List, length, ap, sym, ◌∙◌, subst}
+use Rattle.std.proofs.Common.{List, ℕ, length, sym, subst}
 use Rattle.sheet_base.specs.declared.edits.Edit.{Edit}
-use Rattle.sheet_base.specs.Splices.{AreInOrder, spliced, DoKeep}
-use Rattle.sheet_base.proofs.Splicing.{if_ok_more, splices_keep}
+use Rattle.sheet_base.specs.Splices.{AreInOrder}
 use Rattle.sheet_base.specs.ReadBack.{IsReadBack}
+use Rattle.sheet_base.proofs.WrittenLayers.{holds_written, rest_written}
 use Rattle.wkt_layer.specs.Layers.{IsReadAs}
 use Rattle.wkt_layer.specs.Texts.{edit_text}
 use Rattle.wkt_layer.proofs.EditOrder.{read_in_order}
@@ -16,15 +16,10 @@ splice-requires c =
 
 pub returns-clause-rest : goal.returns-clause-rest
 returns-clause-rest c =
-    if_ok_more c.splice.result (λ out. out.items ≡ spliced c.args.bytes.now (edit_text c.args.sheet.now c.args.images.now) c.edits.result.now) (λ out. DoKeep c.args.bytes.now 0 c.args.sheet.now.edits out.items)
-    (λ out is. subst (λ (edits : List Edit). DoKeep c.args.bytes.now 0 edits out.items) c.edits.ensures
-    (subst (DoKeep c.args.bytes.now 0 c.edits.result.now) (sym is) (splices_keep c.args.bytes.now (edit_text c.args.sheet.now c.args.images.now) c.edits.result.now)))
-    c.splice.ensures
+    rest_written c.splice.result (λ out. out.items) c.args.bytes.now (edit_text c.args.sheet.now c.args.images.now) c.edits.result.now c.args.sheet.now.edits c.edits.ensures c.splice.ensures
 
 pub returns-clause-back : goal.returns-clause-back
 returns-clause-back c =
-    if_ok_more c.splice.result (λ out. out.items ≡ spliced c.args.bytes.now (edit_text c.args.sheet.now c.args.images.now) c.edits.result.now)
-    (λ out. Unit {0} → IsReadBack (IsReadAs c.args.how.exact) c.args.sheet.now c.args.images.now out.items)
-    (λ out is _. subst (IsReadBack (IsReadAs c.args.how.exact) c.args.sheet.now c.args.images.now)
-    (sym (is ∙ ap (spliced c.args.bytes.now (edit_text c.args.sheet.now c.args.images.now)) c.edits.ensures))
-    (reads_back c.args.how.exact c.args.bytes.now c.args.sheet.now c.args.images.now c.requires.sheet c.requires.fits)) c.splice.ensures
+    holds_written c.splice.result (λ out. out.items) c.args.bytes.now (edit_text c.args.sheet.now c.args.images.now) c.edits.result.now c.args.sheet.now.edits c.edits.ensures c.splice.ensures
+    (λ (out : List ℕ). Unit {0} → IsReadBack (IsReadAs c.args.how.exact) c.args.sheet.now c.args.images.now out)
+    (λ _. reads_back c.args.how.exact c.args.bytes.now c.args.sheet.now c.args.images.now c.requires.sheet c.requires.fits)

@@ -1,0 +1,13 @@
+-- Closed rings.
+use Rattle.std.specs.Prelude.{ℕ, ◌-◌, Bool, ◌&&◌, nat_le, List, length}
+use Rattle.std.specs.Ordering.{int_eq}
+use Rattle.plane_base.specs.declared.shapes.Pt.{Pt}
+use Rattle.sheet_base.specs.Segments.{point_at}
+
+-- whether the points are one
+abbrev pub is_same : Pt → Pt → Bool
+is_same p q = int_eq p.x q.x && int_eq p.y q.y
+
+-- whether the points are those of a closed ring: at least four, of which the last is the first again, to the millimetre
+abbrev pub is_closed : List Pt → Bool
+is_closed points = nat_le 4 (length points) && is_same (point_at points 0) (point_at points (length points - 1))
