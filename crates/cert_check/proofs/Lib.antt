@@ -6,3 +6,9 @@ pub mod Stretches
 pub mod Following
 pub mod Passing
 pub mod PieceRows
+pub mod RunLaws
+pub mod LineNumbers
+pub mod PathLists
+pub mod SheetLaws
+pub mod TextLaws
+pub mod CertCauses

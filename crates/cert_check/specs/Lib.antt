@@ -1,6 +1,8 @@
 pub mod Certificates
 pub mod Lines
 pub mod RightLists
+pub mod Checks
+pub mod SheetLists
 pub mod Laws
 pub mod Numbers
 pub mod PieceLists

@@ -2,14 +2,21 @@
 //! without a search.
 #![tactic(auto)]
 
+mod checking;
+mod faults;
 mod laws;
 mod lines;
 mod nearness;
 mod numbers;
 mod parts;
+mod paths;
 mod right_lists;
+mod runs;
+mod ways;
 mod writing;
 
+pub use checking::check_cert;
+pub use faults::CertFault;
 pub use laws::{
     certificates_are_one, certificates_have_no_bad_line, piece_triangles_are_right,
     pieces_are_rightly_certified, right_lists_are_inside,

@@ -3,15 +3,16 @@
 ghost use Rattle.std.specs.Prelude.{◌≡◌, ℕ, ◌+◌, ◌<◌, ◌^◌, List, ◌++◌, length, IfSome, IfNone, IfOk, IfErr};
 ghost use Rattle.std.specs.List.{AllByRecursion};
 ghost use Rattle.cert_check.specs.Certificates.{head_text, lines_text, IsList, IsCertificate};
-ghost use Rattle.cert_check.specs.Lines.{BeginsWithLine, HasNoLine, AreLines, IsBadBehind, IsBadLine, HasCount};
+ghost use Rattle.cert_check.specs.Lines.{IsLine, BeginsWithLine, HasNoLine, AreLines, IsBadBehind, IsBadLine, HasCount};
 
 use crate::numbers::ended_number;
+use std::alloc::AllocError;
 
 /// The first line, with its line feed.
 pub(crate) const HEAD: &[u8] = b"tinmove certificate 1\n";
 
 /// What is behind the first line.
-fn behind_head(bytes: &[u8]) -> Option<&[u8]>
+pub(crate) fn behind_head(bytes: &[u8]) -> Option<&[u8]>
     ensures some { IfSome result (λ rest. bytes.now ≡ head_text ++ rest.now) }
     ensures none { IfNone result ((rest : List ℕ) → bytes.now ≡ head_text ++ rest → ⊥) }
 {
@@ -66,4 +67,25 @@ pub fn list_count(bytes: &[u8]) -> Result<u32, u64>
         Ok(count) => Ok(count),
         Err(count) => Err(u64::from(count) + 2),
     }
+}
+
+/// Reads the numbers of the line of a list at the front of a text, and answers what is behind the line; none where no
+/// such line begins the text.
+pub(crate) fn read_line<'a>(
+    text: &'a [u8],
+    numbers: &mut Vec<u32>,
+) -> Result<Option<&'a [u8]>, AllocError>
+    ensures some { IfOk result (λ answer. IfSome answer (λ rest. IsLine text.now numbers.new.items rest.now)) }
+    ensures none { IfOk result (λ answer. IfNone answer (HasNoLine text.now)) }
+{
+    numbers.clear();
+    let mut rest = text;
+    while let Some(ended) = ended_number(rest) {
+        numbers.push(ended.number)?;
+        if ended.last {
+            return Ok(Some(ended.rest));
+        }
+        rest = ended.rest;
+    }
+    Ok(None)
 }

@@ -1,0 +1,42 @@
+//! The segments of a path.
+
+ghost use Rattle.std.specs.Prelude.{◌≡◌, ◌+◌, ◌<◌, ◌≤◌, length};
+ghost use Rattle.sheet_base.specs.Segments.{begin_of, end_of};
+
+use affine_image::next_point;
+use plane_base::Pt;
+use sheet_base::PathRow;
+
+/// A path and its number.
+#[derive(Clone, Copy)]
+pub(crate) struct Track {
+    pub(crate) row: PathRow,
+    pub(crate) path: u32,
+}
+
+/// A segment: its path's number and its own, and its ends.
+#[derive(Clone, Copy)]
+pub(crate) struct Way {
+    pub(crate) path: u32,
+    pub(crate) number: u32,
+    pub(crate) a: Pt,
+    pub(crate) b: Pt,
+}
+
+/// The path's segment of this number.
+pub(crate) fn way_at(points: &[Pt], track: Track, number: u32) -> Way
+    requires in_path { track.row.first + number < track.row.past }
+    requires in_range { track.row.past ≤ length points.now }
+    ensures path { result.path ≡ track.path }
+    ensures number { result.number ≡ number }
+    ensures a { result.a ≡ begin_of points.now track.row number }
+    ensures b { result.b ≡ end_of points.now track.row number }
+{
+    let begin = track.row.first + number;
+    Way {
+        path: track.path,
+        number,
+        a: points[begin as usize],
+        b: points[next_point(track.row, begin) as usize],
+    }
+}
