@@ -13,7 +13,7 @@ use std::alloc::{AllocError, Global};
 use tin_base::{Frame, Piece, SoundTin};
 
 /// The pairs of pieces that have changed, each once, in no order. It stops once there are more than `most`.
-/// First the pairs whose rounded boxes share a point are compared, and then, where these are not too many, the others whose exact boxes share one. One grid is kept at a time, and no box beside it.
+/// First the pairs whose rounded boxes share a point are compared, and then, where these are not too many, the others whose exact boxes share one. One grid is kept at a time; the list of boxes of the first is used again for the second.
 pub(crate) fn changed_pairs(
     alloc: Global,
     tin: &SoundTin,
@@ -26,14 +26,16 @@ pub(crate) fn changed_pairs(
 {
     boxes_share_a_point_or_are_apart();
     let mut pairs = Vec::new(alloc);
+    let mut boxes = Vec::with_capacity(alloc, pieces.len())?;
     {
-        let grid = rounded_grid(alloc, pieces)?;
+        let grid = rounded_grid(alloc, pieces, &mut boxes)?;
         collect(alloc, tin, pieces, Frame::Target, &grid, most, &mut pairs)?;
     }
     if pairs.len() > most as usize {
         return Ok(pairs);
     }
-    let grid = exact_grid(alloc, tin, pieces)?;
+    let grid = exact_grid(alloc, tin, pieces, &mut boxes)?;
+    drop(boxes);
     collect(alloc, tin, pieces, Frame::Source, &grid, most, &mut pairs)?;
     Ok(pairs)
 }

@@ -1,5 +1,5 @@
 //! The grids of the exact pieces and of their rounded segments.
-ghost use Rattle.std.specs.Prelude.{◌≡◌, ◌<◌, ◌≤◌, All, IfOk, length};
+ghost use Rattle.std.specs.Prelude.{◌≡◌, ◌<◌, ◌≤◌, All, IfOk, OnOk, length};
 ghost use Rattle.tin_base.specs.Pieces.{IsPieceInside};
 ghost use Rattle.meet_rel.specs.Near.{AreNear};
 ghost use Rattle.topo_check.specs.declared.limits.TheConstants.{MOST_COMPARED};
@@ -13,45 +13,50 @@ use plane_base::Rect;
 use std::alloc::{AllocError, Global};
 use tin_base::{Piece, SoundTin};
 
-/// The grid of the segments between the rounded images of their ends.
-pub(crate) fn rounded_grid(alloc: Global, pieces: &[Piece]) -> Result<Grid, AllocError>
+/// The grid of the segments between the rounded images of their ends. The list is room for their boxes.
+pub(crate) fn rounded_grid(
+    alloc: Global,
+    pieces: &[Piece],
+    boxes: &mut Vec<Rect>,
+) -> Result<Grid, AllocError>
     requires near { All (λ p. All (λ q. AreNear p.ia p.ib q.ia q.ib) pieces.now) pieces.now }
     requires count { length pieces.now ≤ MOST_COMPARED }
     ensures { IfOk result (λ grid. AreBoxesOf IsRoundedBox pieces.now grid.boxes) }
 {
-    let boxes = rounded_boxes(alloc, pieces)?;
-    let grid = Grid::build(alloc, &boxes)?;
+    rounded_boxes(pieces, boxes)?;
+    let grid = Grid::build(alloc, boxes)?;
     Ok(grid)
 }
 
-/// The grid of the exact pieces.
+/// The grid of the exact pieces. The list is room for their boxes.
 pub(crate) fn exact_grid(
     alloc: Global,
     tin: &SoundTin,
     pieces: &[Piece],
+    boxes: &mut Vec<Rect>,
 ) -> Result<Grid, AllocError>
     requires inside { All (λ piece. IsPieceInside tin.now piece) pieces.now }
     requires count { length pieces.now ≤ MOST_COMPARED }
     ensures { IfOk result (λ grid. AreBoxesOf (IsExactBox tin.now) pieces.now grid.boxes) }
 {
     let _ = tin.corners();
-    let boxes = exact_boxes(alloc, tin, pieces)?;
-    let grid = Grid::build(alloc, &boxes)?;
+    exact_boxes(tin, pieces, boxes)?;
+    let grid = Grid::build(alloc, boxes)?;
     Ok(grid)
 }
 
 // The boxes of the exact pieces, in their order.
-fn exact_boxes(alloc: Global, tin: &SoundTin, pieces: &[Piece]) -> Result<Vec<Rect>, AllocError>
+fn exact_boxes(tin: &SoundTin, pieces: &[Piece], boxes: &mut Vec<Rect>) -> Result<(), AllocError>
     requires { All (λ piece. IsPieceInside tin.now piece) pieces.now }
-    ensures { IfOk result (λ boxes. AreBoxesOf (IsExactBox tin.now) pieces.now boxes.items) }
+    ensures { OnOk result (AreBoxesOf (IsExactBox tin.now) pieces.now boxes.new.items) }
 {
-    let mut boxes = Vec::with_capacity(alloc, pieces.len())?;
+    boxes.clear();
     let mut number = 0;
     while number < pieces.len() {
         boxes.push(box_at(tin, pieces, number))?;
         number += 1;
     }
-    Ok(boxes)
+    Ok(())
 }
 
 // A box of the exact piece of a number. Only for a piece of a segment of many pieces are its exact ends asked for: they take a division each.
@@ -87,12 +92,12 @@ fn is_of_many(pieces: &[Piece], number: usize) -> bool
 }
 
 // The boxes of the segments between the rounded images of their ends, in their order.
-fn rounded_boxes(alloc: Global, pieces: &[Piece]) -> Result<Vec<Rect>, AllocError>
-    ensures { IfOk result (λ boxes. AreBoxesOf IsRoundedBox pieces.now boxes.items) }
+fn rounded_boxes(pieces: &[Piece], boxes: &mut Vec<Rect>) -> Result<(), AllocError>
+    ensures { OnOk result (AreBoxesOf IsRoundedBox pieces.now boxes.new.items) }
 {
-    let mut boxes = Vec::with_capacity(alloc, pieces.len())?;
+    boxes.clear();
     for piece in pieces {
         boxes.push(rounded_box(piece))?;
     }
-    Ok(boxes)
+    Ok(())
 }
