@@ -1,0 +1,4 @@
+-- The files of definitions of change_places.
+pub mod PlacesText
+pub mod PlacesValue
+pub mod Laws
