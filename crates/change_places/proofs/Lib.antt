@@ -6,3 +6,6 @@ mod Names
 mod Spelled
 mod Valid
 mod PlacesJson
+mod Firsts
+mod LineCounts
+mod MorePaths

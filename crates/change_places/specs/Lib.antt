@@ -2,3 +2,5 @@
 pub mod PlacesText
 pub mod PlacesValue
 pub mod Laws
+pub mod PathPlaces
+pub mod InsidePlaces

@@ -4,8 +4,10 @@
 
 mod features;
 mod laws;
+mod path_starts;
 mod spots;
 
 pub use features::write_places;
 pub use laws::places_are_json;
+pub use path_starts::path_places;
 pub use spots::{ChangeSpot, SideSpot};
