@@ -1,0 +1,11 @@
+-- The files of lemmas of change_places.
+mod Elements
+mod Parts
+mod MoreFeatures
+mod Names
+mod Spelled
+mod Valid
+mod PlacesJson
+mod Firsts
+mod LineCounts
+mod MorePaths

@@ -1,0 +1,101 @@
+-- The text of changes on the map: GeoJSON (RFC 7946) with a feature for each change, a line each.
+use Rattle.std.specs.Prelude.{ℕ, ◌+◌, ◌==◌, ◌||◌, Bool, List, [], ◌∷◌, ◌++◌, codes, decimal, flat_map, get_or, if◌then◌else◌, Option, None, Some, ◌&&◌}
+use Rattle.std.specs.Ordering.{int_eq}
+use Rattle.std.specs.List.{concat}
+use Rattle.mm_decimal.specs.Writing.{written}
+use Rattle.plane_base.specs.declared.shapes.Pt.{Pt}
+use Rattle.tin_base.specs.declared.pieces.Place.{Place}
+use Rattle.tin_base.specs.declared.relations.Rel.{Rel}
+use Rattle.report_text.specs.ReportText.{place_text, relation_word}
+use Rattle.change_places.specs.declared.spots.SideSpot.{SideSpot}
+use Rattle.change_places.specs.declared.spots.ChangeSpot.{ChangeSpot}
+
+-- a position, in metres with three digits (RFC 7946, section 3.1.1)
+unfoldable pub position_text : Pt → List ℕ
+position_text point = concat (codes "[" ∷ written point.x ∷ codes "," ∷ written point.y ∷ codes "]" ∷ [])
+
+-- the points are one
+abbrev pub is_point : Pt → Pt → Bool
+is_point a b = int_eq a.x b.x && int_eq a.y b.y
+
+-- a written segment whose ends are one (RFC 7946, section 3.1.2)
+unfoldable pub point_text : Pt → List ℕ
+point_text a = concat (codes "{\"type\":\"Point\",\"coordinates\":" ∷ position_text a ∷ codes "}" ∷ [])
+
+-- another one (RFC 7946, section 3.1.4)
+unfoldable pub line_text : Pt → Pt → List ℕ
+line_text a b = concat (codes "{\"type\":\"LineString\",\"coordinates\":[" ∷ position_text a ∷ codes "," ∷ position_text b ∷ codes "]}" ∷ [])
+
+-- a written segment as a geometry: a point where its ends are one
+abbrev pub segment_text : Pt → Pt → List ℕ
+segment_text a b = if is_point a b then point_text a else line_text a b
+
+-- a byte of a name between quotation marks: a reverse solidus stands before a quotation mark (34) and before another
+-- reverse solidus (92) (RFC 8259, section 7)
+abbrev pub escaped_byte : ℕ → List ℕ
+escaped_byte byte = if byte == 34 || byte == 92 then 92 ∷ byte ∷ [] else byte ∷ []
+
+abbrev pub name_text : List ℕ → List ℕ
+name_text name = flat_map escaped_byte name
+
+-- the name of the layer of this number
+abbrev pub layer_name : List (List ℕ) → ℕ → List ℕ
+layer_name names layer = get_or names layer []
+
+-- a place in a layer's text, or null where none is known
+abbrev pub at_text : Option ℕ → List ℕ
+at_text None = codes "null"
+at_text (Some at) = decimal at
+
+-- ---- properties, each behind a comma
+-- a key of two parts, with its colon
+unfoldable pub key_text : List ℕ → List ℕ → List ℕ
+key_text word part = concat (codes ",\"" ∷ word ∷ part ∷ codes "\":" ∷ [])
+
+unfoldable pub relation_text : List ℕ → Rel → List ℕ
+relation_text word relation = concat (key_text word [] ∷ codes "\"" ∷ relation_word relation ∷ codes "\"" ∷ [])
+
+unfoldable pub layer_text : List ℕ → List ℕ → List ℕ
+layer_text word name = concat (key_text word (codes "_layer") ∷ codes "\"" ∷ name_text name ∷ codes "\"" ∷ [])
+
+unfoldable pub from_text : List ℕ → Place → List ℕ
+from_text word from = concat (key_text word [] ∷ codes "\"" ∷ place_text from ∷ codes "\"" ∷ [])
+
+-- the properties of one side of a change; their names begin with this word
+unfoldable pub side_text : List ℕ → List (List ℕ) → SideSpot → List ℕ
+side_text word names side = concat (
+    layer_text word (layer_name names side.from.layer) ∷ from_text word side.from ∷ key_text word (codes "_at") ∷ at_text side.at ∷ [])
+
+-- the two written segments (RFC 7946, section 3.1.8)
+unfoldable pub geometry_text : ChangeSpot → List ℕ
+geometry_text change = concat (
+    codes "{\"type\":\"GeometryCollection\",\"geometries\":[" ∷ segment_text change.first.a change.first.b
+    ∷ codes "," ∷ segment_text change.second.a change.second.b ∷ codes "]}" ∷ [])
+
+-- the number of the change, the two relations, and the gap
+unfoldable pub change_text : ℕ → ChangeSpot → List ℕ
+change_text number change = concat (
+    codes "\"change\":" ∷ decimal number ∷ relation_text (codes "was") change.was ∷ relation_text (codes "now") change.now
+    ∷ key_text (codes "gap_mm") [] ∷ decimal change.gap ∷ [])
+
+-- the change of this number (RFC 7946, section 3.2)
+unfoldable pub feature_text : List (List ℕ) → ℕ → ChangeSpot → List ℕ
+feature_text names number change = concat (
+    codes "{\"type\":\"Feature\",\"geometry\":" ∷ geometry_text change ∷ codes ",\"properties\":{" ∷ change_text number change
+    ∷ side_text (codes "first") names change.first ∷ side_text (codes "second") names change.second ∷ codes "}}" ∷ [])
+
+-- what stands before the feature of this number: a line feed, and a comma before that where it is not the first
+abbrev pub separator_text : ℕ → List ℕ
+separator_text number = if number == 0 then codes "\n" else codes ",\n"
+
+-- the changes numbered from this number on
+abbrev pub features_text : List (List ℕ) → ℕ → List ChangeSpot → List ℕ
+features_text names number [] = []
+features_text names number (change ∷ changes) = separator_text number ++ (feature_text names number change ++ features_text names (number + 1) changes)
+
+unfoldable pub opening_text : List ℕ
+opening_text = codes "{\"type\":\"FeatureCollection\",\"crs\":null,\"features\":["
+
+-- all changes, numbered from 0, over layers of these names (RFC 7946, section 3.3)
+abbrev pub places_text : List (List ℕ) → List ChangeSpot → List ℕ
+places_text names changes = opening_text ++ (features_text names 0 changes ++ codes "]}\n")

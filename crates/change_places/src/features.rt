@@ -1,0 +1,303 @@
+//! The text of changes on the map: GeoJSON with a feature for each change.
+
+ghost use Rattle.std.specs.Prelude.{◌≡◌, ◌++◌, IfOk, OnOk, decimal, codes};
+ghost use Rattle.report_text.specs.ReportText.{place_text, relation_word};
+ghost use Rattle.change_places.specs.PlacesText.{position_text, is_point, point_text, line_text, segment_text, escaped_byte, name_text, layer_name, at_text, key_text, relation_text, layer_text, from_text, side_text, geometry_text, change_text, feature_text, separator_text, features_text, places_text};
+
+use crate::spots::{ChangeSpot, SideSpot};
+use itoa::Buffer;
+use plane_base::Pt;
+use sheet_base::push_mm;
+use shelf_io::Name;
+use std::alloc::{AllocError, Global};
+use tin_base::{Place, Rel};
+
+/// How many bytes to reserve for a feature.
+const FEATURE_ROOM: usize = 512;
+
+// Adds a text at the end.
+fn put(out: &mut Vec<u8>, text: &str) -> Result<(), AllocError>
+    ensures { OnOk result (out.new.items ≡ out.old.items ++ text.now) }
+{
+    out.extend_from_slice(text.as_bytes())?;
+    Ok(())
+}
+
+// Adds a number in digits.
+fn put_number(out: &mut Vec<u8>, number: u64) -> Result<(), AllocError>
+    ensures { OnOk result (out.new.items ≡ out.old.items ++ decimal number) }
+{
+    let mut digits = Buffer::new();
+    put(out, digits.format(number))?;
+    Ok(())
+}
+
+// Adds a position.
+#[tactic(auto, unfolding(crate::specs::PlacesText::position_text))]
+fn put_position(out: &mut Vec<u8>, point: Pt) -> Result<(), AllocError>
+    ensures { OnOk result (out.new.items ≡ out.old.items ++ position_text point) }
+{
+    put(out, "[")?;
+    push_mm(out, point.x)?;
+    put(out, ",")?;
+    push_mm(out, point.y)?;
+    put(out, "]")?;
+    Ok(())
+}
+
+// Whether the points are one.
+fn are_one(a: Pt, b: Pt) -> bool
+    ensures { result ≡ is_point a b }
+{
+    a.x == b.x && a.y == b.y
+}
+
+// Adds a written segment whose ends are one.
+#[tactic(auto, unfolding(crate::specs::PlacesText::point_text))]
+fn put_point(out: &mut Vec<u8>, a: Pt) -> Result<(), AllocError>
+    ensures { OnOk result (out.new.items ≡ out.old.items ++ point_text a) }
+{
+    put(out, "{\"type\":\"Point\",\"coordinates\":")?;
+    put_position(out, a)?;
+    put(out, "}")?;
+    Ok(())
+}
+
+// Adds another one.
+#[tactic(auto, unfolding(crate::specs::PlacesText::line_text))]
+fn put_line(out: &mut Vec<u8>, a: Pt, b: Pt) -> Result<(), AllocError>
+    ensures { OnOk result (out.new.items ≡ out.old.items ++ line_text a b) }
+{
+    put(out, "{\"type\":\"LineString\",\"coordinates\":[")?;
+    put_position(out, a)?;
+    put(out, ",")?;
+    put_position(out, b)?;
+    put(out, "]}")?;
+    Ok(())
+}
+
+// Adds a written segment.
+fn put_segment(out: &mut Vec<u8>, a: Pt, b: Pt) -> Result<(), AllocError>
+    ensures { OnOk result (out.new.items ≡ out.old.items ++ segment_text a b) }
+{
+    if are_one(a, b) {
+        put_point(out, a)?;
+    } else {
+        put_line(out, a, b)?;
+    }
+    Ok(())
+}
+
+// Adds a byte of a name, behind a reverse solidus where it needs one.
+fn put_byte(out: &mut Vec<u8>, byte: u8) -> Result<(), AllocError>
+    ensures { OnOk result (out.new.items ≡ out.old.items ++ escaped_byte byte) }
+{
+    if byte == b'"' || byte == b'\\' {
+        out.push(b'\\')?;
+    }
+    out.push(byte)?;
+    Ok(())
+}
+
+// Adds a name as it stands between quotation marks.
+fn put_name(out: &mut Vec<u8>, name: &str) -> Result<(), AllocError>
+    ensures { OnOk result (out.new.items ≡ out.old.items ++ name_text name.now) }
+{
+    for byte in name.as_bytes() {
+        put_byte(out, *byte)?;
+    }
+    Ok(())
+}
+
+// The name of the layer of this number, or no text where there is none.
+fn layer_name(names: &[Name], layer: u32) -> &str
+    ensures { result.now ≡ layer_name names.now layer }
+{
+    match names.get(layer as usize) {
+        Some(name) => name.text(),
+        None => "",
+    }
+}
+
+// Adds where a piece comes from.
+fn put_place(out: &mut Vec<u8>, place: Place) -> Result<(), AllocError>
+    ensures { OnOk result (out.new.items ≡ out.old.items ++ place_text place) }
+{
+    put_number(out, u64::from(place.layer))?;
+    put(out, "/")?;
+    put_number(out, u64::from(place.path))?;
+    put(out, "/")?;
+    put_number(out, u64::from(place.segment))?;
+    put(out, "/")?;
+    put_number(out, u64::from(place.piece))?;
+    Ok(())
+}
+
+// Adds a place in a layer's text.
+fn put_at(out: &mut Vec<u8>, at: Option<u32>) -> Result<(), AllocError>
+    ensures { OnOk result (out.new.items ≡ out.old.items ++ at_text at) }
+{
+    match at {
+        Some(at) => put_number(out, u64::from(at))?,
+        None => put(out, "null")?,
+    }
+    Ok(())
+}
+
+// The word of a relation.
+fn word_of(relation: Rel) -> &'static str
+    ensures { result.now ≡ relation_word relation }
+{
+    match relation {
+        Rel::Apart => "apart",
+        Rel::Touching => "touching",
+        Rel::Crossing => "crossing",
+        Rel::Overlapping => "overlapping",
+    }
+}
+
+// Adds a key of two parts behind a comma, with its colon.
+#[tactic(auto, unfolding(crate::specs::PlacesText::key_text))]
+fn put_key(out: &mut Vec<u8>, word: &str, part: &str) -> Result<(), AllocError>
+    ensures { OnOk result (out.new.items ≡ out.old.items ++ key_text word.now part.now) }
+{
+    put(out, ",\"")?;
+    put(out, word)?;
+    put(out, part)?;
+    put(out, "\":")?;
+    Ok(())
+}
+
+// Adds a relation with its key.
+#[tactic(auto, unfolding(crate::specs::PlacesText::relation_text))]
+fn put_relation(out: &mut Vec<u8>, word: &str, relation: Rel) -> Result<(), AllocError>
+    ensures { OnOk result (out.new.items ≡ out.old.items ++ relation_text word.now relation) }
+{
+    put_key(out, word, "")?;
+    put(out, "\"")?;
+    put(out, word_of(relation))?;
+    put(out, "\"")?;
+    Ok(())
+}
+
+// Adds the name of a layer with its key.
+#[tactic(auto, unfolding(crate::specs::PlacesText::layer_text))]
+fn put_layer(out: &mut Vec<u8>, word: &str, name: &str) -> Result<(), AllocError>
+    ensures { OnOk result (out.new.items ≡ out.old.items ++ layer_text word.now name.now) }
+{
+    put_key(out, word, "_layer")?;
+    put(out, "\"")?;
+    put_name(out, name)?;
+    put(out, "\"")?;
+    Ok(())
+}
+
+// Adds where a piece comes from with its key.
+#[tactic(auto, unfolding(crate::specs::PlacesText::from_text))]
+fn put_from(out: &mut Vec<u8>, word: &str, from: Place) -> Result<(), AllocError>
+    ensures { OnOk result (out.new.items ≡ out.old.items ++ from_text word.now from) }
+{
+    put_key(out, word, "")?;
+    put(out, "\"")?;
+    put_place(out, from)?;
+    put(out, "\"")?;
+    Ok(())
+}
+
+// Adds the properties of one side of a change.
+#[tactic(auto, unfolding(crate::specs::PlacesText::side_text))]
+fn put_side(out: &mut Vec<u8>, word: &str, names: &[Name], side: SideSpot) -> Result<(), AllocError>
+    ensures { OnOk result (out.new.items ≡ out.old.items ++ side_text word.now names.now side) }
+{
+    put_layer(out, word, layer_name(names, side.from.layer))?;
+    put_from(out, word, side.from)?;
+    put_key(out, word, "_at")?;
+    put_at(out, side.at)?;
+    Ok(())
+}
+
+// Adds the two written segments.
+#[tactic(auto, unfolding(crate::specs::PlacesText::geometry_text))]
+fn put_geometry(out: &mut Vec<u8>, change: ChangeSpot) -> Result<(), AllocError>
+    ensures { OnOk result (out.new.items ≡ out.old.items ++ geometry_text change) }
+{
+    put(out, "{\"type\":\"GeometryCollection\",\"geometries\":[")?;
+    put_segment(out, change.first.a, change.first.b)?;
+    put(out, ",")?;
+    put_segment(out, change.second.a, change.second.b)?;
+    put(out, "]}")?;
+    Ok(())
+}
+
+// Adds the number, the relations and the gap of a change.
+#[tactic(auto, unfolding(crate::specs::PlacesText::change_text))]
+fn put_change(out: &mut Vec<u8>, number: u64, change: ChangeSpot) -> Result<(), AllocError>
+    ensures { OnOk result (out.new.items ≡ out.old.items ++ change_text number change) }
+{
+    put(out, "\"change\":")?;
+    put_number(out, number)?;
+    put_relation(out, "was", change.was)?;
+    put_relation(out, "now", change.now)?;
+    put_key(out, "gap_mm", "")?;
+    put_number(out, change.gap)?;
+    Ok(())
+}
+
+// Adds the change of this number.
+#[tactic(auto, unfolding(crate::specs::PlacesText::feature_text))]
+fn put_feature(
+    out: &mut Vec<u8>,
+    names: &[Name],
+    number: u64,
+    change: ChangeSpot,
+) -> Result<(), AllocError>
+    ensures { OnOk result (out.new.items ≡ out.old.items ++ feature_text names.now number change) }
+{
+    put(out, "{\"type\":\"Feature\",\"geometry\":")?;
+    put_geometry(out, change)?;
+    put(out, ",\"properties\":{")?;
+    put_change(out, number, change)?;
+    put_side(out, "first", names, change.first)?;
+    put_side(out, "second", names, change.second)?;
+    put(out, "}}")?;
+    Ok(())
+}
+
+// What stands before the feature of this number.
+fn separator(number: u64) -> &'static str
+    ensures { result.now ≡ separator_text number }
+{
+    if number == 0 { "\n" } else { ",\n" }
+}
+
+// Adds all changes, numbered from 0.
+fn put_features(out: &mut Vec<u8>, names: &[Name], changes: &[ChangeSpot]) -> Result<(), AllocError>
+    ensures { OnOk result (out.new.items ≡ out.old.items ++ features_text names.now 0 changes.now) }
+{
+    for (number, change) in changes.iter().enumerate() {
+        put(out, separator(number as u64))?;
+        put_feature(out, names, number as u64, *change)?;
+    }
+    Ok(())
+}
+
+/// The GeoJSON text of changes over layers of these names: one object with a feature for each change, in order, and
+/// nothing else. A feature has the two written segments, in metres with three digits, and says which change it is, how
+/// far the segments are from each other, and where each comes from.
+#[tactic(auto, unfolding(crate::specs::PlacesText::opening_text))]
+pub fn write_places(
+    alloc: Global,
+    names: &[Name],
+    changes: &[ChangeSpot],
+) -> Result<Vec<u8>, AllocError>
+    ensures { IfOk result (λ text. text.items ≡ places_text names.now changes.now) }
+{
+    let mut out = Vec::with_capacity(alloc, changes.len().saturating_mul(FEATURE_ROOM))?;
+    put(
+        &mut out,
+        "{\"type\":\"FeatureCollection\",\"crs\":null,\"features\":[",
+    )?;
+    put_features(&mut out, names, changes)?;
+    put(&mut out, "]}\n")?;
+    Ok(out)
+}

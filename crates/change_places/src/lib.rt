@@ -1,0 +1,13 @@
+//! The changes of a migration as a map: a GeoJSON text with a feature for each, and where in its layer each path is
+//! written.
+#![tactic(auto)]
+
+mod features;
+mod laws;
+mod path_starts;
+mod spots;
+
+pub use features::write_places;
+pub use laws::places_are_json;
+pub use path_starts::path_places;
+pub use spots::{ChangeSpot, SideSpot};

@@ -1,0 +1,28 @@
+//! A change with the places of its two sides on the map and in the layers.
+
+use plane_base::Pt;
+use tin_base::{Place, Rel};
+
+/// One side of a change: a piece as it is written.
+#[derive(Clone, Copy, PartialEq, Eq, Debug)]
+pub struct SideSpot {
+    /// Where the piece comes from.
+    pub from: Place,
+    /// Where in its layer the piece's path is written: a byte from 0, or in a drawing a line from 1.
+    pub at: Option<u32>,
+    /// The written end at which the piece begins, in millimetres of the target frame.
+    pub a: Pt,
+    /// The written end at which it ends.
+    pub b: Pt,
+}
+
+/// A change with its two sides: two pieces whose relation was `was` in the source and is `now` as they are written.
+#[derive(Clone, Copy, PartialEq, Eq, Debug)]
+pub struct ChangeSpot {
+    pub first: SideSpot,
+    pub second: SideSpot,
+    pub was: Rel,
+    pub now: Rel,
+    /// The least distance of the two written segments in whole millimetres, rounded half up.
+    pub gap: u64,
+}
