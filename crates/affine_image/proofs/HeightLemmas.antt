@@ -1,5 +1,6 @@
 -- Heights of points of a segment: their size, and their laws.
-use Rattle.std.proofs.Common.{◌≡◌, ◌≤◌, ◌<◌, ◌^◌, ◌*◌, ◌-◌, ℤ, pos, ◌+ℤ◌, ◌-ℤ◌, ◌*ℤ◌, ◌≤ℤ◌, ◌<ℤ◌, unsigned_abs, SFits, arith, ap, ap₂, sym, ◌∙◌, mul-le-mul}
+use Rattle.std.proofs.Common.{◌≡◌, ◌≤◌, ◌<◌, ◌^◌, ◌*◌, ◌-◌, ℤ, pos, ◌+ℤ◌, ◌-ℤ◌, ◌*ℤ◌, ◌≤ℤ◌, ◌<ℤ◌, unsigned_abs, SFits}
+use Rattle.std.proofs.Common.{arith, ap, ap₂, sym, ◌∙◌, mul-le-mul}
 use Rattle.std.proofs.lemmas.Int.{ints, unsigned_abs-mul}
 use mir.Syntax.{w64, w128}
 use Rattle.integer_ring.proofs.Ring.{num, ◌⊕◌, ◌⊖◌, ◌⊗◌}
@@ -31,19 +32,26 @@ height_fits a r h k = omega (arith, ints)
 
 share_low : (n d z l : ℤ) → pos 0 ≤ℤ n → n ≤ℤ d → l ≤ℤ pos 0 → l ≤ℤ z → (l *ℤ d) ≤ℤ (n *ℤ z)
 share_low =
-    follows 4 (λ n d z l. num (pos 0) ≼ n ⇒ n ≼ d ⇒ l ≼ num (pos 0) ⇒ l ≼ z ⇒ l ⊗ d ≼ n ⊗ z because gap 0 ⊠ gap 3 ⊞ gap 1 ⊠ gap 2) tt
+    follows 4 (λ n d z l. num (pos 0) ≼ n ⇒ n ≼ d ⇒ l ≼ num (pos 0) ⇒ l ≼ z ⇒ l ⊗ d ≼ n
+    ⊗ z because gap 0 ⊠ gap 3 ⊞ gap 1 ⊠ gap 2) tt
 
 share_high : (n d z m : ℤ) → pos 0 ≤ℤ n → n ≤ℤ d → pos 0 ≤ℤ m → z ≤ℤ m → (n *ℤ z) ≤ℤ (m *ℤ d)
 share_high =
-    follows 4 (λ n d z m. num (pos 0) ≼ n ⇒ n ≼ d ⇒ num (pos 0) ≼ m ⇒ z ≼ m ⇒ n ⊗ z ≼ m ⊗ d because gap 0 ⊠ gap 3 ⊞ gap 1 ⊠ gap 2) tt
+    follows 4 (λ n d z m. num (pos 0) ≼ n ⇒ n ≼ d ⇒ num (pos 0) ≼ m ⇒ z ≼ m ⇒ n ⊗ z ≼ m
+    ⊗ d because gap 0 ⊠ gap 3 ⊞ gap 1 ⊠ gap 2) tt
 
 -- a share of a rise, rounded, is no larger than the rise may be
-pub rise_size : (n d z : ℤ) → pos 0 <ℤ d → pos 0 ≤ℤ n → n ≤ℤ d → unsigned_abs z ≤ 2 * LIMIT → unsigned_abs (half_up_of (n *ℤ z) d) ≤ 2 * LIMIT
+pub rise_size : (n d z : ℤ) → pos 0 <ℤ d → pos 0 ≤ℤ n → n ≤ℤ d → unsigned_abs z ≤ 2 * LIMIT
+    → unsigned_abs (half_up_of (n *ℤ z) d) ≤ 2 * LIMIT
 rise_size n d z h low high size =
     let least : ℤ = pos 0 -ℤ pos (2 * LIMIT) in
     let most : ℤ = pos (2 * LIMIT) in
-    let below : least ≤ℤ half_up_of (n *ℤ z) d = rounded_not_below (n *ℤ z) d least h (share_low n d z least low high (omega (arith, ints)) (omega (arith, ints))) in
-    let above : half_up_of (n *ℤ z) d ≤ℤ most = rounded_not_above (n *ℤ z) d most h (share_high n d z most low high (omega (arith, ints)) (omega (arith, ints))) in
+    let below : least ≤ℤ half_up_of (n *ℤ z) d =
+    rounded_not_below (n *ℤ z) d least h (share_low n d z least low high (omega (arith, ints))
+    (omega (arith, ints))) in
+    let above : half_up_of (n *ℤ z) d ≤ℤ most =
+    rounded_not_above (n *ℤ z) d most h (share_high n d z most low high (omega (arith, ints))
+    (omega (arith, ints))) in
     omega (arith, ints)
 
 -- ---- the mix
@@ -82,21 +90,25 @@ pub ends_keep_heights : EndsKeepHeights
 ends_keep_heights w a b h =
     let first : pos 0 <ℤ (w +ℤ pos 0) = omega (arith, ints) in
     let second : pos 0 <ℤ (pos 0 +ℤ w) = omega (arith, ints) in (
-      both_sides (height_of w (pos 0) a b) a (rounded_not_below (w *ℤ a +ℤ pos 0 *ℤ b) (w +ℤ pos 0) a first (first_low w a b))
+      both_sides (height_of w (pos 0) a b) a (rounded_not_below (w *ℤ a +ℤ pos 0 *ℤ b) (w +ℤ pos 0) a first
+          (first_low w a b))
           (rounded_not_above (w *ℤ a +ℤ pos 0 *ℤ b) (w +ℤ pos 0) a first (first_high w a b)),
-      both_sides (height_of (pos 0) w a b) b (rounded_not_below (pos 0 *ℤ a +ℤ w *ℤ b) (pos 0 +ℤ w) b second (second_low w a b))
+      both_sides (height_of (pos 0) w a b) b (rounded_not_below (pos 0 *ℤ a +ℤ w *ℤ b) (pos 0 +ℤ w) b second
+          (second_low w a b))
           (rounded_not_above (pos 0 *ℤ a +ℤ w *ℤ b) (pos 0 +ℤ w) b second (second_high w a b)),
     )
 
 mix_low : (u v a b l : ℤ) → pos 0 ≤ℤ u → pos 0 ≤ℤ v → l ≤ℤ a → l ≤ℤ b → (l *ℤ (u +ℤ v)) ≤ℤ (u *ℤ a +ℤ v *ℤ b)
 mix_low =
     follows 5 (λ u v a b l.
-    num (pos 0) ≼ u ⇒ num (pos 0) ≼ v ⇒ l ≼ a ⇒ l ≼ b ⇒ l ⊗ (u ⊕ v) ≼ u ⊗ a ⊕ v ⊗ b because gap 0 ⊠ gap 2 ⊞ gap 1 ⊠ gap 3) tt
+    num (pos 0) ≼ u ⇒ num (pos 0) ≼ v ⇒ l ≼ a ⇒ l ≼ b ⇒ l ⊗ (u ⊕ v) ≼ u ⊗ a ⊕ v
+    ⊗ b because gap 0 ⊠ gap 2 ⊞ gap 1 ⊠ gap 3) tt
 
 mix_high : (u v a b m : ℤ) → pos 0 ≤ℤ u → pos 0 ≤ℤ v → a ≤ℤ m → b ≤ℤ m → (u *ℤ a +ℤ v *ℤ b) ≤ℤ (m *ℤ (u +ℤ v))
 mix_high =
     follows 5 (λ u v a b m.
-    num (pos 0) ≼ u ⇒ num (pos 0) ≼ v ⇒ a ≼ m ⇒ b ≼ m ⇒ u ⊗ a ⊕ v ⊗ b ≼ m ⊗ (u ⊕ v) because gap 0 ⊠ gap 2 ⊞ gap 1 ⊠ gap 3) tt
+    num (pos 0) ≼ u ⇒ num (pos 0) ≼ v ⇒ a ≼ m ⇒ b ≼ m ⇒ u ⊗ a ⊕ v ⊗ b ≼ m
+    ⊗ (u ⊕ v) because gap 0 ⊠ gap 2 ⊞ gap 1 ⊠ gap 3) tt
 
 pub heights_are_between : HeightsAreBetween
 heights_are_between u v a b least most are la lb am bm = (
@@ -106,7 +118,8 @@ heights_are_between u v a b least most are la lb am bm = (
 
 one_ratio : (u v s t a b : ℤ) → u *ℤ t ≡ s *ℤ v → (u *ℤ a +ℤ v *ℤ b) *ℤ (s +ℤ t) ≡ (s *ℤ a +ℤ t *ℤ b) *ℤ (u +ℤ v)
 one_ratio =
-    follows 6 (λ u v s t a b. u ⊗ t ≐ s ⊗ v ⇒ (u ⊗ a ⊕ v ⊗ b) ⊗ (s ⊕ t) ≐ (s ⊗ a ⊕ t ⊗ b) ⊗ (u ⊕ v) because eqn 0 (a ⊖ b)) tt
+    follows 6 (λ u v s t a b. u ⊗ t ≐ s ⊗ v ⇒ (u ⊗ a ⊕ v ⊗ b) ⊗ (s ⊕ t) ≐ (s ⊗ a ⊕ t ⊗ b)
+    ⊗ (u ⊕ v) because eqn 0 (a ⊖ b)) tt
 
 pub heights_agree : HeightsAgree
 heights_agree u v s t a b are also same =

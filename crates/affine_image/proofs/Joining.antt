@@ -1,5 +1,7 @@
--- The parts of a segment that is inside follow each other from its first end to its last, and so do the images of their ends.
-use Rattle.std.proofs.Common.{◌≡◌, ◌≢◌, ◌⊎◌, inl, inr, ℕ, zero, suc, ◌+◌, ◌<◌, ℤ, pos, ◌+ℤ◌, ◌*ℤ◌, ◌<ℤ◌, List, [], ◌∷◌, length, ap, ap₂, sym, subst, arith}
+-- The parts of a segment that is inside follow each other from its first end to its last, and so do the images of their
+-- ends.
+use Rattle.std.proofs.Common.{◌≡◌, ◌≢◌, ◌⊎◌, inl, inr, ℕ, zero, suc, ◌+◌, ◌<◌, ℤ, pos, ◌+ℤ◌, ◌*ℤ◌, ◌<ℤ◌, List, [], ◌∷◌}
+use Rattle.std.proofs.Common.{length, ap, ap₂, sym, subst, arith}
 use Rattle.std.proofs.lemmas.Int.{ints}
 use Rattle.integer_ring.proofs.Ring.{num, ◌⊕◌, ◌⊖◌, ◌⊗◌}
 use Rattle.integer_ring.proofs.Claims.{◌≐◌, eqn, ◌because◌, ◌⇒◌, follows, solve}
@@ -8,7 +10,8 @@ use Rattle.plane_base.specs.declared.shapes.Pt.{Pt}
 use Rattle.plane_base.proofs.Mixes.{same_trans, weights_between}
 use Rattle.tin_base.specs.Triangulation.{Triangulation}
 use Rattle.tin_base.specs.Soundness.{IsSound}
-use Rattle.tin_base.specs.Segments.{Spot, spot_at, at_a, at_b, IsSameSpot, IsInside, Part, part_at, ArePieces, ArePiecesAt, ArePiecesOf, AreChain}
+use Rattle.tin_base.specs.Segments.{Spot, spot_at, at_a, at_b, IsSameSpot, IsInside, Part, part_at, ArePieces}
+use Rattle.tin_base.specs.Segments.{ArePiecesAt, ArePiecesOf, AreChain}
 use Rattle.tin_base.proofs.Spots.{one, spot-w}
 use Rattle.tin_base.proofs.Chain.{chain}
 
@@ -28,9 +31,12 @@ same_or a b = go (int_same_or a.x b.x) (int_same_or a.y b.y)
     go (inr x) y = inr (λ e. x (ap (λ (p : Pt). p.x) e))
 
 -- ---- the points of spots
-spot_axis : (k l m n a b c d : ℤ) → l *ℤ m ≡ n *ℤ k → (k *ℤ a +ℤ (l *ℤ b +ℤ pos 0)) *ℤ (m *ℤ c +ℤ (n *ℤ d +ℤ pos 0)) ≡ (m *ℤ a +ℤ (n *ℤ b +ℤ pos 0)) *ℤ (k *ℤ c +ℤ (l *ℤ d +ℤ pos 0))
+spot_axis : (k l m n a b c d : ℤ) → l *ℤ m ≡ n *ℤ k
+    → (k *ℤ a +ℤ (l *ℤ b +ℤ pos 0)) *ℤ (m *ℤ c +ℤ (n *ℤ d +ℤ pos 0)) ≡ (m *ℤ a +ℤ (n *ℤ b +ℤ pos 0))
+    *ℤ (k *ℤ c +ℤ (l *ℤ d +ℤ pos 0))
 spot_axis = follows 8
-    (λ k l m n a b c d. l ⊗ m ≐ n ⊗ k ⇒ (k ⊗ a ⊕ (l ⊗ b ⊕ num (pos 0))) ⊗ (m ⊗ c ⊕ (n ⊗ d ⊕ num (pos 0))) ≐ (m ⊗ a ⊕ (n ⊗ b ⊕ num (pos 0))) ⊗ (k ⊗ c ⊕ (l ⊗ d ⊕ num (pos 0)))
+    (λ k l m n a b c d. l ⊗ m ≐ n ⊗ k ⇒ (k ⊗ a ⊕ (l ⊗ b ⊕ num (pos 0))) ⊗ (m ⊗ c ⊕ (n ⊗ d ⊕ num (pos 0)))
+    ≐ (m ⊗ a ⊕ (n ⊗ b ⊕ num (pos 0))) ⊗ (k ⊗ c ⊕ (l ⊗ d ⊕ num (pos 0)))
     because eqn 0 (b ⊗ c ⊖ a ⊗ d)) tt
 
 pub same_of_spots : (a b : Pt) (s t : Spot) → IsSameSpot s t → Same (spot_at a b s) (spot_at a b t)
@@ -38,11 +44,15 @@ same_of_spots a b s t e =
     let k = pos s.of_a in let l = pos s.of_b in let m = pos t.of_a in let n = pos t.of_b in
     (spot_axis k l m n a.x b.x (pos 1) (pos 1) (ap pos e), spot_axis k l m n a.y b.y (pos 1) (pos 1) (ap pos e))
 
-first_axis : (a b : ℤ) → (pos 1 *ℤ a +ℤ (pos 0 *ℤ b +ℤ pos 0)) *ℤ pos 1 ≡ a *ℤ (pos 1 *ℤ pos 1 +ℤ (pos 0 *ℤ pos 1 +ℤ pos 0))
-first_axis = solve 2 (λ a b. (num (pos 1) ⊗ a ⊕ (num (pos 0) ⊗ b ⊕ num (pos 0))) ⊗ num (pos 1) ≐ a ⊗ (num (pos 1) ⊗ num (pos 1) ⊕ (num (pos 0) ⊗ num (pos 1) ⊕ num (pos 0)))) tt
+first_axis : (a b : ℤ) → (pos 1 *ℤ a +ℤ (pos 0 *ℤ b +ℤ pos 0)) *ℤ pos 1 ≡ a
+    *ℤ (pos 1 *ℤ pos 1 +ℤ (pos 0 *ℤ pos 1 +ℤ pos 0))
+first_axis = solve 2 (λ a b. (num (pos 1) ⊗ a ⊕ (num (pos 0) ⊗ b ⊕ num (pos 0))) ⊗ num (pos 1) ≐ a
+    ⊗ (num (pos 1) ⊗ num (pos 1) ⊕ (num (pos 0) ⊗ num (pos 1) ⊕ num (pos 0)))) tt
 
-last_axis : (a b : ℤ) → (pos 0 *ℤ a +ℤ (pos 1 *ℤ b +ℤ pos 0)) *ℤ pos 1 ≡ b *ℤ (pos 0 *ℤ pos 1 +ℤ (pos 1 *ℤ pos 1 +ℤ pos 0))
-last_axis = solve 2 (λ a b. (num (pos 0) ⊗ a ⊕ (num (pos 1) ⊗ b ⊕ num (pos 0))) ⊗ num (pos 1) ≐ b ⊗ (num (pos 0) ⊗ num (pos 1) ⊕ (num (pos 1) ⊗ num (pos 1) ⊕ num (pos 0)))) tt
+last_axis : (a b : ℤ) → (pos 0 *ℤ a +ℤ (pos 1 *ℤ b +ℤ pos 0)) *ℤ pos 1 ≡ b
+    *ℤ (pos 0 *ℤ pos 1 +ℤ (pos 1 *ℤ pos 1 +ℤ pos 0))
+last_axis = solve 2 (λ a b. (num (pos 0) ⊗ a ⊕ (num (pos 1) ⊗ b ⊕ num (pos 0))) ⊗ num (pos 1) ≐ b
+    ⊗ (num (pos 0) ⊗ num (pos 1) ⊕ (num (pos 1) ⊗ num (pos 1) ⊕ num (pos 0)))) tt
 
 pub first_same : (a b : Pt) → Same (spot_at a b at_a) (whole a)
 first_same a b = (first_axis a.x b.x, first_axis a.y b.y)
@@ -51,7 +61,8 @@ pub last_same : (a b : Pt) → Same (spot_at a b at_b) (whole b)
 last_same a b = (last_axis a.x b.x, last_axis a.y b.y)
 
 point_axis : (k l a : ℤ) → (k *ℤ a +ℤ (l *ℤ a +ℤ pos 0)) *ℤ pos 1 ≡ a *ℤ (k *ℤ pos 1 +ℤ (l *ℤ pos 1 +ℤ pos 0))
-point_axis = solve 3 (λ k l a. (k ⊗ a ⊕ (l ⊗ a ⊕ num (pos 0))) ⊗ num (pos 1) ≐ a ⊗ (k ⊗ num (pos 1) ⊕ (l ⊗ num (pos 1) ⊕ num (pos 0)))) tt
+point_axis = solve 3 (λ k l a. (k ⊗ a ⊕ (l ⊗ a ⊕ num (pos 0))) ⊗ num (pos 1) ≐ a
+    ⊗ (k ⊗ num (pos 1) ⊕ (l ⊗ num (pos 1) ⊕ num (pos 0)))) tt
 
 -- all spots of a segment from a point to itself are this point
 pub point_same : (a : Pt) (s : Spot) → Same (spot_at a a s) (whole a)
@@ -61,22 +72,28 @@ point_same a s = (point_axis (pos s.of_a) (pos s.of_b) a.x, point_axis (pos s.of
 pub record AreInLine (a b : Pt) (parts : List Part) : Type 0 where
   pub some : 0 < length parts
   pub begins : Same (spot_at a b (part_at parts 0).first) (whole a)
-  pub joined : (i : ℕ) → i + 1 < length parts → Same (spot_at a b (part_at parts i).last) (spot_at a b (part_at parts (i + 1)).first)
+  pub joined : (i : ℕ) → i + 1 < length parts
+      → Same (spot_at a b (part_at parts i).last) (spot_at a b (part_at parts (i + 1)).first)
   pub ends : (i : ℕ) → i + 1 ≡ length parts → Same (spot_at a b (part_at parts i).last) (whole b)
   pub first-w : (i : ℕ) → i < length parts → pos 0 <ℤ (spot_at a b (part_at parts i).first).w
   pub last-w : (i : ℕ) → i < length parts → pos 0 <ℤ (spot_at a b (part_at parts i).last).w
 
-way_in_line : (tin : Triangulation) (a b : Pt) (parts : List Part) → IsSound tin → a ≢ b → IsInside tin a b → ArePieces tin a b parts → AreInLine a b parts
+way_in_line : (tin : Triangulation) (a b : Pt) (parts : List Part) → IsSound tin → a ≢ b → IsInside tin a b
+    → ArePieces tin a b parts → AreInLine a b parts
 way_in_line tin a b parts sound differ inside pieces = go (chain tin a b parts sound differ inside pieces)
   where
     go : AreChain parts → AreInLine a b parts
     go follow = record {
       some = follow.some;
-      begins = same_trans (spot_at a b (part_at parts 0).first) (spot_at a b at_a) (whole a) one (same_of_spots a b (part_at parts 0).first at_a follow.begins) (first_same a b);
+      begins = same_trans (spot_at a b (part_at parts 0).first) (spot_at a b at_a) (whole a) one
+          (same_of_spots a b (part_at parts 0).first at_a follow.begins) (first_same a b);
       joined = λ i h. same_of_spots a b (part_at parts i).last (part_at parts (i + 1)).first (follow.joined i h);
-      ends = λ i e. same_trans (spot_at a b (part_at parts i).last) (spot_at a b at_b) (whole b) one (same_of_spots a b (part_at parts i).last at_b (follow.ends i e)) (last_same a b);
-      first-w = λ i h. let part = pieces.part i h in let has = part.has_first in spot-w a b (part_at parts i).first has.some;
-      last-w = λ i h. let part = pieces.part i h in let has = part.has_last in spot-w a b (part_at parts i).last has.some;
+      ends = λ i e. same_trans (spot_at a b (part_at parts i).last) (spot_at a b at_b) (whole b) one
+          (same_of_spots a b (part_at parts i).last at_b (follow.ends i e)) (last_same a b);
+      first-w = λ i h. let part = pieces.part i h in let has =
+          part.has_first in spot-w a b (part_at parts i).first has.some;
+      last-w = λ i h. let part = pieces.part i h in let has =
+          part.has_last in spot-w a b (part_at parts i).last has.some;
     }
 
 one_part : (a : Pt) (part : Part) → part.first ≡ at_a → part.last ≡ at_a → AreInLine a a (part ∷ [])
@@ -103,14 +120,19 @@ one_part a part ef el = record {
     last zero h = positive part.last el
     last (suc i) h = absurd (omega arith)
 
-point_in_line : (tin : Triangulation) (a : Pt) (parts : List Part) → IsInside tin a a → ArePiecesAt tin a parts → AreInLine a a parts
-point_in_line tin a [] inside none = absurd (none (inside (whole a) one (weights_between (whole a) (whole a) (whole a) (record { k = 1; l = 0; some = omega arith; same = (sym (first_axis a.x a.x), sym (first_axis a.y a.y)) }))))
+point_in_line : (tin : Triangulation) (a : Pt) (parts : List Part) → IsInside tin a a → ArePiecesAt tin a parts
+    → AreInLine a a parts
+point_in_line tin a [] inside none = absurd
+    (none (inside (whole a) one (weights_between (whole a) (whole a) (whole a)
+    (record { k = 1; l = 0; some = omega arith; same = (sym (first_axis a.x a.x), sym (first_axis a.y a.y)) }))))
 point_in_line tin a (part ∷ []) inside pieces = one_part a part pieces.3 pieces.4
 point_in_line tin a (part ∷ next ∷ parts) inside pieces = absurd pieces
 
-pub in_line : (tin : Triangulation) (a b : Pt) (parts : List Part) → IsSound tin → IsInside tin a b → ArePiecesOf tin a b parts → AreInLine a b parts
+pub in_line : (tin : Triangulation) (a b : Pt) (parts : List Part) → IsSound tin → IsInside tin a b
+    → ArePiecesOf tin a b parts → AreInLine a b parts
 in_line tin a b parts sound inside pieces = go (same_or a b)
   where
     go : (a ≡ b) ⊎ (a ≢ b) → AreInLine a b parts
-    go (inl e) = subst (λ (q : Pt). AreInLine a q parts) e (point_in_line tin a parts (subst (λ (q : Pt). IsInside tin a q) (sym e) inside) (pieces.0 e))
+    go (inl e) = subst (λ (q : Pt). AreInLine a q parts) e
+        (point_in_line tin a parts (subst (λ (q : Pt). IsInside tin a q) (sym e) inside) (pieces.0 e))
     go (inr differ) = way_in_line tin a b parts sound differ inside (pieces.1 differ)

@@ -1,9 +1,12 @@
 -- The vertices of a path, one after the other.
-use Rattle.std.proofs.Common.{◌≡◌, ℕ, suc, ◌+◌, ◌-◌, ◌<◌, ◌≤◌, Bool, false, cond, ltb, List, [], ◌∷◌, ◌++◌, Option, Some, None, map, take, drop, length, take-append-drop, ap, ap₂, refl, sym, ◌∙◌, subst, arith}
+use Rattle.std.proofs.Common.{◌≡◌, ℕ, suc, ◌+◌, ◌-◌, ◌<◌, ◌≤◌, Bool, false, cond, ltb, List, [], ◌∷◌, ◌++◌, Option}
+use Rattle.std.proofs.Common.{Some, None, map, take, drop, length, take-append-drop, ap, ap₂, refl, sym, ◌∙◌, subst}
+use Rattle.std.proofs.Common.{arith}
 use Rattle.std.specs.List.{range_with_len, cons_option}
 use Rattle.std.proofs.Math.Seq.{drop-cons}
 use Rattle.std.proofs.lemmas.Bool.{lt-ltb}
-use Rattle.std.proofs.lemmas.List.FromFn.{length-map-range_with_len, take-map-range_with_len, map-range_with_len_more, get_or-map-range_with_len}
+use Rattle.std.proofs.lemmas.List.FromFn.{length-map-range_with_len, take-map-range_with_len, map-range_with_len_more}
+use Rattle.std.proofs.lemmas.List.FromFn.{get_or-map-range_with_len}
 use Rattle.plane_base.specs.declared.shapes.Pt.{Pt}
 use Rattle.sheet_base.specs.declared.paths.PathKind.{PathKind}
 use Rattle.sheet_base.specs.declared.paths.PathKind.TheVariants.{Dot, Line, Loop}
@@ -25,7 +28,8 @@ few_of Line n h dot = record { some = omega arith; upto = omega arith; least = o
 few_of Loop n h dot = record { some = h; upto = omega arith; least = omega arith }
 
 pub few : (row : PathRow) → IsPathFrom row.first row → AreFew (segments_in row) (points_in row)
-few row path = few_of row.kind (points_in row) (some row.first row.past path.some) (λ e. one row.first row.past (path.dot e))
+few row path = few_of row.kind (points_in row) (some row.first row.past path.some)
+    (λ e. one row.first row.past (path.dot e))
   where
     some : (m n : ℕ) → m < n → 0 < n - m
     some m n h = omega arith
@@ -37,17 +41,22 @@ few row path = few_of row.kind (points_in row) (some row.first row.past path.som
 abbrev pub first_vertices : List Pt → ℕ → PathRow → ℕ → List PathVertex
 first_vertices points path row j = map (vertex_at points path row) (range_with_len 0 j)
 
-pub one_vertex_more : (points : List Pt) (path : ℕ) (row : PathRow) (j : ℕ) → first_vertices points path row (j + 1) ≡ first_vertices points path row j ++ vertex_at points path row j ∷ []
+pub one_vertex_more : (points : List Pt) (path : ℕ) (row : PathRow) (j : ℕ)
+    → first_vertices points path row (j + 1) ≡ first_vertices points path row j ++ vertex_at points path row j ∷ []
 one_vertex_more points path row j = map-range_with_len_more (vertex_at points path row) 0 j j (omega arith)
 
-pub begins_one : (points : List Pt) (path : ℕ) (row : PathRow) (j : ℕ) → j < segments_in row → (vertex_at points path row j).segment ≡ Some (segment_at points path row j)
-begins_one points path row j h = ap (λ (b : Bool). cond b (Some (segment_at points path row j)) None) (lt-ltb j (segments_in row) h)
+pub begins_one : (points : List Pt) (path : ℕ) (row : PathRow) (j : ℕ) → j < segments_in row
+    → (vertex_at points path row j).segment ≡ Some (segment_at points path row j)
+begins_one points path row j h = ap (λ (b : Bool). cond b (Some (segment_at points path row j)) None)
+    (lt-ltb j (segments_in row) h)
 
 not_below : (j n : ℕ) → n ≤ j → ltb j n ≡ false
 not_below j n h = grind arith
 
-pub begins_none : (points : List Pt) (path : ℕ) (row : PathRow) (j : ℕ) → segments_in row ≤ j → (vertex_at points path row j).segment ≡ None
-begins_none points path row j h = ap (λ (b : Bool). cond b (Some (segment_at points path row j)) None) (not_below j (segments_in row) h)
+pub begins_none : (points : List Pt) (path : ℕ) (row : PathRow) (j : ℕ) → segments_in row ≤ j
+    → (vertex_at points path row j).segment ≡ None
+begins_none points path row j h = ap (λ (b : Bool). cond b (Some (segment_at points path row j)) None)
+    (not_below j (segments_in row) h)
 
 pub in_points : (row : PathRow) (j : ℕ) → IsPathFrom row.first row → j < segments_in row → j < points_in row
 in_points row j path h = let f = few row path in within (segments_in row) (points_in row) h f.upto
@@ -59,8 +68,10 @@ in_points row j path h = let f = few row path in within (segments_in row) (point
 pub first_point_is : (points : List Pt) (n : ℕ) → point_at points n ≡ point_at points (n + 0)
 first_point_is points n = ap (λ (m : ℕ). point_at points m) (omega arith)
 
-pub next_begins : (points : List Pt) (row : PathRow) (j : ℕ) → j + 1 < points_in row → end_of points row j ≡ begin_of points row (j + 1)
-next_begins points row j h = ap (λ (n : ℕ). point_at points n) (next (row.first + j) row.past row.first (within row.first row.past h) ∙ moved row.first)
+pub next_begins : (points : List Pt) (row : PathRow) (j : ℕ) → j + 1 < points_in row
+    → end_of points row j ≡ begin_of points row (j + 1)
+next_begins points row j h = ap (λ (n : ℕ). point_at points n)
+    (next (row.first + j) row.past row.first (within row.first row.past h) ∙ moved row.first)
   where
     within : (m n : ℕ) → j + 1 < n - m → m + j + 1 < n
     within m n h = omega arith
@@ -73,13 +84,20 @@ next_begins points row j h = ap (λ (n : ℕ). point_at points n) (next (row.fir
 
 -- ---- the segments around one
 pub split_at : (points : List Pt) (path : ℕ) (row : PathRow) (j : ℕ) → IsPathFrom row.first row → j < segments_in row
-    → segments_begun (path_vertices points path row) ≡ segments_begun (first_vertices points path row j) ++ ((segment_at points path row j ∷ []) ++ segments_begun (drop (suc j) (path_vertices points path row)))
+    → segments_begun (path_vertices points path row) ≡ segments_begun (first_vertices points path row j)
+    ++ ((segment_at points path row j ∷ []) ++ segments_begun (drop (suc j) (path_vertices points path row)))
 split_at points path row j from h =
-    ap segments_begun (sym (take-append-drop j (path_vertices points path row))) ∙ begun_append (take j (path_vertices points path row)) (drop j (path_vertices points path row))
-    ∙ ap₂ (λ (vs ws : List PathVertex). segments_begun vs ++ segments_begun ws) (take-map-range_with_len (vertex_at points path row) 0 (points_in row) j up)
-    (drop-cons (path_vertices points path row) j (vertex_at points path row j) (subst (λ (n : ℕ). j < n) (sym (length-map-range_with_len (vertex_at points path row) 0 (points_in row))) here)
-    ∙ ap (λ (v : PathVertex). v ∷ drop (suc j) (path_vertices points path row)) (get_or-map-range_with_len (vertex_at points path row) 0 (points_in row) j j (vertex_at points path row j) here (omega arith)))
-    ∙ ap (λ (s : Option Segment). segments_begun (first_vertices points path row j) ++ cons_option s (segments_begun (drop (suc j) (path_vertices points path row)))) (begins_one points path row j h)
+    ap segments_begun (sym (take-append-drop j (path_vertices points path row)))
+    ∙ begun_append (take j (path_vertices points path row)) (drop j (path_vertices points path row))
+    ∙ ap₂ (λ (vs ws : List PathVertex). segments_begun vs ++ segments_begun ws)
+    (take-map-range_with_len (vertex_at points path row) 0 (points_in row) j up)
+    (drop-cons (path_vertices points path row) j (vertex_at points path row j)
+    (subst (λ (n : ℕ). j < n) (sym (length-map-range_with_len (vertex_at points path row) 0 (points_in row))) here)
+    ∙ ap (λ (v : PathVertex). v ∷ drop (suc j) (path_vertices points path row))
+    (get_or-map-range_with_len (vertex_at points path row) 0 (points_in row) j j (vertex_at points path row j) here
+    (omega arith)))
+    ∙ ap (λ (s : Option Segment). segments_begun (first_vertices points path row j)
+    ++ cons_option s (segments_begun (drop (suc j) (path_vertices points path row)))) (begins_one points path row j h)
   where
     here : j < points_in row
     here = let f = few row from in within (segments_in row) (points_in row) h f.upto

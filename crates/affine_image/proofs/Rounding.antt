@@ -11,7 +11,8 @@ abbrev at : ℤ → ℤ → Pt
 at x y = record { x = x; y = y }
 
 pub same_place : (r s : Point) → pos 0 <ℤ r.w → pos 0 <ℤ s.w → Same r s → rounded r ≡ rounded s
-same_place r s hr hs same = ap₂ at (same_rounded r.x r.w s.x s.w hr hs same.0) (same_rounded r.y r.w s.y s.w hr hs same.1)
+same_place r s hr hs same = ap₂ at (same_rounded r.x r.w s.x s.w hr hs same.0)
+    (same_rounded r.y r.w s.y s.w hr hs same.1)
 
 pub rounded_images_agree : RoundedImagesAgree
 rounded_images_agree tin p image also sound hp i j =

@@ -8,20 +8,26 @@ use Rattle.affine_image.specs.SheetPieces.{AreInside}
 use Rattle.affine_image.specs.SheetImages.{AreRuns, joined, begins_from}
 
 -- ---- runs
-pub runs_more : (tin : Triangulation) (vs ws : List PathVertex) (rs ss : List (List Pt)) → AreRuns tin vs rs → AreRuns tin ws ss → AreRuns tin (vs ++ ws) (rs ++ ss)
+pub runs_more : (tin : Triangulation) (vs ws : List PathVertex) (rs ss : List (List Pt)) → AreRuns tin vs rs
+    → AreRuns tin ws ss → AreRuns tin (vs ++ ws) (rs ++ ss)
 runs_more tin [] ws [] ss h k = k
 runs_more tin [] ws (r ∷ rs) ss h k = absurd h
 runs_more tin (v ∷ vs) ws [] ss h k = absurd h
 runs_more tin (v ∷ vs) ws (r ∷ rs) ss h k = (h.0, runs_more tin vs ws rs ss h.1 k)
 
-pub begins_more : (n : ℕ) (rs ss : List (List Pt)) → begins_from n (rs ++ ss) ≡ begins_from n rs ++ begins_from (n + length (joined rs)) ss
+pub begins_more : (n : ℕ) (rs ss : List (List Pt))
+    → begins_from n (rs ++ ss) ≡ begins_from n rs ++ begins_from (n + length (joined rs)) ss
 begins_more n [] ss = ap (λ (m : ℕ). begins_from m ss) (omega arith)
-begins_more n (r ∷ rs) ss = ap (λ (ms : List ℕ). n ∷ ms) (begins_more (n + length r) rs ss ∙ ap (λ (m : ℕ). begins_from (n + length r) rs ++ begins_from m ss) (moved (length-append r (joined rs))))
+begins_more n (r ∷ rs) ss = ap (λ (ms : List ℕ). n ∷ ms)
+    (begins_more (n + length r) rs ss ∙ ap (λ (m : ℕ). begins_from (n + length r) rs ++ begins_from m ss)
+    (moved (length-append r (joined rs))))
   where
-    moved : length (r ++ joined rs) ≡ length r + length (joined rs) → n + length r + length (joined rs) ≡ n + length (r ++ joined rs)
+    moved : length (r ++ joined rs) ≡ length r + length (joined rs)
+        → n + length r + length (joined rs) ≡ n + length (r ++ joined rs)
     moved h = omega arith
 
 -- ---- inside
-pub inside_more : (tin : Triangulation) (ss ts : List Segment) → AreInside tin ss → AreInside tin ts → AreInside tin (ss ++ ts)
+pub inside_more : (tin : Triangulation) (ss ts : List Segment) → AreInside tin ss → AreInside tin ts
+    → AreInside tin (ss ++ ts)
 inside_more tin [] ts h k = k
 inside_more tin (s ∷ ss) ts h k = (h.0, inside_more tin ss ts h.1 k)

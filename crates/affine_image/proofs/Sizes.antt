@@ -1,5 +1,6 @@
 -- How large the numbers on the way to an image are.
-use Rattle.std.proofs.Common.{◌≡◌, ◌≤◌, ◌<◌, ◌^◌, ◌-◌, ◌*◌, ℤ, pos, negsuc, ◌+ℤ◌, ◌-ℤ◌, ◌*ℤ◌, ◌≤ℤ◌, ◌<ℤ◌, neg_ℤ, unsigned_abs, SFits, arith, mul-le-mul, subst, sym}
+use Rattle.std.proofs.Common.{◌≡◌, ◌≤◌, ◌<◌, ◌^◌, ◌-◌, ◌*◌, ℤ, pos, negsuc, ◌+ℤ◌, ◌-ℤ◌, ◌*ℤ◌, ◌≤ℤ◌, ◌<ℤ◌, neg_ℤ}
+use Rattle.std.proofs.Common.{unsigned_abs, SFits, arith, mul-le-mul, subst, sym}
 use Rattle.std.proofs.lemmas.Int.{ints, unsigned_abs-mul}
 use mir.Syntax.{w64, w128}
 use Rattle.integer_ring.proofs.Ring.{num, ◌⊕◌}
@@ -21,23 +22,28 @@ part_size w z h k =
 pub part_fits : (z : ℤ) → pos (unsigned_abs z) <ℤ (TURN *ℤ SPAN) → SFits w128 z
 part_fits z h = omega (arith, ints)
 
-pub sum_fits : (p q : ℤ) → pos (unsigned_abs p) <ℤ (TURN *ℤ SPAN) → pos (unsigned_abs q) <ℤ (TURN *ℤ SPAN) → SFits w128 (p +ℤ q)
+pub sum_fits : (p q : ℤ) → pos (unsigned_abs p) <ℤ (TURN *ℤ SPAN) → pos (unsigned_abs q) <ℤ (TURN *ℤ SPAN)
+    → SFits w128 (p +ℤ q)
 sum_fits p q h k = omega (arith, ints)
 
-pub sum_small : (p q : ℤ) → pos (unsigned_abs p) <ℤ (TURN *ℤ SPAN) → pos (unsigned_abs q) <ℤ (TURN *ℤ SPAN) → unsigned_abs (p +ℤ q) < 2 ^ 120
+pub sum_small : (p q : ℤ) → pos (unsigned_abs p) <ℤ (TURN *ℤ SPAN) → pos (unsigned_abs q) <ℤ (TURN *ℤ SPAN)
+    → unsigned_abs (p +ℤ q) < 2 ^ 120
 sum_small p q h k = omega (arith, ints)
 
 -- a share of a small number is small
 share_small : (u v d : ℤ) → pos 0 ≤ℤ u → pos 0 ≤ℤ v → (u +ℤ v) ≤ℤ d → IsSmall d → IsSmall u × IsSmall v
 share_small u v d hu hv hw h = (omega (arith, ints), omega (arith, ints))
 
-part_most : (w z : ℤ) → IsSmall w → IsShort z → unsigned_abs (w *ℤ z) ≤ (unsigned_abs TURN - 1) * (unsigned_abs SPAN - 1)
+part_most : (w z : ℤ) → IsSmall w → IsShort z
+    → unsigned_abs (w *ℤ z) ≤ (unsigned_abs TURN - 1) * (unsigned_abs SPAN - 1)
 part_most w z h k =
     let m : unsigned_abs w ≤ unsigned_abs TURN - 1 = omega (arith, ints) in
     let n : unsigned_abs z ≤ unsigned_abs SPAN - 1 = omega (arith, ints) in
     omega (arith, ints, unsigned_abs-mul w z, mul-le-mul m n)
 
-doubled_small : (p q d : ℤ) → unsigned_abs p ≤ (unsigned_abs TURN - 1) * (unsigned_abs SPAN - 1) → unsigned_abs q ≤ (unsigned_abs TURN - 1) * (unsigned_abs SPAN - 1) → IsSmall d → unsigned_abs (pos 2 *ℤ (p +ℤ q) +ℤ d) < 2 ^ 96
+doubled_small : (p q d : ℤ) → unsigned_abs p ≤ (unsigned_abs TURN - 1) * (unsigned_abs SPAN - 1)
+    → unsigned_abs q ≤ (unsigned_abs TURN - 1) * (unsigned_abs SPAN - 1) → IsSmall d
+    → unsigned_abs (pos 2 *ℤ (p +ℤ q) +ℤ d) < 2 ^ 96
 doubled_small p q d h k l = omega (arith, ints)
 
 pub doubled_numerators_are_small : DoubledNumeratorsAreSmall
@@ -57,10 +63,13 @@ short_low z h = omega (arith, ints)
 short_high : (z : ℤ) → IsShort z → z ≤ℤ SPAN
 short_high z h = omega (arith, ints)
 
-pub offset_fits : (u v d s t r : ℤ) → pos 0 <ℤ d → pos 0 ≤ℤ u → pos 0 ≤ℤ v → (u +ℤ v) ≤ℤ d → IsShort s → IsShort t → r ≡ half_up_of (u *ℤ s +ℤ v *ℤ t) d → SFits w64 r
+pub offset_fits : (u v d s t r : ℤ) → pos 0 <ℤ d → pos 0 ≤ℤ u → pos 0 ≤ℤ v → (u +ℤ v) ≤ℤ d → IsShort s → IsShort t
+    → r ≡ half_up_of (u *ℤ s +ℤ v *ℤ t) d → SFits w64 r
 offset_fits u v d s t r h hu hv hw hs ht e =
-    let l : neg_ℤ SPAN ≤ℤ half_up_of (u *ℤ s +ℤ v *ℤ t) d = mix_not_below u v d s t (neg_ℤ SPAN) h hu hv hw (omega (arith, ints)) (short_low s hs) (short_low t ht) in
-    let m : half_up_of (u *ℤ s +ℤ v *ℤ t) d ≤ℤ SPAN = mix_not_above u v d s t SPAN h hu hv hw (omega (arith, ints)) (short_high s hs) (short_high t ht) in
+    let l : neg_ℤ SPAN ≤ℤ half_up_of (u *ℤ s +ℤ v *ℤ t) d =
+    mix_not_below u v d s t (neg_ℤ SPAN) h hu hv hw (omega (arith, ints)) (short_low s hs) (short_low t ht) in
+    let m : half_up_of (u *ℤ s +ℤ v *ℤ t) d ≤ℤ SPAN =
+    mix_not_above u v d s t SPAN h hu hv hw (omega (arith, ints)) (short_high s hs) (short_high t ht) in
     between_fits r (subst (λ (z : ℤ). neg_ℤ SPAN ≤ℤ z) (sym e) l) (subst (λ (z : ℤ). z ≤ℤ SPAN) (sym e) m)
 
 -- between numbers that fit
@@ -75,4 +84,5 @@ place_fits a b c r fa fb fc low high =
 
 -- no more than the whole, where there is no third weight
 pub no_more : (n d u w : ℤ) → u ≡ n → w ≡ d → n ≤ℤ d → (u +ℤ pos 0) ≤ℤ w
-no_more = follows 4 (λ n d u w. u ≐ n ⇒ w ≐ d ⇒ n ≼ d ⇒ u ⊕ num (pos 0) ≼ w because gap 2 ⊞ eqn 0 (num (pos 1)) ⊞ eqn 1 (num (negsuc 0))) tt
+no_more = follows 4 (λ n d u w. u ≐ n ⇒ w ≐ d ⇒ n ≼ d ⇒ u
+    ⊕ num (pos 0) ≼ w because gap 2 ⊞ eqn 0 (num (pos 1)) ⊞ eqn 1 (num (negsuc 0))) tt

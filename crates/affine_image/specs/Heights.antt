@@ -8,8 +8,8 @@ pub record AreWeights (u v : ℤ) : Type 0 where
   pub second : pos 0 ≤ℤ v
   pub some : pos 0 <ℤ (u +ℤ v)
 
--- the height of the mix of two ends with weights u and v, where the ends have the heights a and b: (u a + v b) / (u + v),
--- rounded half up
+-- the height of the mix of two ends with weights u and v, where the ends have the heights a and b: (u a + v b) / (u +
+-- v), rounded half up
 abbrev pub height_of : ℤ → ℤ → ℤ → ℤ → ℤ
 height_of u v a b = half_up_of (u *ℤ a +ℤ v *ℤ b) (u +ℤ v)
 
@@ -26,4 +26,5 @@ HeightsAreBetween =
 
 -- weights of one ratio, which make one point, give one height
 abbrev pub HeightsAgree : Type 0
-HeightsAgree = (u v s t a b : ℤ) → AreWeights u v → AreWeights s t → u *ℤ t ≡ s *ℤ v → height_of u v a b ≡ height_of s t a b
+HeightsAgree = (u v s t a b : ℤ) → AreWeights u v → AreWeights s t → u *ℤ t ≡ s *ℤ v
+    → height_of u v a b ≡ height_of s t a b

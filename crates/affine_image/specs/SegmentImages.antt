@@ -22,8 +22,10 @@ pub record IsOnImageOf (tin : Triangulation) (a b : Pt) (part : Part) (r : Point
   pub last_positive : pos 0 <ℤ last.w
   pub between : IsBetween first last r
 
--- Of each sound triangulation: the images of the points of a segment that is inside are the points of the images of its pieces
+-- Of each sound triangulation: the images of the points of a segment that is inside are the points of the images of its
+-- pieces
 abbrev pub PieceImagesAreTheImage : Type 0
 PieceImagesAreTheImage =
-    (tin : Triangulation) (a b : Pt) (parts : List Part) → IsSound tin → IsInside tin a b → ArePiecesOf tin a b parts → (r : Point) → pos 0 <ℤ r.w
+    (tin : Triangulation) (a b : Pt) (parts : List Part) → IsSound tin → IsInside tin a b → ArePiecesOf tin a b parts
+    → (r : Point) → pos 0 <ℤ r.w
     → IsImageOfSome tin a b r ↔ ((i : ℕ) × (i < length parts) × IsOnImageOf tin a b (part_at parts i) r)

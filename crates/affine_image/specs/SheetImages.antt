@@ -13,12 +13,14 @@ abbrev pub AreEndsOfAllButLast : Triangulation → Pt → Pt → List Part → L
 AreEndsOfAllButLast tin a b [] images = images ≡ []
 AreEndsOfAllButLast tin a b (part ∷ []) images = images ≡ []
 AreEndsOfAllButLast tin a b (part ∷ next ∷ parts) [] = ⊥
-AreEndsOfAllButLast tin a b (part ∷ next ∷ parts) (image ∷ images) = IsRoundedImageAt tin (spot_at a b part.last) image × AreEndsOfAllButLast tin a b (next ∷ parts) images
+AreEndsOfAllButLast tin a b (part ∷ next ∷ parts) (image ∷ images) =
+    IsRoundedImageAt tin (spot_at a b part.last) image × AreEndsOfAllButLast tin a b (next ∷ parts) images
 
 -- the images of the crossings of a segment: of the places where its pieces meet
 abbrev pub AreCrossings : Triangulation → Option Segment → List Pt → Type 0
 AreCrossings tin None images = images ≡ []
-AreCrossings tin (Some segment) images = (parts : List Part) × ArePiecesOf tin segment.a segment.b parts × AreEndsOfAllButLast tin segment.a segment.b parts images
+AreCrossings tin (Some segment) images = (parts : List Part) × ArePiecesOf tin segment.a segment.b parts
+    × AreEndsOfAllButLast tin segment.a segment.b parts images
 
 -- the run of a vertex: its rounded image, and the images of the crossings behind it
 abbrev pub IsRun : Triangulation → PathVertex → List Pt → Type 0

@@ -13,32 +13,42 @@ use Rattle.affine_image.specs.SheetSegments.{Segment}
 use Rattle.affine_image.specs.SheetPieces.{ArePiecesOfSegment, ArePiecesOfSheet, IsSheetInside, IsImagedPiece}
 use Rattle.affine_image.specs.SheetImages.{AreImagesOf}
 
--- the images of the pieces of a segment are joined: the first begins at the image of a, each at the end of the one before it, and the last ends at the image of b
+-- the images of the pieces of a segment are joined: the first begins at the image of a, each at the end of the one
+-- before it, and the last ends at the image of b
 pub record AreImagesJoined (tin : Triangulation) (segment : Segment) (pieces : List Piece) : Type 0 where
   pub some : 0 < length pieces
   pub begins : (piece : Piece) → slice_get pieces 0 ≡ Some piece → IsRoundedImage tin segment.a piece.ia
-  pub joined : (i : ℕ) (piece next : Piece) → slice_get pieces i ≡ Some piece → slice_get pieces (i + 1) ≡ Some next → piece.ib ≡ next.ia
-  pub ends : (i : ℕ) (piece : Piece) → i + 1 ≡ length pieces → slice_get pieces i ≡ Some piece → IsRoundedImage tin segment.b piece.ib
+  pub joined : (i : ℕ) (piece next : Piece) → slice_get pieces i ≡ Some piece → slice_get pieces (i + 1) ≡ Some next
+      → piece.ib ≡ next.ia
+  pub ends : (i : ℕ) (piece : Piece) → i + 1 ≡ length pieces → slice_get pieces i ≡ Some piece
+      → IsRoundedImage tin segment.b piece.ib
 
 -- Of each sound triangulation: so it is with the pieces of each segment that is inside
 abbrev pub PieceImagesAreJoined : Type 0
 PieceImagesAreJoined =
-    (tin : Triangulation) (layer : ℕ) (segment : Segment) (pieces : List Piece) → IsSound tin → IsInside tin segment.a segment.b → ArePiecesOfSegment tin layer segment pieces → AreImagesJoined tin segment pieces
+    (tin : Triangulation) (layer : ℕ) (segment : Segment) (pieces : List Piece) → IsSound tin
+    → IsInside tin segment.a segment.b → ArePiecesOfSegment tin layer segment pieces
+    → AreImagesJoined tin segment pieces
 
 -- each piece of a sheet is a piece of the triangulation, with the rounded images of its ends
 abbrev pub SheetPiecesArePieces : Type 0
-SheetPiecesArePieces = (tin : Triangulation) (layer : ℕ) (sheet : Contents) (pieces : List Piece) → ArePiecesOfSheet tin layer sheet pieces → All (IsImagedPiece tin) pieces
+SheetPiecesArePieces = (tin : Triangulation) (layer : ℕ) (sheet : Contents) (pieces : List Piece)
+    → ArePiecesOfSheet tin layer sheet pieces → All (IsImagedPiece tin) pieces
 
 -- the images of a sheet fit it, where they are few enough to be counted in 32 bits
 abbrev pub ImagesFit : Type 0
-ImagesFit = (tin : Triangulation) (sheet : Contents) (images : Runs) → IsWithinLimits tin → IsSheet sheet → AreImagesOf tin sheet images → length images.points < 2 ^ 32 → DoFit sheet images
+ImagesFit = (tin : Triangulation) (sheet : Contents) (images : Runs) → IsWithinLimits tin → IsSheet sheet
+    → AreImagesOf tin sheet images → length images.points < 2 ^ 32 → DoFit sheet images
 
 -- the rounded images of the ends of some pieces, from the first point's to the last one's
 abbrev pub image_ends : List Piece → List Ends
 image_ends pieces = map (λ (piece : Piece). record { from = piece.ia; to = piece.ib }) pieces
 
--- Of each sound triangulation: where all segments of a sheet are inside, its paths with their images in place of their points have the segments between the images of its pieces' ends, in order
+-- Of each sound triangulation: where all segments of a sheet are inside, its paths with their images in place of their
+-- points have the segments between the images of its pieces' ends, in order
 abbrev pub ImageSegmentsArePieces : Type 0
 ImageSegmentsArePieces =
-    (tin : Triangulation) (layer : ℕ) (sheet : Contents) (images : Runs) (pieces : List Piece) → IsSound tin → IsSheet sheet → IsSheetInside tin sheet → AreImagesOf tin sheet images → ArePiecesOfSheet tin layer sheet pieces
+    (tin : Triangulation) (layer : ℕ) (sheet : Contents) (images : Runs) (pieces : List Piece) → IsSound tin
+    → IsSheet sheet → IsSheetInside tin sheet → AreImagesOf tin sheet images
+    → ArePiecesOfSheet tin layer sheet pieces
     → ends_of images.points (map (imaged images) sheet.paths) ≡ image_ends pieces

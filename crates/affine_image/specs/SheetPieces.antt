@@ -11,7 +11,8 @@ use Rattle.affine_image.specs.Rounded.{IsRoundedImageAt}
 use Rattle.affine_image.specs.SheetSegments.{Segment, sheet_segments}
 
 -- ---- the pieces of one segment
--- the piece tells a part of the segment from a to b: its triangle, the rounded images of its first and its last point, and where it comes from
+-- the piece tells a part of the segment from a to b: its triangle, the rounded images of its first and its last point,
+-- and where it comes from
 pub record IsTold (tin : Triangulation) (a b : Pt) (from : Place) (part : Part) (piece : Piece) : Type 0 where
   pub begins : piece.a ≡ a
   pub ends : piece.b ≡ b
@@ -29,7 +30,8 @@ abbrev pub AreTold : Triangulation → Pt → Pt → Place → List Part → Lis
 AreTold tin a b from [] [] = Unit {0}
 AreTold tin a b from [] (piece ∷ pieces) = ⊥
 AreTold tin a b from (part ∷ parts) [] = ⊥
-AreTold tin a b from (part ∷ parts) (piece ∷ pieces) = IsTold tin a b from part piece × AreTold tin a b (next_place from) parts pieces
+AreTold tin a b from (part ∷ parts) (piece ∷ pieces) =
+    IsTold tin a b from part piece × AreTold tin a b (next_place from) parts pieces
 
 -- the place of a segment's first piece
 abbrev pub first_place : ℕ → Segment → Place
@@ -46,7 +48,8 @@ pub record ArePiecesOfSegment (tin : Triangulation) (layer : ℕ) (segment : Seg
 abbrev pub ArePiecesOfAll : Triangulation → ℕ → List Segment → List Piece → Type 0
 ArePiecesOfAll tin layer [] pieces = pieces ≡ []
 ArePiecesOfAll tin layer (segment ∷ segments) pieces =
-    (own : List Piece) × (rest : List Piece) × (pieces ≡ own ++ rest) × ArePiecesOfSegment tin layer segment own × ArePiecesOfAll tin layer segments rest
+    (own : List Piece) × (rest : List Piece) × (pieces ≡ own ++ rest) × ArePiecesOfSegment tin layer segment own
+    × ArePiecesOfAll tin layer segments rest
 
 -- of a sheet
 abbrev pub ArePiecesOfSheet : Triangulation → ℕ → Contents → List Piece → Type 0

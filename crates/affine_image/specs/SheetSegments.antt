@@ -1,5 +1,6 @@
 -- The vertices of a sheet's paths in order, and the segments that begin at them.
-use Rattle.std.specs.Prelude.{ℕ, ◌+◌, nat_lt, Bool, false, if◌then◌else◌, Option, Some, None, List, [], ◌∷◌, ◌++◌, map, filter_map}
+use Rattle.std.specs.Prelude.{ℕ, ◌+◌, nat_lt, Bool, false, if◌then◌else◌, Option, Some, None, List, [], ◌∷◌, ◌++◌, map}
+use Rattle.std.specs.Prelude.{filter_map}
 use Rattle.std.specs.List.{range_with_len}
 use Rattle.plane_base.specs.declared.shapes.Pt.{Pt}
 use Rattle.sheet_base.specs.declared.paths.PathKind.{PathKind}
@@ -22,12 +23,22 @@ pub record PathVertex : Type 0 where
 
 -- the segment of this number, of the path of that number
 abbrev pub segment_at : List Pt → ℕ → PathRow → ℕ → Segment
-segment_at points path row number = record { path = path; number = number; a = begin_of points row number; b = end_of points row number }
+segment_at points path row number = record {
+  path = path;
+  number = number;
+  a = begin_of points row number;
+  b =
+      end_of points row number;
+}
 
 -- the path's vertex of this number: the segment of the same number begins there, if the path has one
 abbrev pub vertex_at : List Pt → ℕ → PathRow → ℕ → PathVertex
 vertex_at points path row number =
-    record { point = begin_of points row number; segment = if nat_lt number (segments_in row) then Some (segment_at points path row number) else None }
+    record {
+      point = begin_of points row number;
+      segment =
+          if nat_lt number (segments_in row) then Some (segment_at points path row number) else None;
+    }
 
 -- the vertices of a path
 abbrev pub path_vertices : List Pt → ℕ → PathRow → List PathVertex

@@ -54,7 +54,7 @@ fn open_count(rows: &[PathRow]) -> usize
     rows.iter().filter(|row| is_open(**row)).count()
 }
 
-/// How many segments a sheet has: one for each of its points, but for those at the ends of lines.
+/// How many segments a sheet has: one for each of its points, except those at the ends of lines.
 pub fn segment_total(sheet: &Sheet) -> u32
     ensures { result ≡ length (sheet_segments sheet.now) }
 {

@@ -48,8 +48,8 @@ fn side_of(tin: &SoundTin, triangle: u32, side: u8) -> Side
     }
 }
 
-/// The parameter, from a side's first corner to its second, of the point at which the line through `a` and `b` meets the
-/// line of the side, in the source.
+/// The parameter, from a side's first corner to its second, of the point at which the line through `a` and `b` meets
+/// the line of the side, in the source.
 fn side_param(tin: &SoundTin, a: Pt, b: Pt, side: Side) -> Frac
     requires from_in_range { side.from < length tin.now.corners }
     requires to_in_range { side.to < length tin.now.corners }

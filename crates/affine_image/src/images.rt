@@ -14,7 +14,8 @@ use frac128::Frac;
 use plane_base::{Pt, Tri};
 use tin_base::{Frame, SoundTin};
 
-/// The image of a point of a source triangle, in millimetres, rounded half up on each axis: one affine map per triangle, as PROJ's tinshift has it.
+/// The image of a point of a source triangle, in millimetres, rounded half up on each axis: one affine map per
+/// triangle, as PROJ's tinshift has it.
 pub fn image_of(tin: &SoundTin, tri: u32, p: Pt) -> Pt
     requires in_range { tri < length tin.now.triangles }
     requires inside { IsInTriangle tin.now Source tri (whole p) }
@@ -26,7 +27,8 @@ pub fn image_of(tin: &SoundTin, tri: u32, p: Pt) -> Pt
     )
 }
 
-/// The point at `s`, from 0 to 1, on the segment from the target place of corner `p` to that of corner `q`, in millimetres, rounded half up on each axis.
+/// The point at `s`, from 0 to 1, on the segment from the target place of corner `p` to that of corner `q`, in
+/// millimetres, rounded half up on each axis.
 pub fn image_cut(tin: &SoundTin, p: u32, q: u32, s: Frac) -> Pt
     requires p_in_range { p < length tin.now.corners }
     requires q_in_range { q < length tin.now.corners }

@@ -1,5 +1,5 @@
-//! Images of points through a sound triangulation, rounded half up to whole millimetres: of a point in a triangle, and of a point on an edge.
-//! Offsets are taken from a corner of the target frame, so that no product passes 128 bits.
+//! Images of points through a sound triangulation, rounded half up to whole millimetres: of a point in a triangle, and
+//! of a point on an edge. Offsets are taken from a corner of the target frame, so that no product passes 128 bits.
 #![tactic(auto)]
 
 mod counts;

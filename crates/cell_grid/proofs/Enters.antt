@@ -1,12 +1,15 @@
 -- Boxes that are entered one after another.
-use Rattle.std.proofs.Common.{◌≡◌, ◌⊎◌, ℕ, ◌+◌, ◌<◌, Bool, true, false, cond, ◌||◌, List, [], ◌∷◌, ◌++◌, length, map, get_or, Contains, nat_eq, inl, inr, ⊎_elim, refl, sym, ap, ◌∙◌, subst, arith}
+use Rattle.std.proofs.Common.{◌≡◌, ◌⊎◌, ℕ, ◌+◌, ◌<◌, Bool, true, false, cond, ◌||◌, List, [], ◌∷◌, ◌++◌, length, map}
+use Rattle.std.proofs.Common.{get_or, Contains, nat_eq, inl, inr, ⊎_elim, refl, sym, ap, ◌∙◌, subst, arith}
 use Rattle.std.specs.List.{IsDistinct, list_any}
 use Rattle.std.specs.List.Sorted.{IsStrictlyIncreasing}
 use Rattle.std.proofs.lemmas.Bool.{cases_lt, cases_eq, cases_Bool, false_from_ne_true, false≢true}
 use borrow.Author.Tests.{eqb-true}
 use Rattle.std.proofs.Common.{eq-eqb}
-use Rattle.std.proofs.lemmas.List.{length_push, length-append, length-map, get_or_append_left, get_or_push, get_or_default, append-nil}
-use Rattle.std.proofs.lemmas.List.Elements.{All-append, All-map, Contains-push, Contains-push_cases, Contains-append_left, Contains-get_or, All-from_recursion}
+use Rattle.std.proofs.lemmas.List.{length_push, length-append, length-map, get_or_append_left, get_or_push}
+use Rattle.std.proofs.lemmas.List.{get_or_default, append-nil}
+use Rattle.std.proofs.lemmas.List.Elements.{All-append, All-map, Contains-push, Contains-push_cases}
+use Rattle.std.proofs.lemmas.List.Elements.{Contains-append_left, Contains-get_or, All-from_recursion}
 use Rattle.std.proofs.lemmas.List.Folds.{list_any_none, list_any_at, Any-from_list_any}
 use Rattle.plane_base.specs.declared.shapes.Rect.{Rect}
 use Rattle.number_groups.specs.declared.groups.Entry.{Entry}
@@ -27,21 +30,25 @@ cond_append false n xs ys = refl
 pub numbers_append : (key : ℕ) (xs ys : List Entry) → numbers_of key (xs ++ ys) ≡ numbers_of key xs ++ numbers_of key ys
 numbers_append key [] ys = refl
 numbers_append key (e ∷ xs) ys =
-    ap (λ (l : List ℕ). cond (nat_eq e.key key) (e.number ∷ l) l) (numbers_append key xs ys) ∙ cond_append (nat_eq e.key key) e.number (numbers_of key xs) (numbers_of key ys)
+    ap (λ (l : List ℕ). cond (nat_eq e.key key) (e.number ∷ l) l) (numbers_append key xs ys)
+    ∙ cond_append (nat_eq e.key key) e.number (numbers_of key xs) (numbers_of key ys)
 
 -- a number under places, each once
-one_step : (b t : Bool) (n : ℕ) (rest : List ℕ) → rest ≡ cond t (n ∷ []) [] → (b ≡ true → t ≡ false) → cond b (n ∷ rest) rest ≡ cond (b || t) (n ∷ []) []
+one_step : (b t : Bool) (n : ℕ) (rest : List ℕ) → rest ≡ cond t (n ∷ []) [] → (b ≡ true → t ≡ false)
+    → cond b (n ∷ rest) rest ≡ cond (b || t) (n ∷ []) []
 one_step true t n rest e none = ap (λ (l : List ℕ). n ∷ l) (e ∙ ap (λ (x : Bool). cond x (n ∷ []) []) (none refl))
 one_step false t n rest e none = e
 
 abbrev hits : ℕ → List ℕ → Bool
 hits key places = list_any (λ place. nat_eq place key) places
 
-entered_is : (key number : ℕ) (places : List ℕ) → IsDistinct nat_eq places → numbers_of key (map (entered number) places) ≡ cond (hits key places) (number ∷ []) []
+entered_is : (key number : ℕ) (places : List ℕ) → IsDistinct nat_eq places
+    → numbers_of key (map (entered number) places) ≡ cond (hits key places) (number ∷ []) []
 unfolding IsDistinct
 entered_is key number [] once = refl
 entered_is key number (place ∷ places) once =
-    one_step (nat_eq place key) (hits key places) number (numbers_of key (map (entered number) places)) (entered_is key number places once.1)
+    one_step (nat_eq place key) (hits key places) number (numbers_of key (map (entered number) places))
+    (entered_is key number places once.1)
     (λ same.
     let e = eqb-true place key same in
     list_any_none (λ other. nat_eq other key) places
@@ -62,44 +69,63 @@ miss key places untold c =
 
 -- what a number under places makes of the numbers of a key
 abbrev pub Enters : ℕ → List ℕ → ℕ → List ℕ → List ℕ → Type 0
-Enters key places number before now = (Contains places key × (now ≡ before ++ number ∷ [])) ⊎ ((Contains places key → ⊥) × (now ≡ before))
+Enters key places number before now = (Contains places key × (now ≡ before ++ number ∷ []))
+    ⊎ ((Contains places key → ⊥) × (now ≡ before))
 
-enters : (key number : ℕ) (places : List ℕ) (before : List Entry) → IsDistinct nat_eq places → Enters key places number (numbers_of key before) (numbers_of key (before ++ map (entered number) places))
+enters : (key number : ℕ) (places : List ℕ) (before : List Entry) → IsDistinct nat_eq places
+    → Enters key places number (numbers_of key before) (numbers_of key (before ++ map (entered number) places))
 enters key number places before once =
-    let e = numbers_append key before (map (entered number) places) ∙ ap (λ (l : List ℕ). numbers_of key before ++ l) (entered_is key number places once) in
+    let e = numbers_append key before (map (entered number) places)
+    ∙ ap (λ (l : List ℕ). numbers_of key before ++ l) (entered_is key number places once) in
     ⊎_elim
     (λ told. inl (hit key places told, e ∙ ap (λ (x : Bool). numbers_of key before ++ cond x (number ∷ []) []) told))
-    (λ untold. inr (miss key places untold, e ∙ ap (λ (x : Bool). numbers_of key before ++ cond x (number ∷ []) []) untold ∙ append-nil (numbers_of key before)))
+    (λ untold. inr (
+      miss key places untold,
+      e
+          ∙ ap (λ (x : Bool). numbers_of key before ++ cond x (number ∷ []) []) untold
+          ∙ append-nil (numbers_of key before),
+    ))
     (cases_Bool (hits key places))
 
-keep : (key : ℕ) (places : List ℕ) (number : ℕ) (xs ys : List ℕ) (k : ℕ) → Enters key places number xs ys → Contains xs k → Contains ys k
-keep key places number xs ys k (inl e) c = subst (λ (l : List ℕ). Contains l k) (sym e.1) (Contains-append_left xs (number ∷ []) k c)
+keep : (key : ℕ) (places : List ℕ) (number : ℕ) (xs ys : List ℕ) (k : ℕ) → Enters key places number xs ys
+    → Contains xs k → Contains ys k
+keep key places number xs ys k (inl e) c =
+    subst (λ (l : List ℕ). Contains l k) (sym e.1) (Contains-append_left xs (number ∷ []) k c)
 keep key places number xs ys k (inr e) c = subst (λ (l : List ℕ). Contains l k) (sym e.1) c
 
-which : (key : ℕ) (places : List ℕ) (number : ℕ) (xs ys : List ℕ) (k : ℕ) → Enters key places number xs ys → Contains ys k → Contains xs k ⊎ ((number ≡ k) × Contains places key)
-which key places number xs ys k (inl e) c = ⊎_elim (λ before. inl before) (λ same. inr (same, e.0)) (Contains-push_cases xs number k (subst (λ (l : List ℕ). Contains l k) e.1 c))
+which : (key : ℕ) (places : List ℕ) (number : ℕ) (xs ys : List ℕ) (k : ℕ) → Enters key places number xs ys
+    → Contains ys k → Contains xs k ⊎ ((number ≡ k) × Contains places key)
+which key places number xs ys k (inl e) c =
+    ⊎_elim (λ before. inl before) (λ same. inr (same, e.0))
+    (Contains-push_cases xs number k (subst (λ (l : List ℕ). Contains l k) e.1 c))
 which key places number xs ys k (inr e) c = inl (subst (λ (l : List ℕ). Contains l k) e.1 c)
 
-here : (key : ℕ) (places : List ℕ) (number : ℕ) (xs ys : List ℕ) → Enters key places number xs ys → Contains places key → Contains ys number
+here : (key : ℕ) (places : List ℕ) (number : ℕ) (xs ys : List ℕ) → Enters key places number xs ys → Contains places key
+    → Contains ys number
 here key places number xs ys (inl e) c = subst (λ (l : List ℕ). Contains l number) (sym e.1) (Contains-push xs number)
 here key places number xs ys (inr e) c = absurd (e.0 c)
 
 -- ascending numbers and one more
-pub increasing_push : (xs : List ℕ) (n : ℕ) → IsStrictlyIncreasing xs → ((k : ℕ) → Contains xs k → k < n) → IsStrictlyIncreasing (xs ++ n ∷ [])
+pub increasing_push : (xs : List ℕ) (n : ℕ) → IsStrictlyIncreasing xs → ((k : ℕ) → Contains xs k → k < n)
+    → IsStrictlyIncreasing (xs ++ n ∷ [])
 increasing_push xs n up below k within =
     let long = length_push xs n in
     let low : get_or (xs ++ n ∷ []) k 0 ≡ get_or xs k 0 = get_or_append_left xs (n ∷ []) 0 k (omega arith) in
     ⊎_elim
     (λ inside. rw (low, get_or_append_left xs (n ∷ []) 0 (k + 1) inside) (up k inside))
-    (λ at_end. rw (low, get_or_push xs n 0 (k + 1) (omega arith)) (below (get_or xs k 0) (Contains-get_or xs k 0 (omega arith))))
+    (λ at_end. rw (low, get_or_push xs n 0 (k + 1) (omega arith))
+    (below (get_or xs k 0) (Contains-get_or xs k 0 (omega arith))))
     (cases_lt (k + 1) (length xs))
 
-ascending_more : (key : ℕ) (places : List ℕ) (number : ℕ) (xs ys : List ℕ) → Enters key places number xs ys → IsStrictlyIncreasing xs → ((k : ℕ) → Contains xs k → k < number) → IsStrictlyIncreasing ys
-ascending_more key places number xs ys (inl e) up below = subst (λ (l : List ℕ). IsStrictlyIncreasing l) (sym e.1) (increasing_push xs number up below)
+ascending_more : (key : ℕ) (places : List ℕ) (number : ℕ) (xs ys : List ℕ) → Enters key places number xs ys
+    → IsStrictlyIncreasing xs → ((k : ℕ) → Contains xs k → k < number) → IsStrictlyIncreasing ys
+ascending_more key places number xs ys (inl e) up below =
+    subst (λ (l : List ℕ). IsStrictlyIncreasing l) (sym e.1) (increasing_push xs number up below)
 ascending_more key places number xs ys (inr e) up below = subst (λ (l : List ℕ). IsStrictlyIncreasing l) (sym e.1) up
 
 -- ---- a place is of one level
-pub same_level : (levels : List Level) (i j place : ℕ) (d : Level) → AreLaid levels → i < length levels → j < length levels → IsPlaceOf (get_or levels i d) place → IsPlaceOf (get_or levels j d) place → i ≡ j
+pub same_level : (levels : List Level) (i j place : ℕ) (d : Level) → AreLaid levels → i < length levels
+    → j < length levels → IsPlaceOf (get_or levels i d) place → IsPlaceOf (get_or levels j d) place → i ≡ j
 same_level levels i j place d laid a b p q =
     ⊎_elim
     (λ less. absurd (omega (arith, laid.apart i j d less b, p.1, q.0)))
@@ -110,36 +136,55 @@ same_level levels i j place d laid a b p q =
     (cases_lt i j)
 
 -- ---- a box more
-pub entered_more : (boxes : List Rect) (done l : ℕ) (levels : List Level) (level : Level) (places : List ℕ) (old : List Entry) → AreEntered boxes done levels old → AreLaid levels
-    → done < length boxes → l ≡ level_of (box_at boxes done) → l < length levels → level ≡ get_or levels l level → ArePlacesOf level (box_at boxes done) places
+pub entered_more : (boxes : List Rect) (done l : ℕ) (levels : List Level) (level : Level) (places : List ℕ)
+    (old : List Entry) → AreEntered boxes done levels old → AreLaid levels
+    → done < length boxes → l ≡ level_of (box_at boxes done) → l < length levels → level ≡ get_or levels l level
+    → ArePlacesOf level (box_at boxes done) places
     → AreEntered boxes (done + 1) levels (old ++ map (entered done) places)
 entered_more boxes done l levels level places old is laid inside of_it within at its =
     let each = λ (place : ℕ). enters place done places old its.once in
     record {
-      few = omega (arith, length-append old (map (entered done) places), length-map places (entered done), is.few, its.few);
-      ascending = λ place. ascending_more place places done (numbers_of place old) (numbers_of place (old ++ map (entered done) places)) (each place) (is.ascending place) (is.earlier place);
-      earlier = λ place k c. ⊎_elim (λ before. let b = is.earlier place k before in omega arith) (λ same. omega (arith, same.0))
-          (which place places done (numbers_of place old) (numbers_of place (old ++ map (entered done) places)) k (each place) c);
+      few = omega (
+        arith,
+        length-append old (map (entered done) places),
+        length-map places (entered done),
+        is.few,
+        its.few,
+      );
+      ascending = λ place. ascending_more place places done (numbers_of place old)
+          (numbers_of place (old ++ map (entered done) places)) (each place) (is.ascending place) (is.earlier place);
+      earlier = λ place k c. ⊎_elim (λ before. let b = is.earlier place k before in omega arith)
+          (λ same. omega (arith, same.0))
+          (which place places done (numbers_of place old) (numbers_of place (old ++ map (entered done) places)) k
+          (each place) c);
       of_level = λ place k m d low on c. ⊎_elim
           (λ before. is.of_level place k m d low on before)
           (λ same.
-          let its_place : IsPlaceOf (get_or levels l d) place = subst (λ (v : Level). IsPlaceOf v place) (at ∙ get_or_default levels l level d within) (its.of_level place same.1) in
+          let its_place : IsPlaceOf (get_or levels l d) place =
+          subst (λ (v : Level). IsPlaceOf v place) (at ∙ get_or_default levels l level d within)
+          (its.of_level place same.1) in
           let e : l ≡ m = same_level levels l m place d laid within low its_place on in
           subst (λ (n : ℕ). IsOnLevel boxes m n) same.0 (inside, sym of_it ∙ e))
-          (which place places done (numbers_of place old) (numbers_of place (old ++ map (entered done) places)) k (each place) c);
+          (which place places done (numbers_of place old) (numbers_of place (old ++ map (entered done) places)) k
+          (each place) c);
       held = λ k m d p low lt on has. ⊎_elim
           (λ same.
           let place = cell_of (get_or levels m d) p in
           let e : l ≡ m = of_it ∙ ap (λ (n : ℕ). level_of (box_at boxes n)) (sym same) ∙ on.1 in
-          let read : level ≡ get_or levels m d = at ∙ get_or_default levels l level d within ∙ ap (λ (n : ℕ). get_or levels n d) e in
-          let among : Contains places place = subst (λ (v : Level). Contains places (cell_of v p)) read (its.all p (subst (λ (n : ℕ). HasPoint (box_at boxes n) p) same has)) in
+          let read : level ≡ get_or levels m d = at ∙ get_or_default levels l level d within
+          ∙ ap (λ (n : ℕ). get_or levels n d) e in
+          let among : Contains places place = subst (λ (v : Level). Contains places (cell_of v p)) read
+          (its.all p (subst (λ (n : ℕ). HasPoint (box_at boxes n) p) same has)) in
           subst (λ (n : ℕ). Contains (numbers_of place (old ++ map (entered done) places)) n) (sym same)
-          (here place places done (numbers_of place old) (numbers_of place (old ++ map (entered done) places)) (each place) among))
+          (here place places done (numbers_of place old) (numbers_of place (old ++ map (entered done) places))
+          (each place) among))
           (λ other.
           let place = cell_of (get_or levels m d) p in
-          keep place places done (numbers_of place old) (numbers_of place (old ++ map (entered done) places)) k (each place) (is.held k m d p low (omega arith) on has))
+          keep place places done (numbers_of place old) (numbers_of place (old ++ map (entered done) places)) k
+          (each place) (is.held k m d p low (omega arith) on has))
           (cases_eq k done);
-      within = λ end all. All-append (λ (entry : Entry). entry.key < end) old (map (entered done) places) (is.within end all)
+      within = λ end all. All-append (λ (entry : Entry). entry.key < end) old (map (entered done) places)
+          (is.within end all)
           (All-map (λ (entry : Entry). entry.key < end) (entered done) places
           (λ k d h.
           let top = its.of_level (get_or places k d) (Contains-get_or places k d h) in

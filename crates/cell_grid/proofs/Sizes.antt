@@ -50,7 +50,8 @@ pub levels_small : (boxes : List Rect) → AreOrdered boxes → AreWithinSpan bo
 levels_small boxes ordered span k d h = level_small (get_or boxes k d) (ordered k d h) (span k d h k d h)
 
 -- a box is smaller than the cells of its level, and of those above
-pub side_below : (rect : Rect) (shift : ℕ) → longer_side rect < 2 ^ 64 → level_of rect ≤ shift → longer_side rect < 2 ^ shift
+pub side_below : (rect : Rect) (shift : ℕ) → longer_side rect < 2 ^ 64 → level_of rect ≤ shift
+    → longer_side rect < 2 ^ shift
 unfolding level_of
 side_below rect shift short h =
     let own = digits_above (longer_side rect) short in
@@ -59,7 +60,9 @@ side_below rect shift short h =
 
 -- a box past a corner
 pub side_past : (low : Pt) (rect : Rect) → IsPastCorner low rect → longer_side rect < 2 ^ 64
-side_past low rect past = let short = side_short rect past.ordered (omega (arith, ints, past.left.0, past.right.1), omega (arith, ints, past.bottom.0, past.top.1)) in omega arith
+side_past low rect past = let short = side_short rect past.ordered
+    (omega (arith, ints, past.left.0, past.right.1), omega (arith, ints, past.bottom.0, past.top.1)) in omega arith
 
-pub small_on : (low : Pt) (rect : Rect) (shift : ℕ) → IsPastCorner low rect → level_of rect ≤ shift → longer_side rect < 2 ^ shift
+pub small_on : (low : Pt) (rect : Rect) (shift : ℕ) → IsPastCorner low rect → level_of rect ≤ shift
+    → longer_side rect < 2 ^ shift
 small_on low rect shift past h = side_below rect shift (side_past low rect past) h

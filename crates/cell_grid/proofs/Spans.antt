@@ -1,5 +1,6 @@
 -- A box round others, and what is moved into it.
-use Rattle.std.proofs.Common.{◌≡◌, ℕ, ◌+◌, ◌<◌, ℤ, ◌-ℤ◌, ◌≤ℤ◌, ◌<ℤ◌, List, length, All, get_or, ⊎_elim, refl, sym, ap, ◌∙◌, subst, arith}
+use Rattle.std.proofs.Common.{◌≡◌, ℕ, ◌+◌, ◌<◌, ℤ, ◌-ℤ◌, ◌≤ℤ◌, ◌<ℤ◌, List, length, All, get_or, ⊎_elim, refl, sym, ap}
+use Rattle.std.proofs.Common.{◌∙◌, subst, arith}
 use Rattle.std.proofs.lemmas.Bool.{cases_lt}
 use Rattle.std.proofs.lemmas.List.{get_or_read, get_or_default}
 use Rattle.std.proofs.lemmas.Int.{ints, int_max_is, int_min_is}
@@ -39,7 +40,8 @@ first_of_none boxes none =
       inside = λ k d h. absurd (omega arith);
     }
 
-pub first_of_some : (boxes : List Rect) (rect : Rect) → rect ≡ get_or boxes 0 rect → 0 < length boxes → AreOrdered boxes → AreWithinSpan boxes → IsAroundFirst boxes 0 rect
+pub first_of_some : (boxes : List Rect) (rect : Rect) → rect ≡ get_or boxes 0 rect → 0 < length boxes → AreOrdered boxes
+    → AreWithinSpan boxes → IsAroundFirst boxes 0 rect
 first_of_some boxes rect is some ordered span =
     let its = subst (λ (r : Rect). All (λ q. IsWithinSpan r q) boxes) (sym is) (span 0 rect some) in
     record {
@@ -57,33 +59,56 @@ join_from : (p q r : Rect) → IsWithinSpan r p → IsWithinSpan r q → IsWithi
 join_from p q r a b = (short_before p.x1 q.x1 r.x0 SPAN a.0 b.0, short_before p.y1 q.y1 r.y0 SPAN a.1 b.1)
 
 join_ordered : (p q : Rect) → IsOrdered p → IsOrdered (joined p q)
-join_ordered p q h = (omega (arith, ints, h.0, int_min_is p.x0 q.x0, int_max_is p.x1 q.x1), omega (arith, ints, h.1, int_min_is p.y0 q.y0, int_max_is p.y1 q.y1))
+join_ordered p q h = (
+  omega (arith, ints, h.0, int_min_is p.x0 q.x0, int_max_is p.x1 q.x1),
+  omega
+      (arith, ints, h.1, int_min_is p.y0 q.y0, int_max_is p.y1 q.y1),
+)
 
-pub first_more : (boxes : List Rect) (i : ℕ) (all rect now : Rect) → i < length boxes → rect ≡ get_or boxes i rect → AreWithinSpan boxes → IsAroundFirst boxes i all → now ≡ joined all rect → IsAroundFirst boxes (i + 1) now
+pub first_more : (boxes : List Rect) (i : ℕ) (all rect now : Rect) → i < length boxes → rect ≡ get_or boxes i rect
+    → AreWithinSpan boxes → IsAroundFirst boxes i all → now ≡ joined all rect → IsAroundFirst boxes (i + 1) now
 first_more boxes i all rect now within read span is made =
-    let to_all : All (λ q. IsWithinSpan rect q) boxes = subst (λ (r : Rect). All (λ q. IsWithinSpan r q) boxes) (sym read) (span i rect within) in
-    let from_all : All (λ q. IsWithinSpan q rect) boxes = λ k d h. subst (λ (r : Rect). IsWithinSpan (get_or boxes k d) r) (sym read) (span k d h i rect within) in
+    let to_all : All (λ q. IsWithinSpan rect q) boxes =
+    subst (λ (r : Rect). All (λ q. IsWithinSpan r q) boxes) (sym read) (span i rect within) in
+    let from_all : All (λ q. IsWithinSpan q rect) boxes =
+    λ k d h. subst (λ (r : Rect). IsWithinSpan (get_or boxes k d) r) (sym read) (span k d h i rect within) in
     let itself : IsWithinSpan rect rect = subst (λ (r : Rect). IsWithinSpan rect r) (sym read) (to_all i rect within) in
     let there : IsWithinSpan all rect = subst (λ (r : Rect). IsWithinSpan all r) (sym read) (is.to i rect within) in
     let back : IsWithinSpan rect all = subst (λ (r : Rect). IsWithinSpan r all) (sym read) (is.from i rect within) in
     subst (λ (r : Rect). IsAroundFirst boxes (i + 1) r) (sym made) (record {
       ordered = join_ordered all rect is.ordered;
-      span = join_from all rect (joined all rect) (join_to all rect all is.span back) (join_to all rect rect there itself);
+      span = join_from all rect (joined all rect) (join_to all rect all is.span back)
+          (join_to all rect rect there itself);
       to = λ k d h. join_to all rect (get_or boxes k d) (is.to k d h) (to_all k d h);
       from = λ k d h. join_from all rect (get_or boxes k d) (is.from k d h) (from_all k d h);
       inside = λ k d h. ⊎_elim
-          (λ earlier. outer_box (joined all rect) all (get_or boxes k d) (joined_has all rect).0 (is.inside k d earlier))
+          (λ earlier. outer_box (joined all rect) all (get_or boxes k d) (joined_has all rect).0
+          (is.inside k d earlier))
           (λ late. let e : k ≡ i = omega arith in
-          subst (λ (r : Rect). HasBox (joined all rect) r) (get_or_read boxes i rect within read d ∙ ap (λ (n : ℕ). get_or boxes n d) (sym e)) (joined_has all rect).1)
+          subst (λ (r : Rect). HasBox (joined all rect) r)
+          (get_or_read boxes i rect within read d ∙ ap (λ (n : ℕ). get_or boxes n d) (sym e))
+          (joined_has all rect).1)
           (cases_lt k i);
     })
 
 -- ---- moved into a box
 pub between_in : (low high x : ℤ) → low ≤ℤ high → (low ≤ℤ between low high x) × (between low high x ≤ℤ high)
-between_in low high x h = (omega (arith, ints, int_max_is low (int_min x high)), omega (arith, ints, int_max_is low (int_min x high), int_min_is x high))
+between_in low high x h = (
+  omega (arith, ints, int_max_is low (int_min x high)),
+  omega
+      (arith, ints, int_max_is low (int_min x high), int_min_is x high),
+)
 
 pub between_up : (low high x y : ℤ) → low ≤ℤ high → x ≤ℤ y → between low high x ≤ℤ between low high y
-between_up low high x y h up = omega (arith, ints, int_max_is low (int_min x high), int_min_is x high, int_max_is low (int_min y high), int_min_is y high)
+between_up low high x y h up = omega (
+  arith,
+  ints,
+  int_max_is low (int_min x high),
+  int_min_is x high,
+  int_max_is low
+      (int_min y high),
+  int_min_is y high,
+)
 
 pub between_same : (low high x : ℤ) → low ≤ℤ x → x ≤ℤ high → between low high x ≡ x
 between_same low high x a b = omega (arith, ints, int_max_is low (int_min x high), int_min_is x high)
@@ -100,7 +125,8 @@ pub past : (low high x : ℤ) → (high -ℤ low) <ℤ SPAN → low ≤ℤ x →
 past low high x h a b = (a, omega (arith, ints))
 
 -- a box in the box round all
-pub past_corner : (around rect : Rect) → IsOrdered rect → IsWithinSpan around around → HasBox around rect → IsPastCorner (corner_of around) rect
+pub past_corner : (around rect : Rect) → IsOrdered rect → IsWithinSpan around around → HasBox around rect
+    → IsPastCorner (corner_of around) rect
 past_corner around rect ordered span inside =
     record {
       ordered = ordered;
@@ -110,14 +136,19 @@ past_corner around rect ordered span inside =
       top = past around.y0 around.y1 rect.y1 span.1 (omega (arith, ints, inside.bottom, ordered.1)) inside.top;
     }
 
-pub cut_past : (around r : Rect) → IsOrdered around → IsWithinSpan around around → IsOrdered r → IsPastCorner (corner_of around) (cut_of around r)
+pub cut_past : (around r : Rect) → IsOrdered around → IsWithinSpan around around → IsOrdered r
+    → IsPastCorner (corner_of around) (cut_of around r)
 cut_past around r ordered span up =
     let x0 = between_in around.x0 around.x1 r.x0 ordered.0 in
     let x1 = between_in around.x0 around.x1 r.x1 ordered.0 in
     let y0 = between_in around.y0 around.y1 r.y0 ordered.1 in
     let y1 = between_in around.y0 around.y1 r.y1 ordered.1 in
     record {
-      ordered = (between_up around.x0 around.x1 r.x0 r.x1 ordered.0 up.0, between_up around.y0 around.y1 r.y0 r.y1 ordered.1 up.1);
+      ordered = (
+        between_up around.x0 around.x1 r.x0 r.x1 ordered.0 up.0,
+        between_up around.y0 around.y1 r.y0 r.y1
+            ordered.1 up.1,
+      );
       left = past around.x0 around.x1 (between around.x0 around.x1 r.x0) span.0 x0.0 x0.1;
       right = past around.x0 around.x1 (between around.x0 around.x1 r.x1) span.0 x1.0 x1.1;
       bottom = past around.y0 around.y1 (between around.y0 around.y1 r.y0) span.1 y0.0 y0.1;
@@ -135,7 +166,14 @@ cut_has around r p a b =
     }
 
 pub put_same : (around : Rect) (p : Pt) → HasPoint around p → put_of around p ≡ p
-put_same around p a = rw (between_same around.x0 around.x1 p.x a.left a.right, between_same around.y0 around.y1 p.y a.bottom a.top) refl
+put_same around p a = rw (
+  between_same around.x0 around.x1 p.x a.left a.right,
+  between_same around.y0 around.y1 p.y
+      a.bottom a.top,
+) refl
 
-pub first_next : (boxes : List Rect) (i : ℕ) (all now : Rect) → i < length boxes → AreWithinSpan boxes → IsAroundFirst boxes i all → now ≡ joined all (get_or boxes i no_box) → IsAroundFirst boxes (i + 1) now
-first_next boxes i all now within span is made = first_more boxes i all (get_or boxes i no_box) now within (get_or_default boxes i no_box (get_or boxes i no_box) within) span is made
+pub first_next : (boxes : List Rect) (i : ℕ) (all now : Rect) → i < length boxes → AreWithinSpan boxes
+    → IsAroundFirst boxes i all → now ≡ joined all (get_or boxes i no_box) → IsAroundFirst boxes (i + 1) now
+first_next boxes i all now within span is made =
+    first_more boxes i all (get_or boxes i no_box) now within
+    (get_or_default boxes i no_box (get_or boxes i no_box) within) span is made

@@ -1,5 +1,6 @@
 -- Partners that are told one after another.
-use Rattle.std.proofs.Common.{◌≡◌, ◌≢◌, ◌⊎◌, ℕ, ◌+◌, ◌*◌, ◌<◌, ◌≤◌, ℤ, List, [], ◌∷◌, ◌++◌, length, get_or, All, Contains, nat_eq, inl, inr, ⊎_elim, sym, ap, ◌∙◌, subst, arith}
+use Rattle.std.proofs.Common.{◌≡◌, ◌≢◌, ◌⊎◌, ℕ, ◌+◌, ◌*◌, ◌<◌, ◌≤◌, ℤ, List, [], ◌∷◌, ◌++◌, length, get_or, All}
+use Rattle.std.proofs.Common.{Contains, nat_eq, inl, inr, ⊎_elim, sym, ap, ◌∙◌, subst, arith}
 use Rattle.std.specs.List.{IsDistinct}
 use Rattle.std.specs.List.Sorted.{IsStrictlyIncreasing}
 use Rattle.std.specs.Int.{int_max}
@@ -20,7 +21,8 @@ use Rattle.cell_grid.specs.Stripes.{IsPast}
 use Rattle.cell_grid.specs.Cells.{numbers_at, cell_of, IsLevelOf, IsPlaceOf}
 use Rattle.cell_grid.specs.Blocks.{place_at}
 use Rattle.cell_grid.specs.Partners.{ArePartners}
-use Rattle.cell_grid.specs.LevelPartners.{DoesTell, IsAsked, least, index_with, IsTellable, IsToldBefore, IsToldFrom, IsPartnerOn, IsPartnerOnFirst}
+use Rattle.cell_grid.specs.LevelPartners.{DoesTell, IsAsked, least, index_with, IsTellable, IsToldBefore, IsToldFrom}
+use Rattle.cell_grid.specs.LevelPartners.{IsPartnerOn, IsPartnerOnFirst}
 use Rattle.cell_grid.specs.declared.level_partners.Asked.{Asked}
 use Rattle.cell_grid.proofs.Finds.{index_of_member}
 use Rattle.plane_base.proofs.BoxLemmas.{meeting}
@@ -30,7 +32,8 @@ use Rattle.cell_grid.proofs.Indices.{place_there, index_within}
 pub past_greater : (low a b : ℤ) → IsPast low a → IsPast low b → IsPast low (int_max a b)
 past_greater low a b p q = (omega (arith, ints, p.0, int_max_is a b), omega (arith, ints, p.1, q.1, int_max_is a b))
 
-pub least_has : (p q : Rect) → IsOrdered p → IsOrdered q → ShareAPoint p q → HasPoint p (least p q) × HasPoint q (least p q)
+pub least_has : (p q : Rect) → IsOrdered p → IsOrdered q → ShareAPoint p q
+    → HasPoint p (least p q) × HasPoint q (least p q)
 least_has p q op oq s =
     let m = meeting p q s in (
       record {
@@ -48,23 +51,29 @@ least_has p q op oq s =
     )
 
 -- ---- lists of numbers, none twice
-pub distinct_push : (xs : List ℕ) (x : ℕ) → IsDistinct nat_eq xs → (Contains xs x → ⊥) → IsDistinct nat_eq (xs ++ x ∷ [])
+pub distinct_push : (xs : List ℕ) (x : ℕ) → IsDistinct nat_eq xs → (Contains xs x → ⊥)
+    → IsDistinct nat_eq (xs ++ x ∷ [])
 distinct_push xs x d none =
     IsDistinct-push nat_eq_equiv xs x d (list_any_none (nat_eq x) xs (λ k e h.
-    false_from_ne_true (nat_eq x (get_or xs k e)) (λ t. none (k, h, get_or_default xs k x e h ∙ sym (eqb-true x (get_or xs k e) t)))))
+    false_from_ne_true (nat_eq x (get_or xs k e))
+    (λ t. none (k, h, get_or_default xs k x e h ∙ sym (eqb-true x (get_or xs k e) t)))))
 
 -- ---- what is told, one after another
-pub tell_more : (L M N : ℕ → Type 0) (xs ys zs : List ℕ) → DoesTell L xs ys → DoesTell M ys zs → ((n : ℕ) → N n → L n ⊎ M n) → ((n : ℕ) → L n → N n) → ((n : ℕ) → M n → N n) → ((n : ℕ) → L n → M n → ⊥) → DoesTell N xs zs
+pub tell_more : (L M N : ℕ → Type 0) (xs ys zs : List ℕ) → DoesTell L xs ys → DoesTell M ys zs
+    → ((n : ℕ) → N n → L n ⊎ M n) → ((n : ℕ) → L n → N n) → ((n : ℕ) → M n → N n) → ((n : ℕ) → L n → M n → ⊥)
+    → DoesTell N xs zs
 tell_more L M N xs ys zs first second split from_first from_second apart =
     record {
       kept = λ n h. second.kept n (first.kept n h);
       told = λ n h. ⊎_elim (λ l. second.kept n (first.told n l)) (λ m. second.told n m) (split n h);
-      only = λ n h. ⊎_elim (λ mid. ⊎_elim (λ before. inl before) (λ l. inr (from_first n l)) (first.only n mid)) (λ m. inr (from_second n m)) (second.only n h);
+      only = λ n h. ⊎_elim (λ mid. ⊎_elim (λ before. inl before) (λ l. inr (from_first n l)) (first.only n mid))
+          (λ m. inr (from_second n m)) (second.only n h);
       once = λ d other. second.once (first.once d (λ n l c. other n (from_first n l) c))
           (λ n m c. ⊎_elim (λ before. other n (from_second n m) before) (λ l. apart n l m) (first.only n c));
     }
 
-pub tell_as : (L N : ℕ → Type 0) (xs ys : List ℕ) → DoesTell L xs ys → ((n : ℕ) → L n → N n) → ((n : ℕ) → N n → L n) → DoesTell N xs ys
+pub tell_as : (L N : ℕ → Type 0) (xs ys : List ℕ) → DoesTell L xs ys → ((n : ℕ) → L n → N n) → ((n : ℕ) → N n → L n)
+    → DoesTell N xs ys
 tell_as L N xs ys tells to from =
     record {
       kept = tells.kept;
@@ -74,7 +83,13 @@ tell_as L N xs ys tells to from =
     }
 
 pub tell_none : (L : ℕ → Type 0) (xs : List ℕ) → ((n : ℕ) → L n → ⊥) → DoesTell L xs xs
-tell_none L xs none = record { kept = λ n h. h; told = λ n h. absurd (none n h); only = λ n h. inl h; once = λ d other. d }
+tell_none L xs none = record {
+  kept = λ n h. h;
+  told = λ n h. absurd (none n h);
+  only = λ n h. inl h;
+  once =
+      λ d other. d;
+}
 
 pub tell_one : (L : ℕ → Type 0) (xs : List ℕ) (k : ℕ) → L k → ((n : ℕ) → L n → n ≡ k) → DoesTell L xs (xs ++ k ∷ [])
 tell_one L xs k meant one =
@@ -90,33 +105,45 @@ less : (xs : List ℕ) (i j : ℕ) → IsStrictlyIncreasing xs → i < j → j <
 less xs i j up h within = AllPairs-from_increasing xs up i j 0 h within
 
 -- one that is left is the first of them, or is behind it
-left_cases : (asked : Asked) (boxes : List Rect) (index : ℕ) (numbers : List ℕ) (i n : ℕ) → IsToldFrom asked boxes index numbers i n → IsToldFrom asked boxes index numbers (i + 1) n ⊎ ((n ≡ get_or numbers i 0) × IsTellable asked boxes index n)
+left_cases : (asked : Asked) (boxes : List Rect) (index : ℕ) (numbers : List ℕ) (i n : ℕ)
+    → IsToldFrom asked boxes index numbers i n
+    → IsToldFrom asked boxes index numbers (i + 1) n ⊎ ((n ≡ get_or numbers i 0) × IsTellable asked boxes index n)
 left_cases asked boxes index numbers i n h = go (cases_lt i h.0.0)
   where
-    go : (i < h.0.0) ⊎ (h.0.0 ≤ i) → IsToldFrom asked boxes index numbers (i + 1) n ⊎ ((n ≡ get_or numbers i 0) × IsTellable asked boxes index n)
+    go : (i < h.0.0) ⊎ (h.0.0 ≤ i) → IsToldFrom asked boxes index numbers (i + 1) n
+        ⊎ ((n ≡ get_or numbers i 0) × IsTellable asked boxes index n)
     go (inl later) = inl ((h.0.0, omega (arith, later), h.0.2, h.0.3), h.1)
-    go (inr first) = let e : h.0.0 ≡ i = omega (arith, first, h.0.1) in inr (sym h.0.3 ∙ ap (λ (k : ℕ). get_or numbers k 0) e, h.1)
+    go (inr first) = let e : h.0.0 ≡ i = omega (arith, first, h.0.1) in inr
+        (sym h.0.3 ∙ ap (λ (k : ℕ). get_or numbers k 0) e, h.1)
 
-pub from_more : (asked : Asked) (boxes : List Rect) (index : ℕ) (numbers : List ℕ) (i : ℕ) (xs ys zs : List ℕ) → i < length numbers → IsStrictlyIncreasing numbers
-    → DoesTell (IsToldFrom asked boxes index numbers (i + 1)) xs ys → DoesTell (λ n. (n ≡ get_or numbers i 0) × IsTellable asked boxes index n) ys zs
+pub from_more : (asked : Asked) (boxes : List Rect) (index : ℕ) (numbers : List ℕ) (i : ℕ) (xs ys zs : List ℕ)
+    → i < length numbers → IsStrictlyIncreasing numbers
+    → DoesTell (IsToldFrom asked boxes index numbers (i + 1)) xs ys
+    → DoesTell (λ n. (n ≡ get_or numbers i 0) × IsTellable asked boxes index n) ys zs
     → DoesTell (IsToldFrom asked boxes index numbers i) xs zs
 from_more asked boxes index numbers i xs ys zs within up before here =
-    tell_more (IsToldFrom asked boxes index numbers (i + 1)) (λ n. (n ≡ get_or numbers i 0) × IsTellable asked boxes index n) (IsToldFrom asked boxes index numbers i) xs ys zs before here
+    tell_more (IsToldFrom asked boxes index numbers (i + 1))
+    (λ n. (n ≡ get_or numbers i 0) × IsTellable asked boxes index n) (IsToldFrom asked boxes index numbers i) xs ys
+    zs before here
     (left_cases asked boxes index numbers i)
     (λ n h. ((h.0.0, omega (arith, h.0.1), h.0.2, h.0.3), h.1))
     (λ n h. ((i, omega arith, within, sym h.0), h.1))
     (λ n h m. omega (arith, less numbers i h.0.0 up (omega (arith, h.0.1)) h.0.2, h.0.3, m.0))
 
 -- no number that is left is asked for
-none_early : (numbers : List ℕ) (i k n from : ℕ) → IsStrictlyIncreasing numbers → i < length numbers → get_or numbers i 0 < from → k ≤ i → get_or numbers k 0 ≡ n → from ≤ n → ⊥
+none_early : (numbers : List ℕ) (i k n from : ℕ) → IsStrictlyIncreasing numbers → i < length numbers
+    → get_or numbers i 0 < from → k ≤ i → get_or numbers k 0 ≡ n → from ≤ n → ⊥
 none_early numbers i k n from up within early h e f = go (cases_lt k i)
   where
     go : (k < i) ⊎ (i ≤ k) → ⊥
     go (inl below) = omega (arith, less numbers k i up below within, e, f, early)
-    go (inr above) = let at : k ≡ i = omega (arith, above, h) in omega (arith, ap (λ (j : ℕ). get_or numbers j 0) at, e, f, early)
+    go (inr above) = let at : k ≡ i = omega (arith, above, h) in omega
+        (arith, ap (λ (j : ℕ). get_or numbers j 0) at, e, f, early)
 
-pub from_first : (asked : Asked) (boxes : List Rect) (index : ℕ) (numbers : List ℕ) (i : ℕ) (xs ys : List ℕ) → i < length numbers → IsStrictlyIncreasing numbers → get_or numbers i 0 < asked.from
-    → DoesTell (IsToldFrom asked boxes index numbers (i + 1)) xs ys → DoesTell (IsToldFrom asked boxes index numbers 0) xs ys
+pub from_first : (asked : Asked) (boxes : List Rect) (index : ℕ) (numbers : List ℕ) (i : ℕ) (xs ys : List ℕ)
+    → i < length numbers → IsStrictlyIncreasing numbers → get_or numbers i 0 < asked.from
+    → DoesTell (IsToldFrom asked boxes index numbers (i + 1)) xs ys
+    → DoesTell (IsToldFrom asked boxes index numbers 0) xs ys
 from_first asked boxes index numbers i xs ys within up early tells =
     tell_as (IsToldFrom asked boxes index numbers (i + 1)) (IsToldFrom asked boxes index numbers 0) xs ys tells
     (λ n h. ((h.0.0, omega arith, h.0.2, h.0.3), h.1))
@@ -130,31 +157,43 @@ from_first asked boxes index numbers i xs ys within up early tells =
         go (inr first) = absurd (none_early numbers i h.0.0 n asked.from up within early first h.0.3 h.1.from)
 
 -- all are left, or none
-pub from_none : (asked : Asked) (boxes : List Rect) (index : ℕ) (numbers xs : List ℕ) → DoesTell (IsToldFrom asked boxes index numbers (length numbers)) xs xs
-from_none asked boxes index numbers xs = tell_none (IsToldFrom asked boxes index numbers (length numbers)) xs (λ n h. omega (arith, h.0.1, h.0.2))
+pub from_none : (asked : Asked) (boxes : List Rect) (index : ℕ) (numbers xs : List ℕ)
+    → DoesTell (IsToldFrom asked boxes index numbers (length numbers)) xs xs
+from_none asked boxes index numbers xs = tell_none (IsToldFrom asked boxes index numbers (length numbers)) xs
+    (λ n h. omega (arith, h.0.1, h.0.2))
 
 -- ---- in the cells of a block
-pub index_more : (asked : Asked) (boxes : List Rect) (cells : List (List ℕ)) (index : ℕ) (numbers : List ℕ) (xs ys zs : List ℕ) → IsAsked asked → AreOrdered boxes → IsLevelOf boxes cells asked.level
-    → IsPlaceOf asked.level (place_at asked.level asked.block index) → numbers ≡ numbers_at cells (place_at asked.level asked.block index)
+pub index_more : (asked : Asked) (boxes : List Rect) (cells : List (List ℕ)) (index : ℕ) (numbers : List ℕ)
+    (xs ys zs : List ℕ) → IsAsked asked → AreOrdered boxes → IsLevelOf boxes cells asked.level
+    → IsPlaceOf asked.level (place_at asked.level asked.block index)
+    → numbers ≡ numbers_at cells (place_at asked.level asked.block index)
     → DoesTell (IsToldBefore asked boxes index) xs ys → DoesTell (IsToldFrom asked boxes index numbers 0) ys zs
     → DoesTell (IsToldBefore asked boxes (index + 1)) xs zs
 index_more asked boxes cells index numbers xs ys zs is ordered of_level place at before here =
-    tell_more (IsToldBefore asked boxes index) (IsToldFrom asked boxes index numbers 0) (IsToldBefore asked boxes (index + 1)) xs ys zs before here
+    tell_more (IsToldBefore asked boxes index) (IsToldFrom asked boxes index numbers 0)
+    (IsToldBefore asked boxes (index + 1)) xs ys zs before here
     (λ n h. ⊎_elim
     (λ earlier. inl (record { on_level = h.on_level; from = h.from; shared = h.shared; before = earlier }))
     (λ late.
     let e : index_with asked (box_at boxes n) ≡ index = omega (arith, h.before) in
     let common = least_has (box_at boxes n) asked.rect (ordered n no_box h.on_level.0) is.past.ordered h.shared in
     let p = least (box_at boxes n) asked.rect in
-    let there : place_at asked.level asked.block index ≡ cell_of asked.level p = sym (ap (place_at asked.level asked.block) e) ∙ place_there asked.level asked.rect asked.block p is.past is.block common.1 in
-    let stands : Contains numbers n = subst (λ (l : List ℕ). Contains l n) (ap (numbers_at cells) (sym there) ∙ sym at) (of_level.held n p h.on_level common.0) in
-    inr ((stands.0, omega arith, stands.1, sym (get_or_default numbers stands.0 n 0 stands.1) ∙ stands.2), record { from = h.from; told = record { shared = h.shared; here = e } }))
+    let there : place_at asked.level asked.block index ≡ cell_of asked.level p =
+    sym (ap (place_at asked.level asked.block) e)
+    ∙ place_there asked.level asked.rect asked.block p is.past is.block common.1 in
+    let stands : Contains numbers n = subst (λ (l : List ℕ). Contains l n) (ap (numbers_at cells) (sym there) ∙ sym at)
+    (of_level.held n p h.on_level common.0) in
+    inr (
+      (stands.0, omega arith, stands.1, sym (get_or_default numbers stands.0 n 0 stands.1) ∙ stands.2),
+      record { from = h.from; told = record { shared = h.shared; here = e } },
+    ))
     (cases_lt (index_with asked (box_at boxes n)) index))
     (λ n h. record { on_level = h.on_level; from = h.from; shared = h.shared; before = omega (arith, h.before) })
     (λ n h.
     let stands : Contains numbers n = (h.0.0, h.0.2, get_or_default numbers h.0.0 n 0 h.0.2 ∙ h.0.3) in
     record {
-      on_level = of_level.of_level (place_at asked.level asked.block index) n place (subst (λ (l : List ℕ). Contains l n) at stands);
+      on_level = of_level.of_level (place_at asked.level asked.block index) n place
+          (subst (λ (l : List ℕ). Contains l n) at stands);
       from = h.1.from;
       shared = h.1.told.shared;
       before = omega (arith, h.1.told.here);
@@ -162,8 +201,11 @@ index_more asked boxes cells index numbers xs ys zs is ordered of_level place at
     (λ n h m. omega (arith, h.before, m.1.told.here))
 
 -- all cells
-pub block_told : (asked : Asked) (boxes : List Rect) (number count : ℕ) (xs ys : List ℕ) → IsAsked asked → AreOrdered boxes → asked.rect ≡ box_at boxes number → asked.block.columns * asked.block.rows ≤ count
-    → level_of (box_at boxes number) ≤ asked.level.number → (level_of (box_at boxes number) ≡ asked.level.number → asked.from ≡ number + 1) → (level_of (box_at boxes number) ≢ asked.level.number → asked.from ≡ 0)
+pub block_told : (asked : Asked) (boxes : List Rect) (number count : ℕ) (xs ys : List ℕ) → IsAsked asked
+    → AreOrdered boxes → asked.rect ≡ box_at boxes number → asked.block.columns * asked.block.rows ≤ count
+    → level_of (box_at boxes number) ≤ asked.level.number
+    → (level_of (box_at boxes number) ≡ asked.level.number → asked.from ≡ number + 1)
+    → (level_of (box_at boxes number) ≢ asked.level.number → asked.from ≡ 0)
     → DoesTell (IsToldBefore asked boxes count) xs ys → DoesTell (IsPartnerOn boxes number asked.level.number) xs ys
 block_told asked boxes number count xs ys is ordered its all above own other tells =
     tell_as (IsToldBefore asked boxes count) (IsPartnerOn boxes number asked.level.number) xs ys tells
@@ -184,18 +226,26 @@ block_told asked boxes number count xs ys is ordered its all above own other tel
     record {
       on_level = (h.0.0.0, h.1);
       from = ⊎_elim
-          (λ same. ⊎_elim (λ less. absurd (omega (arith, less, same, h.1))) (λ behind. omega (arith, own same, behind.1)) h.0.1)
+          (λ same. ⊎_elim (λ less. absurd (omega (arith, less, same, h.1)))
+          (λ behind. omega (arith, own same, behind.1)) h.0.1)
           (λ differ. omega (arith, other differ))
           (cases_eq (level_of (box_at boxes number)) asked.level.number);
       shared = shared;
-      before = omega (arith, index_within asked.level asked.rect asked.block (least (box_at boxes n) asked.rect) is.past is.block common.1);
+      before = omega (
+        arith,
+        index_within asked.level asked.rect asked.block (least (box_at boxes n) asked.rect) is.past
+            is.block common.1,
+      );
     })
 
 -- ---- on all levels
-pub levels_told : (boxes : List Rect) (number : ℕ) (levels : List ℕ) (i : ℕ) (xs ys zs : List ℕ) → IsStrictlyIncreasing levels → i < length levels → DoesTell (IsPartnerOnFirst boxes number levels i) xs ys
-    → DoesTell (IsPartnerOn boxes number (get_or levels i 0)) ys zs → DoesTell (IsPartnerOnFirst boxes number levels (i + 1)) xs zs
+pub levels_told : (boxes : List Rect) (number : ℕ) (levels : List ℕ) (i : ℕ) (xs ys zs : List ℕ)
+    → IsStrictlyIncreasing levels → i < length levels → DoesTell (IsPartnerOnFirst boxes number levels i) xs ys
+    → DoesTell (IsPartnerOn boxes number (get_or levels i 0)) ys zs
+    → DoesTell (IsPartnerOnFirst boxes number levels (i + 1)) xs zs
 levels_told boxes number levels i xs ys zs up within before here =
-    tell_more (IsPartnerOnFirst boxes number levels i) (IsPartnerOn boxes number (get_or levels i 0)) (IsPartnerOnFirst boxes number levels (i + 1)) xs ys zs before here
+    tell_more (IsPartnerOnFirst boxes number levels i) (IsPartnerOn boxes number (get_or levels i 0))
+    (IsPartnerOnFirst boxes number levels (i + 1)) xs ys zs before here
     (λ n h. ⊎_elim
     (λ earlier. inl (h.0, (h.1.0, earlier, h.1.2)))
     (λ late. let e : h.1.0 ≡ i = omega (arith, h.1.1) in inr (h.0, h.1.2 ∙ ap (λ (k : ℕ). get_or levels k 0) e))
@@ -205,13 +255,18 @@ levels_told boxes number levels i xs ys zs up within before here =
     (λ n h m. omega (arith, less levels h.1.0 i up h.1.1 within, h.1.2, m.1))
 
 -- a level of smaller boxes has no partner
-pub none_on_lower : (boxes : List Rect) (number level : ℕ) (xs : List ℕ) → level < level_of (box_at boxes number) → DoesTell (IsPartnerOn boxes number level) xs xs
-none_on_lower boxes number level xs low = tell_none (IsPartnerOn boxes number level) xs (λ n h. ⊎_elim (λ above. omega (arith, above, h.1, low)) (λ same. omega (arith, same.0, h.1, low)) h.0.1)
+pub none_on_lower : (boxes : List Rect) (number level : ℕ) (xs : List ℕ) → level < level_of (box_at boxes number)
+    → DoesTell (IsPartnerOn boxes number level) xs xs
+none_on_lower boxes number level xs low = tell_none (IsPartnerOn boxes number level) xs
+    (λ n h. ⊎_elim (λ above. omega (arith, above, h.1, low)) (λ same. omega (arith, same.0, h.1, low)) h.0.1)
 
-pub none_on_first : (boxes : List Rect) (number : ℕ) (levels xs : List ℕ) → DoesTell (IsPartnerOnFirst boxes number levels 0) xs xs
-none_on_first boxes number levels xs = tell_none (IsPartnerOnFirst boxes number levels 0) xs (λ n h. omega (arith, h.1.1))
+pub none_on_first : (boxes : List Rect) (number : ℕ) (levels xs : List ℕ)
+    → DoesTell (IsPartnerOnFirst boxes number levels 0) xs xs
+none_on_first boxes number levels xs = tell_none (IsPartnerOnFirst boxes number levels 0) xs
+    (λ n h. omega (arith, h.1.1))
 
-pub all_told : (boxes : List Rect) (number : ℕ) (levels : List ℕ) (count : ℕ) (found : List ℕ) → All (λ (rect : Rect). Contains levels (level_of rect)) boxes → length levels ≤ count
+pub all_told : (boxes : List Rect) (number : ℕ) (levels : List ℕ) (count : ℕ) (found : List ℕ)
+    → All (λ (rect : Rect). Contains levels (level_of rect)) boxes → length levels ≤ count
     → DoesTell (IsPartnerOnFirst boxes number levels count) [] found → ArePartners boxes number found
 unfolding IsDistinct
 all_told boxes number levels count found on_levels all tells =

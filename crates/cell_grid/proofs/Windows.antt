@@ -1,5 +1,6 @@
 -- Boxes that begin in the window of a cell are just those that are told there.
-use Rattle.std.proofs.Common.{◌≡◌, ◌⊎◌, ◌↔◌, inl, inr, ⊎_elim, ℕ, ◌+◌, ◌-◌, ◌*◌, ◌/◌, ◌%◌, ◌^◌, ◌<◌, ◌≤◌, Bool, true, false, ◌&&◌, IsTrue, refl, sym, ap, ◌∙◌, subst, arith}
+use Rattle.std.proofs.Common.{◌≡◌, ◌⊎◌, ◌↔◌, inl, inr, ⊎_elim, ℕ, ◌+◌, ◌-◌, ◌*◌, ◌/◌, ◌%◌, ◌^◌, ◌<◌, ◌≤◌, Bool, true}
+use Rattle.std.proofs.Common.{false, ◌&&◌, IsTrue, refl, sym, ap, ◌∙◌, subst, arith}
 use Rattle.std.specs.Prelude.{max, min}
 use Rattle.std.proofs.lemmas.Bool.{cases_lt}
 use Rattle.std.proofs.lemmas.Int.{ints}
@@ -23,7 +24,8 @@ use Rattle.cell_grid.proofs.Tells.{least_has}
 -- ---- the numbers of a stripe
 pub to_stripe : (n w q : ℕ) → 0 < w → q * w ≤ n → n < q * w + w → n / w ≡ q
 to_stripe n w q some low high =
-    let same = same_from_place (n / w) (n % w) q (n - q * w) w (mod_below n w some) (omega (arith, low, high)) (div-add-mod' n w ∙ sym (omega (arith, low))) in same.0
+    let same = same_from_place (n / w) (n % w) q (n - q * w) w (mod_below n w some) (omega (arith, low, high))
+    (div-add-mod' n w ∙ sym (omega (arith, low))) in same.0
 
 pub from_stripe : (n w q : ℕ) → 0 < w → n / w ≡ q → (q * w ≤ n) × (n < q * w + w)
 from_stripe n w q some e =
@@ -32,18 +34,25 @@ from_stripe n w q some e =
 
 -- a number whose stripe is not behind another one begins before the end of that one
 pub before_end : (n w q : ℕ) → 0 < w → n / w ≤ q → n < q * w + w
-before_end n w q some h = ⊎_elim (λ less. less) (λ more. absurd (omega (arith, h, le-div (q + 1) n w some (omega (arith, more))))) (cases_lt n (q * w + w))
+before_end n w q some h = ⊎_elim (λ less. less)
+    (λ more. absurd (omega (arith, h, le-div (q + 1) n w some (omega (arith, more))))) (cases_lt n (q * w + w))
 
 -- and a number whose stripe is not before another one is not before the beginning of that one
 pub from_start : (n w q : ℕ) → 0 < w → q ≤ n / w → q * w ≤ n
-from_start n w q some h = ⊎_elim (λ less. absurd (omega (arith, h, div_below n w q some less))) (λ more. more) (cases_lt n (q * w))
+from_start n w q some h = ⊎_elim (λ less. absurd (omega (arith, h, div_below n w q some less))) (λ more. more)
+    (cases_lt n (q * w))
 
 -- ---- the bounds
-both : (n w s first last low high : ℕ) → first < s + w → s ≤ last → high ≤ last → high + 1 ≤ s + w → ((s ≤ first) × (low ≡ 0)) ⊎ ((first < s) × (low ≡ s)) → (low ≤ n) × (n ≤ high) → (n ≤ last) × (s ≤ max n first) × (max n first < s + w)
+both : (n w s first last low high : ℕ) → first < s + w → s ≤ last → high ≤ last → high + 1 ≤ s + w
+    → ((s ≤ first) × (low ≡ 0)) ⊎ ((first < s) × (low ≡ s)) → (low ≤ n) × (n ≤ high)
+    → (n ≤ last) × (s ≤ max n first) × (max n first < s + w)
 both n w s first last low high a b c d (inl e) h = (omega (arith, h.1, c), omega (arith, e.0), omega (arith, a, h.1, d))
-both n w s first last low high a b c d (inr e) h = (omega (arith, h.1, c), omega (arith, h.0, e.1), omega (arith, a, h.1, d))
+both n w s first last low high a b c d (inr e) h =
+    (omega (arith, h.1, c), omega (arith, h.0, e.1), omega (arith, a, h.1, d))
 
-back : (n w s first last low high : ℕ) → (last ≤ high) ⊎ (s + w ≤ high + 1) → ((s ≤ first) × (low ≡ 0)) ⊎ ((first < s) × (low ≡ s)) → n ≤ last → s ≤ max n first → max n first < s + w → (low ≤ n) × (n ≤ high)
+back : (n w s first last low high : ℕ) → (last ≤ high) ⊎ (s + w ≤ high + 1)
+    → ((s ≤ first) × (low ≡ 0)) ⊎ ((first < s) × (low ≡ s)) → n ≤ last → s ≤ max n first → max n first < s + w
+    → (low ≤ n) × (n ≤ high)
 back n w s first last low high d e h i j = (begin e, end d)
   where
     begin : ((s ≤ first) × (low ≡ 0)) ⊎ ((first < s) × (low ≡ s)) → low ≤ n
@@ -54,12 +63,14 @@ back n w s first last low high d e h i j = (begin e, end d)
     end (inl d) = omega (arith, d, h)
     end (inr d) = omega (arith, d, j)
 
-pub bounds_of : (shift stripe first last low high : ℕ) → first / 2 ^ shift ≤ stripe → stripe ≤ last / 2 ^ shift → high ≡ min last (stripe * 2 ^ shift + (2 ^ shift - 1))
+pub bounds_of : (shift stripe first last low high : ℕ) → first / 2 ^ shift ≤ stripe → stripe ≤ last / 2 ^ shift
+    → high ≡ min last (stripe * 2 ^ shift + (2 ^ shift - 1))
     → ((stripe * 2 ^ shift ≤ first) × (low ≡ 0)) ⊎ ((first < stripe * 2 ^ shift) × (low ≡ stripe * 2 ^ shift))
     → AreBoundsOf shift stripe first last (record { first = low; last = high })
 bounds_of shift stripe first last low high from to least begin n = (
   λ h.
-      let all = both n w (stripe * w) first last low high (before_end first w stripe some from) (from_start last w stripe some to) within short begin h in
+      let all = both n w (stripe * w) first last low high (before_end first w stripe some from)
+      (from_start last w stripe some to) within short begin h in
       (all.0, to_stripe (max n first) w stripe some all.1 all.2),
   λ h.
       let at = from_stripe (max n first) w stripe some h.1 in
@@ -78,22 +89,29 @@ bounds_of shift stripe first last low high from to least begin n = (
     short : high + 1 ≤ stripe * 2 ^ shift + 2 ^ shift
     short = omega (arith, least, some)
 
-    long : (last < stripe * 2 ^ shift + 2 ^ shift) ⊎ (stripe * 2 ^ shift + 2 ^ shift ≤ last) → (last ≤ high) ⊎ (stripe * 2 ^ shift + 2 ^ shift ≤ high + 1)
+    long : (last < stripe * 2 ^ shift + 2 ^ shift) ⊎ (stripe * 2 ^ shift + 2 ^ shift ≤ last)
+        → (last ≤ high) ⊎ (stripe * 2 ^ shift + 2 ^ shift ≤ high + 1)
     long (inl h) = inl (omega (arith, h, least, some))
     long (inr h) = inr (omega (arith, h, least, some))
 
 -- ---- the stripes of the box that asks
-own_column : (asked : Asked) → IsAsked asked → column_of asked.level asked.rect.x0 ≡ asked.own.x0 / 2 ^ asked.level.shift
-own_column asked is = subst (λ (r : Rect). column_of asked.level r.x0 ≡ asked.own.x0 / 2 ^ asked.level.shift) is.own (stripe_at asked.level.low.x asked.level.shift asked.own.x0)
+own_column : (asked : Asked) → IsAsked asked
+    → column_of asked.level asked.rect.x0 ≡ asked.own.x0 / 2 ^ asked.level.shift
+own_column asked is = subst (λ (r : Rect). column_of asked.level r.x0 ≡ asked.own.x0 / 2 ^ asked.level.shift) is.own
+    (stripe_at asked.level.low.x asked.level.shift asked.own.x0)
 
-last_column : (asked : Asked) → IsAsked asked → column_of asked.level asked.rect.x1 ≡ asked.own.x1 / 2 ^ asked.level.shift
-last_column asked is = subst (λ (r : Rect). column_of asked.level r.x1 ≡ asked.own.x1 / 2 ^ asked.level.shift) is.own (stripe_at asked.level.low.x asked.level.shift asked.own.x1)
+last_column : (asked : Asked) → IsAsked asked
+    → column_of asked.level asked.rect.x1 ≡ asked.own.x1 / 2 ^ asked.level.shift
+last_column asked is = subst (λ (r : Rect). column_of asked.level r.x1 ≡ asked.own.x1 / 2 ^ asked.level.shift) is.own
+    (stripe_at asked.level.low.x asked.level.shift asked.own.x1)
 
 own_row : (asked : Asked) → IsAsked asked → row_of asked.level asked.rect.y0 ≡ asked.own.y0 / 2 ^ asked.level.shift
-own_row asked is = subst (λ (r : Rect). row_of asked.level r.y0 ≡ asked.own.y0 / 2 ^ asked.level.shift) is.own (stripe_at asked.level.low.y asked.level.shift asked.own.y0)
+own_row asked is = subst (λ (r : Rect). row_of asked.level r.y0 ≡ asked.own.y0 / 2 ^ asked.level.shift) is.own
+    (stripe_at asked.level.low.y asked.level.shift asked.own.y0)
 
 last_row : (asked : Asked) → IsAsked asked → row_of asked.level asked.rect.y1 ≡ asked.own.y1 / 2 ^ asked.level.shift
-last_row asked is = subst (λ (r : Rect). row_of asked.level r.y1 ≡ asked.own.y1 / 2 ^ asked.level.shift) is.own (stripe_at asked.level.low.y asked.level.shift asked.own.y1)
+last_row asked is = subst (λ (r : Rect). row_of asked.level r.y1 ≡ asked.own.y1 / 2 ^ asked.level.shift) is.own
+    (stripe_at asked.level.low.y asked.level.shift asked.own.y1)
 
 pub record IsCellOf (asked : Asked) (column row : ℕ) : Type 0 where
   pub left : asked.own.x0 / 2 ^ asked.level.shift ≤ column
@@ -102,7 +120,9 @@ pub record IsCellOf (asked : Asked) (column row : ℕ) : Type 0 where
   pub top : row ≤ asked.own.y1 / 2 ^ asked.level.shift
 
 -- a cell of the block is between those of the corners
-pub cell_within : (asked : Asked) (index column row : ℕ) → IsAsked asked → index < asked.block.columns * asked.block.rows → column ≡ asked.block.column + index % asked.block.columns → row ≡ asked.block.row + index / asked.block.columns → IsCellOf asked column row
+pub cell_within : (asked : Asked) (index column row : ℕ) → IsAsked asked
+    → index < asked.block.columns * asked.block.rows → column ≡ asked.block.column + index % asked.block.columns
+    → row ≡ asked.block.row + index / asked.block.columns → IsCellOf asked column row
 cell_within asked index column row is h c r =
     let block = asked.block in
     let some : 0 < block.columns = block.some in
@@ -116,10 +136,20 @@ cell_within asked index column row is h c r =
     }
 
 pub short_x : (asked : Asked) → IsAsked asked → asked.own.x1 < 2 ^ 31
-short_x asked is = omega (arith, ints, (subst (λ (r : Rect). IsPastCorner asked.level.low r) (sym is.own) is.past).right.1)
+short_x asked is = omega (
+  arith,
+  ints,
+  (subst (λ (r : Rect). IsPastCorner asked.level.low r) (sym is.own)
+      is.past).right.1,
+)
 
 pub short_y : (asked : Asked) → IsAsked asked → asked.own.y1 < 2 ^ 31
-short_y asked is = omega (arith, ints, (subst (λ (r : Rect). IsPastCorner asked.level.low r) (sym is.own) is.past).top.1)
+short_y asked is = omega (
+  arith,
+  ints,
+  (subst (λ (r : Rect). IsPastCorner asked.level.low r) (sym is.own)
+      is.past).top.1,
+)
 
 -- ---- what is told at a cell
 within_true : (a b : Bool) → IsTrue (a && b) → IsTrue a × IsTrue b
@@ -136,8 +166,10 @@ both_true false b s t = cc
 abbrev pub DoesMeet : Bounds → ℕ → ℕ → ℕ → Type 0
 DoesMeet bounds start first last = IsBetween bounds first × (start ≤ last)
 
-pub told_by_window : (asked : Asked) (window : Window) (other : Offsets) (wide high : Bool) → IsAsked asked → IsWindow asked window → IsPastCorner asked.level.low (rect_of asked.level.low other)
-    → IsTrue wide ↔ DoesMeet window.x asked.own.x0 other.x0 other.x1 → IsTrue high ↔ DoesMeet window.y asked.own.y0 other.y0 other.y1
+pub told_by_window : (asked : Asked) (window : Window) (other : Offsets) (wide high : Bool) → IsAsked asked
+    → IsWindow asked window → IsPastCorner asked.level.low (rect_of asked.level.low other)
+    → IsTrue wide ↔ DoesMeet window.x asked.own.x0 other.x0 other.x1
+    → IsTrue high ↔ DoesMeet window.y asked.own.y0 other.y0 other.y1
     → IsTrue (wide && high) ↔ IsTold asked window.index (rect_of asked.level.low other)
 told_by_window asked window other wide high is of past x y = (there, back_again)
   where
@@ -163,7 +195,14 @@ told_by_window asked window other wide high is of past x y = (there, back_again)
         let cell = asked.block in
         record {
           shared = subst (λ (r : Rect). ShareAPoint p r) is.own
-              (shared p (rect_of asked.level.low asked.own) past.ordered ordered (record { left = omega (arith, ints, c.0); right = omega (arith, ints, a.1); bottom = omega (arith, ints, d.0); top = omega (arith, ints, b.1) }));
+              (shared p (rect_of asked.level.low asked.own) past.ordered ordered
+              (record {
+                left = omega (arith, ints, c.0);
+                right = omega (arith, ints, a.1);
+                bottom =
+                    omega (arith, ints, d.0);
+                top = omega (arith, ints, b.1);
+              }));
           here = rw (column ∙ c.1, row ∙ d.1) (index_again window.index cell.column cell.row cell.columns);
         }
       where
@@ -175,12 +214,24 @@ told_by_window asked window other wide high is of past x y = (there, back_again)
 
     back_again : IsTold asked window.index p → IsTrue (wide && high)
     back_again told =
-        let m = meeting p (rect_of asked.level.low asked.own) (subst (λ (r : Rect). ShareAPoint p r) (sym is.own) told.shared) in
+        let m = meeting p (rect_of asked.level.low asked.own)
+        (subst (λ (r : Rect). ShareAPoint p r) (sym is.own) told.shared) in
         let common = least_has p asked.rect past.ordered is.past.ordered told.shared in
         let inside = point_in asked.level asked.rect asked.block (least p asked.rect) is.past is.block common.1 in
-        let parts = index_parts asked.block (column_of asked.level (least p asked.rect).x) (row_of asked.level (least p asked.rect).y) inside in
-        let at_row : row_of asked.level (least p asked.rect).y - asked.block.row ≡ window.index / asked.block.columns = sym parts.0 ∙ ap (λ (i : ℕ). i / asked.block.columns) told.here in
-        let at_column : column_of asked.level (least p asked.rect).x - asked.block.column ≡ window.index % asked.block.columns = sym parts.1 ∙ ap (λ (i : ℕ). i % asked.block.columns) told.here in
+        let parts = index_parts asked.block (column_of asked.level (least p asked.rect).x)
+        (row_of asked.level (least p asked.rect).y) inside in
+        let at_row : row_of asked.level (least p asked.rect).y - asked.block.row ≡ window.index / asked.block.columns =
+        sym parts.0 ∙ ap (λ (i : ℕ). i / asked.block.columns) told.here in
+        let at_column : column_of asked.level (least p asked.rect).x - asked.block.column
+        ≡ window.index % asked.block.columns = sym parts.1 ∙ ap (λ (i : ℕ). i % asked.block.columns) told.here in
         both_true wide high
-        (x.1 ((of.x other.x0).1 (omega (arith, ints, m.left), sym column ∙ omega (arith, at_column, inside.left)), omega (arith, ints, m.right)))
-        (y.1 ((of.y other.y0).1 (omega (arith, ints, m.bottom), sym row ∙ omega (arith, at_row, inside.bottom)), omega (arith, ints, m.top)))
+        (x.1 (
+          (of.x other.x0).1 (omega (arith, ints, m.left), sym column ∙ omega (arith, at_column, inside.left)),
+          omega
+              (arith, ints, m.right),
+        ))
+        (y.1 (
+          (of.y other.y0).1 (omega (arith, ints, m.bottom), sym row ∙ omega (arith, at_row, inside.bottom)),
+          omega
+              (arith, ints, m.top),
+        ))

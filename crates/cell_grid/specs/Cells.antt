@@ -1,5 +1,6 @@
 -- Cells of a level, and where they stand in the list of all cells. Only private functions speak of it.
-use Rattle.std.specs.Prelude.{◌≡◌, ℕ, ◌+◌, ◌*◌, ◌%◌, ◌^◌, ◌<◌, ◌≤◌, ℤ, List, [], length, Contains, slice_index_or, bit_and}
+use Rattle.std.specs.Prelude.{◌≡◌, ℕ, ◌+◌, ◌*◌, ◌%◌, ◌^◌, ◌<◌, ◌≤◌, ℤ, List, [], length, Contains, slice_index_or}
+use Rattle.std.specs.Prelude.{bit_and}
 use Rattle.std.specs.List.Sorted.{IsStrictlyIncreasing}
 use Rattle.plane_base.specs.declared.shapes.Pt.{Pt}
 use Rattle.plane_base.specs.declared.shapes.Rect.{Rect}
@@ -46,8 +47,10 @@ HasNumbersBelow count cells = (place k : ℕ) → Contains (numbers_at cells pla
 -- the boxes of this level, and no others, stand in its cells, each in each cell of which it has a point
 pub record IsLevelOf (boxes : List Rect) (cells : List (List ℕ)) (level : Level) : Type 0 where
   pub places : HasPlacesOf level cells
-  pub of_level : (place k : ℕ) → IsPlaceOf level place → Contains (numbers_at cells place) k → IsOnLevel boxes level.number k
-  pub held : (k : ℕ) (p : Pt) → IsOnLevel boxes level.number k → HasPoint (box_at boxes k) p → Contains (numbers_at cells (cell_of level p)) k
+  pub of_level : (place k : ℕ) → IsPlaceOf level place → Contains (numbers_at cells place) k
+      → IsOnLevel boxes level.number k
+  pub held : (k : ℕ) (p : Pt) → IsOnLevel boxes level.number k → HasPoint (box_at boxes k) p
+      → Contains (numbers_at cells (cell_of level p)) k
 
 -- the numbers of each cell ascend
 abbrev pub DoAscend : List (List ℕ) → Type 0

@@ -30,11 +30,14 @@ pub record DoesKeep (place : ℕ) (before now : List ℕ) : Type 0 where
   pub once : IsDistinct nat_eq before → IsDistinct nat_eq now
   pub few : length now ≤ length before + 1
 
--- of the boxes with numbers below `done`, each is entered under the places of the cells of which it has a point, and under no place of another level
+-- of the boxes with numbers below `done`, each is entered under the places of the cells of which it has a point, and
+-- under no place of another level
 pub record AreEntered (boxes : List Rect) (done : ℕ) (levels : List Level) (entries : List Entry) : Type 0 where
   pub few : length entries ≤ 4 * done
   pub ascending : (place : ℕ) → IsStrictlyIncreasing (numbers_of place entries)
   pub earlier : (place k : ℕ) → Contains (numbers_of place entries) k → k < done
-  pub of_level : (place k l : ℕ) (d : Level) → l < length levels → IsPlaceOf (slice_index_or levels l d) place → Contains (numbers_of place entries) k → IsOnLevel boxes l k
-  pub held : (k l : ℕ) (d : Level) (p : Pt) → l < length levels → k < done → IsOnLevel boxes l k → HasPoint (box_at boxes k) p → Contains (numbers_of (cell_of (slice_index_or levels l d) p) entries) k
+  pub of_level : (place k l : ℕ) (d : Level) → l < length levels → IsPlaceOf (slice_index_or levels l d) place
+      → Contains (numbers_of place entries) k → IsOnLevel boxes l k
+  pub held : (k l : ℕ) (d : Level) (p : Pt) → l < length levels → k < done → IsOnLevel boxes l k
+      → HasPoint (box_at boxes k) p → Contains (numbers_of (cell_of (slice_index_or levels l d) p) entries) k
   pub within : (end : ℕ) → All (λ level. level.base + level.mask < end) levels → All (λ entry. entry.key < end) entries

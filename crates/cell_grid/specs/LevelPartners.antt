@@ -19,7 +19,8 @@ pub record DoesTell (IsMeant : ℕ → Type 0) (before now : List ℕ) : Type 0 
   pub kept : (number : ℕ) → Contains before number → Contains now number
   pub told : (number : ℕ) → IsMeant number → Contains now number
   pub only : (number : ℕ) → Contains now number → Contains before number ⊎ IsMeant number
-  pub once : IsDistinct nat_eq before → ((number : ℕ) → IsMeant number → Contains before number → ⊥) → IsDistinct nat_eq now
+  pub once : IsDistinct nat_eq before → ((number : ℕ) → IsMeant number → Contains before number → ⊥)
+      → IsDistinct nat_eq now
 
 -- the box that asks is past the low corner of the level, and the block is of its cells
 pub record IsAsked (asked : Asked) : Type 0 where
@@ -54,7 +55,9 @@ pub record IsToldBefore (asked : Asked) (boxes : List Rect) (index number : ℕ)
 
 -- one of the numbers of a list from a place on, and it may be told
 abbrev pub IsToldFrom : Asked → List Rect → ℕ → List ℕ → ℕ → ℕ → Type 0
-IsToldFrom asked boxes index numbers first number = ((k : ℕ) × (first ≤ k) × (k < length numbers) × (slice_index numbers k ≡ number)) × IsTellable asked boxes index number
+IsToldFrom asked boxes index numbers first number =
+    ((k : ℕ) × (first ≤ k) × (k < length numbers) × (slice_index numbers k ≡ number))
+    × IsTellable asked boxes index number
 
 -- a partner on this level
 abbrev pub IsPartnerOn : List Rect → ℕ → ℕ → ℕ → Type 0
@@ -62,4 +65,5 @@ IsPartnerOn boxes number level other = IsPartner boxes number other × (level_of
 
 -- a partner on one of the first levels of a list
 abbrev pub IsPartnerOnFirst : List Rect → ℕ → List ℕ → ℕ → ℕ → Type 0
-IsPartnerOnFirst boxes number levels count other = IsPartner boxes number other × ((k : ℕ) × (k < count) × (level_of (box_at boxes other) ≡ slice_index levels k))
+IsPartnerOnFirst boxes number levels count other =
+    IsPartner boxes number other × ((k : ℕ) × (k < count) × (level_of (box_at boxes other) ≡ slice_index levels k))

@@ -8,7 +8,8 @@ use Rattle.cell_grid.specs.Sizes.{level_of}
 
 -- in the order by level, and on one level by number, `other` stands behind `number`
 abbrev pub IsBehind : List Rect → ℕ → ℕ → Type 0
-IsBehind boxes number other = (level_of (box_at boxes number) < level_of (box_at boxes other)) ⊎ ((level_of (box_at boxes other) ≡ level_of (box_at boxes number)) × (number < other))
+IsBehind boxes number other = (level_of (box_at boxes number) < level_of (box_at boxes other))
+    ⊎ ((level_of (box_at boxes other) ≡ level_of (box_at boxes number)) × (number < other))
 
 -- its box shares a point with the box of `number`, and it stands behind `number`
 abbrev pub IsPartner : List Rect → ℕ → ℕ → Type 0
@@ -25,4 +26,5 @@ IsToldFor boxes a b = IsPartner boxes a b × (¬ IsPartner boxes b a)
 
 -- of two different boxes that share a point exactly one is a partner of the other
 abbrev pub EachPairIsToldOnce : Type 0
-EachPairIsToldOnce = (boxes : List Rect) (a b : ℕ) → a < length boxes → b < length boxes → a ≢ b → ShareAPoint (box_at boxes a) (box_at boxes b) → IsToldFor boxes a b ⊎ IsToldFor boxes b a
+EachPairIsToldOnce = (boxes : List Rect) (a b : ℕ) → a < length boxes → b < length boxes → a ≢ b
+    → ShareAPoint (box_at boxes a) (box_at boxes b) → IsToldFor boxes a b ⊎ IsToldFor boxes b a

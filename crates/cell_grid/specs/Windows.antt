@@ -11,9 +11,12 @@ IsBetween bounds n = (bounds.first ≤ n) × (n ≤ bounds.last)
 -- just the numbers up to `last` for which the greater of the number and `first` is in a stripe, where stripes of two
 -- to the power of `shift` begin at 0
 abbrev pub AreBoundsOf : ℕ → ℕ → ℕ → ℕ → Bounds → Type 0
-AreBoundsOf shift stripe first last bounds = (n : ℕ) → IsBetween bounds n ↔ ((n ≤ last) × (max n first / 2 ^ shift ≡ stripe))
+AreBoundsOf shift stripe first last bounds = (n : ℕ)
+    → IsBetween bounds n ↔ ((n ≤ last) × (max n first / 2 ^ shift ≡ stripe))
 
 -- on each axis the bounds are those of the cell, for the box that asks
 pub record IsWindow (asked : Asked) (window : Window) : Type 0 where
-  pub x : AreBoundsOf asked.level.shift (asked.block.column + window.index % asked.block.columns) asked.own.x0 asked.own.x1 window.x
-  pub y : AreBoundsOf asked.level.shift (asked.block.row + window.index / asked.block.columns) asked.own.y0 asked.own.y1 window.y
+  pub x : AreBoundsOf asked.level.shift (asked.block.column + window.index % asked.block.columns) asked.own.x0
+      asked.own.x1 window.x
+  pub y : AreBoundsOf asked.level.shift (asked.block.row + window.index / asked.block.columns) asked.own.y0 asked.own.y1
+      window.y

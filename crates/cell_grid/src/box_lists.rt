@@ -9,7 +9,8 @@ use plane_base::Rect;
 use std::alloc::{AllocError, Global};
 use std::marker::Model;
 
-/// Boxes in order of their numbers, and a box round all of them. Each is kept by its offsets from the low corner of that one.
+/// Boxes in order of their numbers, and a box round all of them. Each is kept by its offsets from the low corner of
+/// that one.
 #[derive(Debug, Drop)]
 pub(crate) struct BoxList {
     around: Rect,

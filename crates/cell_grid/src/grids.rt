@@ -23,8 +23,8 @@ use std::marker::Model;
 /// A grid is of fewer boxes than this.
 pub const LIMIT: usize = 1 << 23;
 
-/// Boxes that are found by a point or by another box. A box's number is its place in the list that the grid was built of,
-/// from 0.
+/// Boxes that are found by a point or by another box. A box's number is its place in the list that the grid was built
+/// of, from 0.
 #[derive(Debug, Drop)]
 pub struct Grid {
     boxes: BoxList,
@@ -48,8 +48,8 @@ impl Model for Grid {
 }
 
 impl Grid {
-    /// The grid of these boxes, in millimetres. It takes memory for half of what the boxes take, for their numbers in at
-    /// most four cells each, twice while it sorts them, and for about as many cells as boxes.
+    /// The grid of these boxes, in millimetres. It takes memory for half of what the boxes take, for their numbers in
+    /// at most four cells each, twice while it sorts them, and for about as many cells as boxes.
     pub fn build(alloc: Global, boxes: &[Rect]) -> Result<Self, AllocError>
         requires ordered { AreOrdered boxes.now }
         requires span { AreWithinSpan boxes.now }
@@ -67,7 +67,8 @@ impl Grid {
         })
     }
 
-    /// The numbers of the boxes that share a point with `r`, ascending. `r`, in millimetres, may be anywhere and of any size.
+    /// The numbers of the boxes that share a point with `r`, ascending. `r`, in millimetres, may be anywhere and of any
+    /// size.
     pub fn near(&self, alloc: Global, r: Rect) -> Result<Vec<u32>, AllocError>
         requires { IsOrdered r }
         ensures { IfOk result (λ numbers. IsNearList self.now.boxes r numbers.items) }
@@ -106,9 +107,9 @@ impl Grid {
             .at(level.place(level.column(inside.x), level.row(inside.y)))
     }
 
-    /// The partners of a box: the boxes that share a point with it and come after it, in the order by level and on one level
-    /// by number. `found` is cleared first, and then has the number of each once. Whatever the sizes, at most four cells a
-    /// level are looked at.
+    /// The partners of a box: the boxes that share a point with it and come after it, in the order by level and on one
+    /// level by number. `found` is cleared first, and then has the number of each once. Whatever the sizes, at most
+    /// four cells a level are looked at.
     pub fn partners(&self, number: u32, found: &mut Vec<u32>) -> Result<(), AllocError>
         requires { number < length self.now.boxes }
         ensures { OnOk result (ArePartners self.now.boxes number found.new.items) }

@@ -1,6 +1,7 @@
 //! The levels of a grid: how many boxes each has, how wide its cells are, and where its places begin.
 
-ghost use Rattle.std.specs.Prelude.{◌≡◌, ◌+◌, ◌^◌, ◌<◌, ◌≤◌, ℕ, [], ◌∷◌, ◌++◌, length, All, Contains, IfOk, OnOk, slice_index};
+ghost use Rattle.std.specs.Prelude.{◌≡◌, ◌+◌, ◌^◌, ◌<◌, ◌≤◌, ℕ, [], ◌∷◌, ◌++◌, length, All, Contains, IfOk, OnOk};
+ghost use Rattle.std.specs.Prelude.{slice_index};
 ghost use Rattle.std.specs.List.Sorted.{IsStrictlyIncreasing};
 ghost use Rattle.cell_grid.specs.declared.grids.TheConstants.{LIMIT};
 ghost use Rattle.cell_grid.specs.Sizes.{level_of, AreOfLevels};
@@ -82,8 +83,8 @@ pub(crate) fn levels_for(
     Ok(levels)
 }
 
-// A level for each count of boxes. The cells of each are as wide as they can be if its boxes are spread evenly over an area,
-// in square millimetres.
+// A level for each count of boxes. The cells of each are as wide as they can be if its boxes are spread evenly over an
+// area, in square millimetres.
 fn even_levels(alloc: Global, counts: &[u32], low: Pt, area: u64) -> Result<Vec<Level>, AllocError>
     requires few { length counts.now ≤ 32 }
     ensures count { IfOk result (λ levels. length levels.items ≡ length counts.now) }

@@ -7,9 +7,9 @@ use crate::LIMIT;
 use crate::offsets::offset;
 use plane_base::Pt;
 
-/// A level: the boxes whose longer side has `number` binary digits, and their cells. The cells begin at a low corner, and
-/// each is two to the power of `shift` millimetres wide and high, which is more than the sides of the boxes. There are
-/// about as many places for cells as boxes, so that some cells share one.
+/// A level: the boxes whose longer side has `number` binary digits, and their cells. The cells begin at a low corner,
+/// and each is two to the power of `shift` millimetres wide and high, which is more than the sides of the boxes. There
+/// are about as many places for cells as boxes, so that some cells share one.
 #[derive(Clone, Copy, Debug)]
 pub(crate) struct Level {
     pub(crate) low: Pt,

@@ -1,5 +1,5 @@
-//! Boxes of whole points on a grid of cells, to be found by a point or by another box: which of them share a point with it.
-//! They are kept on levels by size, in cells that are larger than they are, so that each stands in at most four.
+//! Boxes of whole points on a grid of cells, to be found by a point or by another box: which of them share a point with
+//! it. They are kept on levels by size, in cells that are larger than they are, so that each stands in at most four.
 #![tactic(auto)]
 
 mod blocks;
@@ -16,4 +16,4 @@ mod searches;
 mod widths;
 
 pub use grids::{Grid, LIMIT};
-pub use laws::each_pair_is_told_once;
+pub use laws::{each_pair_is_told_once, limits_are_stated};

@@ -15,9 +15,8 @@ use number_groups::Groups;
 use plane_base::Rect;
 use std::alloc::AllocError;
 
-/// Finds the boxes of a level that share a point with `r`, a box in several cells in each of them. `cut` is the part of `r`
-/// where boxes can be.
-/// Where `cut` meets more cells than the level has places, it looks at all places.
+/// Finds the boxes of a level that share a point with `r`, a box in several cells in each of them. `cut` is the part of
+/// `r` where boxes can be. Where `cut` meets more cells than the level has places, it looks at all places.
 pub(crate) fn find(
     level: &Level,
     cells: &Groups,

@@ -1,6 +1,7 @@
 -- Numbers below 2^32 in digits without leading zeros.
 use Rattle.std.specs.Prelude.{◌↔◌, IsTrue, IfSome, IfNone, Option}
-use Rattle.std.proofs.Common.{◌≡◌, ℕ, zero, suc, ◌+◌, ◌<◌, ◌≤◌, ◌^◌, Bool, true, false, cond, List, [], ◌∷◌, ◌++◌, length, take, drop, get_or, Result, Ok, Err, refl, sym, ◌∙◌, ap, ap₂, subst, arith}
+use Rattle.std.proofs.Common.{◌≡◌, ℕ, zero, suc, ◌+◌, ◌<◌, ◌≤◌, ◌^◌, Bool, true, false, cond, List, [], ◌∷◌, ◌++◌}
+use Rattle.std.proofs.Common.{length, take, drop, get_or, Result, Ok, Err, refl, sym, ◌∙◌, ap, ap₂, subst, arith}
 use Rattle.std.specs.Char.{is_ascii_digit}
 use Rattle.std.specs.List.{prefix_len}
 use Rattle.std.specs.Fmt.{decimal}
@@ -8,7 +9,8 @@ use Rattle.std.specs.Result.{OkIff, result_ok}
 use Rattle.std.specs.Str.{all_ascii_digits, IsUtf8}
 use Rattle.std.specs.Str.Parse.{digits_value, ParsesUnsigned}
 use Rattle.std.proofs.lemmas.Bool.{and_parts}
-use Rattle.std.proofs.lemmas.Fmt.{decimal_is_IsNumeral, decimal-digits_value, first_decimal, IsAscii-from_digits, decimal_injective, decimal_digit, parse-decimal}
+use Rattle.std.proofs.lemmas.Fmt.{decimal_is_IsNumeral, decimal-digits_value, first_decimal, IsAscii-from_digits}
+use Rattle.std.proofs.lemmas.Fmt.{decimal_injective, decimal_digit, parse-decimal}
 use Rattle.std.proofs.lemmas.List.{take_at, drop_at, take-append-drop}
 use Rattle.std.proofs.lemmas.Str.{IsUtf8-from_ascii}
 use Rattle.std.proofs.lemmas.Str.Parse.{parse_digits}
@@ -40,9 +42,12 @@ no_leading_zero (suc n) digits small is lead =
     not_above k m e h f = absurd (omega arith)
 
 -- digits that are read are written so
-pub read_is_written : {E : Type 0} (digits : List ℕ) (answer : Result ℕ E) (n : ℕ) → all_ascii_digits digits ≡ true → (HasLeadingZero digits → ⊥)
+pub read_is_written : {E : Type 0} (digits : List ℕ) (answer : Result ℕ E) (n : ℕ) → all_ascii_digits digits ≡ true
+    → (HasLeadingZero digits → ⊥)
     → ParsesUnsigned 32 10 digits answer → answer ≡ Ok n → (digits ≡ decimal n) × (n < 2 ^ 32)
-read_is_written {E} digits answer n all plain is ok = by_answer (subst (λ (r : Result ℕ E). OkIff r ((0 < length digits) × (digits_value 10 digits < 2 ^ 32)) (digits_value 10 digits)) ok (parse_digits digit_texts 32 digits answer is all))
+read_is_written {E} digits answer n all plain is ok =
+    by_answer (subst (λ (r : Result ℕ E). OkIff r ((0 < length digits) × (digits_value 10 digits < 2 ^ 32))
+    (digits_value 10 digits)) ok (parse_digits digit_texts 32 digits answer is all))
   where
     only : 0 < length digits → get_or digits 0 0 ≡ 48 → length digits ≡ 1
     only some none = one (length digits) some (λ (more : 1 < length digits). plain (more, none))
@@ -53,15 +58,20 @@ read_is_written {E} digits answer n all plain is ok = by_answer (subst (λ (r : 
         one : (k : ℕ) → 0 < k → (1 < k → ⊥) → k ≡ 1
         one k h f = let g = few k f in omega arith
 
-    by_answer : OkIff {E = E} (Ok n) ((0 < length digits) × (digits_value 10 digits < 2 ^ 32)) (digits_value 10 digits) → (digits ≡ decimal n) × (n < 2 ^ 32)
+    by_answer : OkIff {E = E} (Ok n) ((0 < length digits) × (digits_value 10 digits < 2 ^ 32)) (digits_value 10 digits)
+        → (digits ≡ decimal n) × (n < 2 ^ 32)
     by_answer h = (same h, subst (λ (k : ℕ). k < 2 ^ 32) (sym h.1) h.0.1)
       where
-        same : OkIff {E = E} (Ok n) ((0 < length digits) × (digits_value 10 digits < 2 ^ 32)) (digits_value 10 digits) → digits ≡ decimal n
-        same h = sym (decimal-digits_value digit_texts digits all h.0.0 (only h.0.0) (wide (digits_value 10 digits) h.0.1)) ∙ ap decimal (sym h.1)
+        same : OkIff {E = E} (Ok n) ((0 < length digits) × (digits_value 10 digits < 2 ^ 32)) (digits_value 10 digits)
+            → digits ≡ decimal n
+        same h = sym (decimal-digits_value digit_texts digits all h.0.0 (only h.0.0)
+            (wide (digits_value 10 digits) h.0.1)) ∙ ap decimal (sym h.1)
 
 -- digits that are not read are no number's
-pub not_read : {E : Type 0} (digits : List ℕ) (answer : Result ℕ E) (e : E) (n : ℕ) → n < 2 ^ 32 → digits ≡ decimal n → ParsesUnsigned 32 10 digits answer → answer ≡ Err e → ⊥
-not_read digits answer e n small is parses err = let read = parse-decimal 32 n digits answer small (wide n small) is parses in cc
+pub not_read : {E : Type 0} (digits : List ℕ) (answer : Result ℕ E) (e : E) (n : ℕ) → n < 2 ^ 32 → digits ≡ decimal n
+    → ParsesUnsigned 32 10 digits answer → answer ≡ Err e → ⊥
+not_read digits answer e n small is parses err = let read =
+    parse-decimal 32 n digits answer small (wide n small) is parses in cc
 
 -- ---- the digits at the front
 pub are_front_digits : (text : List ℕ) → all_ascii_digits (take (prefix_len is_ascii_digit text) text) ≡ true
@@ -71,7 +81,8 @@ are_front_digits (byte ∷ text) = by_test (are_front_digits text) (is_ascii_dig
     one_more : 1 + prefix_len is_ascii_digit text ≡ suc (prefix_len is_ascii_digit text)
     one_more = omega arith
 
-    by_test : all_ascii_digits (take (prefix_len is_ascii_digit text) text) ≡ true → (test : Bool) → test ≡ is_ascii_digit byte
+    by_test : all_ascii_digits (take (prefix_len is_ascii_digit text) text) ≡ true → (test : Bool)
+        → test ≡ is_ascii_digit byte
         → all_ascii_digits (take (cond test (1 + prefix_len is_ascii_digit text) 0) (byte ∷ text)) ≡ true
     by_test later true is = rw (one_more, ← is) later
     by_test later false is = refl
@@ -89,7 +100,8 @@ front_stops (byte ∷ text) = by_test (front_stops text) (is_ascii_digit byte) r
     by_test later true is = rw one_more later
     by_test later false is = sym is
 
-digits_end : (digits rest : List ℕ) → all_ascii_digits digits ≡ true → Stops rest → prefix_len is_ascii_digit (digits ++ rest) ≡ length digits
+digits_end : (digits rest : List ℕ) → all_ascii_digits digits ≡ true → Stops rest
+    → prefix_len is_ascii_digit (digits ++ rest) ≡ length digits
 digits_end [] [] all stops = refl
 digits_end [] (byte ∷ rest) all stops = rw stops refl
 digits_end (digit ∷ digits) rest all stops =
@@ -122,7 +134,8 @@ pub record AreSame (m n : ℕ) (rest more : List ℕ) : Type 0 where
   pub number : m ≡ n
   pub behind : rest ≡ more
 
-pub one_number : (text : List ℕ) (m n : ℕ) (rest more : List ℕ) → IsNumber text m rest → IsNumber text n more → AreSame m n rest more
+pub one_number : (text : List ℕ) (m n : ℕ) (rest more : List ℕ) → IsNumber text m rest → IsNumber text n more
+    → AreSame m n rest more
 one_number text m n rest more h k =
     let f = front_of text m rest h in
     let g = front_of text n more k in
@@ -131,7 +144,8 @@ one_number text m n rest more h k =
       behind = sym f.behind ∙ g.behind;
     }
 
-pub ended_is_number : (text : List ℕ) (n : ℕ) (last : Bool) (rest : List ℕ) → IsEnded text n last rest → IsNumber text n (separator last ∷ rest)
+pub ended_is_number : (text : List ℕ) (n : ℕ) (last : Bool) (rest : List ℕ) → IsEnded text n last rest
+    → IsNumber text n (separator last ∷ rest)
 ended_is_number text n true rest h = record { small = h.small; spelled = h.spelled; stops = refl }
 ended_is_number text n false rest h = record { small = h.small; spelled = h.spelled; stops = refl }
 
@@ -150,40 +164,51 @@ pub record IsOneEnd (m n : ℕ) (last also : Bool) (rest more : List ℕ) : Type
   pub ends : last ≡ also
   pub behind : rest ≡ more
 
-pub one_end : (text : List ℕ) (m n : ℕ) (last also : Bool) (rest more : List ℕ) → IsEnded text m last rest → IsEnded text n also more → IsOneEnd m n last also rest more
+pub one_end : (text : List ℕ) (m n : ℕ) (last also : Bool) (rest more : List ℕ) → IsEnded text m last rest
+    → IsEnded text n also more → IsOneEnd m n last also rest more
 one_end text m n last also rest more h k =
-    let same = one_number text m n (separator last ∷ rest) (separator also ∷ more) (ended_is_number text m last rest h) (ended_is_number text n also more k) in
+    let same = one_number text m n (separator last ∷ rest) (separator also ∷ more) (ended_is_number text m last rest h)
+    (ended_is_number text n also more k) in
     let parts = same_head (separator last) (separator also) rest more same.behind in
     record { number = same.number; ends = same_end last also parts.0; behind = parts.1 }
 
 -- ---- what `parse` gives
-pub parsed_some : {E : Type 0} (digits : List ℕ) (answer : Result ℕ E) (found : Option ℕ) (lead : Bool) → all_ascii_digits digits ≡ true → (IsTrue lead ↔ HasLeadingZero digits) → lead ≡ false
-    → ParsesUnsigned 32 10 digits answer → found ≡ result_ok answer → IfSome found (λ n. (digits ≡ decimal n) × (n < 2 ^ 32))
-parsed_some {E} digits answer found lead all is_lead no_lead parses e = subst (λ (o : Option ℕ). IfSome o (λ n. (digits ≡ decimal n) × (n < 2 ^ 32))) (sym e) (by_answer answer parses)
+pub parsed_some : {E : Type 0} (digits : List ℕ) (answer : Result ℕ E) (found : Option ℕ) (lead : Bool)
+    → all_ascii_digits digits ≡ true → (IsTrue lead ↔ HasLeadingZero digits) → lead ≡ false
+    → ParsesUnsigned 32 10 digits answer → found ≡ result_ok answer
+    → IfSome found (λ n. (digits ≡ decimal n) × (n < 2 ^ 32))
+parsed_some {E} digits answer found lead all is_lead no_lead parses e =
+    subst (λ (o : Option ℕ). IfSome o (λ n. (digits ≡ decimal n) × (n < 2 ^ 32))) (sym e) (by_answer answer parses)
   where
     plain : HasLeadingZero digits → ⊥
     plain h = let yes = is_lead.1 h in cc
 
-    by_answer : (r : Result ℕ E) → ParsesUnsigned 32 10 digits r → IfSome (result_ok r) (λ n. (digits ≡ decimal n) × (n < 2 ^ 32))
+    by_answer : (r : Result ℕ E) → ParsesUnsigned 32 10 digits r
+        → IfSome (result_ok r) (λ n. (digits ≡ decimal n) × (n < 2 ^ 32))
     by_answer (Ok n) h = read_is_written {E = E} digits (Ok n) n all plain h refl
     by_answer (Err e) h = tt
 
-pub parsed_none : {E : Type 0} (digits : List ℕ) (answer : Result ℕ E) (found : Option ℕ) → ParsesUnsigned 32 10 digits answer → found ≡ result_ok answer
+pub parsed_none : {E : Type 0} (digits : List ℕ) (answer : Result ℕ E) (found : Option ℕ)
+    → ParsesUnsigned 32 10 digits answer → found ≡ result_ok answer
     → IfNone found ((n : ℕ) → n < 2 ^ 32 → digits ≡ decimal n → ⊥)
-parsed_none {E} digits answer found parses e = subst (λ (o : Option ℕ). IfNone o ((n : ℕ) → n < 2 ^ 32 → digits ≡ decimal n → ⊥)) (sym e) (by_answer answer parses)
+parsed_none {E} digits answer found parses e =
+    subst (λ (o : Option ℕ). IfNone o ((n : ℕ) → n < 2 ^ 32 → digits ≡ decimal n → ⊥)) (sym e) (by_answer answer parses)
   where
-    by_answer : (r : Result ℕ E) → ParsesUnsigned 32 10 digits r → IfNone (result_ok r) ((n : ℕ) → n < 2 ^ 32 → digits ≡ decimal n → ⊥)
+    by_answer : (r : Result ℕ E) → ParsesUnsigned 32 10 digits r
+        → IfNone (result_ok r) ((n : ℕ) → n < 2 ^ 32 → digits ≡ decimal n → ⊥)
     by_answer (Ok n) h = tt
     by_answer (Err e) h = λ n small is. not_read {E = E} digits (Err e) e n small is h refl
 
 -- ---- the number at the front
-pub no_front : (text digits : List ℕ) (count : ℕ) → count ≡ prefix_len is_ascii_digit text → digits ≡ take count text → ((n : ℕ) → n < 2 ^ 32 → digits ≡ decimal n → ⊥)
+pub no_front : (text digits : List ℕ) (count : ℕ) → count ≡ prefix_len is_ascii_digit text → digits ≡ take count text
+    → ((n : ℕ) → n < 2 ^ 32 → digits ≡ decimal n → ⊥)
     → (n : ℕ) (rest : List ℕ) → IsNumber text n rest → ⊥
 no_front text digits count k is none n rest h =
     let f = front_of text n rest h in
     none n h.small (is ∙ ap (λ (m : ℕ). take m text) k ∙ f.digits)
 
-pub number_front : (text digits behind : List ℕ) (count n : ℕ) → count ≡ prefix_len is_ascii_digit text → digits ≡ take count text → behind ≡ drop count text → digits ≡ decimal n → n < 2 ^ 32 → IsNumber text n behind
+pub number_front : (text digits behind : List ℕ) (count n : ℕ) → count ≡ prefix_len is_ascii_digit text
+    → digits ≡ take count text → behind ≡ drop count text → digits ≡ decimal n → n < 2 ^ 32 → IsNumber text n behind
 number_front text digits behind count n k is rest written small =
     record {
       small = small;
@@ -191,13 +216,15 @@ number_front text digits behind count n k is rest written small =
       stops = subst (λ (xs : List ℕ). Stops xs) (sym (rest ∙ ap (λ (m : ℕ). drop m text) k)) (front_stops text);
     }
 
-pub not_ended : (text : List ℕ) (n : ℕ) (behind : List ℕ) → IsNumber text n behind → ((last : Bool) → get_or behind 0 0 ≡ separator last → ⊥)
+pub not_ended : (text : List ℕ) (n : ℕ) (behind : List ℕ) → IsNumber text n behind
+    → ((last : Bool) → get_or behind 0 0 ≡ separator last → ⊥)
     → (m : ℕ) (last : Bool) (more : List ℕ) → IsEnded text m last more → ⊥
 not_ended text n behind h none m last more k =
     let same = one_number text n m behind (separator last ∷ more) h (ended_is_number text m last more k) in
     none last (ap (λ (xs : List ℕ). get_or xs 0 0) same.behind)
 
-pub nothing_behind : (text : List ℕ) (n : ℕ) (behind : List ℕ) → IsNumber text n behind → length behind ≡ 0 → (m : ℕ) (last : Bool) (more : List ℕ) → IsEnded text m last more → ⊥
+pub nothing_behind : (text : List ℕ) (n : ℕ) (behind : List ℕ) → IsNumber text n behind → length behind ≡ 0
+    → (m : ℕ) (last : Bool) (more : List ℕ) → IsEnded text m last more → ⊥
 nothing_behind text n behind h e m last more k =
     let same = one_number text n m behind (separator last ∷ more) h (ended_is_number text m last more k) in
     let long = ap (λ (xs : List ℕ). length xs) same.behind in

@@ -1,5 +1,6 @@
 -- Lines of lists at the front of a text, number by number.
-use Rattle.std.proofs.Common.{◌≡◌, ◌≢◌, ℕ, zero, suc, ◌+◌, ◌<◌, ◌≤◌, Bool, true, false, List, [], ◌∷◌, ◌++◌, length, refl, sym, ◌∙◌, ap, ap₂, subst, append_assoc, arith}
+use Rattle.std.proofs.Common.{◌≡◌, ◌≢◌, ℕ, zero, suc, ◌+◌, ◌<◌, ◌≤◌, Bool, true, false, List, [], ◌∷◌, ◌++◌, length}
+use Rattle.std.proofs.Common.{refl, sym, ◌∙◌, ap, ap₂, subst, append_assoc, arith}
 use Rattle.std.specs.Fmt.{decimal}
 use Rattle.std.specs.List.{AllByRecursion}
 use Rattle.std.proofs.lemmas.List.{length-append, append-nil, append_cancel_left}
@@ -16,7 +17,8 @@ GoesOn true behind rest = behind ≡ rest
 GoesOn false behind rest = BeginsWithLine behind rest
 
 -- ---- a number at the front
-pub number_before : (text : List ℕ) (n : ℕ) (last : Bool) (behind rest : List ℕ) → IsEnded text n last behind → GoesOn last behind rest → BeginsWithLine text rest
+pub number_before : (text : List ℕ) (n : ℕ) (last : Bool) (behind rest : List ℕ) → IsEnded text n last behind
+    → GoesOn last behind rest → BeginsWithLine text rest
 number_before text n true behind rest h e = (
   n ∷ [],
   record {
@@ -32,7 +34,8 @@ number_before text n false behind rest h (m ∷ ns, line) = (
   n ∷ m ∷ ns,
   record {
     list = record { some = omega arith; below = (h.small, let list = line.list in list.below) };
-    spelled = h.spelled ∙ ap (λ (xs : List ℕ). decimal n ++ 32 ∷ xs) line.spelled ∙ sym (append_assoc (decimal n) (32 ∷ line_text (m ∷ ns)) rest);
+    spelled = h.spelled ∙ ap (λ (xs : List ℕ). decimal n ++ 32 ∷ xs) line.spelled
+        ∙ sym (append_assoc (decimal n) (32 ∷ line_text (m ∷ ns)) rest);
   },
 )
 
@@ -53,25 +56,41 @@ line_front text rest (n ∷ [], line) = record {
   number = n;
   last = true;
   behind = rest;
-  ended = record { small = (let list = line.list in list.below.0); spelled = line.spelled ∙ append_assoc (decimal n) (10 ∷ []) rest };
+  ended = record {
+    small = (let list = line.list in list.below.0);
+    spelled = line.spelled
+        ∙ append_assoc (decimal n) (10 ∷ []) rest;
+  };
   goes_on = refl;
 }
 line_front text rest (n ∷ m ∷ ns, line) = record {
   number = n;
   last = false;
   behind = line_text (m ∷ ns) ++ rest;
-  ended = record { small = (let list = line.list in list.below.0); spelled = line.spelled ∙ append_assoc (decimal n) (32 ∷ line_text (m ∷ ns)) rest };
-  goes_on = (m ∷ ns, record { list = record { some = omega arith; below = (let list = line.list in list.below.1) }; spelled = refl });
+  ended = record {
+    small = (let list = line.list in list.below.0);
+    spelled = line.spelled
+        ∙ append_assoc (decimal n) (32 ∷ line_text (m ∷ ns)) rest;
+  };
+  goes_on = (
+    m ∷ ns,
+    record {
+      list = record { some = omega arith; below = (let list = line.list in list.below.1) };
+      spelled = refl;
+    },
+  );
 }
 
 -- the first number of a line is the one that the text begins with
-pub line_behind : (text : List ℕ) (n : ℕ) (last : Bool) (behind rest : List ℕ) → IsEnded text n last behind → BeginsWithLine text rest → GoesOn last behind rest
+pub line_behind : (text : List ℕ) (n : ℕ) (last : Bool) (behind rest : List ℕ) → IsEnded text n last behind
+    → BeginsWithLine text rest → GoesOn last behind rest
 line_behind text n last behind rest h line = go (line_front text rest line)
   where
     go : LineFront text rest → GoesOn last behind rest
     go f =
         let one = one_end text f.number n f.last last f.behind behind f.ended h in
-        subst (λ (xs : List ℕ). GoesOn last xs rest) one.behind (subst (λ (b : Bool). GoesOn b f.behind rest) one.ends f.goes_on)
+        subst (λ (xs : List ℕ). GoesOn last xs rest) one.behind
+        (subst (λ (b : Bool). GoesOn b f.behind rest) one.ends f.goes_on)
 
 -- ---- on the way through a line: its line is the rest's
 pub record IsOnLine (text rest : List ℕ) : Type 0 where
@@ -79,25 +98,35 @@ pub record IsOnLine (text rest : List ℕ) : Type 0 where
   pub from : (more : List ℕ) → BeginsWithLine text more → BeginsWithLine rest more
 
 pub on_start : (text rest : List ℕ) → rest ≡ text → IsOnLine text rest
-on_start text rest e = subst (λ (xs : List ℕ). IsOnLine text xs) (sym e) (record { to = λ more h. h; from = λ more h. h })
+on_start text rest e = subst (λ (xs : List ℕ). IsOnLine text xs) (sym e)
+    (record { to = λ more h. h; from = λ more h. h })
 
-pub on_more : (text rest : List ℕ) (n : ℕ) (last : Bool) (behind : List ℕ) → IsOnLine text rest → last ≡ false → IsEnded rest n last behind → IsOnLine text behind
+pub on_more : (text rest : List ℕ) (n : ℕ) (last : Bool) (behind : List ℕ) → IsOnLine text rest → last ≡ false
+    → IsEnded rest n last behind → IsOnLine text behind
 on_more text rest n last behind on e h = go (subst (λ (b : Bool). IsEnded rest n b behind) e h)
   where
     go : IsEnded rest n false behind → IsOnLine text behind
-    go k = record { to = λ more m. on.to more (number_before rest n false behind more k m); from = λ more m. line_behind rest n false behind more k (on.from more m) }
+    go k = record {
+      to = λ more m. on.to more (number_before rest n false behind more k m);
+      from =
+          λ more m. line_behind rest n false behind more k (on.from more m);
+    }
 
-pub on_last : (text rest : List ℕ) (n : ℕ) (last : Bool) (behind : List ℕ) → IsOnLine text rest → last ≡ true → IsEnded rest n last behind → BeginsWithLine text behind
-on_last text rest n last behind on e h = on.to behind (number_before rest n true behind behind (subst (λ (b : Bool). IsEnded rest n b behind) e h) refl)
+pub on_last : (text rest : List ℕ) (n : ℕ) (last : Bool) (behind : List ℕ) → IsOnLine text rest → last ≡ true
+    → IsEnded rest n last behind → BeginsWithLine text behind
+on_last text rest n last behind on e h = on.to behind
+    (number_before rest n true behind behind (subst (λ (b : Bool). IsEnded rest n b behind) e h) refl)
 
-pub on_none : (text rest : List ℕ) → IsOnLine text rest → ((n : ℕ) (last : Bool) (more : List ℕ) → IsEnded rest n last more → ⊥) → HasNoLine text
+pub on_none : (text rest : List ℕ) → IsOnLine text rest
+    → ((n : ℕ) (last : Bool) (more : List ℕ) → IsEnded rest n last more → ⊥) → HasNoLine text
 on_none text rest on none more line = go (line_front rest more (on.from more line))
   where
     go : LineFront rest more → ⊥
     go f = none f.number f.last f.behind f.ended
 
 -- a number is not nothing
-pub shorter : (text : List ℕ) (n : ℕ) (last : Bool) (behind : List ℕ) → IsEnded text n last behind → length behind < length text
+pub shorter : (text : List ℕ) (n : ℕ) (last : Bool) (behind : List ℕ) → IsEnded text n last behind
+    → length behind < length text
 shorter text n last behind h =
     let e = ap (λ (xs : List ℕ). length xs) h.spelled ∙ length-append (decimal n) (separator last ∷ behind) in
     more (length behind) (length (decimal n)) (length text) e
@@ -108,9 +137,11 @@ shorter text n last behind h =
 pub line_shorter : (text rest : List ℕ) → BeginsWithLine text rest → length rest < length text
 line_shorter text rest line = go (line_front text rest line)
   where
-    tail : (last : Bool) (behind : List ℕ) → length behind < length text → GoesOn last behind rest → length rest < length text
+    tail : (last : Bool) (behind : List ℕ) → length behind < length text → GoesOn last behind rest
+        → length rest < length text
     tail true behind h e = subst (λ (xs : List ℕ). length xs < length text) e h
-    tail false behind h (ns, line) = below (length (line_text ns)) (length rest) (length behind) (length text) (ap (λ (xs : List ℕ). length xs) line.spelled ∙ length-append (line_text ns) rest) h
+    tail false behind h (ns, line) = below (length (line_text ns)) (length rest) (length behind) (length text)
+        (ap (λ (xs : List ℕ). length xs) line.spelled ∙ length-append (line_text ns) rest) h
       where
         below : (a b c d : ℕ) → c ≡ a + b → c < d → b < d
         below a b c d e h = omega arith
@@ -127,14 +158,17 @@ pub record AreLinesSoFar (text rest : List ℕ) (count : ℕ) : Type 0 where
   pub few : count + length rest ≤ length text
 
 pub lines_start : (text rest : List ℕ) → rest ≡ text → AreLinesSoFar text rest 0
-lines_start text rest e = subst (λ (xs : List ℕ). AreLinesSoFar text xs 0) (sym e) (record { lists = []; are_lists = tt; counted = refl; spelled = refl; few = omega arith })
+lines_start text rest e = subst (λ (xs : List ℕ). AreLinesSoFar text xs 0) (sym e)
+    (record { lists = []; are_lists = tt; counted = refl; spelled = refl; few = omega arith })
 
-pub lines_more : (text rest behind : List ℕ) (count : ℕ) → AreLinesSoFar text rest count → BeginsWithLine rest behind → AreLinesSoFar text behind (count + 1)
+pub lines_more : (text rest behind : List ℕ) (count : ℕ) → AreLinesSoFar text rest count → BeginsWithLine rest behind
+    → AreLinesSoFar text behind (count + 1)
 lines_more text rest behind count far line = record {
   lists = far.lists ++ line.0 ∷ [];
   are_lists = all_append IsList far.lists (line.0 ∷ []) far.are_lists ((let here = line.1 in here.list), tt);
   counted = length-append far.lists (line.0 ∷ []) ∙ one (length far.lists) count far.counted;
-  spelled = far.spelled ∙ ap (λ (xs : List ℕ). lines_text far.lists ++ xs) (let here = line.1 in here.spelled) ∙ sym (append_assoc (lines_text far.lists) (line_text line.0) behind)
+  spelled = far.spelled ∙ ap (λ (xs : List ℕ). lines_text far.lists ++ xs) (let here = line.1 in here.spelled)
+      ∙ sym (append_assoc (lines_text far.lists) (line_text line.0) behind)
       ∙ ap (λ (xs : List ℕ). xs ++ behind) (sym (lines_push far.lists line.0));
   few = fewer count (length rest) (length behind) (length text) far.few (line_shorter rest behind line);
 }
@@ -145,23 +179,42 @@ lines_more text rest behind count far line = record {
     fewer : (c r b t : ℕ) → c + r ≤ t → b < r → c + 1 + b ≤ t
     fewer c r b t h k = omega arith
 
-    lines_push : (lists : List (List ℕ)) (numbers : List ℕ) → lines_text (lists ++ numbers ∷ []) ≡ lines_text lists ++ line_text numbers
-    lines_push lists numbers = flat_map-append line_text lists (numbers ∷ []) ∙ ap (λ (xs : List ℕ). lines_text lists ++ xs) (append-nil (line_text numbers))
+    lines_push : (lists : List (List ℕ)) (numbers : List ℕ)
+        → lines_text (lists ++ numbers ∷ []) ≡ lines_text lists ++ line_text numbers
+    lines_push lists numbers = flat_map-append line_text lists (numbers ∷ [])
+        ∙ ap (λ (xs : List ℕ). lines_text lists ++ xs) (append-nil (line_text numbers))
 
 pub lines_end : (text rest : List ℕ) (count : ℕ) → AreLinesSoFar text rest count → rest ≡ [] → AreLines text count
-lines_end text rest count far e =
-    (far.lists, far.counted, far.are_lists, far.spelled ∙ ap (λ (xs : List ℕ). lines_text far.lists ++ xs) e ∙ append-nil (lines_text far.lists))
+lines_end text rest count far e = (
+  far.lists,
+  far.counted,
+  far.are_lists,
+  far.spelled ∙ ap (λ (xs : List ℕ). lines_text far.lists ++ xs) e
+      ∙ append-nil (lines_text far.lists),
+)
 
-pub lines_bad : (text rest : List ℕ) (count : ℕ) → AreLinesSoFar text rest count → rest ≢ [] → HasNoLine rest → IsBadBehind text count
+pub lines_bad : (text rest : List ℕ) (count : ℕ) → AreLinesSoFar text rest count → rest ≢ [] → HasNoLine rest
+    → IsBadBehind text count
 lines_bad text rest count far some bad =
-    record { before = far.lists; are_lists = far.are_lists; counted = far.counted; rest = rest; spelled = far.spelled; some = some; bad = bad }
+    record {
+      before = far.lists;
+      are_lists = far.are_lists;
+      counted = far.counted;
+      rest = rest;
+      spelled =
+          far.spelled;
+      some = some;
+      bad = bad;
+    }
 
 -- ---- with the first line
-pub count_of : (bytes text : List ℕ) (count : ℕ) → bytes ≡ head_text ++ text → AreLines text count → HasCount bytes count
+pub count_of : (bytes text : List ℕ) (count : ℕ) → bytes ≡ head_text ++ text → AreLines text count
+    → HasCount bytes count
 count_of bytes text count e lines =
     (lines.0, lines.1, record { are_lists = lines.2; spelled = e ∙ ap (λ (xs : List ℕ). head_text ++ xs) lines.3 })
 
-pub bad_line : (bytes text : List ℕ) (count line : ℕ) → bytes ≡ head_text ++ text → IsBadBehind text count → line ≡ count + 2 → IsBadLine bytes line
+pub bad_line : (bytes text : List ℕ) (count line : ℕ) → bytes ≡ head_text ++ text → IsBadBehind text count
+    → line ≡ count + 2 → IsBadLine bytes line
 bad_line bytes text count line e bad is = subst (IsBadLine bytes) (sym (is ∙ two count)) (text, e, bad)
   where
     two : (n : ℕ) → n + 2 ≡ suc (suc n)
@@ -176,11 +229,20 @@ tail_text : List ℕ → List ℕ → List ℕ
 tail_text [] rest = rest
 tail_text (n ∷ ns) rest = line_text (n ∷ ns) ++ rest
 
-first_ended : (text : List ℕ) (n : ℕ) (ns rest : List ℕ) → IsLine text (n ∷ ns) rest → IsEnded text n (ends ns) (tail_text ns rest)
+first_ended : (text : List ℕ) (n : ℕ) (ns rest : List ℕ) → IsLine text (n ∷ ns) rest
+    → IsEnded text n (ends ns) (tail_text ns rest)
 unfolding ends tail_text
-first_ended text n [] rest line = record { small = (let list = line.list in list.below.0); spelled = line.spelled ∙ append_assoc (decimal n) (10 ∷ []) rest }
+first_ended text n [] rest line = record {
+  small = (let list = line.list in list.below.0);
+  spelled = line.spelled
+      ∙ append_assoc (decimal n) (10 ∷ []) rest;
+}
 first_ended text n (m ∷ ns) rest line =
-    record { small = (let list = line.list in list.below.0); spelled = line.spelled ∙ append_assoc (decimal n) (32 ∷ line_text (m ∷ ns)) rest }
+    record {
+      small = (let list = line.list in list.below.0);
+      spelled = line.spelled
+          ∙ append_assoc (decimal n) (32 ∷ line_text (m ∷ ns)) rest;
+    }
 
 none_listed : IsList [] → ⊥
 none_listed list = none list.some
@@ -201,44 +263,59 @@ unfolding ends tail_text
 one_line text [] ms rest more h k = absurd (none_listed h.list)
 one_line text (n ∷ ns) [] rest more h k = absurd (none_listed k.list)
 one_line text (n ∷ ns) (m ∷ ms) rest more h k =
-    go ns ms (λ (t js : List ℕ) (a : IsLine t ns rest) (b : IsLine t js more). one_line t ns js rest more a b) h.list k.list
-    (one_end text n m (ends ns) (ends ms) (tail_text ns rest) (tail_text ms more) (first_ended text n ns rest h) (first_ended text m ms more k))
+    go ns ms (λ (t js : List ℕ) (a : IsLine t ns rest) (b : IsLine t js more). one_line t ns js rest more a b) h.list
+    k.list
+    (one_end text n m (ends ns) (ends ms) (tail_text ns rest) (tail_text ms more) (first_ended text n ns rest h)
+    (first_ended text m ms more k))
   where
-    go : (ns ms : List ℕ) → ((t js : List ℕ) → IsLine t ns rest → IsLine t js more → IsOneLine ns js rest more) → IsList (n ∷ ns) → IsList (m ∷ ms)
-        → IsOneEnd n m (ends ns) (ends ms) (tail_text ns rest) (tail_text ms more) → IsOneLine (n ∷ ns) (m ∷ ms) rest more
+    go : (ns ms : List ℕ) → ((t js : List ℕ) → IsLine t ns rest → IsLine t js more → IsOneLine ns js rest more)
+        → IsList (n ∷ ns) → IsList (m ∷ ms)
+        → IsOneEnd n m (ends ns) (ends ms) (tail_text ns rest) (tail_text ms more)
+        → IsOneLine (n ∷ ns) (m ∷ ms) rest more
     go [] [] others a b same = record { numbers = ap (λ (k : ℕ). k ∷ []) same.number; behind = same.behind }
     go [] (j ∷ ms) others a b same = absurd (let e = same.ends in cc)
     go (i ∷ ns) [] others a b same = absurd (let e = same.ends in cc)
     go (i ∷ ns) (j ∷ ms) others a b same =
-        let later = others (line_text (i ∷ ns) ++ rest) (j ∷ ms) (record { list = other_numbers n i ns a; spelled = refl }) (record { list = other_numbers m j ms b; spelled = same.behind }) in
+        let later = others (line_text (i ∷ ns) ++ rest) (j ∷ ms)
+        (record { list = other_numbers n i ns a; spelled = refl })
+        (record { list = other_numbers m j ms b; spelled = same.behind }) in
         record { numbers = ap₂ (λ (k : ℕ) (ks : List ℕ). k ∷ ks) same.number later.numbers; behind = later.behind }
 
 -- the lines of lists are not nothing
 pub not_nothing : (numbers rest : List ℕ) → IsList numbers → [] ≡ line_text numbers ++ rest → ⊥
-not_nothing numbers rest list e = none (length rest) (line_shorter [] rest (numbers, record { list = list; spelled = e }))
+not_nothing numbers rest list e = none (length rest)
+    (line_shorter [] rest (numbers, record { list = list; spelled = e }))
   where
     none : (k : ℕ) → k < length {A = ℕ} [] → ⊥
     none k h = absurd (omega arith)
 
-pub one_certificate : (lists others : List (List ℕ)) → AllByRecursion IsList lists → AllByRecursion IsList others → lines_text lists ≡ lines_text others → lists ≡ others
+pub one_certificate : (lists others : List (List ℕ)) → AllByRecursion IsList lists → AllByRecursion IsList others
+    → lines_text lists ≡ lines_text others → lists ≡ others
 one_certificate [] [] h k e = refl
 one_certificate [] (other ∷ others) h k e = absurd (not_nothing other (lines_text others) k.0 e)
 one_certificate (list ∷ lists) [] h k e = absurd (not_nothing list (lines_text lists) h.0 (sym e))
 one_certificate (list ∷ lists) (other ∷ others) h k e =
-    let first = one_line (line_text list ++ lines_text lists) list other (lines_text lists) (lines_text others) (record { list = h.0; spelled = refl }) (record { list = k.0; spelled = e }) in
-    ap₂ (λ (ns : List ℕ) (ls : List (List ℕ)). ns ∷ ls) first.numbers (one_certificate lists others h.1 k.1 first.behind)
+    let first = one_line (line_text list ++ lines_text lists) list other (lines_text lists) (lines_text others)
+    (record { list = h.0; spelled = refl }) (record { list = k.0; spelled = e }) in
+    ap₂ (λ (ns : List ℕ) (ls : List (List ℕ)). ns ∷ ls) first.numbers
+    (one_certificate lists others h.1 k.1 first.behind)
 
 -- ---- a certificate has no bad line
-no_bad_behind : (lists before : List (List ℕ)) (rest : List ℕ) → AllByRecursion IsList lists → AllByRecursion IsList before → lines_text lists ≡ lines_text before ++ rest → rest ≢ [] → HasNoLine rest → ⊥
+no_bad_behind : (lists before : List (List ℕ)) (rest : List ℕ) → AllByRecursion IsList lists
+    → AllByRecursion IsList before → lines_text lists ≡ lines_text before ++ rest → rest ≢ [] → HasNoLine rest → ⊥
 no_bad_behind [] [] rest h k e some bad = some (sym e)
-no_bad_behind (list ∷ lists) [] rest h k e some bad = bad (lines_text lists) (list, record { list = h.0; spelled = sym e })
-no_bad_behind [] (first ∷ before) rest h k e some bad = not_nothing first (lines_text before ++ rest) k.0 (e ∙ append_assoc (line_text first) (lines_text before) rest)
+no_bad_behind (list ∷ lists) [] rest h k e some bad =
+    bad (lines_text lists) (list, record { list = h.0; spelled = sym e })
+no_bad_behind [] (first ∷ before) rest h k e some bad =
+    not_nothing first (lines_text before ++ rest) k.0 (e ∙ append_assoc (line_text first) (lines_text before) rest)
 no_bad_behind (list ∷ lists) (first ∷ before) rest h k e some bad =
-    let same = one_line (line_text list ++ lines_text lists) list first (lines_text lists) (lines_text before ++ rest) (record { list = h.0; spelled = refl })
+    let same = one_line (line_text list ++ lines_text lists) list first (lines_text lists) (lines_text before ++ rest)
+    (record { list = h.0; spelled = refl })
     (record { list = k.0; spelled = e ∙ append_assoc (line_text first) (lines_text before) rest }) in
     no_bad_behind lists before rest h.1 k.1 same.behind some bad
 
-pub no_bad_line : (bytes : List ℕ) (lists : List (List ℕ)) (line : ℕ) → IsCertificate bytes lists → IsBadLine bytes line → ⊥
+pub no_bad_line : (bytes : List ℕ) (lists : List (List ℕ)) (line : ℕ) → IsCertificate bytes lists → IsBadLine bytes line
+    → ⊥
 no_bad_line bytes lists zero cert bad = bad
 no_bad_line bytes lists (suc zero) cert bad = bad (lines_text lists) cert.spelled
 no_bad_line bytes lists (suc (suc count)) cert (text, is, bad) =

@@ -1,5 +1,6 @@
 -- The numbers of a line as they are read, and the lines that are left.
-use Rattle.std.proofs.Common.{◌≡◌, ℕ, suc, ◌+◌, ◌*◌, ◌<◌, ◌≤◌, Bool, true, false, List, [], ◌∷◌, ◌++◌, length, append_assoc, refl, sym, ◌∙◌, ap, ap₂, subst, arith}
+use Rattle.std.proofs.Common.{◌≡◌, ℕ, suc, ◌+◌, ◌*◌, ◌<◌, ◌≤◌, Bool, true, false, List, [], ◌∷◌, ◌++◌, length}
+use Rattle.std.proofs.Common.{append_assoc, refl, sym, ◌∙◌, ap, ap₂, subst, arith}
 use Rattle.std.specs.Prelude.{◌^◌}
 use Rattle.std.specs.List.{AllByRecursion}
 use Rattle.std.specs.Fmt.{decimal}
@@ -15,11 +16,13 @@ use Rattle.cert_check.proofs.LineLaws.{IsOnLine, on_start, on_more, not_nothing,
 none_some : 0 < length {A = ℕ} [] → ⊥
 none_some h = absurd (omega arith)
 
-number_line : (text : List ℕ) (n : ℕ) (behind ns rest : List ℕ) → IsEnded text n false behind → IsLine behind ns rest → IsLine text (n ∷ ns) rest
+number_line : (text : List ℕ) (n : ℕ) (behind ns rest : List ℕ) → IsEnded text n false behind → IsLine behind ns rest
+    → IsLine text (n ∷ ns) rest
 number_line text n behind [] rest ended line = absurd (let list = line.list in none_some list.some)
 number_line text n behind (m ∷ ms) rest ended line = record {
   list = record { some = omega arith; below = (ended.small, (let list = line.list in list.below)) };
-  spelled = ended.spelled ∙ ap (λ (xs : List ℕ). decimal n ++ 32 ∷ xs) line.spelled ∙ sym (append_assoc (decimal n) (32 ∷ line_text (m ∷ ms)) rest);
+  spelled = ended.spelled ∙ ap (λ (xs : List ℕ). decimal n ++ 32 ∷ xs) line.spelled
+      ∙ sym (append_assoc (decimal n) (32 ∷ line_text (m ∷ ms)) rest);
 }
 
 last_line : (text : List ℕ) (n : ℕ) (behind : List ℕ) → IsEnded text n true behind → IsLine text (n ∷ []) behind
@@ -36,20 +39,28 @@ pub record IsReadTo (text rest numbers : List ℕ) : Type 0 where
 pub read_start : (text rest numbers : List ℕ) → rest ≡ text → numbers ≡ [] → IsReadTo text rest numbers
 read_start text rest numbers e f = record {
   on = on_start text rest e;
-  read = λ ns more line. subst (λ (xs : List ℕ). IsLine text (xs ++ ns) more) (sym f) (subst (λ (xs : List ℕ). IsLine xs ns more) e line);
+  read = λ ns more line. subst (λ (xs : List ℕ). IsLine text (xs ++ ns) more) (sym f)
+      (subst (λ (xs : List ℕ). IsLine xs ns more) e line);
 }
 
-pub read_more : (text rest numbers numbers' : List ℕ) (n : ℕ) (last : Bool) (behind : List ℕ) → IsReadTo text rest numbers → last ≡ false → IsEnded rest n last behind → numbers' ≡ numbers ++ n ∷ [] → IsReadTo text behind numbers'
+pub read_more : (text rest numbers numbers' : List ℕ) (n : ℕ) (last : Bool) (behind : List ℕ)
+    → IsReadTo text rest numbers → last ≡ false → IsEnded rest n last behind → numbers' ≡ numbers ++ n ∷ []
+    → IsReadTo text behind numbers'
 read_more text rest numbers numbers' n last behind so_far e ended is = record {
   on = on_more text rest n last behind so_far.on e ended;
   read = λ ns more line.
       subst (λ (xs : List ℕ). IsLine text (xs ++ ns) more) (sym is)
-      (subst (λ (xs : List ℕ). IsLine text xs more) (sym (append_assoc numbers (n ∷ []) ns)) (so_far.read (n ∷ ns) more (number_line rest n behind ns more (subst (λ (b : Bool). IsEnded rest n b behind) e ended) line)));
+      (subst (λ (xs : List ℕ). IsLine text xs more) (sym (append_assoc numbers (n ∷ []) ns))
+      (so_far.read (n ∷ ns) more (number_line rest n behind ns more
+      (subst (λ (b : Bool). IsEnded rest n b behind) e ended) line)));
 }
 
-pub read_last : (text rest numbers numbers' : List ℕ) (n : ℕ) (last : Bool) (behind : List ℕ) → IsReadTo text rest numbers → last ≡ true → IsEnded rest n last behind → numbers' ≡ numbers ++ n ∷ [] → IsLine text numbers' behind
+pub read_last : (text rest numbers numbers' : List ℕ) (n : ℕ) (last : Bool) (behind : List ℕ)
+    → IsReadTo text rest numbers → last ≡ true → IsEnded rest n last behind → numbers' ≡ numbers ++ n ∷ []
+    → IsLine text numbers' behind
 read_last text rest numbers numbers' n last behind so_far e ended is =
-    subst (λ (xs : List ℕ). IsLine text xs behind) (sym is) (so_far.read (n ∷ []) behind (last_line rest n behind (subst (λ (b : Bool). IsEnded rest n b behind) e ended)))
+    subst (λ (xs : List ℕ). IsLine text xs behind) (sym is)
+    (so_far.read (n ∷ []) behind (last_line rest n behind (subst (λ (b : Bool). IsEnded rest n b behind) e ended)))
 
 -- ---- each number has a digit and a byte that ends it
 wide : (n : ℕ) → n < 2 ^ 32 → n < 2 ^ 64
@@ -63,12 +74,17 @@ more_long l k d m e h g = omega arith
 
 long : (ns : List ℕ) → AllByRecursion (λ n. n < 2 ^ 32) ns → 2 * length ns ≤ length (line_text ns)
 long [] h = omega arith
-long (n ∷ []) h = one_long (length (decimal n ++ 10 ∷ [])) (length (decimal n)) (length-append (decimal n) (10 ∷ [])) (decimal_nonempty n (wide n h.0))
+long (n ∷ []) h = one_long (length (decimal n ++ 10 ∷ [])) (length (decimal n)) (length-append (decimal n) (10 ∷ []))
+    (decimal_nonempty n (wide n h.0))
 long (n ∷ m ∷ ns) h =
-    more_long (length (m ∷ ns)) (length (decimal n ++ 32 ∷ line_text (m ∷ ns))) (length (decimal n)) (length (line_text (m ∷ ns))) (length-append (decimal n) (32 ∷ line_text (m ∷ ns))) (decimal_nonempty n (wide n h.0)) (long (m ∷ ns) h.1)
+    more_long (length (m ∷ ns)) (length (decimal n ++ 32 ∷ line_text (m ∷ ns))) (length (decimal n))
+    (length (line_text (m ∷ ns))) (length-append (decimal n) (32 ∷ line_text (m ∷ ns)))
+    (decimal_nonempty n (wide n h.0)) (long (m ∷ ns) h.1)
 
 pub line_long : (text numbers rest : List ℕ) → IsLine text numbers rest → 2 * length numbers + length rest ≤ length text
-line_long text numbers rest line = sum (length text) (length (line_text numbers)) (ap (λ (xs : List ℕ). length xs) line.spelled ∙ length-append (line_text numbers) rest) (let list = line.list in long numbers list.below)
+line_long text numbers rest line = sum (length text) (length (line_text numbers))
+    (ap (λ (xs : List ℕ). length xs) line.spelled ∙ length-append (line_text numbers) rest)
+    (let list = line.list in long numbers list.below)
   where
     sum : (k m : ℕ) → k ≡ m + length rest → 2 * length numbers ≤ m → 2 * length numbers + length rest ≤ k
     sum k m e h = omega arith
@@ -80,16 +96,27 @@ pub record LinesLeft (all lists : List (List ℕ)) (rest : List ℕ) : Type 0 wh
   pub are_lists : AllByRecursion IsList others
   pub spelled : rest ≡ lines_text others
 
-pub lines_left : (all lists : List (List ℕ)) (rest : List ℕ) → AllByRecursion IsList all → AllByRecursion IsList lists → lines_text all ≡ lines_text lists ++ rest → LinesLeft all lists rest
+pub lines_left : (all lists : List (List ℕ)) (rest : List ℕ) → AllByRecursion IsList all → AllByRecursion IsList lists
+    → lines_text all ≡ lines_text lists ++ rest → LinesLeft all lists rest
 lines_left all [] rest h k e = record { others = all; are = refl; are_lists = h; spelled = sym e }
-lines_left [] (first ∷ lists) rest h k e = absurd (not_nothing first (lines_text lists ++ rest) k.0 (e ∙ append_assoc (line_text first) (lines_text lists) rest))
+lines_left [] (first ∷ lists) rest h k e =
+    absurd (not_nothing first (lines_text lists ++ rest) k.0
+    (e ∙ append_assoc (line_text first) (lines_text lists) rest))
 lines_left (list ∷ all) (first ∷ lists) rest h k e =
-    let same = one_line (line_text list ++ lines_text all) list first (lines_text all) (lines_text lists ++ rest) (record { list = h.0; spelled = refl })
+    let same = one_line (line_text list ++ lines_text all) list first (lines_text all) (lines_text lists ++ rest)
+    (record { list = h.0; spelled = refl })
     (record { list = k.0; spelled = e ∙ append_assoc (line_text first) (lines_text lists) rest }) in
     let later = lines_left all lists rest h.1 k.1 same.behind in
-    record { others = later.others; are = ap₂ (λ (ns : List ℕ) (ls : List (List ℕ)). ns ∷ ls) same.numbers later.are; are_lists = later.are_lists; spelled = later.spelled }
+    record {
+      others = later.others;
+      are = ap₂ (λ (ns : List ℕ) (ls : List (List ℕ)). ns ∷ ls) same.numbers later.are;
+      are_lists = later.are_lists;
+      spelled = later.spelled;
+    }
 
-pub still_lines : (text rest : List ℕ) (lists : List (List ℕ)) (j n : ℕ) → HasLines text n → text ≡ lines_text lists ++ rest → AllByRecursion IsList lists → length lists ≡ j → j < n → (more : List ℕ) × BeginsWithLine rest more
+pub still_lines : (text rest : List ℕ) (lists : List (List ℕ)) (j n : ℕ) → HasLines text n
+    → text ≡ lines_text lists ++ rest → AllByRecursion IsList lists → length lists ≡ j → j < n
+    → (more : List ℕ) × BeginsWithLine rest more
 still_lines text rest lists j n has e are count h = go left.others left.are left.are_lists left.spelled
   where
     left : LinesLeft has.lists lists rest
@@ -98,16 +125,21 @@ still_lines text rest lists j n has e are count h = go left.others left.are left
     none : (k l : ℕ) → k ≡ l + 0 → l ≡ j → n ≤ k → ⊥
     none k l e f g = absurd (omega arith)
 
-    go : (others : List (List ℕ)) → has.lists ≡ lists ++ others → AllByRecursion IsList others → rest ≡ lines_text others → (more : List ℕ) × BeginsWithLine rest more
-    go [] is lists_are spelled = absurd (none (length has.lists) (length lists) (ap (λ (ls : List (List ℕ)). length ls) is ∙ length-append lists []) count has.enough)
-    go (list ∷ others) is lists_are spelled = (lines_text others, (list, record { list = lists_are.0; spelled = spelled }))
+    go : (others : List (List ℕ)) → has.lists ≡ lists ++ others → AllByRecursion IsList others
+        → rest ≡ lines_text others → (more : List ℕ) × BeginsWithLine rest more
+    go [] is lists_are spelled = absurd (none (length has.lists) (length lists)
+        (ap (λ (ls : List (List ℕ)). length ls) is ∙ length-append lists []) count has.enough)
+    go (list ∷ others) is lists_are spelled =
+        (lines_text others, (list, record { list = lists_are.0; spelled = spelled }))
 
-pub still_enough : (text rest : List ℕ) (lists : List (List ℕ)) (m n : ℕ) → HasLines text n → text ≡ lines_text lists ++ rest → AllByRecursion IsList lists → length lists + m ≤ n → HasLines rest m
+pub still_enough : (text rest : List ℕ) (lists : List (List ℕ)) (m n : ℕ) → HasLines text n
+    → text ≡ lines_text lists ++ rest → AllByRecursion IsList lists → length lists + m ≤ n → HasLines rest m
 still_enough text rest lists m n has e are h = record {
   lists = left.others;
   are_lists = left.are_lists;
   spelled = left.spelled;
-  enough = rest_of (length has.lists) (length lists) (length left.others) (ap (λ (ls : List (List ℕ)). length ls) left.are ∙ length-append lists left.others) has.enough h;
+  enough = rest_of (length has.lists) (length lists) (length left.others)
+      (ap (λ (ls : List (List ℕ)). length ls) left.are ∙ length-append lists left.others) has.enough h;
 }
   where
     left : LinesLeft has.lists lists rest

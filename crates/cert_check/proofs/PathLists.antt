@@ -1,5 +1,6 @@
 -- The images of vertices by the lines of their segments, one after the other.
-use Rattle.std.proofs.Common.{◌≡◌, ℕ, suc, ◌+◌, ◌-◌, ◌<◌, ◌≤◌, List, [], ◌∷◌, ◌++◌, Option, Some, None, drop, length, append_assoc, ap, refl, sym, ◌∙◌, subst, arith}
+use Rattle.std.proofs.Common.{◌≡◌, ℕ, suc, ◌+◌, ◌-◌, ◌<◌, ◌≤◌, List, [], ◌∷◌, ◌++◌, Option, Some, None, drop, length}
+use Rattle.std.proofs.Common.{append_assoc, ap, refl, sym, ◌∙◌, subst, arith}
 use Rattle.std.specs.Prelude.{IfErr, IfSome, IfNone, Result, Ok, Err}
 use Rattle.std.specs.Result.{IsErrAnd}
 use Rattle.std.specs.List.{AllByRecursion, cons_option}
@@ -13,33 +14,39 @@ use Rattle.tin_base.specs.Triangulation.{Triangulation}
 use Rattle.affine_image.specs.Rounded.{IsRoundedImage}
 use Rattle.affine_image.specs.SheetSegments.{Segment, PathVertex, segment_at, vertex_at, path_vertices, segments_begun}
 use Rattle.affine_image.specs.SheetImages.{AreCrossings, joined, begins_from}
-use Rattle.affine_image.proofs.PathVertices.{few, first_vertices, one_vertex_more, begins_one, begins_none, next_begins, split_at}
+use Rattle.affine_image.proofs.PathVertices.{few, first_vertices, one_vertex_more, begins_one, begins_none, next_begins}
+use Rattle.affine_image.proofs.PathVertices.{split_at}
 use Rattle.affine_image.proofs.Runs.{runs_more, begins_more}
 use Rattle.affine_image.proofs.Segmenting.{begun_append}
 use Rattle.cert_check.specs.Certificates.{line_text, lines_text, IsList}
 use Rattle.cert_check.specs.Lines.{IsLine, BeginsWithLine}
 use Rattle.cert_check.specs.RightLists.{IsRightList, AreRightLists}
 use Rattle.cert_check.specs.declared.faults.CertFault.{CertFault}
-use Rattle.cert_check.specs.declared.faults.CertFault.TheVariants.{Layer, Form, Count, Segment as WrongSegment, Differs, NoMemory}
+use Rattle.cert_check.specs.declared.faults.CertFault.TheVariants.{Layer, Form, Count, Segment as WrongSegment, Differs}
+use Rattle.cert_check.specs.declared.faults.CertFault.TheVariants.{NoMemory}
 use Rattle.cert_check.specs.declared.ways.Way.{Way}
 use Rattle.cert_check.specs.declared.ways.Track.{Track}
-use Rattle.cert_check.specs.SheetLists.{HasLines, IsRunBehind, AreImaged, IsStoppedAt, IsSegmentImaged, HasWrongLine, IsWayCause, IsStopCause, IsTriangleWith}
+use Rattle.cert_check.specs.SheetLists.{HasLines, IsRunBehind, AreImaged, IsStoppedAt, IsSegmentImaged, HasWrongLine}
+use Rattle.cert_check.specs.SheetLists.{IsWayCause, IsStopCause, IsTriangleWith}
 use Rattle.cert_check.proofs.LineNumbers.{still_lines}
 
 -- ---- right lists
-pub right_more : (tin : Triangulation) (ss ts : List Segment) (ls ms : List (List ℕ)) → AreRightLists tin ss ls → AreRightLists tin ts ms → AreRightLists tin (ss ++ ts) (ls ++ ms)
+pub right_more : (tin : Triangulation) (ss ts : List Segment) (ls ms : List (List ℕ)) → AreRightLists tin ss ls
+    → AreRightLists tin ts ms → AreRightLists tin (ss ++ ts) (ls ++ ms)
 right_more tin [] ts [] ms h k = k
 right_more tin [] ts (l ∷ ls) ms h k = absurd h
 right_more tin (s ∷ ss) ts [] ms h k = absurd h
 right_more tin (s ∷ ss) ts (l ∷ ls) ms h k = (h.0, right_more tin ss ts ls ms h.1 k)
 
-pub right_length : (tin : Triangulation) (ss : List Segment) (ls : List (List ℕ)) → AreRightLists tin ss ls → length ls ≡ length ss
+pub right_length : (tin : Triangulation) (ss : List Segment) (ls : List (List ℕ)) → AreRightLists tin ss ls
+    → length ls ≡ length ss
 right_length tin [] [] h = refl
 right_length tin [] (l ∷ ls) h = absurd h
 right_length tin (s ∷ ss) [] h = absurd h
 right_length tin (s ∷ ss) (l ∷ ls) h = ap suc (right_length tin ss ls h.1)
 
-pub lists_more : (ls ms : List (List ℕ)) → AllByRecursion IsList ls → AllByRecursion IsList ms → AllByRecursion IsList (ls ++ ms)
+pub lists_more : (ls ms : List (List ℕ)) → AllByRecursion IsList ls → AllByRecursion IsList ms
+    → AllByRecursion IsList (ls ++ ms)
 lists_more [] ms h k = k
 lists_more (l ∷ ls) ms h k = (h.0, lists_more ls ms h.1 k)
 
@@ -47,7 +54,8 @@ pub texts_more : (ls ms : List (List ℕ)) → lines_text (ls ++ ms) ≡ lines_t
 texts_more ls ms = flat_map-append line_text ls ms
 
 -- ---- vertices behind vertices
-pub imaged_none : (tin : Triangulation) (points : List Pt) (run text : List ℕ) → AreImaged tin [] points points run run text text
+pub imaged_none : (tin : Triangulation) (points : List Pt) (run text : List ℕ)
+    → AreImaged tin [] points points run run text text
 imaged_none tin points run text = record {
   runs = [];
   of_vertices = tt;
@@ -59,22 +67,33 @@ imaged_none tin points run text = record {
   spelled = refl;
 }
 
-pub imaged_on : (tin : Triangulation) (vs ws : List PathVertex) (x y z : List Pt) (r s t a b c : List ℕ) → AreImaged tin vs x y r s a b → AreImaged tin ws y z s t b c → AreImaged tin (vs ++ ws) x z r t a c
+pub imaged_on : (tin : Triangulation) (vs ws : List PathVertex) (x y z : List Pt) (r s t a b c : List ℕ)
+    → AreImaged tin vs x y r s a b → AreImaged tin ws y z s t b c → AreImaged tin (vs ++ ws) x z r t a c
 imaged_on tin vs ws x y z r s t a b c g h = record {
   runs = g.runs ++ h.runs;
   of_vertices = runs_more tin vs ws g.runs h.runs g.of_vertices h.of_vertices;
-  points_are = h.points_are ∙ ap (λ (xs : List Pt). xs ++ joined h.runs) g.points_are ∙ append_assoc x (joined g.runs) (joined h.runs) ∙ ap (λ (xs : List Pt). x ++ xs) (sym (flat_map-append (λ run. run) g.runs h.runs));
-  run_are = h.run_are ∙ ap (λ (ms : List ℕ). ms ++ begins_from (length y) h.runs) g.run_are ∙ append_assoc r (begins_from (length x) g.runs) (begins_from (length y) h.runs)
-      ∙ ap (λ (ms : List ℕ). r ++ ms) (ap (λ (m : ℕ). begins_from (length x) g.runs ++ begins_from m h.runs) (ap (λ (xs : List Pt). length xs) g.points_are ∙ length-append x (joined g.runs)) ∙ sym (begins_more (length x) g.runs h.runs));
+  points_are = h.points_are ∙ ap (λ (xs : List Pt). xs ++ joined h.runs) g.points_are
+      ∙ append_assoc x (joined g.runs) (joined h.runs)
+      ∙ ap (λ (xs : List Pt). x ++ xs) (sym (flat_map-append (λ run. run) g.runs h.runs));
+  run_are = h.run_are ∙ ap (λ (ms : List ℕ). ms ++ begins_from (length y) h.runs) g.run_are
+      ∙ append_assoc r (begins_from (length x) g.runs) (begins_from (length y) h.runs)
+      ∙ ap (λ (ms : List ℕ). r ++ ms) (ap (λ (m : ℕ). begins_from (length x) g.runs ++ begins_from m h.runs)
+      (ap (λ (xs : List Pt). length xs) g.points_are ∙ length-append x (joined g.runs))
+      ∙ sym (begins_more (length x) g.runs h.runs));
   lists = g.lists ++ h.lists;
   are_lists = lists_more g.lists h.lists g.are_lists h.are_lists;
-  are_right = subst (λ (ss : List Segment). AreRightLists tin ss (g.lists ++ h.lists)) (sym (begun_append vs ws)) (right_more tin (segments_begun vs) (segments_begun ws) g.lists h.lists g.are_right h.are_right);
-  spelled = g.spelled ∙ ap (λ (xs : List ℕ). lines_text g.lists ++ xs) h.spelled ∙ sym (append_assoc (lines_text g.lists) (lines_text h.lists) c) ∙ ap (λ (xs : List ℕ). xs ++ c) (sym (texts_more g.lists h.lists));
+  are_right = subst (λ (ss : List Segment). AreRightLists tin ss (g.lists ++ h.lists)) (sym (begun_append vs ws))
+      (right_more tin (segments_begun vs) (segments_begun ws) g.lists h.lists g.are_right h.are_right);
+  spelled = g.spelled ∙ ap (λ (xs : List ℕ). lines_text g.lists ++ xs) h.spelled
+      ∙ sym (append_assoc (lines_text g.lists) (lines_text h.lists) c)
+      ∙ ap (λ (xs : List ℕ). xs ++ c) (sym (texts_more g.lists h.lists));
 }
 
 -- a vertex that begins no segment
-pub imaged_last : (tin : Triangulation) (vertex : PathVertex) (image : Pt) (points points' : List Pt) (run run' text rest : List ℕ) → vertex.segment ≡ None → IsRoundedImage tin vertex.point image
-    → points' ≡ points ++ image ∷ [] → run' ≡ run ++ length points ∷ [] → rest ≡ text → AreImaged tin (vertex ∷ []) points points' run run' text rest
+pub imaged_last : (tin : Triangulation) (vertex : PathVertex) (image : Pt) (points points' : List Pt)
+    (run run' text rest : List ℕ) → vertex.segment ≡ None → IsRoundedImage tin vertex.point image
+    → points' ≡ points ++ image ∷ [] → run' ≡ run ++ length points ∷ [] → rest ≡ text
+    → AreImaged tin (vertex ∷ []) points points' run run' text rest
 imaged_last tin vertex image points points' run run' text rest none is e f same = record {
   runs = (image ∷ []) ∷ [];
   of_vertices = ((is, subst (λ (s : Option Segment). AreCrossings tin s []) (sym none) refl), tt);
@@ -87,32 +106,46 @@ imaged_last tin vertex image points points' run run' text rest none is e f same 
 }
 
 -- and one that does
-pub imaged_way : (tin : Triangulation) (vertex : PathVertex) (segment : Segment) (points points' : List Pt) (run run' text rest : List ℕ) → vertex.segment ≡ Some segment → vertex.point ≡ segment.a
-    → IsSegmentImaged tin segment.a segment.b points points' run run' text rest → AreImaged tin (vertex ∷ []) points points' run run' text rest
+pub imaged_way : (tin : Triangulation) (vertex : PathVertex) (segment : Segment) (points points' : List Pt)
+    (run run' text rest : List ℕ) → vertex.segment ≡ Some segment → vertex.point ≡ segment.a
+    → IsSegmentImaged tin segment.a segment.b points points' run run' text rest
+    → AreImaged tin (vertex ∷ []) points points' run run' text rest
 imaged_way tin vertex segment points points' run run' text rest some point imaged = go imaged.behind imaged.line
   where
-    go : IsRunBehind tin segment.a segment.b points points' → IsLine text imaged.list rest → AreImaged tin (vertex ∷ []) points points' run run' text rest
+    go : IsRunBehind tin segment.a segment.b points points' → IsLine text imaged.list rest
+        → AreImaged tin (vertex ∷ []) points points' run run' text rest
     go behind line =
         let crossings : AreCrossings tin (Some segment) behind.crossings = (behind.parts, behind.cut, behind.ends) in
         record {
           runs = (behind.image ∷ behind.crossings) ∷ [];
-          of_vertices = ((subst (λ (p : Pt). IsRoundedImage tin p behind.image) (sym point) behind.is_image, subst (λ (s : Option Segment). AreCrossings tin s behind.crossings) (sym some) crossings), tt);
-          points_are = behind.are ∙ ap (λ (xs : List Pt). points ++ (behind.image ∷ xs)) (sym (append-nil behind.crossings));
+          of_vertices = (
+            (
+              subst (λ (p : Pt). IsRoundedImage tin p behind.image) (sym point) behind.is_image,
+              subst
+                  (λ (s : Option Segment). AreCrossings tin s behind.crossings) (sym some) crossings,
+            ),
+            tt,
+          );
+          points_are = behind.are ∙ ap (λ (xs : List Pt). points ++ (behind.image ∷ xs))
+              (sym (append-nil behind.crossings));
           run_are = imaged.run_are;
           lists = imaged.list ∷ [];
           are_lists = (line.list, tt);
-          are_right = subst (λ (s : Option Segment). AreRightLists tin (cons_option s []) (imaged.list ∷ [])) (sym some) (imaged.right, tt);
+          are_right = subst (λ (s : Option Segment). AreRightLists tin (cons_option s []) (imaged.list ∷ [])) (sym some)
+              (imaged.right, tt);
           spelled = line.spelled ∙ ap (λ (xs : List ℕ). xs ++ rest) (sym (append-nil (line_text imaged.list)));
         }
 
 -- ---- what stands after some vertices of a path
-pub record IsPathImaged (tin : Triangulation) (points : List Pt) (path : ℕ) (row : PathRow) (x x' : List Pt) (r r' a a' : List ℕ) (j triangle : ℕ) : Type 0 where
+pub record IsPathImaged (tin : Triangulation) (points : List Pt) (path : ℕ) (row : PathRow) (x x' : List Pt)
+    (r r' a a' : List ℕ) (j triangle : ℕ) : Type 0 where
   pub imaged : AreImaged tin (first_vertices points path row j) x x' r r' a a'
   pub listed : length (segments_begun (first_vertices points path row j)) ≡ j
   pub last : 0 < j → j < points_in row → IsTriangleWith tin triangle (begin_of points row j)
   pub count : length x' + length a' + j ≤ length x + length a
 
-pub path_start : (tin : Triangulation) (points : List Pt) (path : ℕ) (row : PathRow) (x : List Pt) (r a : List ℕ) (triangle : ℕ) → IsPathImaged tin points path row x x r r a a 0 triangle
+pub path_start : (tin : Triangulation) (points : List Pt) (path : ℕ) (row : PathRow) (x : List Pt) (r a : List ℕ)
+    (triangle : ℕ) → IsPathImaged tin points path row x x r r a a 0 triangle
 path_start tin points path row x r a triangle = record {
   imaged = imaged_none tin x r a;
   listed = refl;
@@ -127,62 +160,92 @@ pub record IsWayAt (points : List Pt) (track : Track) (j : ℕ) (way : Way) : Ty
   pub a : way.a ≡ begin_of points track.row j
   pub b : way.b ≡ end_of points track.row j
 
-pub path_next : (tin : Triangulation) (points : List Pt) (track : Track) (x x' y : List Pt) (r r' s a a' b : List ℕ) (j triangle triangle' : ℕ) (way : Way)
-    → IsPathFrom track.row.first track.row → j < segments_in track.row → IsPathImaged tin points track.path track.row x x' r r' a a' j triangle → IsWayAt points track j way
-    → IsSegmentImaged tin way.a way.b x' y r' s a' b → IsTriangleWith tin triangle' way.b → length y + length b + 1 ≤ length x' + length a'
+pub path_next : (tin : Triangulation) (points : List Pt) (track : Track) (x x' y : List Pt) (r r' s a a' b : List ℕ)
+    (j triangle triangle' : ℕ) (way : Way)
+    → IsPathFrom track.row.first track.row → j < segments_in track.row
+    → IsPathImaged tin points track.path track.row x x' r r' a a' j triangle → IsWayAt points track j way
+    → IsSegmentImaged tin way.a way.b x' y r' s a' b → IsTriangleWith tin triangle' way.b
+    → length y + length b + 1 ≤ length x' + length a'
     → IsPathImaged tin points track.path track.row x y r s a b (j + 1) triangle'
 path_next tin points track x x' y r r' s a a' b j triangle triangle' way path h state is imaged last count = record {
-  imaged = subst (λ (vs : List PathVertex). AreImaged tin vs x y r s a b) (sym (one_vertex_more points track.path track.row j)) both;
+  imaged = subst (λ (vs : List PathVertex). AreImaged tin vs x y r s a b)
+      (sym (one_vertex_more points track.path track.row j)) both;
   listed = ap (λ (vs : List PathVertex). length (segments_begun vs)) (one_vertex_more points track.path track.row j)
-      ∙ ap (λ (ss : List Segment). length ss) (begun_append (first_vertices points track.path track.row j) (vertex_at points track.path track.row j ∷ []))
-      ∙ ap (λ (s : Option Segment). length (segments_begun (first_vertices points track.path track.row j) ++ cons_option s [])) (begins_one points track.path track.row j h)
-      ∙ length-append (segments_begun (first_vertices points track.path track.row j)) (segment_at points track.path track.row j ∷ []) ∙ ap (λ (n : ℕ). n + 1) state.listed;
-  last = λ _ further. subst (λ (p : Pt). IsTriangleWith tin triangle' p) (is.b ∙ next_begins points track.row j further) last;
+      ∙ ap (λ (ss : List Segment). length ss) (begun_append (first_vertices points track.path track.row j)
+      (vertex_at points track.path track.row j ∷ []))
+      ∙ ap (λ (s : Option Segment). length (segments_begun (first_vertices points track.path track.row j)
+      ++ cons_option s [])) (begins_one points track.path track.row j h)
+      ∙ length-append (segments_begun (first_vertices points track.path track.row j))
+      (segment_at points track.path track.row j ∷ []) ∙ ap (λ (n : ℕ). n + 1) state.listed;
+  last = λ _ further. subst (λ (p : Pt). IsTriangleWith tin triangle' p) (is.b ∙ next_begins points track.row j further)
+      last;
   count = (let c = state.count in omega (arith, c, count));
 }
   where
     here : AreImaged tin (vertex_at points track.path track.row j ∷ []) x' y r' s a' b
-    here = imaged_way tin (vertex_at points track.path track.row j) (segment_at points track.path track.row j) x' y r' s a' b (begins_one points track.path track.row j h) refl
-        (subst (λ (p : Pt). IsSegmentImaged tin p (end_of points track.row j) x' y r' s a' b) is.a (subst (λ (q : Pt). IsSegmentImaged tin way.a q x' y r' s a' b) is.b imaged))
+    here = imaged_way tin (vertex_at points track.path track.row j) (segment_at points track.path track.row j) x' y r' s
+        a' b (begins_one points track.path track.row j h) refl
+        (subst (λ (p : Pt). IsSegmentImaged tin p (end_of points track.row j) x' y r' s a' b) is.a
+        (subst (λ (q : Pt). IsSegmentImaged tin way.a q x' y r' s a' b) is.b imaged))
 
-    both : AreImaged tin (first_vertices points track.path track.row j ++ vertex_at points track.path track.row j ∷ []) x y r s a b
-    both = imaged_on tin (first_vertices points track.path track.row j) (vertex_at points track.path track.row j ∷ []) x x' y r r' s a a' b state.imaged here
+    both : AreImaged tin (first_vertices points track.path track.row j ++ vertex_at points track.path track.row j ∷ [])
+        x y r s a b
+    both = imaged_on tin (first_vertices points track.path track.row j) (vertex_at points track.path track.row j ∷ []) x
+        x' y r r' s a a' b state.imaged here
 
 -- there is a line for each segment
-pub path_line : (tin : Triangulation) (points : List Pt) (path : ℕ) (row : PathRow) (x x' : List Pt) (r r' a a' : List ℕ) (j triangle : ℕ) → HasLines a (segments_in row) → j < segments_in row → IsPathImaged tin points path row x x' r r' a a' j triangle → (more : List ℕ) × BeginsWithLine a' more
-path_line tin points path row x x' r r' a a' j triangle has h state = let i = state.imaged in still_lines a a' i.lists j (segments_in row) has i.spelled i.are_lists (right_length tin (segments_begun (first_vertices points path row j)) i.lists i.are_right ∙ state.listed) h
+pub path_line : (tin : Triangulation) (points : List Pt) (path : ℕ) (row : PathRow) (x x' : List Pt)
+    (r r' a a' : List ℕ) (j triangle : ℕ) → HasLines a (segments_in row) → j < segments_in row
+    → IsPathImaged tin points path row x x' r r' a a' j triangle → (more : List ℕ) × BeginsWithLine a' more
+path_line tin points path row x x' r r' a a' j triangle has h state = let i =
+    state.imaged in still_lines a a' i.lists j (segments_in row) has i.spelled i.are_lists
+    (right_length tin (segments_begun (first_vertices points path row j)) i.lists i.are_right ∙ state.listed) h
 
 -- ---- the end of the path
-pub but_last : (row : PathRow) (j : ℕ) → IsPathFrom row.first row → j ≡ segments_in row → (j ≡ points_in row → ⊥) → j + 1 ≡ points_in row
+pub but_last : (row : PathRow) (j : ℕ) → IsPathFrom row.first row → j ≡ segments_in row → (j ≡ points_in row → ⊥)
+    → j + 1 ≡ points_in row
 but_last row j from e other = let f = few row from in there (segments_in row) (points_in row) e f.upto f.least other
   where
     there : (m n : ℕ) → j ≡ m → m ≤ n → n ≤ m + 1 → (j ≡ n → ⊥) → j + 1 ≡ n
     there m n e h k other = grind arith
 
 -- each vertex but the last begins a segment
-pub path_but_last : (tin : Triangulation) (points : List Pt) (path : ℕ) (row : PathRow) (x x' y : List Pt) (r r' s a a' b : List ℕ) (j triangle : ℕ) (image : Pt) → IsPathFrom row.first row → j ≡ segments_in row → (j ≡ points_in row → ⊥)
-    → IsPathImaged tin points path row x x' r r' a a' j triangle → IsRoundedImage tin (begin_of points row j) image → y ≡ x' ++ image ∷ [] → s ≡ r' ++ length x' ∷ [] → b ≡ a' → AreImaged tin (path_vertices points path row) x y r s a b
+pub path_but_last : (tin : Triangulation) (points : List Pt) (path : ℕ) (row : PathRow) (x x' y : List Pt)
+    (r r' s a a' b : List ℕ) (j triangle : ℕ) (image : Pt) → IsPathFrom row.first row → j ≡ segments_in row
+    → (j ≡ points_in row → ⊥)
+    → IsPathImaged tin points path row x x' r r' a a' j triangle → IsRoundedImage tin (begin_of points row j) image
+    → y ≡ x' ++ image ∷ [] → s ≡ r' ++ length x' ∷ [] → b ≡ a'
+    → AreImaged tin (path_vertices points path row) x y r s a b
 path_but_last tin points path row x x' y r r' s a a' b j triangle image from e other state is ey es eb =
     subst (λ (n : ℕ). AreImaged tin (first_vertices points path row n) x y r s a b) (but_last row j from e other)
     (subst (λ (vs : List PathVertex). AreImaged tin vs x y r s a b) (sym (one_vertex_more points path row j))
-    (imaged_on tin (first_vertices points path row j) (vertex_at points path row j ∷ []) x x' y r r' s a a' b state.imaged
-    (imaged_last tin (vertex_at points path row j) image x' y r' s a' b (begins_none points path row j (omega arith)) is ey es eb)))
+    (imaged_on tin (first_vertices points path row j) (vertex_at points path row j ∷ []) x x' y r r' s a a' b
+    state.imaged
+    (imaged_last tin (vertex_at points path row j) image x' y r' s a' b (begins_none points path row j (omega arith)) is
+    ey es eb)))
 
 -- ---- why it is not passed
-pub path_cause : (tin : Triangulation) (points : List Pt) (track : Track) (x x' : List Pt) (r r' a a' : List ℕ) (j triangle : ℕ) (way : Way) (fault : CertFault)
-    → IsPathFrom track.row.first track.row → j < segments_in track.row → IsPathImaged tin points track.path track.row x x' r r' a a' j triangle → IsWayAt points track j way → IsWayCause tin way a' fault
+pub path_cause : (tin : Triangulation) (points : List Pt) (track : Track) (x x' : List Pt) (r r' a a' : List ℕ)
+    (j triangle : ℕ) (way : Way) (fault : CertFault)
+    → IsPathFrom track.row.first track.row → j < segments_in track.row
+    → IsPathImaged tin points track.path track.row x x' r r' a a' j triangle → IsWayAt points track j way
+    → IsWayCause tin way a' fault
     → IsStopCause tin (segments_begun (path_vertices points track.path track.row)) a fault
 path_cause tin points track x x' r r' a a' j triangle way (Layer f) path h state is cause = absurd cause
 path_cause tin points track x x' r r' a a' j triangle way (Form f) path h state is cause = absurd cause
 path_cause tin points track x x' r r' a a' j triangle way (Count f g) path h state is cause = absurd cause
 path_cause tin points track x x' r r' a a' j triangle way (Differs f) path h state is cause = absurd cause
 path_cause tin points track x x' r r' a a' j triangle way NoMemory path h state is cause = tt
-path_cause tin points track x x' r r' a a' j triangle way (WrongSegment p n) path h state is cause = go state.imaged cause.2
+path_cause tin points track x x' r r' a a' j triangle way (WrongSegment p n) path h state is cause =
+    go state.imaged cause.2
   where
-    go : AreImaged tin (first_vertices points track.path track.row j) x x' r r' a a' → HasWrongLine tin way.a way.b a' → IsStoppedAt tin (segments_begun (path_vertices points track.path track.row)) a p n
+    go : AreImaged tin (first_vertices points track.path track.row j) x x' r r' a a' → HasWrongLine tin way.a way.b a'
+        → IsStoppedAt tin (segments_begun (path_vertices points track.path track.row)) a p n
     go imaged wrong = by imaged wrong wrong.line
       where
-        by : (imaged : AreImaged tin (first_vertices points track.path track.row j) x x' r r' a a') (wrong : HasWrongLine tin way.a way.b a') → IsLine a' wrong.list wrong.rest → IsStoppedAt tin (segments_begun (path_vertices points track.path track.row)) a p n
+        by : (imaged : AreImaged tin (first_vertices points track.path track.row j) x x' r r' a a')
+            (wrong : HasWrongLine tin way.a way.b a') → IsLine a' wrong.list wrong.rest
+            → IsStoppedAt tin (segments_begun (path_vertices points track.path track.row)) a p n
         by imaged wrong line = record {
           before = segments_begun (first_vertices points track.path track.row j);
           segment = segment_at points track.path track.row j;
@@ -195,19 +258,24 @@ path_cause tin points track x x' r r' a a' j triangle way (WrongSegment p n) pat
           is_list = line.list;
           spelled = imaged.spelled ∙ ap (λ (xs : List ℕ). lines_text imaged.lists ++ xs) line.spelled;
           are_right = imaged.are_right;
-          not_right = λ right. wrong.wrong (subst (λ (p : Pt). IsRightList tin p way.b wrong.list) (sym is.a) (subst (λ (q : Pt). IsRightList tin (begin_of points track.row j) q wrong.list) (sym is.b) right));
+          not_right = λ right. wrong.wrong (subst (λ (p : Pt). IsRightList tin p way.b wrong.list) (sym is.a)
+              (subst (λ (q : Pt). IsRightList tin (begin_of points track.row j) q wrong.list) (sym is.b) right));
           path_is = sym is.path ∙ cause.0;
           number_is = sym is.number ∙ cause.1;
         }
 
 -- ---- the exit of a `?`
-pub exits : {A : Type 0} (Q : CertFault → Type 0) (fault : CertFault) (r : Result A CertFault) → IsErrAnd r (λ e. e ≡ fault) → Q fault → IfErr r Q
+pub exits : {A : Type 0} (Q : CertFault → Type 0) (fault : CertFault) (r : Result A CertFault)
+    → IsErrAnd r (λ e. e ≡ fault) → Q fault → IfErr r Q
 exits Q fault (Ok value) h q = absurd h
 exits Q fault (Err e) h q = subst Q (sym h) q
 
 -- ---- the whole path, and its last point
-pub path_all : (tin : Triangulation) (points : List Pt) (path : ℕ) (row : PathRow) (x x' : List Pt) (r r' a a' : List ℕ) (j triangle : ℕ) → j ≡ points_in row → IsPathImaged tin points path row x x' r r' a a' j triangle → AreImaged tin (path_vertices points path row) x x' r r' a a'
-path_all tin points path row x x' r r' a a' j triangle e state = subst (λ (n : ℕ). AreImaged tin (first_vertices points path row n) x x' r r' a a') e state.imaged
+pub path_all : (tin : Triangulation) (points : List Pt) (path : ℕ) (row : PathRow) (x x' : List Pt) (r r' a a' : List ℕ)
+    (j triangle : ℕ) → j ≡ points_in row → IsPathImaged tin points path row x x' r r' a a' j triangle
+    → AreImaged tin (path_vertices points path row) x x' r r' a a'
+path_all tin points path row x x' r r' a a' j triangle e state =
+    subst (λ (n : ℕ). AreImaged tin (first_vertices points path row n) x x' r r' a a') e state.imaged
 
 pub last_place : (row : PathRow) (j : ℕ) → row.first < row.past → j + 1 ≡ points_in row → row.first + j ≡ row.past - 1
 last_place row j h e = place row.first row.past h e
@@ -221,5 +289,13 @@ some_told P answer x e h = subst (λ o. IfSome o P) e h
 pub none_told : {A : Type 0} (P : Type 0) (answer : Option A) → answer ≡ None → IfNone answer P → P
 none_told P answer e h = subst (λ o. IfNone o P) e h
 
-pub wrong_line : (tin : Triangulation) (a b : Pt) (text numbers items rest : List ℕ) → IsLine text numbers rest → items ≡ numbers → (IsRightList tin a b items → ⊥) → HasWrongLine tin a b text
-wrong_line tin a b text numbers items rest line e wrong = record { list = numbers; rest = rest; line = line; wrong = λ right. wrong (subst (λ (ns : List ℕ). IsRightList tin a b ns) (sym e) right) }
+pub wrong_line : (tin : Triangulation) (a b : Pt) (text numbers items rest : List ℕ) → IsLine text numbers rest
+    → items ≡ numbers → (IsRightList tin a b items → ⊥) → HasWrongLine tin a b text
+wrong_line tin a b text numbers items rest line e wrong =
+    record {
+      list = numbers;
+      rest = rest;
+      line = line;
+      wrong =
+          λ right. wrong (subst (λ (ns : List ℕ). IsRightList tin a b ns) (sym e) right);
+    }

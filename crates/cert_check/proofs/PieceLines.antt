@@ -1,5 +1,6 @@
 -- The certificate of pieces, piece by piece.
-use Rattle.std.proofs.Common.{◌≡◌, ℕ, Bool, true, false, cond, List, [], ◌∷◌, ◌++◌, refl, sym, ◌∙◌, ap, subst, append_assoc}
+use Rattle.std.proofs.Common.{◌≡◌, ℕ, Bool, true, false, cond, List, [], ◌∷◌, ◌++◌, refl, sym, ◌∙◌, ap, subst}
+use Rattle.std.proofs.Common.{append_assoc}
 use Rattle.std.specs.Prelude.{nat_eq}
 use Rattle.std.specs.Fmt.{decimal}
 use Rattle.std.proofs.lemmas.List.{append-nil}
@@ -17,37 +18,49 @@ record HasFirst (lists : List (List ℕ)) : Type 0 where
 has_first : (piece : Piece) (pieces : List Piece) → HasFirst (lists_of (piece ∷ pieces))
 has_first piece pieces = go (ends_segment pieces) (lists_of pieces)
   where
-    go : (ends : Bool) (lists : List (List ℕ)) → HasFirst (cond ends ((piece.tri ∷ []) ∷ lists) (onto_first piece.tri lists))
+    go : (ends : Bool) (lists : List (List ℕ))
+        → HasFirst (cond ends ((piece.tri ∷ []) ∷ lists) (onto_first piece.tri lists))
     go true lists = record { number = piece.tri; numbers = []; more = lists; are = refl }
     go false [] = record { number = piece.tri; numbers = []; more = []; are = refl }
     go false (list ∷ lists) = record { number = piece.tri; numbers = list; more = lists; are = refl }
 
 -- one piece
-pub one_piece : (piece : Piece) (pieces : List Piece) → lines_text (lists_of (piece ∷ pieces)) ≡ decimal piece.tri ++ separator (ends_segment pieces) ∷ lines_text (lists_of pieces)
+pub one_piece : (piece : Piece) (pieces : List Piece)
+    → lines_text (lists_of (piece ∷ pieces)) ≡ decimal piece.tri ++ separator (ends_segment pieces)
+    ∷ lines_text (lists_of pieces)
 one_piece piece [] = append_assoc (decimal piece.tri) (10 ∷ []) []
 one_piece piece (next ∷ pieces) = go (nat_eq next.from.piece 0) (lists_of (next ∷ pieces)) (has_first next pieces)
   where
     go : (ends : Bool) (lists : List (List ℕ)) → HasFirst lists
-        → lines_text (cond ends ((piece.tri ∷ []) ∷ lists) (onto_first piece.tri lists)) ≡ decimal piece.tri ++ separator ends ∷ lines_text lists
+        → lines_text (cond ends ((piece.tri ∷ []) ∷ lists) (onto_first piece.tri lists)) ≡ decimal piece.tri
+        ++ separator ends ∷ lines_text lists
     go true lists first = append_assoc (decimal piece.tri) (10 ∷ []) (lines_text lists)
     go false lists first =
-        subst (λ (ls : List (List ℕ)). lines_text (onto_first piece.tri ls) ≡ decimal piece.tri ++ 32 ∷ lines_text ls) (sym first.are)
+        subst (λ (ls : List (List ℕ)). lines_text (onto_first piece.tri ls) ≡ decimal piece.tri ++ 32 ∷ lines_text ls)
+        (sym first.are)
         (append_assoc (decimal piece.tri) (32 ∷ line_text (first.number ∷ first.numbers)) (lines_text first.more))
 
 -- ---- what is written so far, and the lines of the other pieces
 pub record IsWritten (out : List ℕ) (pieces rest : List Piece) : Type 0 where
   pub whole : out ++ lines_text (lists_of rest) ≡ head_text ++ lines_text (lists_of pieces)
 
-pub written_start : (out : List ℕ) (pieces rest : List Piece) → out ≡ head_text → rest ≡ pieces → IsWritten out pieces rest
-written_start out pieces rest e f = subst (λ (ps : List Piece). IsWritten out pieces ps) (sym f) (record { whole = ap (λ (xs : List ℕ). xs ++ lines_text (lists_of pieces)) e })
+pub written_start : (out : List ℕ) (pieces rest : List Piece) → out ≡ head_text → rest ≡ pieces
+    → IsWritten out pieces rest
+written_start out pieces rest e f = subst (λ (ps : List Piece). IsWritten out pieces ps) (sym f)
+    (record { whole = ap (λ (xs : List ℕ). xs ++ lines_text (lists_of pieces)) e })
 
-pub written_more : (out new : List ℕ) (pieces rest behind : List Piece) (piece : Piece) → IsWritten out pieces rest → rest ≡ piece ∷ behind
+pub written_more : (out new : List ℕ) (pieces rest behind : List Piece) (piece : Piece) → IsWritten out pieces rest
+    → rest ≡ piece ∷ behind
     → new ≡ out ++ (decimal piece.tri ++ separator (ends_segment behind) ∷ []) → IsWritten new pieces behind
 written_more out new pieces rest behind piece far e is = record {
-  whole = ap (λ (xs : List ℕ). xs ++ lines_text (lists_of behind)) is ∙ append_assoc out (decimal piece.tri ++ separator (ends_segment behind) ∷ []) (lines_text (lists_of behind))
-      ∙ ap (λ (xs : List ℕ). out ++ xs) (append_assoc (decimal piece.tri) (separator (ends_segment behind) ∷ []) (lines_text (lists_of behind)) ∙ sym (one_piece piece behind))
+  whole = ap (λ (xs : List ℕ). xs ++ lines_text (lists_of behind)) is
+      ∙ append_assoc out (decimal piece.tri ++ separator (ends_segment behind) ∷ []) (lines_text (lists_of behind))
+      ∙ ap (λ (xs : List ℕ). out ++ xs) (append_assoc (decimal piece.tri) (separator (ends_segment behind) ∷ [])
+      (lines_text (lists_of behind)) ∙ sym (one_piece piece behind))
       ∙ ap (λ (ps : List Piece). out ++ lines_text (lists_of ps)) (sym e) ∙ far.whole;
 }
 
-pub written_all : (out : List ℕ) (pieces rest : List Piece) → IsWritten out pieces rest → rest ≡ [] → out ≡ head_text ++ lines_text (lists_of pieces)
-written_all out pieces rest far e = sym (append-nil out) ∙ ap (λ (ps : List Piece). out ++ lines_text (lists_of ps)) (sym e) ∙ far.whole
+pub written_all : (out : List ℕ) (pieces rest : List Piece) → IsWritten out pieces rest → rest ≡ []
+    → out ≡ head_text ++ lines_text (lists_of pieces)
+written_all out pieces rest far e = sym (append-nil out)
+    ∙ ap (λ (ps : List Piece). out ++ lines_text (lists_of ps)) (sym e) ∙ far.whole

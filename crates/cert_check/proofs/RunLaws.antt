@@ -1,5 +1,6 @@
 -- The images by a right list are those of the segment's pieces.
-use Rattle.std.proofs.Common.{◌≡◌, ◌≢◌, ◌⊎◌, inl, inr, ℕ, zero, suc, ◌+◌, ◌-◌, ◌*◌, ◌<◌, pos, ◌<ℤ◌, List, [], ◌∷◌, ◌++◌, length, get_or, take, append_assoc, ◌≤◌, refl, sym, ◌∙◌, ap, subst, arith}
+use Rattle.std.proofs.Common.{◌≡◌, ◌≢◌, ◌⊎◌, inl, inr, ℕ, zero, suc, ◌+◌, ◌-◌, ◌*◌, ◌<◌, pos, ◌<ℤ◌, List, [], ◌∷◌, ◌++◌}
+use Rattle.std.proofs.Common.{length, get_or, take, append_assoc, ◌≤◌, refl, sym, ◌∙◌, ap, subst, arith}
 use Rattle.std.proofs.lemmas.List.{take_more, take_all, length-append}
 use lib.Signed.{lt_z_yes}
 use Rattle.plane_base.specs.Plane.{whole}
@@ -10,7 +11,8 @@ use Rattle.tin_base.specs.declared.frames.Frame.TheVariants.{Source}
 use Rattle.tin_base.specs.Triangulation.{Triangulation, numbers_of, places}
 use Rattle.tin_base.specs.Limits.{IsWithinLimits}
 use Rattle.tin_base.specs.Soundness.{IsSound}
-use Rattle.tin_base.specs.Segments.{Spot, spot_at, at_a, at_b, IsSameSpot, IsInside, IsShared, IsPart, Part, ArePiecesAt, ArePiecesOf}
+use Rattle.tin_base.specs.Segments.{Spot, spot_at, at_a, at_b, IsSameSpot, IsInside, IsShared, IsPart, Part}
+use Rattle.tin_base.specs.Segments.{ArePiecesAt, ArePiecesOf}
 use Rattle.tin_base.specs.Slices.{spot_of, IsSliceIn}
 use Rattle.tin_base.proofs.Apart.{same_last}
 use Rattle.tin_base.proofs.Ends.{IsSpot, before_trans_left, before_trans_right, same_of}
@@ -28,7 +30,8 @@ use Rattle.cert_check.proofs.Following.{IsRow, row_rest, row_of, right_inside}
 use Rattle.cert_check.proofs.Passing.{same_trans}
 
 -- ---- the last spot of a slice is that of the part
-same_end : (tin : Triangulation) (a b : Pt) (t : ℕ) (slice : Stretch) (f l : Spot) → IsWithinLimits tin → t < length tin.triangles → IsSliceIn tin a b t slice → IsPart tin a b t f l → IsSameSpot l (spot_of slice.hi)
+same_end : (tin : Triangulation) (a b : Pt) (t : ℕ) (slice : Stretch) (f l : Spot) → IsWithinLimits tin
+    → t < length tin.triangles → IsSliceIn tin a b t slice → IsPart tin a b t f l → IsSameSpot l (spot_of slice.hi)
 same_end tin a b t slice f l limits ht told p = go (params tin a b t slice limits ht told)
   where
     go : HasParams slice → IsSameSpot l (spot_of slice.hi)
@@ -36,30 +39,39 @@ same_end tin a b t slice f l limits ht told p = go (params tin a b t slice limit
         let lo = spot_of slice.lo in let hi = spot_of slice.hi in
         let by_f = within tin a b t slice f limits ht told p.has_first in
         let by_l = within tin a b t slice l limits ht told p.has_last in
-        let order = below slice.lo slice.hi ends.lo ends.hi (before_trans_left lo f hi (spot_some slice.lo ends.lo) by_f.0 (before_trans_right f l hi (spot_some slice.hi ends.hi) p.differ by_l.1)) in
+        let order = below slice.lo slice.hi ends.lo ends.hi
+        (before_trans_left lo f hi (spot_some slice.lo ends.lo) by_f.0
+        (before_trans_right f l hi (spot_some slice.hi ends.hi) p.differ by_l.1)) in
         let part = part_told tin a b t slice limits ht told order in
         same_of l hi by_l.1 (p.none_after hi part.has_last)
 
-pub end_told : (tin : Triangulation) (a b : Pt) (t : ℕ) (slice : Stretch) (image : Pt) → IsWithinLimits tin → t < length tin.triangles → IsSliceIn tin a b t slice → IsRoundedImageAt tin (spot_at a b (spot_of slice.hi)) image → IsEndImage tin a b t image
+pub end_told : (tin : Triangulation) (a b : Pt) (t : ℕ) (slice : Stretch) (image : Pt) → IsWithinLimits tin
+    → t < length tin.triangles → IsSliceIn tin a b t slice → IsRoundedImageAt tin (spot_at a b (spot_of slice.hi)) image
+    → IsEndImage tin a b t image
 end_told tin a b t slice image limits ht told is f l p = go (params tin a b t slice limits ht told)
   where
     go : HasParams slice → IsRoundedImageAt tin (spot_at a b l) image
     go ends =
         let hi = spot_of slice.hi in
-        rounded_moved tin (spot_at a b hi) (spot_at a b l) image (spot-w a b hi (spot_some slice.hi ends.hi)) (same_of_spots a b l hi (same_end tin a b t slice f l limits ht told p)) is
+        rounded_moved tin (spot_at a b hi) (spot_at a b l) image (spot-w a b hi (spot_some slice.hi ends.hi))
+        (same_of_spots a b l hi (same_end tin a b t slice f l limits ht told p)) is
 
 -- a triangle with a part shares its first spot
-pub part_shared : (tin : Triangulation) (a b : Pt) (t : ℕ) → HasPart tin a b t → ((s : Spot) → IsShared tin a b t s → ⊥) → ⊥
+pub part_shared : (tin : Triangulation) (a b : Pt) (t : ℕ) → HasPart tin a b t → ((s : Spot) → IsShared tin a b t s → ⊥)
+    → ⊥
 part_shared tin a b t (f, l, part) none = none f part.has_first
 
 -- ---- the images of the ends
-pub ends_more : (tin : Triangulation) (a b : Pt) (ts : List ℕ) (t : ℕ) (images : List Pt) (image : Pt) → AreEndImages tin a b ts images → IsEndImage tin a b t image → AreEndImages tin a b (ts ++ t ∷ []) (images ++ image ∷ [])
+pub ends_more : (tin : Triangulation) (a b : Pt) (ts : List ℕ) (t : ℕ) (images : List Pt) (image : Pt)
+    → AreEndImages tin a b ts images → IsEndImage tin a b t image
+    → AreEndImages tin a b (ts ++ t ∷ []) (images ++ image ∷ [])
 ends_more tin a b [] t [] image h k = (k, refl)
 ends_more tin a b [] t (i ∷ images) image h k = absurd (let e = h in cc)
 ends_more tin a b (u ∷ ts) t [] image h k = absurd h
 ends_more tin a b (u ∷ ts) t (i ∷ images) image h k = (h.0, ends_more tin a b ts t images image h.1 k)
 
-pub ends_length : (tin : Triangulation) (a b : Pt) (ts : List ℕ) (images : List Pt) → AreEndImages tin a b ts images → length images ≡ length ts
+pub ends_length : (tin : Triangulation) (a b : Pt) (ts : List ℕ) (images : List Pt) → AreEndImages tin a b ts images
+    → length images ≡ length ts
 ends_length tin a b [] images h = ap (λ (is : List Pt). length is) h
 ends_length tin a b (t ∷ ts) [] h = absurd h
 ends_length tin a b (t ∷ ts) (i ∷ images) h = ap suc (ends_length tin a b ts images h.1)
@@ -74,72 +86,108 @@ zero_of m n e = omega arith
 pub not_from_b : (tin : Triangulation) (a b : Pt) (t : ℕ) (f l : Spot) → IsPart tin a b t f l → IsSameSpot f at_b → ⊥
 not_from_b tin a b t f l part same = none_behind f.of_b l.of_a l.of_b f.of_a (zero_of f.of_b f.of_a same) part.differ
 
-stuck_at_b : (tin : Triangulation) (a b : Pt) (x : Spot) (ts : List ℕ) (last : ℕ) → IsSpot x → AreFollowing tin a b x (ts ++ last ∷ []) → IsSameSpot x at_b → ⊥
-stuck_at_b tin a b x [] last some (f, l, part, same, ends) e = not_from_b tin a b last f l part (same_trans f x at_b some same e)
-stuck_at_b tin a b x (t ∷ ts) last some (f, l, part, same, follow) e = not_from_b tin a b t f l part (same_trans f x at_b some same e)
+stuck_at_b : (tin : Triangulation) (a b : Pt) (x : Spot) (ts : List ℕ) (last : ℕ) → IsSpot x
+    → AreFollowing tin a b x (ts ++ last ∷ []) → IsSameSpot x at_b → ⊥
+stuck_at_b tin a b x [] last some (f, l, part, same, ends) e =
+    not_from_b tin a b last f l part (same_trans f x at_b some same e)
+stuck_at_b tin a b x (t ∷ ts) last some (f, l, part, same, follow) e =
+    not_from_b tin a b t f l part (same_trans f x at_b some same e)
 
 -- ---- the ends of the triangles' parts are those of the pieces
-ends_of_row : (tin : Triangulation) (a b : Pt) (x y : Spot) (parts : List Part) (front : List ℕ) (last : ℕ) (images : List Pt) → IsSound tin → a ≢ b → IsSpot x → IsSpot y → IsRow tin a b x parts → AreFollowing tin a b y (front ++ last ∷ []) → IsSameSpot x y → AreEndImages tin a b front images
+ends_of_row : (tin : Triangulation) (a b : Pt) (x y : Spot) (parts : List Part) (front : List ℕ) (last : ℕ)
+    (images : List Pt) → IsSound tin → a ≢ b → IsSpot x → IsSpot y → IsRow tin a b x parts
+    → AreFollowing tin a b y (front ++ last ∷ []) → IsSameSpot x y → AreEndImages tin a b front images
     → AreEndsOfAllButLast tin a b parts images
 ends_of_row tin a b x y [] front last images sound differ some_x some_y row follow same ends =
     absurd (stuck_at_b tin a b y front last some_y follow (same_trans y x at_b some_x (sym same) (row.none refl)))
 ends_of_row tin a b x y (p ∷ []) [] last images sound differ some_x some_y row follow same ends = ends
-ends_of_row tin a b x y (p ∷ []) (t ∷ ts) last images sound differ some_x some_y row (f, l, part, begins, follow) same ends = absurd (go (row.part 0 (omega arith)))
+ends_of_row tin a b x y (p ∷ []) (t ∷ ts) last images sound differ some_x some_y row (f, l, part, begins, follow) same
+    ends = absurd (go (row.part 0 (omega arith)))
   where
     go : IsPart tin a b p.triangle p.first p.last → ⊥
     go own =
         let has = part.has_last in let has' = own.has_last in
-        let first : IsSameSpot p.first f = same_trans p.first x f some_x (row.begins (omega arith)) (same_trans x y f some_y same (sym begins)) in
+        let first : IsSameSpot p.first f = same_trans p.first x f some_x (row.begins (omega arith))
+        (same_trans x y f some_y same (sym begins)) in
         let end = same_last tin a b p.triangle t p.first p.last f l sound differ own part first in
-        stuck_at_b tin a b l ts last has.some follow (same_trans l p.last at_b has'.some (sym end) (row.ends 0 (omega arith)))
-ends_of_row tin a b x y (p ∷ q ∷ ps) [] last images sound differ some_x some_y row (f, l, part, begins, at_end) same ends = absurd (go (row.part 0 (omega arith)) (row.part 1 (omega arith)))
+        stuck_at_b tin a b l ts last has.some follow
+        (same_trans l p.last at_b has'.some (sym end) (row.ends 0 (omega arith)))
+ends_of_row tin a b x y (p ∷ q ∷ ps) [] last images sound differ some_x some_y row (f, l, part, begins, at_end) same
+    ends = absurd (go (row.part 0 (omega arith)) (row.part 1 (omega arith)))
   where
     go : IsPart tin a b p.triangle p.first p.last → IsPart tin a b q.triangle q.first q.last → ⊥
     go own next =
         let has = part.has_last in let has' = own.has_last in
-        let first : IsSameSpot p.first f = same_trans p.first x f some_x (row.begins (omega arith)) (same_trans x y f some_y same (sym begins)) in
+        let first : IsSameSpot p.first f = same_trans p.first x f some_x (row.begins (omega arith))
+        (same_trans x y f some_y same (sym begins)) in
         let end = same_last tin a b p.triangle last p.first p.last f l sound differ own part first in
-        not_from_b tin a b q.triangle q.first q.last next (same_trans q.first p.last at_b has'.some (row.joined 0 (omega arith)) (same_trans p.last l at_b has.some end at_end))
+        not_from_b tin a b q.triangle q.first q.last next
+        (same_trans q.first p.last at_b has'.some (row.joined 0 (omega arith))
+        (same_trans p.last l at_b has.some end at_end))
 ends_of_row tin a b x y (p ∷ q ∷ ps) (t ∷ ts) last [] sound differ some_x some_y row follow same ends = absurd ends
-ends_of_row tin a b x y (p ∷ q ∷ ps) (t ∷ ts) last (image ∷ images) sound differ some_x some_y row (f, l, part, begins, follow) same ends =
-    go (row.part 0 (omega arith)) (λ some_last some_l end. ends_of_row tin a b p.last l (q ∷ ps) ts last images sound differ some_last some_l (row_rest tin a b x p (q ∷ ps) row) follow end ends.1)
+ends_of_row tin a b x y (p ∷ q ∷ ps) (t ∷ ts) last (image ∷ images) sound differ some_x some_y row
+    (f, l, part, begins, follow) same ends =
+    go (row.part 0 (omega arith)) (λ some_last some_l end. ends_of_row tin a b p.last l (q ∷ ps) ts last images sound
+    differ some_last some_l (row_rest tin a b x p (q ∷ ps) row) follow end ends.1)
   where
-    go : IsPart tin a b p.triangle p.first p.last → (IsSpot p.last → IsSpot l → IsSameSpot p.last l → AreEndsOfAllButLast tin a b (q ∷ ps) images) → AreEndsOfAllButLast tin a b (p ∷ q ∷ ps) (image ∷ images)
+    go : IsPart tin a b p.triangle p.first p.last
+        → (IsSpot p.last → IsSpot l → IsSameSpot p.last l → AreEndsOfAllButLast tin a b (q ∷ ps) images)
+        → AreEndsOfAllButLast tin a b (p ∷ q ∷ ps) (image ∷ images)
     go own others =
         let has = part.has_last in let has' = own.has_last in
-        let first : IsSameSpot p.first f = same_trans p.first x f some_x (row.begins (omega arith)) (same_trans x y f some_y same (sym begins)) in
-        let end = same_last tin a b p.triangle t p.first p.last f l sound differ own part first in
-        (rounded_moved tin (spot_at a b l) (spot_at a b p.last) image (spot-w a b l has.some) (same_of_spots a b p.last l end) (ends.0 f l part), others has'.some has.some end)
+        let first : IsSameSpot p.first f = same_trans p.first x f some_x (row.begins (omega arith))
+        (same_trans x y f some_y same (sym begins)) in
+        let end = same_last tin a b p.triangle t p.first p.last f l sound differ own part first in (
+          rounded_moved tin (spot_at a b l) (spot_at a b p.last) image (spot-w a b l has.some)
+              (same_of_spots a b p.last l end) (ends.0 f l part),
+          others has'.some has.some end,
+        )
 
 -- ---- a segment of one point
-none_in_front : (tin : Triangulation) (a : Pt) (front : List ℕ) (last : ℕ) → IsOneWith tin a (front ++ last ∷ []) → front ≡ []
+none_in_front : (tin : Triangulation) (a : Pt) (front : List ℕ) (last : ℕ) → IsOneWith tin a (front ++ last ∷ [])
+    → front ≡ []
 none_in_front tin a [] last h = refl
 none_in_front tin a (t ∷ []) last h = absurd h
 none_in_front tin a (t ∷ u ∷ ts) last h = absurd h
 
-one_point : (tin : Triangulation) (a : Pt) (parts : List Part) (images : List Pt) → IsInside tin a a → ArePiecesAt tin a parts → images ≡ [] → AreEndsOfAllButLast tin a a parts images
+one_point : (tin : Triangulation) (a : Pt) (parts : List Part) (images : List Pt) → IsInside tin a a
+    → ArePiecesAt tin a parts → images ≡ [] → AreEndsOfAllButLast tin a a parts images
 one_point tin a [] images inside none e = e
 one_point tin a (part ∷ []) images inside h e = e
 one_point tin a (part ∷ next ∷ parts) images inside h e = absurd h
 
 -- ---- the run
-pub run_told : (tin : Triangulation) (a b : Pt) (front : List ℕ) (last : ℕ) (image : Pt) (images before after : List Pt) → IsSound tin → IsRightList tin a b (front ++ last ∷ []) → IsRoundedImage tin a image → AreEndImages tin a b front images → after ≡ before ++ image ∷ images
+pub run_told : (tin : Triangulation) (a b : Pt) (front : List ℕ) (last : ℕ) (image : Pt) (images before after : List Pt)
+    → IsSound tin → IsRightList tin a b (front ++ last ∷ []) → IsRoundedImage tin a image
+    → AreEndImages tin a b front images → after ≡ before ++ image ∷ images
     → IsRunBehind tin a b before after
 run_told tin a b front last image images before after sound right is ends are = by_outcome (outcome tin sound a b)
   where
     inside : IsInside tin a b
     inside = right_inside tin a b (front ++ last ∷ []) sound right
 
-    by_ends : (parts : List Part) → ArePiecesOf tin a b parts → (a ≡ b) ⊎ (a ≢ b) → AreEndsOfAllButLast tin a b parts images
+    by_ends : (parts : List Part) → ArePiecesOf tin a b parts → (a ≡ b) ⊎ (a ≢ b)
+        → AreEndsOfAllButLast tin a b parts images
     by_ends parts cut (inl same) =
         subst (λ (q : Pt). AreEndsOfAllButLast tin a q parts images) same
         (one_point tin a parts images (subst (λ (q : Pt). IsInside tin a q) (sym same) inside) (cut.0 same)
         (subst (λ (ts : List ℕ). AreEndImages tin a b ts images) (none_in_front tin a front last (right.0 same)) ends))
     by_ends parts cut (inr differ) =
-        ends_of_row tin a b at_a at_a parts front last images sound differ (omega arith) (omega arith) (row_of tin a b parts sound differ inside (cut.1 differ)) (right.1 differ) refl ends
+        ends_of_row tin a b at_a at_a parts front last images sound differ (omega arith) (omega arith)
+        (row_of tin a b parts sound differ inside (cut.1 differ)) (right.1 differ) refl ends
 
-    by_outcome : ((parts : List Part) × ArePiecesOf tin a b parts × IsInside tin a b) ⊎ (IsInside tin a b → ⊥) → IsRunBehind tin a b before after
-    by_outcome (inl (parts, cut, _)) = record { image = image; is_image = is; crossings = images; parts = parts; cut = cut; ends = by_ends parts cut (same_or a b); are = are }
+    by_outcome : ((parts : List Part) × ArePiecesOf tin a b parts × IsInside tin a b) ⊎ (IsInside tin a b → ⊥)
+        → IsRunBehind tin a b before after
+    by_outcome (inl (parts, cut, _)) = record {
+      image = image;
+      is_image = is;
+      crossings = images;
+      parts = parts;
+      cut =
+          cut;
+      ends = by_ends parts cut (same_or a b);
+      are = are;
+    }
     by_outcome (inr out) = absurd (out inside)
 
 -- ---- the ends of a right list
@@ -147,7 +195,8 @@ one-w : pos 0 <ℤ pos 1
 one-w = lt_z_yes tt
 
 -- its first triangle has the first end
-pub first_has : (tin : Triangulation) (a b : Pt) (t : ℕ) (ts : List ℕ) → IsRightList tin a b (t ∷ ts) → IsTriangleWith tin t a
+pub first_has : (tin : Triangulation) (a b : Pt) (t : ℕ) (ts : List ℕ) → IsRightList tin a b (t ∷ ts)
+    → IsTriangleWith tin t a
 first_has tin a b t ts right = go (same_or a b)
   where
     one : (ts : List ℕ) → IsOneWith tin a (t ∷ ts) → IsTriangleWith tin t a
@@ -158,8 +207,10 @@ first_has tin a b t ts right = go (same_or a b)
     way (f, l, part, same, follow) =
         let has = part.has_first in (
           part.in_range,
-          mix_moved (spot_at a b at_a) (whole a) (places tin Source (numbers_of tin t)) (spot-w a b at_a (omega arith)) (same_sym (spot_at a b at_a) (whole a) (first_same a b))
-              (mix_moved (spot_at a b f) (spot_at a b at_a) (places tin Source (numbers_of tin t)) (spot-w a b f has.some) (same_of_spots a b at_a f (sym same)) has.inside),
+          mix_moved (spot_at a b at_a) (whole a) (places tin Source (numbers_of tin t)) (spot-w a b at_a (omega arith))
+              (same_sym (spot_at a b at_a) (whole a) (first_same a b))
+              (mix_moved (spot_at a b f) (spot_at a b at_a) (places tin Source (numbers_of tin t))
+              (spot-w a b f has.some) (same_of_spots a b at_a f (sym same)) has.inside),
         )
 
     go : (a ≡ b) ⊎ (a ≢ b) → IsTriangleWith tin t a
@@ -167,16 +218,20 @@ first_has tin a b t ts right = go (same_or a b)
     go (inr differ) = way (right.1 differ)
 
 -- and its last triangle the last end
-way_end : (tin : Triangulation) (a b : Pt) (x : Spot) (front : List ℕ) (last : ℕ) → AreFollowing tin a b x (front ++ last ∷ []) → IsTriangleWith tin last b
+way_end : (tin : Triangulation) (a b : Pt) (x : Spot) (front : List ℕ) (last : ℕ)
+    → AreFollowing tin a b x (front ++ last ∷ []) → IsTriangleWith tin last b
 way_end tin a b x [] last (f, l, part, same, ends) =
     let has = part.has_last in (
       part.in_range,
-      mix_moved (spot_at a b at_b) (whole b) (places tin Source (numbers_of tin last)) (spot-w a b at_b (omega arith)) (same_sym (spot_at a b at_b) (whole b) (last_same a b))
-          (mix_moved (spot_at a b l) (spot_at a b at_b) (places tin Source (numbers_of tin last)) (spot-w a b l has.some) (same_of_spots a b at_b l (sym ends)) has.inside),
+      mix_moved (spot_at a b at_b) (whole b) (places tin Source (numbers_of tin last)) (spot-w a b at_b (omega arith))
+          (same_sym (spot_at a b at_b) (whole b) (last_same a b))
+          (mix_moved (spot_at a b l) (spot_at a b at_b) (places tin Source (numbers_of tin last))
+          (spot-w a b l has.some) (same_of_spots a b at_b l (sym ends)) has.inside),
     )
 way_end tin a b x (t ∷ ts) last (f, l, part, same, follow) = way_end tin a b l ts last follow
 
-pub last_has : (tin : Triangulation) (a b : Pt) (front : List ℕ) (last : ℕ) → IsRightList tin a b (front ++ last ∷ []) → IsTriangleWith tin last b
+pub last_has : (tin : Triangulation) (a b : Pt) (front : List ℕ) (last : ℕ) → IsRightList tin a b (front ++ last ∷ [])
+    → IsTriangleWith tin last b
 last_has tin a b front last right = go (same_or a b)
   where
     one : (front : List ℕ) → IsOneWith tin a (front ++ last ∷ []) → IsTriangleWith tin last a
@@ -189,12 +244,15 @@ last_has tin a b front last right = go (same_or a b)
     go (inr differ) = way_end tin a b at_a front last (right.1 differ)
 
 -- each before the last has a part
-part_of_way : (tin : Triangulation) (a b : Pt) (x : Spot) (front : List ℕ) (last i : ℕ) → i < length front → AreFollowing tin a b x (front ++ last ∷ []) → HasPart tin a b (get_or front i 0)
+part_of_way : (tin : Triangulation) (a b : Pt) (x : Spot) (front : List ℕ) (last i : ℕ) → i < length front
+    → AreFollowing tin a b x (front ++ last ∷ []) → HasPart tin a b (get_or front i 0)
 part_of_way tin a b x [] last i h follow = absurd (omega arith)
 part_of_way tin a b x (t ∷ ts) last zero h (f, l, part, same, follow) = (f, l, part)
-part_of_way tin a b x (t ∷ ts) last (suc i) h (f, l, part, same, follow) = part_of_way tin a b l ts last i (omega arith) follow
+part_of_way tin a b x (t ∷ ts) last (suc i) h (f, l, part, same, follow) =
+    part_of_way tin a b l ts last i (omega arith) follow
 
-pub each_has : (tin : Triangulation) (a b : Pt) (front : List ℕ) (last i : ℕ) → i < length front → IsRightList tin a b (front ++ last ∷ []) → HasPart tin a b (get_or front i 0)
+pub each_has : (tin : Triangulation) (a b : Pt) (front : List ℕ) (last i : ℕ) → i < length front
+    → IsRightList tin a b (front ++ last ∷ []) → HasPart tin a b (get_or front i 0)
 each_has tin a b front last i h right = go (same_or a b)
   where
     none : front ≡ [] → ⊥
@@ -208,24 +266,30 @@ each_has tin a b front last i h right = go (same_or a b)
     go (inr differ) = part_of_way tin a b at_a front last i h (right.1 differ)
 
 -- ---- the images so far
-pub record AreEndsBehind (tin : Triangulation) (a b : Pt) (front : List ℕ) (i : ℕ) (before after : List Pt) : Type 0 where
-  pub image : Pt
-  pub is : IsRoundedImage tin a image
-  pub own : List Pt
-  pub ends : AreEndImages tin a b (take i front) own
-  pub are : after ≡ before ++ image ∷ own
+pub record AreEndsBehind (tin : Triangulation) (a b : Pt) (front : List ℕ) (i : ℕ) (before after : List Pt) : Type 0
+  where
+    pub image : Pt
+    pub is : IsRoundedImage tin a image
+    pub own : List Pt
+    pub ends : AreEndImages tin a b (take i front) own
+    pub are : after ≡ before ++ image ∷ own
 
-pub ends_start : (tin : Triangulation) (a b : Pt) (front : List ℕ) (image : Pt) (before after : List Pt) → IsRoundedImage tin a image → after ≡ before ++ image ∷ [] → AreEndsBehind tin a b front 0 before after
+pub ends_start : (tin : Triangulation) (a b : Pt) (front : List ℕ) (image : Pt) (before after : List Pt)
+    → IsRoundedImage tin a image → after ≡ before ++ image ∷ [] → AreEndsBehind tin a b front 0 before after
 ends_start tin a b front image before after is e = record { image = image; is = is; own = []; ends = refl; are = e }
 
-pub ends_next : (tin : Triangulation) (a b : Pt) (front : List ℕ) (i : ℕ) (before after after' : List Pt) → i < length front → AreEndsBehind tin a b front i before after → (image : Pt) × (after' ≡ after ++ image ∷ []) × IsEndImage tin a b (get_or front i 0) image
+pub ends_next : (tin : Triangulation) (a b : Pt) (front : List ℕ) (i : ℕ) (before after after' : List Pt)
+    → i < length front → AreEndsBehind tin a b front i before after
+    → (image : Pt) × (after' ≡ after ++ image ∷ []) × IsEndImage tin a b (get_or front i 0) image
     → AreEndsBehind tin a b front (i + 1) before after'
 ends_next tin a b front i before after after' h so_far (image, e, is) = record {
   image = so_far.image;
   is = so_far.is;
   own = so_far.own ++ image ∷ [];
-  ends = subst (λ (ts : List ℕ). AreEndImages tin a b ts (so_far.own ++ image ∷ [])) (sym (take_more front i 0 h)) (ends_more tin a b (take i front) (get_or front i 0) so_far.own image so_far.ends is);
-  are = e ∙ ap (λ (xs : List Pt). xs ++ image ∷ []) so_far.are ∙ append_assoc before (so_far.image ∷ so_far.own) (image ∷ []);
+  ends = subst (λ (ts : List ℕ). AreEndImages tin a b ts (so_far.own ++ image ∷ [])) (sym (take_more front i 0 h))
+      (ends_more tin a b (take i front) (get_or front i 0) so_far.own image so_far.ends is);
+  are = e ∙ ap (λ (xs : List Pt). xs ++ image ∷ []) so_far.are
+      ∙ append_assoc before (so_far.image ∷ so_far.own) (image ∷ []);
 }
 
 all_taken : (front : List ℕ) (i : ℕ) → i ≡ length front → take i front ≡ front
@@ -234,19 +298,26 @@ all_taken front i e = take_all i front (from (length front) e)
     from : (n : ℕ) → i ≡ n → n ≤ i
     from n e = omega arith
 
-pub ends_all : (tin : Triangulation) (a b : Pt) (front : List ℕ) (last i : ℕ) (before after : List Pt) → IsSound tin → IsRightList tin a b (front ++ last ∷ []) → i ≡ length front → AreEndsBehind tin a b front i before after → IsRunBehind tin a b before after
+pub ends_all : (tin : Triangulation) (a b : Pt) (front : List ℕ) (last i : ℕ) (before after : List Pt) → IsSound tin
+    → IsRightList tin a b (front ++ last ∷ []) → i ≡ length front → AreEndsBehind tin a b front i before after
+    → IsRunBehind tin a b before after
 ends_all tin a b front last i before after sound right e so_far =
-    run_told tin a b front last so_far.image so_far.own before after sound right so_far.is (subst (λ (ts : List ℕ). AreEndImages tin a b ts so_far.own) (all_taken front i e) so_far.ends) so_far.are
+    run_told tin a b front last so_far.image so_far.own before after sound right so_far.is
+    (subst (λ (ts : List ℕ). AreEndImages tin a b ts so_far.own) (all_taken front i e) so_far.ends) so_far.are
 
-pub ends_count : (tin : Triangulation) (a b : Pt) (front : List ℕ) (i : ℕ) (before after : List Pt) → i ≡ length front → AreEndsBehind tin a b front i before after → length after ≡ length before + (length front + 1)
+pub ends_count : (tin : Triangulation) (a b : Pt) (front : List ℕ) (i : ℕ) (before after : List Pt) → i ≡ length front
+    → AreEndsBehind tin a b front i before after → length after ≡ length before + (length front + 1)
 ends_count tin a b front i before after e so_far =
-    sum (length after) (length before) (length so_far.own) (ap (λ (xs : List Pt). length xs) so_far.are ∙ length-append before (so_far.image ∷ so_far.own))
-    (ends_length tin a b front so_far.own (subst (λ (ts : List ℕ). AreEndImages tin a b ts so_far.own) (all_taken front i e) so_far.ends))
+    sum (length after) (length before) (length so_far.own)
+    (ap (λ (xs : List Pt). length xs) so_far.are ∙ length-append before (so_far.image ∷ so_far.own))
+    (ends_length tin a b front so_far.own (subst (λ (ts : List ℕ). AreEndImages tin a b ts so_far.own)
+    (all_taken front i e) so_far.ends))
   where
     sum : (k m o : ℕ) → k ≡ m + suc o → o ≡ length front → k ≡ m + (length front + 1)
     sum k m o e f = omega arith
 
-pub first_in : (tin : Triangulation) (a b : Pt) (numbers : List ℕ) → 0 < length numbers → IsRightList tin a b numbers → IsTriangleWith tin (get_or numbers 0 0) a
+pub first_in : (tin : Triangulation) (a b : Pt) (numbers : List ℕ) → 0 < length numbers → IsRightList tin a b numbers
+    → IsTriangleWith tin (get_or numbers 0 0) a
 first_in tin a b [] h right = absurd (omega arith)
 first_in tin a b (t ∷ ts) h right = first_has tin a b t ts right
 
@@ -254,8 +325,10 @@ pub part_range : (tin : Triangulation) (a b : Pt) (t : ℕ) → HasPart tin a b 
 part_range tin a b t (f, l, part) = part.in_range
 
 -- ---- all but the last of a list, and the last
-pub split_last : (numbers : List ℕ) → 0 < length numbers → numbers ≡ take (length numbers - 1) numbers ++ get_or numbers (length numbers - 1) 0 ∷ []
-split_last numbers h = sym (take_all (length numbers - 1 + 1) numbers (all (length numbers) h)) ∙ take_more numbers (length numbers - 1) 0 (below (length numbers) h)
+pub split_last : (numbers : List ℕ) → 0 < length numbers
+    → numbers ≡ take (length numbers - 1) numbers ++ get_or numbers (length numbers - 1) 0 ∷ []
+split_last numbers h = sym (take_all (length numbers - 1 + 1) numbers (all (length numbers) h))
+    ∙ take_more numbers (length numbers - 1) 0 (below (length numbers) h)
   where
     all : (n : ℕ) → 0 < n → n ≤ n - 1 + 1
     all n h = omega arith
@@ -263,8 +336,11 @@ split_last numbers h = sym (take_all (length numbers - 1 + 1) numbers (all (leng
     below : (n : ℕ) → 0 < n → n - 1 < n
     below n h = omega arith
 
-pub front_length : (numbers : List ℕ) → 0 < length numbers → length (take (length numbers - 1) numbers) + 1 ≡ length numbers
-front_length numbers h = sym (ap (λ (ts : List ℕ). length ts) (split_last numbers h) ∙ length-append (take (length numbers - 1) numbers) (get_or numbers (length numbers - 1) 0 ∷ []))
+pub front_length : (numbers : List ℕ) → 0 < length numbers
+    → length (take (length numbers - 1) numbers) + 1 ≡ length numbers
+front_length numbers h = sym (ap (λ (ts : List ℕ). length ts) (split_last numbers h)
+    ∙ length-append (take (length numbers - 1) numbers) (get_or numbers (length numbers - 1) 0 ∷ []))
 
-pub right_split : (tin : Triangulation) (a b : Pt) (numbers : List ℕ) → 0 < length numbers → IsRightList tin a b numbers → IsRightList tin a b (take (length numbers - 1) numbers ++ get_or numbers (length numbers - 1) 0 ∷ [])
+pub right_split : (tin : Triangulation) (a b : Pt) (numbers : List ℕ) → 0 < length numbers → IsRightList tin a b numbers
+    → IsRightList tin a b (take (length numbers - 1) numbers ++ get_or numbers (length numbers - 1) 0 ∷ [])
 right_split tin a b numbers h right = subst (λ (ts : List ℕ). IsRightList tin a b ts) (split_last numbers h) right

@@ -1,5 +1,6 @@
 -- The images of a sheet by the lines of its segments, path by path.
-use Rattle.std.proofs.Common.{◌≡◌, ℕ, suc, ◌+◌, ◌<◌, ◌≤◌, ◌^◌, List, [], ◌∷◌, ◌++◌, take, drop, length, append_assoc, ap, refl, sym, ◌∙◌, subst, arith}
+use Rattle.std.proofs.Common.{◌≡◌, ℕ, suc, ◌+◌, ◌<◌, ◌≤◌, ◌^◌, List, [], ◌∷◌, ◌++◌, take, drop, length, append_assoc}
+use Rattle.std.proofs.Common.{ap, refl, sym, ◌∙◌, subst, arith}
 use Rattle.std.proofs.lemmas.List.{append-nil, append_cancel_left, length-append, take_all}
 use Rattle.plane_base.specs.declared.shapes.Pt.{Pt}
 use Rattle.sheet_base.specs.declared.paths.PathRow.{PathRow}
@@ -14,31 +15,42 @@ use Rattle.cert_check.specs.Lines.{HasCount}
 use Rattle.cert_check.specs.RightLists.{AreRightLists}
 use Rattle.cert_check.specs.Checks.{IsFirstNotRight}
 use Rattle.cert_check.specs.declared.faults.CertFault.{CertFault}
-use Rattle.cert_check.specs.declared.faults.CertFault.TheVariants.{Layer, Form, Count, Segment as WrongSegment, Differs, NoMemory}
+use Rattle.cert_check.specs.declared.faults.CertFault.TheVariants.{Layer, Form, Count, Segment as WrongSegment, Differs}
+use Rattle.cert_check.specs.declared.faults.CertFault.TheVariants.{NoMemory}
 use Rattle.cert_check.specs.SheetLists.{HasLines, AreImaged, IsStoppedAt, IsStopCause, IsImageCause, HasRightLists}
 use Rattle.cert_check.proofs.LineNumbers.{LinesLeft, lines_left, still_enough}
 use Rattle.cert_check.proofs.PathLists.{imaged_none, imaged_on, lists_more, texts_more, right_more, right_length}
 
 -- ---- what stands after some paths
-pub record IsSheetImaged (tin : Triangulation) (points : List Pt) (rows : List PathRow) (x : List Pt) (r text rest : List ℕ) (i : ℕ) : Type 0 where
+pub record IsSheetImaged (tin : Triangulation) (points : List Pt) (rows : List PathRow) (x : List Pt)
+    (r text rest : List ℕ) (i : ℕ) : Type 0 where
   pub imaged : AreImaged tin (vertices_from points 0 (take i rows)) [] x [] r text rest
   pub count : length x + length rest ≤ length text
 
-pub sheet_start : (tin : Triangulation) (points : List Pt) (rows : List PathRow) (x : List Pt) (r text rest : List ℕ) → x ≡ [] → r ≡ [] → rest ≡ text → IsSheetImaged tin points rows x r text rest 0
+pub sheet_start : (tin : Triangulation) (points : List Pt) (rows : List PathRow) (x : List Pt) (r text rest : List ℕ)
+    → x ≡ [] → r ≡ [] → rest ≡ text → IsSheetImaged tin points rows x r text rest 0
 sheet_start tin points rows x r text rest ex er e =
     subst (λ (xs : List Pt). IsSheetImaged tin points rows xs r text rest 0) (sym ex)
     (subst (λ (rs : List ℕ). IsSheetImaged tin points rows [] rs text rest 0) (sym er)
-    (subst (λ (left : List ℕ). IsSheetImaged tin points rows [] [] text left 0) (sym e) (record { imaged = imaged_none tin [] [] text; count = omega arith })))
+    (subst (λ (left : List ℕ). IsSheetImaged tin points rows [] [] text left 0) (sym e)
+    (record { imaged = imaged_none tin [] [] text; count = omega arith })))
 
-pub sheet_next : (tin : Triangulation) (points : List Pt) (rows : List PathRow) (x y : List Pt) (r s text a b : List ℕ) (i : ℕ) (row : PathRow) → i < length rows → IsRowAt rows i row → IsSheetImaged tin points rows x r text a i
-    → AreImaged tin (path_vertices points i row) x y r s a b → length y + length b ≤ length x + length a → IsSheetImaged tin points rows y s text b (i + 1)
+pub sheet_next : (tin : Triangulation) (points : List Pt) (rows : List PathRow) (x y : List Pt) (r s text a b : List ℕ)
+    (i : ℕ) (row : PathRow) → i < length rows → IsRowAt rows i row → IsSheetImaged tin points rows x r text a i
+    → AreImaged tin (path_vertices points i row) x y r s a b → length y + length b ≤ length x + length a
+    → IsSheetImaged tin points rows y s text b (i + 1)
 sheet_next tin points rows x y r s text a b i row h e state imaged few = record {
-  imaged = subst (λ (vs : List PathVertex). AreImaged tin vs [] y [] s text b) (sym (one_path_more points rows i row h e)) (imaged_on tin (vertices_from points 0 (take i rows)) (path_vertices points i row) [] x y [] r s text a b state.imaged imaged);
+  imaged = subst (λ (vs : List PathVertex). AreImaged tin vs [] y [] s text b)
+      (sym (one_path_more points rows i row h e))
+      (imaged_on tin (vertices_from points 0 (take i rows)) (path_vertices points i row) [] x y [] r s text a b
+      state.imaged imaged);
   count = (let c = state.count in omega (arith, c, few));
 }
 
 -- there are lines for the segments of the next path
-pub sheet_lines : (tin : Triangulation) (points : List Pt) (rows : List PathRow) (x : List Pt) (r text a : List ℕ) (i n : ℕ) (row : PathRow) → i < length rows → IsRowAt rows i row → IsPathFrom row.first row → n ≡ length (segments_begun (vertices_from points 0 rows)) → HasLines text n
+pub sheet_lines : (tin : Triangulation) (points : List Pt) (rows : List PathRow) (x : List Pt) (r text a : List ℕ)
+    (i n : ℕ) (row : PathRow) → i < length rows → IsRowAt rows i row → IsPathFrom row.first row
+    → n ≡ length (segments_begun (vertices_from points 0 rows)) → HasLines text n
     → IsSheetImaged tin points rows x r text a i → HasLines a (segments_in row)
 sheet_lines tin points rows x r text a i n row h e path en has state = go state.imaged
   where
@@ -57,13 +69,19 @@ sheet_lines tin points rows x r text a i n row h e path en has state = go state.
     go : AreImaged tin (vertices_from points 0 (take i rows)) [] x [] r text a → HasLines a (segments_in row)
     go imaged =
         still_enough text a imaged.lists (segments_in row) n has imaged.spelled imaged.are_lists
-        (fits (length (segments_begun (vertices_from points 0 rows))) (length done) (length own) (length (own ++ behind)) (length behind) en
-        (ap (λ (ss : List Segment). length ss) (split_paths points rows i row h e) ∙ length-append done (own ++ behind)) (length-append own behind)
-        (length imaged.lists) (right_length tin done imaged.lists imaged.are_right) (segments_in row) (begun_in points i row path))
+        (fits (length (segments_begun (vertices_from points 0 rows))) (length done) (length own)
+        (length (own ++ behind)) (length behind) en
+        (ap (λ (ss : List Segment). length ss) (split_paths points rows i row h e) ∙ length-append done (own ++ behind))
+        (length-append own behind)
+        (length imaged.lists) (right_length tin done imaged.lists imaged.are_right) (segments_in row)
+        (begun_in points i row path))
 
 -- ---- why it is not passed
-pub sheet_cause : (tin : Triangulation) (points : List Pt) (rows : List PathRow) (x : List Pt) (r text a : List ℕ) (i : ℕ) (row : PathRow) (fault : CertFault) → i < length rows → IsRowAt rows i row → IsSheetImaged tin points rows x r text a i
-    → IsStopCause tin (segments_begun (path_vertices points i row)) a fault → IsStopCause tin (segments_begun (vertices_from points 0 rows)) text fault
+pub sheet_cause : (tin : Triangulation) (points : List Pt) (rows : List PathRow) (x : List Pt) (r text a : List ℕ)
+    (i : ℕ) (row : PathRow) (fault : CertFault) → i < length rows → IsRowAt rows i row
+    → IsSheetImaged tin points rows x r text a i
+    → IsStopCause tin (segments_begun (path_vertices points i row)) a fault
+    → IsStopCause tin (segments_begun (vertices_from points 0 rows)) text fault
 sheet_cause tin points rows x r text a i row (Layer f) h e state cause = absurd cause
 sheet_cause tin points rows x r text a i row (Form f) h e state cause = absurd cause
 sheet_cause tin points rows x r text a i row (Count f g) h e state cause = absurd cause
@@ -77,7 +95,8 @@ sheet_cause tin points rows x r text a i row (WrongSegment p n) h e state stop =
     behind : List Segment
     behind = segments_begun (vertices_from points (i + 1) (drop (suc i) rows))
 
-    go : AreImaged tin (vertices_from points 0 (take i rows)) [] x [] r text a → IsStoppedAt tin (segments_begun (vertices_from points 0 rows)) text p n
+    go : AreImaged tin (vertices_from points 0 (take i rows)) [] x [] r text a
+        → IsStoppedAt tin (segments_begun (vertices_from points 0 rows)) text p n
     go imaged = record {
       before = done ++ stop.before;
       segment = stop.segment;
@@ -85,11 +104,14 @@ sheet_cause tin points rows x r text a i row (WrongSegment p n) h e state stop =
       right = imaged.lists ++ stop.right;
       list = stop.list;
       rest = stop.rest;
-      segments_are = split_paths points rows i row h e ∙ ap (λ (ss : List Segment). done ++ (ss ++ behind)) stop.segments_are
-          ∙ ap (λ (ss : List Segment). done ++ ss) (append_assoc stop.before (stop.segment ∷ stop.behind) behind) ∙ sym (append_assoc done stop.before (stop.segment ∷ (stop.behind ++ behind)));
+      segments_are = split_paths points rows i row h e
+          ∙ ap (λ (ss : List Segment). done ++ (ss ++ behind)) stop.segments_are
+          ∙ ap (λ (ss : List Segment). done ++ ss) (append_assoc stop.before (stop.segment ∷ stop.behind) behind)
+          ∙ sym (append_assoc done stop.before (stop.segment ∷ (stop.behind ++ behind)));
       are_lists = lists_more imaged.lists stop.right imaged.are_lists stop.are_lists;
       is_list = stop.is_list;
-      spelled = imaged.spelled ∙ ap (λ (xs : List ℕ). lines_text imaged.lists ++ xs) stop.spelled ∙ sym (append_assoc (lines_text imaged.lists) (lines_text stop.right) (line_text stop.list ++ stop.rest))
+      spelled = imaged.spelled ∙ ap (λ (xs : List ℕ). lines_text imaged.lists ++ xs) stop.spelled
+          ∙ sym (append_assoc (lines_text imaged.lists) (lines_text stop.right) (line_text stop.list ++ stop.rest))
           ∙ ap (λ (xs : List ℕ). xs ++ (line_text stop.list ++ stop.rest)) (sym (texts_more imaged.lists stop.right));
       are_right = right_more tin done stop.before imaged.lists stop.right imaged.are_right stop.are_right;
       not_right = stop.not_right;
@@ -98,10 +120,13 @@ sheet_cause tin points rows x r text a i row (WrongSegment p n) h e state stop =
     }
 
 -- ---- all paths
-pub sheet_all : (tin : Triangulation) (points points' : List Pt) (rows : List PathRow) (x : List Pt) (r text rest : List ℕ) (i : ℕ) → i ≡ length rows → points ≡ points' → IsSheetImaged tin points rows x r text rest i → AreImaged tin (vertices_from points' 0 rows) [] x [] r text rest
+pub sheet_all : (tin : Triangulation) (points points' : List Pt) (rows : List PathRow) (x : List Pt)
+    (r text rest : List ℕ) (i : ℕ) → i ≡ length rows → points ≡ points' → IsSheetImaged tin points rows x r text rest i
+    → AreImaged tin (vertices_from points' 0 rows) [] x [] r text rest
 sheet_all tin points points' rows x r text rest i e ep state =
     subst (λ (ps : List Pt). AreImaged tin (vertices_from ps 0 rows) [] x [] r text rest) ep
-    (subst (λ (rs : List PathRow). AreImaged tin (vertices_from points 0 rs) [] x [] r text rest) (take_all i rows (upto (length rows) e)) state.imaged)
+    (subst (λ (rs : List PathRow). AreImaged tin (vertices_from points 0 rs) [] x [] r text rest)
+    (take_all i rows (upto (length rows) e)) state.imaged)
   where
     upto : (n : ℕ) → i ≡ n → n ≤ i
     upto n e = omega arith
@@ -118,31 +143,53 @@ has_lines cert text n e (lists, count, is) = record {
 
 nil_of : (lists others : List (List ℕ)) (k : ℕ) → length (lists ++ others) ≡ k → length lists ≡ k → others ≡ []
 nil_of lists [] k e f = refl
-nil_of lists (l ∷ others) k e f = absurd (out (length (lists ++ l ∷ others)) (length lists) (length others) (length-append lists (l ∷ others)) e f)
+nil_of lists (l ∷ others) k e f = absurd (out (length (lists ++ l ∷ others)) (length lists) (length others)
+    (length-append lists (l ∷ others)) e f)
   where
     out : (m n o : ℕ) → m ≡ n + suc o → m ≡ k → n ≡ k → ⊥
     out m n o g e f = absurd (omega arith)
 
-pub right_all : (tin : Triangulation) (vertices : List PathVertex) (x : List Pt) (r cert text rest : List ℕ) → cert ≡ head_text ++ text → HasCount cert (length (segments_begun vertices)) → AreImaged tin vertices [] x [] r text rest → HasRightLists tin (segments_begun vertices) cert
-right_all tin vertices x r cert text rest e (lists, count, is) imaged = go (lines_left lists imaged.lists rest is.are_lists imaged.are_lists (append_cancel_left head_text (lines_text lists) text (sym is.spelled ∙ e) ∙ imaged.spelled))
+pub right_all : (tin : Triangulation) (vertices : List PathVertex) (x : List Pt) (r cert text rest : List ℕ)
+    → cert ≡ head_text ++ text → HasCount cert (length (segments_begun vertices))
+    → AreImaged tin vertices [] x [] r text rest → HasRightLists tin (segments_begun vertices) cert
+right_all tin vertices x r cert text rest e (lists, count, is) imaged =
+    go (lines_left lists imaged.lists rest is.are_lists imaged.are_lists
+    (append_cancel_left head_text (lines_text lists) text (sym is.spelled ∙ e) ∙ imaged.spelled))
   where
     go : LinesLeft lists imaged.lists rest → HasRightLists tin (segments_begun vertices) cert
     go left =
-        let none : left.others ≡ [] = nil_of imaged.lists left.others (length (segments_begun vertices)) (ap (λ (ls : List (List ℕ)). length ls) (sym left.are) ∙ count) (right_length tin (segments_begun vertices) imaged.lists imaged.are_right) in
-        let all : lists ≡ imaged.lists = left.are ∙ ap (λ (ls : List (List ℕ)). imaged.lists ++ ls) none ∙ append-nil imaged.lists in
-        (lists, is, subst (λ (ls : List (List ℕ)). AreRightLists tin (segments_begun vertices) ls) (sym all) imaged.are_right)
+        let none : left.others ≡ [] = nil_of imaged.lists left.others (length (segments_begun vertices))
+        (ap (λ (ls : List (List ℕ)). length ls) (sym left.are) ∙ count)
+        (right_length tin (segments_begun vertices) imaged.lists imaged.are_right) in
+        let all : lists ≡ imaged.lists = left.are ∙ ap (λ (ls : List (List ℕ)). imaged.lists ++ ls) none
+        ∙ append-nil imaged.lists in (
+          lists,
+          is,
+          subst (λ (ls : List (List ℕ)). AreRightLists tin (segments_begun vertices) ls) (sym all)
+              imaged.are_right,
+        )
 
-pub image_cause : (tin : Triangulation) (segments : List Segment) (cert text : List ℕ) (fault : CertFault) → cert ≡ head_text ++ text → HasCount cert (length segments) → IsStopCause tin segments text fault → IsImageCause tin segments cert fault
+pub image_cause : (tin : Triangulation) (segments : List Segment) (cert text : List ℕ) (fault : CertFault)
+    → cert ≡ head_text ++ text → HasCount cert (length segments) → IsStopCause tin segments text fault
+    → IsImageCause tin segments cert fault
 image_cause tin segments cert text (Layer f) e has cause = absurd cause
 image_cause tin segments cert text (Form f) e has cause = absurd cause
 image_cause tin segments cert text (Count f g) e has cause = absurd cause
 image_cause tin segments cert text (Differs f) e has cause = absurd cause
 image_cause tin segments cert text NoMemory e has cause = tt
-image_cause tin segments cert text (WrongSegment p n) e (lists, count, is) stop = (lists, is, sym count, go (lines_left lists (stop.right ++ stop.list ∷ []) stop.rest is.are_lists (lists_more stop.right (stop.list ∷ []) stop.are_lists (stop.is_list, tt)) spelled))
+image_cause tin segments cert text (WrongSegment p n) e (lists, count, is) stop = (
+  lists,
+  is,
+  sym count,
+  go (lines_left lists (stop.right ++ stop.list ∷ []) stop.rest is.are_lists
+      (lists_more stop.right (stop.list ∷ []) stop.are_lists (stop.is_list, tt)) spelled),
+)
   where
     spelled : lines_text lists ≡ lines_text (stop.right ++ stop.list ∷ []) ++ stop.rest
-    spelled = append_cancel_left head_text (lines_text lists) text (sym is.spelled ∙ e) ∙ stop.spelled ∙ ap (λ (xs : List ℕ). lines_text stop.right ++ (xs ++ stop.rest)) (sym (append-nil (line_text stop.list)))
-        ∙ sym (append_assoc (lines_text stop.right) (line_text stop.list ++ []) stop.rest) ∙ ap (λ (xs : List ℕ). xs ++ stop.rest) (sym (texts_more stop.right (stop.list ∷ [])))
+    spelled = append_cancel_left head_text (lines_text lists) text (sym is.spelled ∙ e) ∙ stop.spelled
+        ∙ ap (λ (xs : List ℕ). lines_text stop.right ++ (xs ++ stop.rest)) (sym (append-nil (line_text stop.list)))
+        ∙ sym (append_assoc (lines_text stop.right) (line_text stop.list ++ []) stop.rest)
+        ∙ ap (λ (xs : List ℕ). xs ++ stop.rest) (sym (texts_more stop.right (stop.list ∷ [])))
 
     go : LinesLeft lists (stop.right ++ stop.list ∷ []) stop.rest → IsFirstNotRight tin segments lists p n
     go left = record {
@@ -164,7 +211,8 @@ pub no_head : (cert : List ℕ) (n : ℕ) → HasCount cert n → ((rest : List 
 no_head cert n (lists, count, is) none = none (lines_text lists) is.spelled
 
 pub text_short : (cert text : List ℕ) → cert ≡ head_text ++ text → length cert < 2 ^ 32 → length text < 2 ^ 32
-text_short cert text e h = short (length cert) (length head_text) (ap (λ (xs : List ℕ). length xs) e ∙ length-append head_text text) h
+text_short cert text e h = short (length cert) (length head_text)
+    (ap (λ (xs : List ℕ). length xs) e ∙ length-append head_text text) h
   where
     short : (k m : ℕ) → k ≡ m + length text → k < 2 ^ 32 → length text < 2 ^ 32
     short k m e h = omega arith

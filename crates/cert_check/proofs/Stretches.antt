@@ -19,12 +19,16 @@ use Rattle.tin_base.proofs.SlicedParts.{part_told, params}
 use Rattle.cert_check.specs.Slices.{IsPartAt}
 
 -- ---- a triangle without a common point shares no spot
-pub not_shared : (tin : Triangulation) (a b : Pt) (t : ℕ) (r : Tri) → corners r ≡ places tin Source (numbers_of tin t) → ((n d : ℤ) → IsIn a b r n d → ⊥) → (s : Spot) → IsShared tin a b t s → ⊥
+pub not_shared : (tin : Triangulation) (a b : Pt) (t : ℕ) (r : Tri) → corners r ≡ places tin Source (numbers_of tin t)
+    → ((n d : ℤ) → IsIn a b r n d → ⊥) → (s : Spot) → IsShared tin a b t s → ⊥
 not_shared tin a b t r stands none s h =
-    none (pos s.of_b) (pos s.of_a +ℤ pos s.of_b) (in_spot a b r s h.some (subst (λ (ps : List Point). IsMix (spot_at a b s) ps) (sym stands) h.inside))
+    none (pos s.of_b) (pos s.of_a +ℤ pos s.of_b)
+    (in_spot a b r s h.some (subst (λ (ps : List Point). IsMix (spot_at a b s) ps) (sym stands) h.inside))
 
 -- ---- a stretch that goes on from the parameter
-pub part_here : (tin : Triangulation) (a b : Pt) (t : ℕ) (slice : Stretch) (at : Frac) → IsWithinLimits tin → t < length tin.triangles → IsSliceIn tin a b t slice → AreNearTriangle tin a b t → IsParam at.num at.den → IsSameValue slice.lo at × IsBelow slice.lo slice.hi → IsPartAt tin a b t (spot_of at) slice
+pub part_here : (tin : Triangulation) (a b : Pt) (t : ℕ) (slice : Stretch) (at : Frac) → IsWithinLimits tin
+    → t < length tin.triangles → IsSliceIn tin a b t slice → AreNearTriangle tin a b t → IsParam at.num at.den
+    → IsSameValue slice.lo at × IsBelow slice.lo slice.hi → IsPartAt tin a b t (spot_of at) slice
 part_here tin a b t slice at limits ht told near param goes =
     let ends = params tin a b t slice limits ht told in
     record {
@@ -40,7 +44,8 @@ pub near_some : (answer : Option Stretch) (P : Type 0) → P → IfSome answer (
 near_some None P p = tt
 near_some (Some s) P p = p
 
-pub none_shared : (tin : Triangulation) (a b : Pt) (t : ℕ) (r : Tri) (answer : Option Stretch) → corners r ≡ places tin Source (numbers_of tin t) → slice_of a b r answer
+pub none_shared : (tin : Triangulation) (a b : Pt) (t : ℕ) (r : Tri) (answer : Option Stretch)
+    → corners r ≡ places tin Source (numbers_of tin t) → slice_of a b r answer
     → IfNone answer (IsInside tin a b → (s : Spot) → IsShared tin a b t s → ⊥)
 none_shared tin a b t r None stands none = λ inside s h. not_shared tin a b t r stands none s h
 none_shared tin a b t r (Some stretch) stands common = tt

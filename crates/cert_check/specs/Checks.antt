@@ -17,7 +17,8 @@ use Rattle.cert_check.specs.RightLists.{IsRightList, AreRightLists}
 
 -- ---- the lists of segments
 -- the segment of these numbers is the first whose list is not right
-pub record IsFirstNotRight (tin : Triangulation) (segments : List SheetSegment) (lists : List (List ℕ)) (path number : ℕ) : Type 0 where
+pub record IsFirstNotRight (tin : Triangulation) (segments : List SheetSegment) (lists : List (List ℕ))
+    (path number : ℕ) : Type 0 where
   pub before : List SheetSegment
   pub segment : SheetSegment
   pub behind : List SheetSegment
@@ -40,8 +41,10 @@ pub record IsFirstDifference (text other : List ℕ) (at : ℕ) : Type 0 where
   pub differ : slice_get text at ≢ slice_get other at
 
 -- ---- the layer
--- The source is read as a sheet whose segments are all inside, and the written layer is its bytes with the texts for its images.
-pub record IsMigrated (tin : Triangulation) (source written : List ℕ) (reads : Contents → Type 0) (text : Contents → Runs → Edit → List ℕ) : Type 0 where
+-- The source is read as a sheet whose segments are all inside, and the written layer is its bytes with the texts for
+-- its images.
+pub record IsMigrated (tin : Triangulation) (source written : List ℕ) (reads : Contents → Type 0)
+    (text : Contents → Runs → Edit → List ℕ) : Type 0 where
   pub sheet : Contents
   pub read : reads sheet
   pub inside : IsSheetInside tin sheet
@@ -69,7 +72,8 @@ pub record IsNotRight (tin : Triangulation) (reads : Contents → Type 0) (cert 
   pub first : IsFirstNotRight tin (sheet_segments sheet) lists path number
 
 -- all are right, and the written layer differs from the text for the images, first at this place
-pub record IsDifferent (tin : Triangulation) (source written : List ℕ) (reads : Contents → Type 0) (text : Contents → Runs → Edit → List ℕ) (cert : List ℕ) (at : ℕ) : Type 0 where
+pub record IsDifferent (tin : Triangulation) (source written : List ℕ) (reads : Contents → Type 0)
+    (text : Contents → Runs → Edit → List ℕ) (cert : List ℕ) (at : ℕ) : Type 0 where
   pub sheet : Contents
   pub read : reads sheet
   pub lists : List (List ℕ)
@@ -80,10 +84,12 @@ pub record IsDifferent (tin : Triangulation) (source written : List ℕ) (reads 
   pub first : IsFirstDifference (spliced source (text sheet images) sheet.edits) written at
 
 -- why a layer is not certified: the first of these that is so
-abbrev pub IsCertCause : Triangulation → List ℕ → List ℕ → (Contents → Type 0) → (LayerFault → Type 0) → (Contents → Runs → Edit → List ℕ) → List ℕ → CertFault → Type 0
+abbrev pub IsCertCause : Triangulation → List ℕ → List ℕ → (Contents → Type 0) → (LayerFault → Type 0)
+    → (Contents → Runs → Edit → List ℕ) → List ℕ → CertFault → Type 0
 IsCertCause tin source written reads refuses text cert (Layer fault) = refuses fault
 IsCertCause tin source written reads refuses text cert (Form line) = IsBadLine cert line
 IsCertCause tin source written reads refuses text cert (Count segments lines) = IsCounted reads cert segments lines
 IsCertCause tin source written reads refuses text cert (Segment path number) = IsNotRight tin reads cert path number
-IsCertCause tin source written reads refuses text cert (Differs place) = IsDifferent tin source written reads text cert place
+IsCertCause tin source written reads refuses text cert (Differs place) =
+    IsDifferent tin source written reads text cert place
 IsCertCause tin source written reads refuses text cert NoMemory = Unit {0}

@@ -16,20 +16,24 @@ use Rattle.cert_check.specs.PieceLists.{lists_of}
 
 -- bytes are the certificate of one list of lists
 abbrev pub CertificatesAreOne : Type 0
-CertificatesAreOne = (bytes : List ℕ) (lists others : List (List ℕ)) → IsCertificate bytes lists → IsCertificate bytes others → lists ≡ others
+CertificatesAreOne = (bytes : List ℕ) (lists others : List (List ℕ)) → IsCertificate bytes lists
+    → IsCertificate bytes others → lists ≡ others
 
 -- a certificate has no line that is not of the form
 abbrev pub CertificatesHaveNoBadLine : Type 0
-CertificatesHaveNoBadLine = (bytes : List ℕ) (lists : List (List ℕ)) (line : ℕ) → IsCertificate bytes lists → IsBadLine bytes line → ⊥
+CertificatesHaveNoBadLine = (bytes : List ℕ) (lists : List (List ℕ)) (line : ℕ) → IsCertificate bytes lists
+    → IsBadLine bytes line → ⊥
 
 -- Of each sound triangulation: a segment with a right list is inside
 abbrev pub RightListsAreInside : Type 0
-RightListsAreInside = (tin : Triangulation) (a b : Pt) (numbers : List ℕ) → IsSound tin → IsRightList tin a b numbers → IsInside tin a b
+RightListsAreInside = (tin : Triangulation) (a b : Pt) (numbers : List ℕ) → IsSound tin → IsRightList tin a b numbers
+    → IsInside tin a b
 
 -- Of each sound triangulation: the triangles of the pieces of a segment that is inside are a right list
 abbrev pub PieceTrianglesAreRight : Type 0
 PieceTrianglesAreRight =
-    (tin : Triangulation) (a b : Pt) (parts : List Part) → IsSound tin → IsInside tin a b → ArePiecesOf tin a b parts → IsRightList tin a b (map (λ (part : Part). part.triangle) parts)
+    (tin : Triangulation) (a b : Pt) (parts : List Part) → IsSound tin → IsInside tin a b → ArePiecesOf tin a b parts
+    → IsRightList tin a b (map (λ (part : Part). part.triangle) parts)
 
 -- what is written of some pieces is a certificate, and its lists are right for the segments of the sheet
 pub record IsRightlyCertified (tin : Triangulation) (sheet : Contents) (pieces : List Piece) : Type 0 where
@@ -39,4 +43,5 @@ pub record IsRightlyCertified (tin : Triangulation) (sheet : Contents) (pieces :
 -- Of each sound triangulation: so it is with the pieces of a sheet whose segments are all inside
 abbrev pub PiecesAreRightlyCertified : Type 0
 PiecesAreRightlyCertified =
-    (tin : Triangulation) (layer : ℕ) (sheet : Contents) (pieces : List Piece) → IsWithinLimits tin → IsSound tin → IsSheetInside tin sheet → ArePiecesOfSheet tin layer sheet pieces → IsRightlyCertified tin sheet pieces
+    (tin : Triangulation) (layer : ℕ) (sheet : Contents) (pieces : List Piece) → IsWithinLimits tin → IsSound tin
+    → IsSheetInside tin sheet → ArePiecesOfSheet tin layer sheet pieces → IsRightlyCertified tin sheet pieces

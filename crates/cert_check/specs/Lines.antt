@@ -18,7 +18,8 @@ HasNoLine text = (rest : List ℕ) → BeginsWithLine text rest → ⊥
 
 -- the text is the lines of this many lists
 abbrev pub AreLines : List ℕ → ℕ → Type 0
-AreLines text count = (lists : List (List ℕ)) × (length lists ≡ count) × AllByRecursion IsList lists × (text ≡ lines_text lists)
+AreLines text count = (lists : List (List ℕ)) × (length lists ≡ count) × AllByRecursion IsList lists
+    × (text ≡ lines_text lists)
 
 -- the bytes are the certificate of this many lists
 abbrev pub HasCount : List ℕ → ℕ → Type 0
@@ -34,8 +35,8 @@ pub record IsBadBehind (text : List ℕ) (count : ℕ) : Type 0 where
   pub some : rest ≢ []
   pub bad : HasNoLine rest
 
--- The line of this number, counted from 1, is the first that is not of the form: the first line is not a certificate's, or it is and the lines from
--- the second on are those of lists, up to this one, which is none.
+-- The line of this number, counted from 1, is the first that is not of the form: the first line is not a certificate's,
+-- or it is and the lines from the second on are those of lists, up to this one, which is none.
 abbrev pub IsBadLine : List ℕ → ℕ → Type 0
 IsBadLine bytes zero = ⊥
 IsBadLine bytes (suc zero) = (rest : List ℕ) → bytes ≡ head_text ++ rest → ⊥

@@ -15,4 +15,5 @@ onto_first n (list ∷ lists) = (n ∷ list) ∷ lists
 -- the numbers of the triangles of pieces
 abbrev pub lists_of : List Piece → List (List ℕ)
 lists_of [] = []
-lists_of (piece ∷ pieces) = if ends_segment pieces then (piece.tri ∷ []) ∷ lists_of pieces else onto_first piece.tri (lists_of pieces)
+lists_of (piece ∷ pieces) = if ends_segment pieces then (piece.tri ∷ [])
+    ∷ lists_of pieces else onto_first piece.tri (lists_of pieces)

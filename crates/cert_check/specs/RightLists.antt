@@ -7,11 +7,12 @@ use Rattle.tin_base.specs.Triangulation.{Triangulation, IsInTriangle}
 use Rattle.tin_base.specs.Segments.{Spot, at_a, at_b, IsSameSpot, IsPart}
 use Rattle.affine_image.specs.SheetSegments.{Segment}
 
--- from a spot of the segment from a to b on, the triangles' parts follow each other without a gap: the first begins at the spot, each other one where
--- the one before it ends, and the last ends at b. A part has two different ends
+-- from a spot of the segment from a to b on, the triangles' parts follow each other without a gap: the first begins at
+-- the spot, each other one where the one before it ends, and the last ends at b. A part has two different ends
 abbrev pub AreFollowing : Triangulation → Pt → Pt → Spot → List ℕ → Type 0
 AreFollowing tin a b x [] = IsSameSpot x at_b
-AreFollowing tin a b x (t ∷ ts) = (first : Spot) × (last : Spot) × IsPart tin a b t first last × IsSameSpot first x × AreFollowing tin a b last ts
+AreFollowing tin a b x (t ∷ ts) = (first : Spot) × (last : Spot) × IsPart tin a b t first last × IsSameSpot first x
+    × AreFollowing tin a b last ts
 
 -- the list is one triangle that has the point
 abbrev pub IsOneWith : Triangulation → Pt → List ℕ → Type 0
@@ -28,4 +29,5 @@ abbrev pub AreRightLists : Triangulation → List Segment → List (List ℕ) �
 AreRightLists tin [] [] = Unit {0}
 AreRightLists tin [] (list ∷ lists) = ⊥
 AreRightLists tin (segment ∷ segments) [] = ⊥
-AreRightLists tin (segment ∷ segments) (list ∷ lists) = IsRightList tin segment.a segment.b list × AreRightLists tin segments lists
+AreRightLists tin (segment ∷ segments) (list ∷ lists) =
+    IsRightList tin segment.a segment.b list × AreRightLists tin segments lists

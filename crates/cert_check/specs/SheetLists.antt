@@ -10,7 +10,8 @@ use Rattle.affine_image.specs.Rounded.{IsRoundedImage, IsRoundedImageAt}
 use Rattle.affine_image.specs.SheetSegments.{Segment, PathVertex, segments_begun}
 use Rattle.affine_image.specs.SheetImages.{AreEndsOfAllButLast, AreRuns, joined, begins_from}
 use Rattle.cert_check.specs.declared.faults.CertFault.{CertFault}
-use Rattle.cert_check.specs.declared.faults.CertFault.TheVariants.{Layer, Form, Count, Segment as WrongSegment, Differs, NoMemory}
+use Rattle.cert_check.specs.declared.faults.CertFault.TheVariants.{Layer, Form, Count, Segment as WrongSegment, Differs}
+use Rattle.cert_check.specs.declared.faults.CertFault.TheVariants.{NoMemory}
 use Rattle.cert_check.specs.declared.ways.Way.{Way}
 use Rattle.cert_check.specs.Lines.{IsLine}
 use Rattle.cert_check.specs.Certificates.{line_text, lines_text, IsList, IsCertificate}
@@ -30,7 +31,8 @@ HasPart tin a b t = (first : Spot) × (last : Spot) × IsPart tin a b t first la
 
 -- the rounded image of the last point of the triangle's part
 abbrev pub IsEndImage : Triangulation → Pt → Pt → ℕ → Pt → Type 0
-IsEndImage tin a b t image = (first last : Spot) → IsPart tin a b t first last → IsRoundedImageAt tin (spot_at a b last) image
+IsEndImage tin a b t image = (first last : Spot) → IsPart tin a b t first last
+    → IsRoundedImageAt tin (spot_at a b last) image
 
 -- of each triangle
 abbrev pub AreEndImages : Triangulation → Pt → Pt → List ℕ → List Pt → Type 0
@@ -48,8 +50,10 @@ pub record IsRunBehind (tin : Triangulation) (a b : Pt) (before after : List Pt)
   pub ends : AreEndsOfAllButLast tin a b parts crossings
   pub are : after ≡ before ++ image ∷ crossings
 
--- the runs of some vertices stand behind the images before, and the lines of right lists for their segments in front of the rest of the text
-pub record AreImaged (tin : Triangulation) (vertices : List PathVertex) (points points' : List Pt) (run run' text rest : List ℕ) : Type 0 where
+-- the runs of some vertices stand behind the images before, and the lines of right lists for their segments in front of
+-- the rest of the text
+pub record AreImaged (tin : Triangulation) (vertices : List PathVertex) (points points' : List Pt)
+    (run run' text rest : List ℕ) : Type 0 where
   pub runs : List (List Pt)
   pub of_vertices : AreRuns tin vertices runs
   pub points_are : points' ≡ points ++ joined runs
@@ -59,7 +63,8 @@ pub record AreImaged (tin : Triangulation) (vertices : List PathVertex) (points 
   pub are_right : AreRightLists tin (segments_begun vertices) lists
   pub spelled : text ≡ lines_text lists ++ rest
 
--- the text begins with the lines of right lists for some of the segments, and then comes that of a list that is not right for the segment of these numbers
+-- the text begins with the lines of right lists for some of the segments, and then comes that of a list that is not
+-- right for the segment of these numbers
 pub record IsStoppedAt (tin : Triangulation) (segments : List Segment) (text : List ℕ) (path number : ℕ) : Type 0 where
   pub before : List Segment
   pub segment : Segment
@@ -82,7 +87,8 @@ IsTriangleWith tin t p = (t < length tin.triangles) × IsInTriangle tin Source t
 
 -- ---- one segment
 -- its line is read, its list is right, and its run stands behind the images before
-pub record IsSegmentImaged (tin : Triangulation) (a b : Pt) (points points' : List Pt) (run run' text rest : List ℕ) : Type 0 where
+pub record IsSegmentImaged (tin : Triangulation) (a b : Pt) (points points' : List Pt)
+    (run run' text rest : List ℕ) : Type 0 where
   pub list : List ℕ
   pub line : IsLine text list rest
   pub right : IsRightList tin a b list
@@ -101,7 +107,8 @@ abbrev pub IsWayCause : Triangulation → Way → List ℕ → CertFault → Typ
 IsWayCause tin way text (Layer fault) = ⊥
 IsWayCause tin way text (Form line) = ⊥
 IsWayCause tin way text (Count segments lines) = ⊥
-IsWayCause tin way text (WrongSegment path number) = (way.path ≡ path) × (way.number ≡ number) × HasWrongLine tin way.a way.b text
+IsWayCause tin way text (WrongSegment path number) =
+    (way.path ≡ path) × (way.number ≡ number) × HasWrongLine tin way.a way.b text
 IsWayCause tin way text (Differs place) = ⊥
 IsWayCause tin way text NoMemory = Unit {0}
 
@@ -119,9 +126,12 @@ IsStopCause tin segments text NoMemory = Unit {0}
 abbrev pub HasRightLists : Triangulation → List Segment → List ℕ → Type 0
 HasRightLists tin segments cert = (lists : List (List ℕ)) × IsCertificate cert lists × AreRightLists tin segments lists
 
--- they are that of one list for each of the segments, and the first that is not right is that of the segment of these numbers
+-- they are that of one list for each of the segments, and the first that is not right is that of the segment of these
+-- numbers
 abbrev pub HasWrongList : Triangulation → List Segment → List ℕ → ℕ → ℕ → Type 0
-HasWrongList tin segments cert path number = (lists : List (List ℕ)) × IsCertificate cert lists × (length segments ≡ length lists) × IsFirstNotRight tin segments lists path number
+HasWrongList tin segments cert path number =
+    (lists : List (List ℕ)) × IsCertificate cert lists × (length segments ≡ length lists)
+    × IsFirstNotRight tin segments lists path number
 
 -- why a certificate gives no images
 abbrev pub IsImageCause : Triangulation → List Segment → List ℕ → CertFault → Type 0

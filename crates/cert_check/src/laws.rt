@@ -1,6 +1,7 @@
 //! Laws of certificates.
 
-ghost use Rattle.cert_check.specs.Laws.{CertificatesAreOne, CertificatesHaveNoBadLine, PieceTrianglesAreRight, PiecesAreRightlyCertified, RightListsAreInside};
+ghost use Rattle.cert_check.specs.Laws.{CertificatesAreOne, CertificatesHaveNoBadLine, PieceTrianglesAreRight};
+ghost use Rattle.cert_check.specs.Laws.{PiecesAreRightlyCertified, RightListsAreInside};
 
 /// A law: bytes are the certificate of one list of lists at most.
 pub fn certificates_are_one()

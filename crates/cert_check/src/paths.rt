@@ -1,13 +1,15 @@
 //! The images of a path's points and crossings, by the lines of its segments.
 
-ghost use Rattle.std.specs.Prelude.{◌≡◌, ℕ, ◌+◌, ◌<◌, ◌≤◌, ◌^◌, ◌∷◌, [], ◌++◌, List, length, vec_len, IfOk, IfErr, OnOk};
+ghost use Rattle.std.specs.Prelude.{◌≡◌, ℕ, ◌+◌, ◌<◌, ◌≤◌, ◌^◌, ◌∷◌, [], ◌++◌, List, length, vec_len, IfOk, IfErr};
+ghost use Rattle.std.specs.Prelude.{OnOk};
 ghost use Rattle.plane_base.specs.declared.shapes.Pt.{Pt};
 ghost use Rattle.sheet_base.specs.Segments.{segments_in};
 ghost use Rattle.sheet_base.specs.Sheets.{IsPathFrom};
 ghost use Rattle.affine_image.specs.Rounded.{IsRoundedImage};
 ghost use Rattle.affine_image.specs.SheetSegments.{path_vertices, segments_begun};
 ghost use Rattle.cert_check.specs.Lines.{BeginsWithLine};
-ghost use Rattle.cert_check.specs.SheetLists.{HasLines, AreImaged, IsSegmentImaged, IsWayCause, IsStopCause, IsTriangleWith};
+ghost use Rattle.cert_check.specs.SheetLists.{HasLines, AreImaged, IsSegmentImaged, IsWayCause, IsStopCause};
+ghost use Rattle.cert_check.specs.SheetLists.{IsTriangleWith};
 
 use crate::CertFault;
 use crate::lines::read_line;
@@ -26,8 +28,8 @@ pub(crate) struct Gathered<'a> {
     pub(crate) rest: &'a [u8],
 }
 
-/// Passes the line of a segment, where its list is right: appends the run of the segment's first end. Answers a triangle
-/// that has its last end.
+/// Passes the line of a segment, where its list is right: appends the run of the segment's first end. Answers a
+/// triangle that has its last end.
 fn pass_segment(
     tin: &SoundTin,
     way: Way,

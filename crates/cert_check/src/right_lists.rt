@@ -56,10 +56,10 @@ fn is_same(a: Pt, b: Pt) -> bool
     a == b
 }
 
-/// Whether the triangles of these numbers are a right list for the segment from `a` to `b`, in millimetres of the source
-/// frame. Where `a` is `b` it is one triangle that contains the point. Else the parts of the segment in the triangles
-/// follow each other without a gap: the first begins at `a`, each other one where the one before it ends, and the last
-/// ends at `b`; none is one point. The points may be anywhere.
+/// Whether the triangles of these numbers are a right list for the segment from `a` to `b`, in millimetres of the
+/// source frame. Where `a` is `b` it is one triangle that contains the point. Else the parts of the segment in the
+/// triangles follow each other without a gap: the first begins at `a`, each other one where the one before it ends, and
+/// the last ends at `b`; none is one point. The points may be anywhere.
 pub fn is_right(tin: &SoundTin, a: Pt, b: Pt, numbers: &[u32]) -> bool
     ensures { IsTrue result ↔ IsRightList tin.now a b numbers.now }
 {

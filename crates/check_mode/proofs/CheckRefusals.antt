@@ -8,7 +8,8 @@ use Rattle.runs.specs.Causes.{by_the_files, unread, no_room}
 use Rattle.runs.proofs.TinRefusals.{without_file, without_read, without_room, unready}
 use Rattle.check_mode.specs.Checks.{MayRefuseCheck}
 
-pub check_refused : (told : Option Files) (how : How) (name : List ℕ) (rose passed : Type 0) (refusal : Refusal) → IsTinUnready told how name rose passed refusal
+pub check_refused : (told : Option Files) (how : How) (name : List ℕ) (rose passed : Type 0) (refusal : Refusal)
+    → IsTinUnready told how name rose passed refusal
     → IfSome told (λ files. MayRefuseCheck files how name rose refusal)
 check_refused None how name rose passed refusal why = tt
 check_refused (Some files) how name rose passed refusal why =

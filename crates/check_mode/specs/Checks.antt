@@ -37,7 +37,8 @@ IsCheckWritten layers said status = (layers ≡ []) × (status ≡ Same) × IsSo
 
 -- why it may be refused: by the file, or after a read fault of it, or because memory ran out
 abbrev pub MayRefuseCheck : Files → How → List ℕ → Type 0 → Refusal → Type 0
-MayRefuseCheck files how name shelf_rose refusal = MayRefuse (IsTinRefused files how name) (λ other. other ≡ TinUnread) shelf_rose refusal
+MayRefuseCheck files how name shelf_rose refusal =
+    MayRefuse (IsTinRefused files how name) (λ other. other ≡ TinUnread) shelf_rose refusal
 
 -- a check has no layer
 abbrev pub IsEndOfCheck : Status → Type 0

@@ -5,13 +5,18 @@ use Rattle.sheet_base.specs.declared.faults.LayerFault.{LayerFault}
 use Rattle.sheet_base.specs.Sheets.{Contents}
 use Rattle.sheet_base.specs.Outcomes.{HasOneOutcome, HasOutcome}
 
-pub one_result : (result : Result Contents LayerFault) → HasOneOutcome (λ sheet. result ≡ Ok sheet) (λ fault. result ≡ Err fault)
+pub one_result : (result : Result Contents LayerFault)
+    → HasOneOutcome (λ sheet. result ≡ Ok sheet) (λ fault. result ≡ Err fault)
 one_result result = record {
-  one_sheet = λ sheet other is too. let e : ◌≡◌ {A = Result Contents LayerFault} (Ok sheet) (Ok other) = sym is ∙ too in cc;
-  one_fault = λ fault other is too. let e : ◌≡◌ {A = Result Contents LayerFault} (Err fault) (Err other) = sym is ∙ too in cc;
-  apart = λ sheet fault is too. let e : ◌≡◌ {A = Result Contents LayerFault} (Ok sheet) (Err fault) = sym is ∙ too in cc;
+  one_sheet = λ sheet other is too. let e : ◌≡◌ {A = Result Contents LayerFault} (Ok sheet) (Ok other) = sym is
+      ∙ too in cc;
+  one_fault = λ fault other is too. let e : ◌≡◌ {A = Result Contents LayerFault} (Err fault) (Err other) = sym is
+      ∙ too in cc;
+  apart = λ sheet fault is too. let e : ◌≡◌ {A = Result Contents LayerFault} (Ok sheet) (Err fault) = sym is
+      ∙ too in cc;
 }
 
-pub some_result : (result : Result Contents LayerFault) → HasOutcome (λ sheet. result ≡ Ok sheet) (λ fault. result ≡ Err fault)
+pub some_result : (result : Result Contents LayerFault)
+    → HasOutcome (λ sheet. result ≡ Ok sheet) (λ fault. result ≡ Err fault)
 some_result (Ok sheet) = inl (sheet, refl)
 some_result (Err fault) = inr (fault, refl)

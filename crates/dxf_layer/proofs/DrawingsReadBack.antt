@@ -1,5 +1,6 @@
 -- What is written of a drawing reads back: its segments are those between the images.
-use Rattle.std.proofs.Common.{◌≡◌, ℕ, ◌<◌, ◌^◌, Bool, true, refl, ap, sym, ◌∙◌, subst, List, [], ◌∷◌, map, flat_map, length, Option, Some, Result, Ok, Err, arith, inl}
+use Rattle.std.proofs.Common.{◌≡◌, ℕ, ◌<◌, ◌^◌, Bool, true, refl, ap, sym, ◌∙◌, subst, List, [], ◌∷◌, map, flat_map}
+use Rattle.std.proofs.Common.{length, Option, Some, Result, Ok, Err, arith, inl}
 use Rattle.std.specs.List.{list_any}
 use Rattle.plane_base.specs.declared.shapes.Pt.{Pt}
 use Rattle.sheet_base.specs.declared.flags.How.{How}
@@ -30,7 +31,8 @@ use Rattle.dxf_layer.proofs.Telling.{told}
 use Rattle.dxf_layer.proofs.GroupShapes.{Outline, outlines}
 use Rattle.dxf_layer.proofs.GroupWalks.{alone}
 use Rattle.dxf_layer.proofs.GroupDrawings.{walk, entities_told, outlines_of, drawing_told}
-use Rattle.dxf_layer.proofs.OutlineEnds.{all_ends, imaged_outlines, rows_behind, points_of, rows_are, points_are, shapes_ends, imaged_ends}
+use Rattle.dxf_layer.proofs.OutlineEnds.{all_ends, imaged_outlines, rows_behind, points_of, rows_are, points_are}
+use Rattle.dxf_layer.proofs.OutlineEnds.{shapes_ends, imaged_ends}
 use Rattle.dxf_layer.proofs.FittingImages.{good_images}
 use Rattle.dxf_layer.proofs.WrittenGroups.{AreRead, ends, is_drawing}
 use Rattle.dxf_layer.proofs.WrittenPairs.{written}
@@ -38,72 +40,105 @@ use Rattle.dxf_layer.proofs.KeptSeeds.{HasSome}
 use Rattle.dxf_layer.proofs.ReadAgain.{shapes_whole, groups_again}
 
 -- the ends of the segments of a drawing's sheet
-sheet_ends : (bytes : List ℕ) (how : How) (pairs : List Pair) (past : ℕ) → AreTiles 0 1 pairs past → (seed : Option Pair) (shapes : List Shape) → walked bytes how seed free (entities_of bytes pairs) ≡ Ok shapes
+sheet_ends : (bytes : List ℕ) (how : How) (pairs : List Pair) (past : ℕ) → AreTiles 0 1 pairs past
+    → (seed : Option Pair) (shapes : List Shape) → walked bytes how seed free (entities_of bytes pairs) ≡ Ok shapes
     → ends_of (sheet_of seed shapes).points (sheet_of seed shapes).paths ≡ all_ends (outlines shapes)
 sheet_ends bytes how pairs past tiles seed shapes is =
     let whole = shapes_whole bytes how pairs past (tiles_follow 0 1 pairs past tiles) seed shapes is in
     ap (λ (points : List Pt). ends_of points (sheet_of seed shapes).paths) (points_are (begun seed) shapes)
-    ∙ (ap (λ (rows : List PathRow). ends_of (points_of shapes) rows) (rows_are (begun seed) shapes) ∙ shapes_ends [] shapes whole)
+    ∙ (ap (λ (rows : List PathRow). ends_of (points_of shapes) rows) (rows_are (begun seed) shapes)
+    ∙ shapes_ends [] shapes whole)
 
 -- and of the images
-image_ends : (bytes : List ℕ) (how : How) (pairs : List Pair) (past : ℕ) → AreTiles 0 1 pairs past → (seed : Option Pair) (shapes : List Shape) → walked bytes how seed free (entities_of bytes pairs) ≡ Ok shapes
-    → (sheet : Contents) (images : Runs) → sheet ≡ sheet_of seed shapes → DoFit sheet images → ends_of images.points (map (imaged images) sheet.paths) ≡ all_ends (imaged_outlines images 0 shapes)
+image_ends : (bytes : List ℕ) (how : How) (pairs : List Pair) (past : ℕ) → AreTiles 0 1 pairs past
+    → (seed : Option Pair) (shapes : List Shape) → walked bytes how seed free (entities_of bytes pairs) ≡ Ok shapes
+    → (sheet : Contents) (images : Runs) → sheet ≡ sheet_of seed shapes → DoFit sheet images
+    → ends_of images.points (map (imaged images) sheet.paths) ≡ all_ends (imaged_outlines images 0 shapes)
 image_ends bytes how pairs past tiles seed shapes is sheet images sheet_is fits =
     let whole = shapes_whole bytes how pairs past (tiles_follow 0 1 pairs past tiles) seed shapes is in
-    let points : sheet.points ≡ points_of shapes = ap (λ (s : Contents). s.points) sheet_is ∙ points_are (begun seed) shapes in
-    let rows : sheet.paths ≡ rows_behind 0 shapes = ap (λ (s : Contents). s.paths) sheet_is ∙ rows_are (begun seed) shapes in
+    let points : sheet.points ≡ points_of shapes = ap (λ (s : Contents). s.points) sheet_is
+    ∙ points_are (begun seed) shapes in
+    let rows : sheet.paths ≡ rows_behind 0 shapes = ap (λ (s : Contents). s.paths) sheet_is
+    ∙ rows_are (begun seed) shapes in
     let good = good_images sheet images fits in
-    ap (λ (r : List PathRow). ends_of images.points (map (imaged images) r)) rows ∙ imaged_ends images (length sheet.points) good.runs 0 shapes (omega (arith, ap length points)) whole
+    ap (λ (r : List PathRow). ends_of images.points (map (imaged images) r)) rows
+    ∙ imaged_ends images (length sheet.points) good.runs 0 shapes (omega (arith, ap length points)) whole
 
 -- what a drawing's text is read as
 abbrev IsBack : How → Contents → Runs → List ℕ → Type 0
 IsBack how sheet images text = IsReadBack (λ bytes back. drawing_sheet how bytes ≡ Ok back) sheet images text
 
 -- a text with some groups, by the walk over these
-by_groups : PairsTile → PairsAreTheGroups → (how : How) (text : List ℕ) (groups : List Group) → groups_of text ≡ groups → list_any ends groups ≡ true → (outs : List Outline) → outlines_of how groups ≡ Some outs
-    → (sheet : Contents) (images : Runs) → all_ends outs ≡ ends_of images.points (map (imaged images) sheet.paths) → IsBack how sheet images text
+by_groups : PairsTile → PairsAreTheGroups → (how : How) (text : List ℕ) (groups : List Group) → groups_of text ≡ groups
+    → list_any ends groups ≡ true → (outs : List Outline) → outlines_of how groups ≡ Some outs
+    → (sheet : Contents) (images : Runs) → all_ends outs ≡ ends_of images.points (map (imaged images) sheet.paths)
+    → IsBack how sheet images text
 by_groups tile pairs_are how text groups groups_are some outs walk_is sheet images same =
-    by_walk (walked text how (seed_of text new.pairs) free (entities_of text new.pairs)) refl (drawing_told text how new.pairs ∙ (ap (outlines_of how) (pairs_are text new.pairs new.is ∙ groups_are) ∙ walk_is)) where
+    by_walk (walked text how (seed_of text new.pairs) free (entities_of text new.pairs)) refl
+    (drawing_told text how new.pairs ∙ (ap (outlines_of how) (pairs_are text new.pairs new.is ∙ groups_are)
+    ∙ walk_is)) where
       new : AreRead (drawing text)
       new = is_drawing text (subst (λ (g : List Group). list_any ends g ≡ true) (sym groups_are) some)
 
-      by_walk : (result : Result (List Shape) LayerFault) → walked text how (seed_of text new.pairs) free (entities_of text new.pairs) ≡ result → told outlines result ≡ Some outs → IsBack how sheet images text
+      by_walk : (result : Result (List Shape) LayerFault)
+          → walked text how (seed_of text new.pairs) free (entities_of text new.pairs) ≡ result
+          → told outlines result ≡ Some outs → IsBack how sheet images text
       by_walk (Err fault) is tells = absurd (cc)
       by_walk (Ok shapes) is tells =
           let (past, inside, tiles) = tile text new.pairs new.is in
           let list_is : outlines shapes ≡ outs = cc in
           record {
             back = sheet_of (seed_of text new.pairs) shapes;
-            is_read = ap (from_pairs text how) new.is ∙ ap (and_then (λ (s : List Shape). Ok (sheet_of (seed_of text new.pairs) s))) is;
-            segments = sheet_ends text how new.pairs past tiles (seed_of text new.pairs) shapes is ∙ (ap all_ends list_is ∙ same);
+            is_read = ap (from_pairs text how) new.is
+                ∙ ap (and_then (λ (s : List Shape). Ok (sheet_of (seed_of text new.pairs) s))) is;
+            segments = sheet_ends text how new.pairs past tiles (seed_of text new.pairs) shapes is
+                ∙ (ap all_ends list_is ∙ same);
           }
 
 some_pairs : (bytes : List ℕ) (pairs : List Pair) → AreInLines bytes pairs → HasSome pairs
 some_pairs bytes [] lines = absurd lines
 some_pairs bytes (pair ∷ pairs) lines = tt
 
-pub read_back : PairsTile → PairsAreInLines → GroupsFollow → PairsAreTheGroups → (how : How) (bytes : List ℕ) (sheet : Contents) (images : Runs) → drawing_sheet how bytes ≡ Ok sheet → DoFit sheet images
-    → DoesReadBack how bytes sheet images → IsReadBack (λ text back. drawing_sheet how text ≡ Ok back) sheet images (spliced bytes (drawing_text bytes sheet images) sheet.edits)
-read_back tile in_lines follow are_groups how bytes sheet images sheet_is fits short = by_pairs (drawing bytes) refl where
-  by_pairs : (result : Result (List Pair) PairFault) → drawing bytes ≡ result → IsBack how sheet images (spliced bytes (drawing_text bytes sheet images) sheet.edits)
-  by_pairs (Err fault) pairs_are = absurd (subst (λ (r : Result (List Pair) PairFault). IsNextShort r bytes sheet images) pairs_are short)
-  by_pairs (Ok pairs) pairs_are =
-      by_walk (walked bytes how (seed_of bytes pairs) free (entities_of bytes pairs)) refl (subst (λ (r : Result (List Pair) PairFault). from_pairs bytes how r ≡ Ok sheet) pairs_are sheet_is) where
-        read : Reading
-        read = record { bytes = bytes; pairs = pairs; sheet = sheet; images = images }
+pub read_back : PairsTile → PairsAreInLines → GroupsFollow → PairsAreTheGroups
+    → (how : How) (bytes : List ℕ) (sheet : Contents) (images : Runs) → drawing_sheet how bytes ≡ Ok sheet
+    → DoFit sheet images
+    → DoesReadBack how bytes sheet images → IsReadBack (λ text back. drawing_sheet how text ≡ Ok back) sheet images
+    (spliced bytes (drawing_text bytes sheet images) sheet.edits)
+read_back tile in_lines follow are_groups how bytes sheet images sheet_is fits short =
+    by_pairs (drawing bytes) refl where
+      by_pairs : (result : Result (List Pair) PairFault) → drawing bytes ≡ result
+          → IsBack how sheet images (spliced bytes (drawing_text bytes sheet images) sheet.edits)
+      by_pairs (Err fault) pairs_are = absurd (subst
+          (λ (r : Result (List Pair) PairFault). IsNextShort r bytes sheet images) pairs_are short)
+      by_pairs (Ok pairs) pairs_are =
+          by_walk (walked bytes how (seed_of bytes pairs) free (entities_of bytes pairs)) refl
+          (subst (λ (r : Result (List Pair) PairFault). from_pairs bytes how r ≡ Ok sheet) pairs_are sheet_is) where
+            read : Reading
+            read = record { bytes = bytes; pairs = pairs; sheet = sheet; images = images }
 
-        few : next_behind read < 16 ^ MOST_DIGITS
-        few = subst (λ (r : Result (List Pair) PairFault). IsNextShort r bytes sheet images) pairs_are short
+            few : next_behind read < 16 ^ MOST_DIGITS
+            few = subst (λ (r : Result (List Pair) PairFault). IsNextShort r bytes sheet images) pairs_are short
 
-        by_walk : (result : Result (List Shape) LayerFault) → walked bytes how (seed_of bytes pairs) free (entities_of bytes pairs) ≡ result → and_then (λ (s : List Shape). Ok (sheet_of (seed_of bytes pairs) s)) result ≡ Ok sheet
-            → IsBack how sheet images (spliced bytes (drawing_text bytes sheet images) sheet.edits)
-        by_walk (Err fault) walk_is made = absurd (cc)
-        by_walk (Ok shapes) walk_is made =
-            let (past, inside, tiles) = tile bytes pairs pairs_are in
-            let same : sheet ≡ sheet_of (seed_of bytes pairs) shapes = cc in
-            let again = groups_again follow read how past tiles (in_lines bytes pairs pairs_are) (seed_of bytes pairs) refl shapes walk_is same fits few in
-            let walks = again.again alone (inl refl) in
-            let groups = flat_map (groups_for read) pairs in
-            let outs : outlines_of how groups ≡ Some walks.outs = ap (λ (seeded : Bool). walk how seeded alone (entities_told Outside groups)) again.kept.seeded ∙ walks.walk_is in
-            by_groups tile are_groups how (spliced bytes (drawing_text bytes sheet images) sheet.edits) groups (written tile in_lines follow how bytes pairs sheet images pairs_are sheet_is fits) (again.kept.ending (some_pairs bytes pairs (in_lines bytes pairs pairs_are))) walks.outs outs sheet images
-            (walks.same ∙ sym (image_ends bytes how pairs past tiles (seed_of bytes pairs) shapes walk_is sheet images same fits))
+            by_walk : (result : Result (List Shape) LayerFault)
+                → walked bytes how (seed_of bytes pairs) free (entities_of bytes pairs) ≡ result
+                → and_then (λ (s : List Shape). Ok (sheet_of (seed_of bytes pairs) s)) result ≡ Ok sheet
+                → IsBack how sheet images (spliced bytes (drawing_text bytes sheet images) sheet.edits)
+            by_walk (Err fault) walk_is made = absurd (cc)
+            by_walk (Ok shapes) walk_is made =
+                let (past, inside, tiles) = tile bytes pairs pairs_are in
+                let same : sheet ≡ sheet_of (seed_of bytes pairs) shapes = cc in
+                let again = groups_again follow read how past tiles (in_lines bytes pairs pairs_are)
+                (seed_of bytes pairs)
+                refl shapes walk_is same fits few in
+                let walks = again.again alone (inl refl) in
+                let groups = flat_map (groups_for read) pairs in
+                let outs : outlines_of how groups ≡ Some walks.outs =
+                ap (λ (seeded : Bool). walk how seeded alone (entities_told Outside groups)) again.kept.seeded
+                ∙ walks.walk_is in
+                by_groups tile are_groups how (spliced bytes (drawing_text bytes sheet images) sheet.edits) groups
+                (written tile in_lines follow how bytes pairs sheet images pairs_are sheet_is fits)
+                (again.kept.ending (some_pairs bytes pairs (in_lines bytes pairs pairs_are))) walks.outs outs sheet
+                images
+                (walks.same ∙ sym (image_ends bytes how pairs past tiles (seed_of bytes pairs) shapes walk_is sheet
+                images
+                same fits))

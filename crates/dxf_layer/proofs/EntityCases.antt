@@ -1,5 +1,6 @@
 -- What is written in the place of an entity that is read, by its kind.
-use Rattle.std.proofs.Common.{◌≡◌, ℕ, ◌+◌, ◌<◌, ◌≤◌, pos, Bool, true, false, cond, refl, ap, sym, ◌∙◌, subst, List, [], ◌∷◌, ◌++◌, map, filter, flat_map, length, Option, None, Some, Ok, arith, codes}
+use Rattle.std.proofs.Common.{◌≡◌, ℕ, ◌+◌, ◌<◌, ◌≤◌, pos, Bool, true, false, cond, refl, ap, sym, ◌∙◌, subst, List, []}
+use Rattle.std.proofs.Common.{◌∷◌, ◌++◌, map, filter, flat_map, length, Option, None, Some, Ok, arith, codes}
 use Rattle.std.specs.Prelude.{⊤, ◌||◌}
 use Rattle.std.proofs.lemmas.Bool.Decides.{nat_tests}
 use Rattle.sheet_base.specs.declared.flags.How.{How}
@@ -20,7 +21,8 @@ use Rattle.dxf_layer.specs.Fields.{and_then, fields_of, is_not_zero, zero_at}
 use Rattle.std.proofs.lemmas.List.{length-append}
 use Rattle.dxf_layer.specs.Handles.{handle}
 use Rattle.dxf_layer.specs.Shapes.{Shape, point_of, spot_edits}
-use Rattle.dxf_layer.specs.Points.{spot_at, dot_of, point_shapes, insert_shapes, second_spot, dots_of, text_shapes, level, line_of, line_ends, line_shapes}
+use Rattle.dxf_layer.specs.Points.{spot_at, dot_of, point_shapes, insert_shapes, second_spot, dots_of, text_shapes}
+use Rattle.dxf_layer.specs.Points.{level, line_of, line_ends, line_shapes}
 use Rattle.dxf_layer.specs.Polylines.{kind_of, vertices_in, count_of, light_shape, light_shapes}
 use Rattle.dxf_layer.specs.Rendering.{Reading, entity_at}
 use Rattle.dxf_layer.proofs.Members.{Follow, went, lies, by_past}
@@ -48,7 +50,8 @@ AloneFor (Some paths.Loop) images first = ⊤
 
 abbrev pub DotsAlone : Runs → ℕ → List Shape → Type 0
 DotsAlone images first [] = ⊤
-DotsAlone images first (shape ∷ shapes) = AloneFor shape.kind images first × DotsAlone images (first + length shape.points) shapes
+DotsAlone images first (shape ∷ shapes) = AloneFor shape.kind images first
+    × DotsAlone images (first + length shape.points) shapes
 
 -- where the entity stands among all pairs, and what is found there
 pub record IsFound (read : Reading) (entity : Entity) : Type 0 where
@@ -71,12 +74,18 @@ pub record IsNumbered (read : Reading) (count path first : ℕ) (shapes : List S
 -- the same of polylines with vertices in fields
 abbrev pub LightsAreWritten : Reading → How → Option Pair → ℕ → Type 0
 LightsAreWritten read how seed count =
-    (entity : Entity) (path first : ℕ) (kind : PathKind) (vertices : List Vertex) (number : Pair) → IsFound read entity → IsReadSo read.bytes how seed entity (light_shape kind vertices number ∷ [])
-    → is_kind read.bytes (codes "POINT") entity ≡ false → is_kind read.bytes (codes "LINE") entity ≡ false → is_kind read.bytes (codes "LWPOLYLINE") entity ≡ true → kind_of read.bytes entity ≡ Ok kind
-    → vertices_in read.bytes how.exact (fields_of entity) ≡ Ok vertices → count_of read.bytes (length vertices) entity ≡ Ok number → first + length vertices ≤ count
-    → IsWritten (group_in read.bytes entity.head) how (is_seeded seed) alone alone (imaged_outlines read.images first (light_shape kind vertices number ∷ [])) (written_for read (edits_with path first (light_shape kind vertices number ∷ [])) entity)
+    (entity : Entity) (path first : ℕ) (kind : PathKind) (vertices : List Vertex) (number : Pair) → IsFound read entity
+    → IsReadSo read.bytes how seed entity (light_shape kind vertices number ∷ [])
+    → is_kind read.bytes (codes "POINT") entity ≡ false → is_kind read.bytes (codes "LINE") entity ≡ false
+    → is_kind read.bytes (codes "LWPOLYLINE") entity ≡ true → kind_of read.bytes entity ≡ Ok kind
+    → vertices_in read.bytes how.exact (fields_of entity) ≡ Ok vertices
+    → count_of read.bytes (length vertices) entity ≡ Ok number → first + length vertices ≤ count
+    → IsWritten (group_in read.bytes entity.head) how (is_seeded seed) alone alone
+    (imaged_outlines read.images first (light_shape kind vertices number ∷ []))
+    (written_for read (edits_with path first (light_shape kind vertices number ∷ [])) entity)
 
-pub not_at_end : (from past : ℕ) (pairs : List Pair) → Follow from pairs past → AreSome pairs → (own : List Edit) → AreValueEdits pairs own → filter (is_at past) own ≡ []
+pub not_at_end : (from past : ℕ) (pairs : List Pair) → Follow from pairs past → AreSome pairs → (own : List Edit)
+    → AreValueEdits pairs own → filter (is_at past) own ≡ []
 not_at_end from past pairs follow some [] are = refl
 not_at_end from past pairs follow some (edit ∷ own) are =
     let at = lies from are.0.pair pairs past follow are.0.is_in in
@@ -87,11 +96,16 @@ not_at_end from past pairs follow some (edit ∷ own) are =
     rw off (not_at_end from past pairs follow some own are.1)
 
 -- nothing is written behind values
-values_end : (read : Reading) (entity : Entity) → IsSet read.bytes entity → (own : List Edit) → AreValueEdits entity.pairs own → written_for read own entity ≡ flat_map (stand read own) (entity.head ∷ entity.pairs)
-values_end read entity set own are = behind_whole read own entity (not_at_end entity.head.end (entity_end entity) entity.pairs set.follow set.some own are)
+values_end : (read : Reading) (entity : Entity) → IsSet read.bytes entity → (own : List Edit)
+    → AreValueEdits entity.pairs own → written_for read own entity
+    ≡ flat_map (stand read own) (entity.head ∷ entity.pairs)
+values_end read entity set own are = behind_whole read own entity
+    (not_at_end entity.head.end (entity_end entity) entity.pairs set.follow set.some own are)
 
 -- nor behind a whole entity
-pub whole_end : (read : Reading) (entity : Entity) → IsSet read.bytes entity → (edit : Edit) → edit.start ≡ entity.head.start → written_for read (edit ∷ []) entity ≡ flat_map (stand read (edit ∷ [])) (entity.head ∷ entity.pairs)
+pub whole_end : (read : Reading) (entity : Entity) → IsSet read.bytes entity → (edit : Edit)
+    → edit.start ≡ entity.head.start → written_for read (edit ∷ []) entity
+    ≡ flat_map (stand read (edit ∷ [])) (entity.head ∷ entity.pairs)
 whole_end read entity set edit starts =
     let rest = by_past entity.head.end entity.pairs (entity_end entity) set.follow in
     let c = set.placed.code in
@@ -101,91 +115,149 @@ whole_end read entity set edit starts =
     behind_whole read (edit ∷ []) entity (rw off refl)
 
 abbrev Goal : Reading → How → Option Pair → Entity → ℕ → ℕ → List Shape → Type 0
-Goal read how seed entity path first shapes = IsWritten (group_in read.bytes entity.head) how (is_seeded seed) alone alone (imaged_outlines read.images first shapes) (written_for read (edits_with path first shapes) entity)
+Goal read how seed entity path first shapes =
+    IsWritten (group_in read.bytes entity.head) how (is_seeded seed) alone alone
+    (imaged_outlines read.images first shapes) (written_for read (edits_with path first shapes) entity)
 
 -- the second point of a text was read
-second_found : (bytes : List ℕ) (exact : Bool) (entity : Entity) (other : Read_point) → IsSecond bytes exact entity (Some other) → spot_at bytes exact (pos 11) (pos 21) entity ≡ Ok other
-second_found bytes exact entity other second = by_test (is_not_zero bytes second.across || is_not_zero bytes second.along) second.by where
-  by_test : (wanted : Bool) → cond wanted (and_then (λ (spot : Read_point). Ok (Some spot)) (spot_at bytes exact (pos 11) (pos 21) entity)) (Ok None) ≡ Ok (Some other) → spot_at bytes exact (pos 11) (pos 21) entity ≡ Ok other
-  by_test true made =
-      let found = went (λ (spot : Read_point). Ok (Some spot)) (spot_at bytes exact (pos 11) (pos 21) entity) (Some other) made in
-      let same : found.value ≡ other = cc in
-      found.is ∙ ap Ok same
-  by_test false made = absurd (cc)
+second_found : (bytes : List ℕ) (exact : Bool) (entity : Entity) (other : Read_point)
+    → IsSecond bytes exact entity (Some other) → spot_at bytes exact (pos 11) (pos 21) entity ≡ Ok other
+second_found bytes exact entity other second =
+    by_test (is_not_zero bytes second.across || is_not_zero bytes second.along) second.by where
+      by_test : (wanted : Bool) → cond wanted (and_then (λ (spot : Read_point). Ok (Some spot))
+          (spot_at bytes exact (pos 11) (pos 21) entity)) (Ok None) ≡ Ok (Some other)
+          → spot_at bytes exact (pos 11) (pos 21) entity ≡ Ok other
+      by_test true made =
+          let found = went (λ (spot : Read_point). Ok (Some spot)) (spot_at bytes exact (pos 11) (pos 21) entity)
+          (Some other) made in
+          let same : found.value ≡ other = cc in
+          found.is ∙ ap Ok same
+      by_test false made = absurd (cc)
 
-light_count : (kind : PathKind) (vertices : List Vertex) (number : Pair) (first count : ℕ) → first + length (points_of (light_shape kind vertices number ∷ [])) ≤ count → first + length vertices ≤ count
+light_count : (kind : PathKind) (vertices : List Vertex) (number : Pair) (first count : ℕ)
+    → first + length (points_of (light_shape kind vertices number ∷ [])) ≤ count → first + length vertices ≤ count
 light_count kind vertices number first count inside =
     let one = length-append (map (λ (vertex : Vertex). point_of vertex.spot) vertices) (points_of []) in
     let two = length_mapped (λ (vertex : Vertex). point_of vertex.spot) vertices in
     omega arith
 
-module _ (read : Reading) (how : How) (seed : Option Pair) (count : ℕ) (follow : GroupsFollow) (good : AreGoodImages read.images count) (lights : LightsAreWritten read how seed count) (entity : Entity) (path first : ℕ) (at : IsFound read entity) where
-  point_case : (shapes : List Shape) → IsReadSo read.bytes how seed entity shapes → IsNumbered read count path first shapes → is_kind read.bytes (codes "POINT") entity ≡ true → point_shapes read.bytes how.exact entity ≡ Ok shapes → Goal read how seed entity path first shapes
+module _ (read : Reading) (how : How) (seed : Option Pair) (count : ℕ) (follow : GroupsFollow)
+    (good : AreGoodImages read.images count) (lights : LightsAreWritten read how seed count) (entity : Entity)
+    (path first : ℕ) (at : IsFound read entity) where
+  point_case : (shapes : List Shape) → IsReadSo read.bytes how seed entity shapes
+      → IsNumbered read count path first shapes → is_kind read.bytes (codes "POINT") entity ≡ true
+      → point_shapes read.bytes how.exact entity ≡ Ok shapes → Goal read how seed entity path first shapes
   point_case shapes is numbered kind made =
-      let spot = went (λ (s : Read_point). Ok (dot_of s ∷ [])) (spot_at read.bytes how.exact (pos 10) (pos 20) entity) shapes made in
+      let spot = went (λ (s : Read_point). Ok (dot_of s ∷ [])) (spot_at read.bytes how.exact (pos 10) (pos 20) entity)
+      shapes made in
       let same : shapes ≡ dot_of spot.value ∷ [] = cc in
       let is_too = subst (IsReadSo read.bytes how seed entity) same is in
       let numbered_too = subst (IsNumbered read count path first) same numbered in
       let has = spot_wanted read.bytes how.exact (pos 10) (pos 20) entity spot.value spot.is in
       let are = spot_value_edits read how.exact (pos 10) (pos 20) entity spot.value first has refl refl [] tt in
       subst (Goal read how seed entity path first) (sym same)
-      (subst (IsWritten (group_in read.bytes entity.head) how (is_seeded seed) alone alone (imaged_outlines read.images first (dot_of spot.value ∷ []))) (sym (values_end read entity at.set (spot_edits first spot.value) are))
-      (point_written read how seed entity spot.value count first at.set at.goes_on is_too kind spot.is good (omega (arith, numbered_too.inside)) numbered_too.lone.0))
+      (subst (IsWritten (group_in read.bytes entity.head) how (is_seeded seed) alone alone
+      (imaged_outlines read.images first (dot_of spot.value ∷ [])))
+      (sym (values_end read entity at.set (spot_edits first spot.value) are))
+      (point_written read how seed entity spot.value count first at.set at.goes_on is_too kind spot.is good
+      (omega (arith, numbered_too.inside)) numbered_too.lone.0))
 
-  insert_case : (shapes : List Shape) → IsReadSo read.bytes how seed entity shapes → IsNumbered read count path first shapes → is_kind read.bytes (codes "POINT") entity ≡ false → is_kind read.bytes (codes "LINE") entity ≡ false
-      → is_kind read.bytes (codes "LWPOLYLINE") entity ≡ false → is_kind read.bytes (codes "TEXT") entity ≡ false → insert_shapes read.bytes how.exact entity ≡ Ok shapes → Goal read how seed entity path first shapes
+  insert_case : (shapes : List Shape) → IsReadSo read.bytes how seed entity shapes
+      → IsNumbered read count path first shapes → is_kind read.bytes (codes "POINT") entity ≡ false
+      → is_kind read.bytes (codes "LINE") entity ≡ false
+      → is_kind read.bytes (codes "LWPOLYLINE") entity ≡ false → is_kind read.bytes (codes "TEXT") entity ≡ false
+      → insert_shapes read.bytes how.exact entity ≡ Ok shapes → Goal read how seed entity path first shapes
   insert_case shapes is numbered no_point no_line no_light no_text made =
-      let none = went (λ (n : Unit {0}). point_shapes read.bytes how.exact entity) (zero_at read.bytes faults.Attribs (pos 66) entity) shapes made in
-      let spot = went (λ (s : Read_point). Ok (dot_of s ∷ [])) (spot_at read.bytes how.exact (pos 10) (pos 20) entity) shapes none.gives in
+      let none = went (λ (n : Unit {0}). point_shapes read.bytes how.exact entity)
+      (zero_at read.bytes faults.Attribs (pos 66) entity) shapes made in
+      let spot = went (λ (s : Read_point). Ok (dot_of s ∷ [])) (spot_at read.bytes how.exact (pos 10) (pos 20) entity)
+      shapes none.gives in
       let same : shapes ≡ dot_of spot.value ∷ [] = cc in
       let is_too = subst (IsReadSo read.bytes how seed entity) same is in
       let numbered_too = subst (IsNumbered read count path first) same numbered in
       let has = spot_wanted read.bytes how.exact (pos 10) (pos 20) entity spot.value spot.is in
       let are = spot_value_edits read how.exact (pos 10) (pos 20) entity spot.value first has refl refl [] tt in
       subst (Goal read how seed entity path first) (sym same)
-      (subst (IsWritten (group_in read.bytes entity.head) how (is_seeded seed) alone alone (imaged_outlines read.images first (dot_of spot.value ∷ []))) (sym (values_end read entity at.set (spot_edits first spot.value) are))
-      (insert_written read how seed entity spot.value count first at.set at.goes_on is_too (record { no_point = no_point; no_line = no_line; no_light = no_light; no_text = no_text }) none.is spot.is good (omega (arith, numbered_too.inside)) numbered_too.lone.0))
+      (subst (IsWritten (group_in read.bytes entity.head) how (is_seeded seed) alone alone
+      (imaged_outlines read.images first (dot_of spot.value ∷ [])))
+      (sym (values_end read entity at.set (spot_edits first spot.value) are))
+      (insert_written read how seed entity spot.value count first at.set at.goes_on is_too
+      (record { no_point = no_point; no_line = no_line; no_light = no_light; no_text = no_text }) none.is spot.is
+      good (omega (arith, numbered_too.inside)) numbered_too.lone.0))
 
-  text_case : (shapes : List Shape) → IsReadSo read.bytes how seed entity shapes → IsNumbered read count path first shapes → is_kind read.bytes (codes "POINT") entity ≡ false → is_kind read.bytes (codes "LINE") entity ≡ false
-      → is_kind read.bytes (codes "LWPOLYLINE") entity ≡ false → is_kind read.bytes (codes "TEXT") entity ≡ true → text_shapes read.bytes how.exact entity ≡ Ok shapes → Goal read how seed entity path first shapes
+  text_case : (shapes : List Shape) → IsReadSo read.bytes how seed entity shapes
+      → IsNumbered read count path first shapes → is_kind read.bytes (codes "POINT") entity ≡ false
+      → is_kind read.bytes (codes "LINE") entity ≡ false
+      → is_kind read.bytes (codes "LWPOLYLINE") entity ≡ false → is_kind read.bytes (codes "TEXT") entity ≡ true
+      → text_shapes read.bytes how.exact entity ≡ Ok shapes → Goal read how seed entity path first shapes
   text_case shapes is numbered no_point no_line no_light kind made =
-      let spot = went (λ (s : Read_point). and_then (λ (t : Option Read_point). Ok (dot_of s ∷ dots_of t)) (second_spot read.bytes how.exact entity)) (spot_at read.bytes how.exact (pos 10) (pos 20) entity) shapes made in
-      let second = went (λ (t : Option Read_point). Ok (dot_of spot.value ∷ dots_of t)) (second_spot read.bytes how.exact entity) shapes spot.gives in
+      let spot = went (λ (s : Read_point). and_then (λ (t : Option Read_point). Ok (dot_of s ∷ dots_of t))
+      (second_spot read.bytes how.exact entity)) (spot_at read.bytes how.exact (pos 10) (pos 20) entity) shapes
+      made in
+      let second = went (λ (t : Option Read_point). Ok (dot_of spot.value ∷ dots_of t))
+      (second_spot read.bytes how.exact entity) shapes spot.gives in
       let same : shapes ≡ dot_of spot.value ∷ dots_of second.value = cc in
       let has = spot_wanted read.bytes how.exact (pos 10) (pos 20) entity spot.value spot.is in
       subst (Goal read how seed entity path first) (sym same)
-      (by_second spot.value spot.is second.value second.is (is_second read.bytes how.exact entity second.value second.is) (subst (IsReadSo read.bytes how seed entity) same is) (subst (IsNumbered read count path first) same numbered))
+      (by_second spot.value spot.is second.value second.is
+      (is_second read.bytes how.exact entity second.value second.is)
+      (subst (IsReadSo read.bytes how seed entity) same is)
+      (subst (IsNumbered read count path first) same numbered))
     where
-      by_second : (spot : Read_point) → spot_at read.bytes how.exact (pos 10) (pos 20) entity ≡ Ok spot → (second : Option Read_point) → second_spot read.bytes how.exact entity ≡ Ok second → IsSecond read.bytes how.exact entity second
-          → IsReadSo read.bytes how seed entity (dot_of spot ∷ dots_of second) → IsNumbered read count path first (dot_of spot ∷ dots_of second) → Goal read how seed entity path first (dot_of spot ∷ dots_of second)
+      by_second : (spot : Read_point) → spot_at read.bytes how.exact (pos 10) (pos 20) entity ≡ Ok spot
+          → (second : Option Read_point) → second_spot read.bytes how.exact entity ≡ Ok second
+          → IsSecond read.bytes how.exact entity second
+          → IsReadSo read.bytes how seed entity (dot_of spot ∷ dots_of second)
+          → IsNumbered read count path first (dot_of spot ∷ dots_of second)
+          → Goal read how seed entity path first (dot_of spot ∷ dots_of second)
       by_second spot spot_is None second_is seconds is numbered =
           let has = spot_wanted read.bytes how.exact (pos 10) (pos 20) entity spot spot_is in
           let are = spot_value_edits read how.exact (pos 10) (pos 20) entity spot first has refl refl [] tt in
-          subst (IsWritten (group_in read.bytes entity.head) how (is_seeded seed) alone alone (imaged_outlines read.images first (dot_of spot ∷ []))) (sym (values_end read entity at.set (spot_edits first spot) are))
-          (text_written read how seed entity spot count first at.set at.goes_on is (no_point, (no_line, no_light)) kind spot_is seconds good (omega (arith, numbered.inside)) numbered.lone.0)
+          subst (IsWritten (group_in read.bytes entity.head) how (is_seeded seed) alone alone
+          (imaged_outlines read.images first (dot_of spot ∷ [])))
+          (sym (values_end read entity at.set (spot_edits first spot) are))
+          (text_written read how seed entity spot count first at.set at.goes_on is (no_point, (no_line, no_light)) kind
+          spot_is seconds good (omega (arith, numbered.inside)) numbered.lone.0)
       by_second spot spot_is (Some other) second_is seconds is numbered =
           let other_is = spot_found other seconds in
           let has = spot_wanted read.bytes how.exact (pos 10) (pos 20) entity spot spot_is in
           let has_too = spot_wanted read.bytes how.exact (pos 11) (pos 21) entity other other_is in
-          let are = spot_value_edits read how.exact (pos 10) (pos 20) entity spot first has refl refl (spot_edits (first + 1) other) (spot_value_edits read how.exact (pos 11) (pos 21) entity other (first + 1) has_too refl refl [] tt) in
-          subst (IsWritten (group_in read.bytes entity.head) how (is_seeded seed) alone alone (imaged_outlines read.images first (dot_of spot ∷ dot_of other ∷ []))) (sym (values_end read entity at.set (spot_edits first spot ++ spot_edits (first + 1) other) are))
-          (text_both read how seed entity spot other count first at.set at.goes_on is (no_point, (no_line, no_light)) kind spot_is other_is seconds good (omega (arith, numbered.inside)) numbered.lone.0 numbered.lone.1.0)
+          let are = spot_value_edits read how.exact (pos 10) (pos 20) entity spot first has refl refl
+          (spot_edits (first + 1) other) (spot_value_edits read how.exact (pos 11) (pos 21) entity other (first + 1)
+          has_too refl refl [] tt) in
+          subst (IsWritten (group_in read.bytes entity.head) how (is_seeded seed) alone alone
+          (imaged_outlines read.images first (dot_of spot ∷ dot_of other ∷ [])))
+          (sym (values_end read entity at.set (spot_edits first spot ++ spot_edits (first + 1) other) are))
+          (text_both read how seed entity spot other count first at.set at.goes_on is (no_point, (no_line, no_light))
+          kind spot_is other_is seconds good (omega (arith, numbered.inside)) numbered.lone.0 numbered.lone.1.0)
         where
-          spot_found : (other : Read_point) → IsSecond read.bytes how.exact entity (Some other) → spot_at read.bytes how.exact (pos 11) (pos 21) entity ≡ Ok other
+          spot_found : (other : Read_point) → IsSecond read.bytes how.exact entity (Some other)
+              → spot_at read.bytes how.exact (pos 11) (pos 21) entity ≡ Ok other
           spot_found other seconds = second_found read.bytes how.exact entity other seconds
 
-  line_case : (shapes : List Shape) → IsReadSo read.bytes how seed entity shapes → IsNumbered read count path first shapes → is_kind read.bytes (codes "POINT") entity ≡ false → is_kind read.bytes (codes "LINE") entity ≡ true
+  line_case : (shapes : List Shape) → IsReadSo read.bytes how seed entity shapes
+      → IsNumbered read count path first shapes → is_kind read.bytes (codes "POINT") entity ≡ false
+      → is_kind read.bytes (codes "LINE") entity ≡ true
       → line_shapes read.bytes how.exact seed entity ≡ Ok shapes → Goal read how seed entity path first shapes
   line_case shapes is numbered no_point kind made =
-      let ends = went (λ (e : Read_point × Read_point). Ok (line_of entity e.0 e.1 ∷ [])) (line_ends read.bytes how.exact seed entity) shapes made in
-      let own = went (λ (o : Unit {0}). and_then (λ (begin : Read_point). and_then (λ (end : Read_point). and_then (λ (l : Unit {0}). Ok (begin, end)) (level read.bytes entity)) (spot_at read.bytes how.exact (pos 11) (pos 21) entity)) (spot_at read.bytes how.exact (pos 10) (pos 20) entity))
+      let ends = went (λ (e : Read_point × Read_point). Ok (line_of entity e.0 e.1 ∷ []))
+      (line_ends read.bytes how.exact seed entity) shapes made in
+      let own = went (λ (o : Unit {0}). and_then
+      (λ (begin : Read_point). and_then (λ (end : Read_point). and_then (λ (l : Unit {0}). Ok (begin, end))
+      (level read.bytes entity)) (spot_at read.bytes how.exact (pos 11) (pos 21) entity))
+      (spot_at read.bytes how.exact (pos 10) (pos 20) entity))
       (handle seed entity) ends.value ends.is in
-      let begin = went (λ (b : Read_point). and_then (λ (end : Read_point). and_then (λ (l : Unit {0}). Ok (b, end)) (level read.bytes entity)) (spot_at read.bytes how.exact (pos 11) (pos 21) entity)) (spot_at read.bytes how.exact (pos 10) (pos 20) entity) ends.value own.gives in
-      let end = went (λ (e : Read_point). and_then (λ (l : Unit {0}). Ok (begin.value, e)) (level read.bytes entity)) (spot_at read.bytes how.exact (pos 11) (pos 21) entity) ends.value begin.gives in
+      let begin = went (λ (b : Read_point). and_then
+      (λ (end : Read_point). and_then (λ (l : Unit {0}). Ok (b, end)) (level read.bytes entity))
+      (spot_at read.bytes how.exact (pos 11) (pos 21) entity))
+      (spot_at read.bytes how.exact (pos 10) (pos 20) entity) ends.value own.gives in
+      let end = went (λ (e : Read_point). and_then (λ (l : Unit {0}). Ok (begin.value, e)) (level read.bytes entity))
+      (spot_at read.bytes how.exact (pos 11) (pos 21) entity) ends.value begin.gives in
       let flat = went (λ (l : Unit {0}). Ok (begin.value, end.value)) (level read.bytes entity) ends.value end.gives in
       let pair : ends.value ≡ (begin.value, end.value) = cc in
       let made_is : shapes ≡ line_of entity ends.value.0 ends.value.1 ∷ [] = cc in
-      let same : shapes ≡ line_of entity begin.value end.value ∷ [] = made_is ∙ ap (λ (e : Read_point × Read_point). line_of entity e.0 e.1 ∷ []) pair in
+      let same : shapes ≡ line_of entity begin.value end.value ∷ [] = made_is
+      ∙ ap (λ (e : Read_point × Read_point). line_of entity e.0 e.1 ∷ []) pair in
       let is_too = subst (IsReadSo read.bytes how seed entity) same is in
       let numbered_too = subst (IsNumbered read count path first) same numbered in
       let line : IsLine read.bytes how seed entity begin.value end.value = record {
@@ -195,33 +267,58 @@ module _ (read : Reading) (how : How) (seed : Option Pair) (count : ℕ) (follow
         line = record { own = own.is; begin_is = begin.is; end_is = end.is; level_is = flat.is };
       } in
       let row : PathRow = record { kind = paths.Line; first = first; past = first + 2 } in
-      let images = images_found read.sheet.paths numbered_too.before (rows_behind (first + 2) numbered_too.more) path read.images row numbered_too.rows numbered_too.before_is in
+      let images = images_found read.sheet.paths numbered_too.before (rows_behind (first + 2) numbered_too.more) path
+      read.images row numbered_too.rows numbered_too.before_is in
       subst (Goal read how seed entity path first) (sym same)
-      (subst (IsWritten (group_in read.bytes entity.head) how (is_seeded seed) alone alone (imaged_outlines read.images first (line_of entity begin.value end.value ∷ []))) (sym (whole_end read entity at.set (whole_of entity (edits.Lines path)) refl))
-      (line_written follow read how seed entity begin.value end.value count path first at.set at.goes_on line at.found images good numbered_too.inside))
+      (subst (IsWritten (group_in read.bytes entity.head) how (is_seeded seed) alone alone
+      (imaged_outlines read.images first (line_of entity begin.value end.value ∷ [])))
+      (sym (whole_end read entity at.set (whole_of entity (edits.Lines path)) refl))
+      (line_written follow read how seed entity begin.value end.value count path first at.set at.goes_on line at.found
+      images good numbered_too.inside))
 
-  light_case : (shapes : List Shape) → IsReadSo read.bytes how seed entity shapes → IsNumbered read count path first shapes → is_kind read.bytes (codes "POINT") entity ≡ false → is_kind read.bytes (codes "LINE") entity ≡ false
-      → is_kind read.bytes (codes "LWPOLYLINE") entity ≡ true → light_shapes read.bytes how.exact entity ≡ Ok shapes → Goal read how seed entity path first shapes
+  light_case : (shapes : List Shape) → IsReadSo read.bytes how seed entity shapes
+      → IsNumbered read count path first shapes → is_kind read.bytes (codes "POINT") entity ≡ false
+      → is_kind read.bytes (codes "LINE") entity ≡ false
+      → is_kind read.bytes (codes "LWPOLYLINE") entity ≡ true → light_shapes read.bytes how.exact entity ≡ Ok shapes
+      → Goal read how seed entity path first shapes
   light_case shapes is numbered no_point no_line kind made =
-      let flags = went (λ (k : PathKind). and_then (λ (vertices : List Vertex). and_then (λ (number : Pair). Ok (light_shape k vertices number ∷ [])) (count_of read.bytes (length vertices) entity)) (vertices_in read.bytes how.exact (fields_of entity)))
+      let flags = went (λ (k : PathKind). and_then
+      (λ (vertices : List Vertex). and_then (λ (number : Pair). Ok (light_shape k vertices number ∷ []))
+      (count_of read.bytes (length vertices) entity)) (vertices_in read.bytes how.exact (fields_of entity)))
       (kind_of read.bytes entity) shapes made in
-      let vertices = went (λ (vs : List Vertex). and_then (λ (number : Pair). Ok (light_shape flags.value vs number ∷ [])) (count_of read.bytes (length vs) entity)) (vertices_in read.bytes how.exact (fields_of entity)) shapes flags.gives in
-      let number = went (λ (n : Pair). Ok (light_shape flags.value vertices.value n ∷ [])) (count_of read.bytes (length vertices.value) entity) shapes vertices.gives in
+      let vertices = went (λ (vs : List Vertex). and_then
+      (λ (number : Pair). Ok (light_shape flags.value vs number ∷ [])) (count_of read.bytes (length vs) entity))
+      (vertices_in read.bytes how.exact (fields_of entity)) shapes flags.gives in
+      let number = went (λ (n : Pair). Ok (light_shape flags.value vertices.value n ∷ []))
+      (count_of read.bytes (length vertices.value) entity) shapes vertices.gives in
       let same : shapes ≡ light_shape flags.value vertices.value number.value ∷ [] = cc in
       let is_too = subst (IsReadSo read.bytes how seed entity) same is in
       let numbered_too = subst (IsNumbered read count path first) same numbered in
-      let inside : first + length vertices.value ≤ count = light_inside flags.value vertices.value number.value numbered_too.inside in
-      subst (Goal read how seed entity path first) (sym same) (lights entity path first flags.value vertices.value number.value at is_too no_point no_line kind flags.is vertices.is number.is inside)
+      let inside : first + length vertices.value ≤ count =
+      light_inside flags.value vertices.value number.value numbered_too.inside in
+      subst (Goal read how seed entity path first) (sym same)
+      (lights entity path first flags.value vertices.value number.value at is_too no_point no_line kind flags.is
+      vertices.is number.is inside)
     where
-      light_inside : (kind : PathKind) (vertices : List Vertex) (number : Pair) → first + length (points_of (light_shape kind vertices number ∷ [])) ≤ count → first + length vertices ≤ count
+      light_inside : (kind : PathKind) (vertices : List Vertex) (number : Pair)
+          → first + length (points_of (light_shape kind vertices number ∷ [])) ≤ count → first + length vertices ≤ count
       light_inside kind vertices number inside = light_count kind vertices number first count inside
 
   -- an entity that is read by itself
-  pub alone_case : (shapes : List Shape) → IsReadSo read.bytes how seed entity shapes → IsNumbered read count path first shapes → Goal read how seed entity path first shapes
+  pub alone_case : (shapes : List Shape) → IsReadSo read.bytes how seed entity shapes
+      → IsNumbered read count path first shapes → Goal read how seed entity path first shapes
   alone_case shapes is numbered =
-      by_tests (is_kind read.bytes (codes "POINT") entity) (is_kind read.bytes (codes "LINE") entity) (is_kind read.bytes (codes "LWPOLYLINE") entity) (is_kind read.bytes (codes "TEXT") entity) refl refl refl refl is.shapes_are where
-        by_tests : (point line light text : Bool) → is_kind read.bytes (codes "POINT") entity ≡ point → is_kind read.bytes (codes "LINE") entity ≡ line → is_kind read.bytes (codes "LWPOLYLINE") entity ≡ light → is_kind read.bytes (codes "TEXT") entity ≡ text
-            → cond point (point_shapes read.bytes how.exact entity) (cond line (line_shapes read.bytes how.exact seed entity) (cond light (light_shapes read.bytes how.exact entity) (cond text (text_shapes read.bytes how.exact entity) (insert_shapes read.bytes how.exact entity)))) ≡ Ok shapes
+      by_tests (is_kind read.bytes (codes "POINT") entity) (is_kind read.bytes (codes "LINE") entity)
+      (is_kind read.bytes (codes "LWPOLYLINE") entity) (is_kind read.bytes (codes "TEXT") entity) refl refl refl
+      refl is.shapes_are where
+        by_tests : (point line light text : Bool) → is_kind read.bytes (codes "POINT") entity ≡ point
+            → is_kind read.bytes (codes "LINE") entity ≡ line → is_kind read.bytes (codes "LWPOLYLINE") entity ≡ light
+            → is_kind read.bytes (codes "TEXT") entity ≡ text
+            → cond point (point_shapes read.bytes how.exact entity)
+            (cond line (line_shapes read.bytes how.exact seed entity)
+            (cond light (light_shapes read.bytes how.exact entity)
+            (cond text (text_shapes read.bytes how.exact entity) (insert_shapes read.bytes how.exact entity))))
+            ≡ Ok shapes
             → Goal read how seed entity path first shapes
         by_tests true line light text a b c d made = point_case shapes is numbered a made
         by_tests false true light text a b c d made = line_case shapes is numbered a b made

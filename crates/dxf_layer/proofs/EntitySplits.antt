@@ -1,5 +1,6 @@
 -- An entity in front of the pairs behind it.
-use Rattle.std.proofs.Common.{◌≡◌, ℕ, zero, suc, ◌+◌, ◌-◌, ◌<◌, ◌≤◌, pos, Bool, true, false, refl, ap, sym, ◌∙◌, subst, List, [], ◌∷◌, ◌++◌, take, drop, take_while, arith, codes, bytes_eq}
+use Rattle.std.proofs.Common.{◌≡◌, ℕ, zero, suc, ◌+◌, ◌-◌, ◌<◌, ◌≤◌, pos, Bool, true, false, refl, ap, sym, ◌∙◌, subst}
+use Rattle.std.proofs.Common.{List, [], ◌∷◌, ◌++◌, take, drop, take_while, arith, codes, bytes_eq}
 use Rattle.std.specs.Prelude.{◌&&◌, ◌||◌, ⊤}
 use Rattle.std.specs.Ordering.{int_eq}
 use Rattle.std.proofs.lemmas.List.{append-nil}
@@ -24,7 +25,8 @@ nothing_ends : (text : List ℕ) → text ++ LINE_FEED ∷ [] ≡ [] → ⊥
 nothing_ends [] is = cc
 nothing_ends (byte ∷ text) is = cc
 
-pub ends_later : (bytes : List ℕ) (pair : Pair) → StandsInLines bytes pair → pair.value_end ≤ pair.end → pair.value_end < pair.end
+pub ends_later : (bytes : List ℕ) (pair : Pair) → StandsInLines bytes pair → pair.value_end ≤ pair.end
+    → pair.value_end < pair.end
 ends_later bytes pair (first, before, behind_value, lines) order = by_room (pair.end - pair.value_end) refl where
   by_room : (room : ℕ) → pair.end - pair.value_end ≡ room → pair.value_end < pair.end
   by_room zero is =
@@ -32,31 +34,48 @@ ends_later bytes pair (first, before, behind_value, lines) order = by_room (pair
       absurd (nothing_ends behind_value (sym lines.from_value ∙ none))
   by_room (suc room) is = omega arith
 
-body_some : (bytes : List ℕ) (start line past : ℕ) (pairs : List Pair) → AreTiles start line pairs past → AreBody bytes pairs → AreSome pairs
+body_some : (bytes : List ℕ) (start line past : ℕ) (pairs : List Pair) → AreTiles start line pairs past
+    → AreBody bytes pairs → AreSome pairs
 body_some bytes start line past [] tiles body = tt
 body_some bytes start line past (pair ∷ pairs) tiles body =
     let later = ends_later bytes pair body.0 tiles.4 in
     (omega (arith, tiles.3, later), body_some bytes pair.end (line + 2) past pairs tiles.5 body.1.1)
 
 -- an entity with more pairs behind it than its head
-pub set_of : (bytes : List ℕ) (line past : ℕ) (head next : Pair) (pairs : List Pair) → AreTiles head.start line (head ∷ next ∷ pairs) past → AreInLines bytes (head ∷ next ∷ pairs) → has_code (pos 0) head ≡ true → IsSet bytes (entity_of head (next ∷ pairs))
+pub set_of : (bytes : List ℕ) (line past : ℕ) (head next : Pair) (pairs : List Pair)
+    → AreTiles head.start line (head ∷ next ∷ pairs) past → AreInLines bytes (head ∷ next ∷ pairs)
+    → has_code (pos 0) head ≡ true → IsSet bytes (entity_of head (next ∷ pairs))
 set_of bytes line past head next pairs tiles lines is_head =
-    let of : AreOfEntity bytes head.end (line + 2) (next ∷ pairs) (entity_of head (next ∷ pairs)).pairs = of_entity bytes head.end (line + 2) past (next ∷ pairs) tiles.5 lines.1 in
+    let of : AreOfEntity bytes head.end (line + 2) (next ∷ pairs) (entity_of head (next ∷ pairs)).pairs =
+    of_entity bytes head.end (line + 2) past (next ∷ pairs) tiles.5 lines.1 in
     let later = ends_later bytes head lines.0 tiles.4 in
     record {
-      lines = record { head = lines.0; body = of.body_lines; code = tiles.2; value = tiles.3; inside = tiles.4; line = line + 2; tiles = of.tiles };
+      lines = record {
+        head = lines.0;
+        body = of.body_lines;
+        code = tiles.2;
+        value = tiles.3;
+        inside = tiles.4;
+        line =
+            line + 2;
+        tiles = of.tiles;
+      };
       placed = record { code = tiles.2; value = tiles.3; inside = tiles.4; some = omega (arith, tiles.3, later) };
       is_head = is_head;
-      follow = tiles_follow head.end (line + 2) (entity_of head (next ∷ pairs)).pairs (past_pairs head.end (entity_of head (next ∷ pairs)).pairs) of.tiles;
-      some = body_some bytes head.end (line + 2) (past_pairs head.end (entity_of head (next ∷ pairs)).pairs) (entity_of head (next ∷ pairs)).pairs of.tiles of.body_lines;
+      follow = tiles_follow head.end (line + 2) (entity_of head (next ∷ pairs)).pairs
+          (past_pairs head.end (entity_of head (next ∷ pairs)).pairs) of.tiles;
+      some = body_some bytes head.end (line + 2) (past_pairs head.end (entity_of head (next ∷ pairs)).pairs)
+          (entity_of head (next ∷ pairs)).pairs of.tiles of.body_lines;
     }
 
 -- the pair that ends the drawing ends a section
 pub last_ends : (bytes : List ℕ) (pair : Pair) → EndsDrawing bytes pair → ends_section bytes pair ≡ true
-last_ends bytes pair ends = by_first ((int_eq pair.code (pos 0)) && bytes_eq (value_in bytes pair) (codes "ENDSEC")) ends.last where
-  by_first : (first : Bool) → (int_eq pair.code (pos 0) && bytes_eq (value_in bytes pair) (codes "EOF")) ≡ true → (first || (int_eq pair.code (pos 0) && bytes_eq (value_in bytes pair) (codes "EOF"))) ≡ true
-  by_first true is = refl
-  by_first false is = is
+last_ends bytes pair ends = by_first ((int_eq pair.code (pos 0)) && bytes_eq (value_in bytes pair) (codes "ENDSEC"))
+    ends.last where
+      by_first : (first : Bool) → (int_eq pair.code (pos 0) && bytes_eq (value_in bytes pair) (codes "EOF")) ≡ true
+          → (first || (int_eq pair.code (pos 0) && bytes_eq (value_in bytes pair) (codes "EOF"))) ≡ true
+      by_first true is = refl
+      by_first false is = is
 
 -- the first of the pairs, if there is one, is a head
 abbrev pub IsHeadFirst : List Pair → Type 0
@@ -71,13 +90,21 @@ pub record IsSplit (pairs body : List Pair) : Type 0 where
 pub split_of : (pairs : List Pair) → IsSplit pairs (take_while is_no_head pairs)
 split_of [] = record { behind_body = []; are = refl; first = tt }
 split_of (pair ∷ pairs) = by_test (has_code (pos 0) pair) refl (split_of pairs) where
-  by_test : (head : Bool) → has_code (pos 0) pair ≡ head → IsSplit pairs (take_while is_no_head pairs) → IsSplit (pair ∷ pairs) (take_while is_no_head (pair ∷ pairs))
+  by_test : (head : Bool) → has_code (pos 0) pair ≡ head → IsSplit pairs (take_while is_no_head pairs)
+      → IsSplit (pair ∷ pairs) (take_while is_no_head (pair ∷ pairs))
   by_test true head rest =
       let none : take_while is_no_head (pair ∷ pairs) ≡ [] = take_while-cons is_no_head pair pairs ∙ rw head refl in
       subst (IsSplit (pair ∷ pairs)) (sym none) (record { behind_body = pair ∷ pairs; are = refl; first = head })
   by_test false head rest =
-      let more : take_while is_no_head (pair ∷ pairs) ≡ pair ∷ take_while is_no_head pairs = take_while-cons is_no_head pair pairs ∙ rw head refl in
-      subst (IsSplit (pair ∷ pairs)) (sym more) (record { behind_body = rest.behind_body; are = ap (λ (ps : List Pair). pair ∷ ps) rest.are; first = rest.first })
+      let more : take_while is_no_head (pair ∷ pairs) ≡ pair ∷ take_while is_no_head pairs =
+      take_while-cons is_no_head pair pairs ∙ rw head refl in
+      subst (IsSplit (pair ∷ pairs)) (sym more)
+      (record {
+        behind_body = rest.behind_body;
+        are = ap (λ (ps : List Pair). pair ∷ ps) rest.are;
+        first =
+            rest.first;
+      })
 
 never_proper : (pairs : List Pair) → IsProper pairs pairs → ⊥
 never_proper [] proper = proper
@@ -90,6 +117,7 @@ more_behind pairs body rest are proper none =
     never_proper body (subst (IsProper body) whole proper)
 
 -- the entities behind a body
-pub entities_behind : (bytes : List ℕ) (body rest : List Pair) → AreBody bytes body → entities_from bytes Entities (body ++ rest) ≡ entities_from bytes Entities rest
+pub entities_behind : (bytes : List ℕ) (body rest : List Pair) → AreBody bytes body
+    → entities_from bytes Entities (body ++ rest) ≡ entities_from bytes Entities rest
 entities_behind bytes [] rest are = refl
 entities_behind bytes (pair ∷ body) rest are = let here = are.1.0 in rw here (entities_behind bytes body rest are.1.1)

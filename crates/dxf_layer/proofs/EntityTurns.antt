@@ -1,5 +1,6 @@
 -- What is written in the place of an entity, as entities without places, and what the walk reads of it.
-use Rattle.std.proofs.Common.{◌≡◌, Bool, true, false, refl, ap, sym, ◌∙◌, List, [], ◌∷◌, ◌++◌, flat_map, Option, None, Some, pos}
+use Rattle.std.proofs.Common.{◌≡◌, Bool, true, false, refl, ap, sym, ◌∙◌, List, [], ◌∷◌, ◌++◌, flat_map, Option, None}
+use Rattle.std.proofs.Common.{Some, pos}
 use Rattle.std.specs.Prelude.{⊤}
 use Rattle.std.proofs.lemmas.List.{append_assoc}
 use Rattle.sheet_base.specs.declared.flags.How.{How}
@@ -41,30 +42,38 @@ abbrev pub AreOf : Group → List Told → Type 0
 AreOf head [] = ⊤
 AreOf head (entity ∷ entities) = (entity.head ≡ head) × AreOf head entities
 
--- the groups are those of some entities, and the walk goes over them from one spot to another with outlines of these ends
-pub record IsWritten (head : Group) (how : How) (seeded : Bool) (from to : Spot) (wanted : List Outline) (groups : List Group) : Type 0 where
+-- the groups are those of some entities, and the walk goes over them from one spot to another with outlines of these
+-- ends
+pub record IsWritten (head : Group) (how : How) (seeded : Bool) (from to : Spot) (wanted : List Outline)
+    (groups : List Group) : Type 0 where
   pub entities : List Told
   pub are : groups ≡ groups_told entities
   pub whole : AreWholeTold entities
   pub heads : AreOf head entities
   pub outs : List Outline
-  pub walks : (more : List Told) → walk how seeded from (entities ++ more) ≡ next (in_front outs) (walk how seeded to more)
+  pub walks : (more : List Told) → walk how seeded from (entities ++ more)
+      ≡ next (in_front outs) (walk how seeded to more)
   pub same : all_ends outs ≡ all_ends wanted
 
 pub none_in_front : (more : Option (List Outline)) → more ≡ next (in_front []) more
 none_in_front None = refl
 none_in_front (Some more) = refl
 
-pub both_in_front : (first second : List Outline) (more : Option (List Outline)) → next (in_front first) (next (in_front second) more) ≡ next (in_front (first ++ second)) more
+pub both_in_front : (first second : List Outline) (more : Option (List Outline))
+    → next (in_front first) (next (in_front second) more) ≡ next (in_front (first ++ second)) more
 both_in_front first second None = refl
 both_in_front first second (Some more) = ap Some (sym (append_assoc first second more))
 
 -- one turn
-pub turn_walks : (how : How) (seeded : Bool) (from : Spot) (entity : Told) (here : Turn) (more : List Told) → turn how seeded from entity ≡ Some here → walk how seeded from (entity ∷ more) ≡ next (in_front here.shapes) (walk how seeded here.next more)
-turn_walks how seeded from entity here more is = ap (next (λ (t : Turn). next (in_front t.shapes) (walk how seeded t.next more))) is
+pub turn_walks : (how : How) (seeded : Bool) (from : Spot) (entity : Told) (here : Turn) (more : List Told)
+    → turn how seeded from entity ≡ Some here
+    → walk how seeded from (entity ∷ more) ≡ next (in_front here.shapes) (walk how seeded here.next more)
+turn_walks how seeded from entity here more is =
+    ap (next (λ (t : Turn). next (in_front t.shapes) (walk how seeded t.next more))) is
 
 -- one entity in the place of one
-pub one_written : (how : How) (seeded : Bool) (from : Spot) (entity : Told) (here : Turn) (wanted : List Outline) → IsWhole entity → turn how seeded from entity ≡ Some here → all_ends here.shapes ≡ all_ends wanted
+pub one_written : (how : How) (seeded : Bool) (from : Spot) (entity : Told) (here : Turn) (wanted : List Outline)
+    → IsWhole entity → turn how seeded from entity ≡ Some here → all_ends here.shapes ≡ all_ends wanted
     → IsWritten entity.head how seeded from here.next wanted (told_groups entity)
 one_written how seeded from entity here wanted whole is ends = record {
   entities = entity ∷ [];
@@ -81,4 +90,5 @@ one_written how seeded from entity here wanted whole is ends = record {
 
 pub ends_both : (first second : List Outline) → all_ends (first ++ second) ≡ all_ends first ++ all_ends second
 ends_both [] second = refl
-ends_both (o ∷ first) second = ap (λ more. outline_ends o ++ more) (ends_both first second) ∙ sym (append_assoc (outline_ends o) (all_ends first) (all_ends second))
+ends_both (o ∷ first) second = ap (λ more. outline_ends o ++ more) (ends_both first second)
+    ∙ sym (append_assoc (outline_ends o) (all_ends first) (all_ends second))

@@ -1,5 +1,7 @@
 -- What is written in the place of each entity.
-use Rattle.std.proofs.Common.{◌≡◌, ◌==◌, ℕ, zero, suc, ◌+◌, ◌-◌, ◌<◌, ◌≤◌, Bool, true, false, refl, ap, sym, ◌∙◌, subst, List, [], ◌∷◌, ◌++◌, map, filter, flat_map, length, take, drop, Option, Some, arith, codes, get_or}
+use Rattle.std.proofs.Common.{◌≡◌, ◌==◌, ℕ, zero, suc, ◌+◌, ◌-◌, ◌<◌, ◌≤◌, Bool, true, false, refl, ap, sym, ◌∙◌, subst}
+use Rattle.std.proofs.Common.{List, [], ◌∷◌, ◌++◌, map, filter, flat_map, length, take, drop, Option, Some, arith}
+use Rattle.std.proofs.Common.{codes, get_or}
 use Rattle.std.proofs.lemmas.List.{append-nil, length-take-le, length-drop, get_or-append-add}
 use Rattle.plane_base.specs.declared.shapes.Pt.{Pt}
 use Rattle.sheet_base.specs.declared.flags.How.{How}
@@ -41,13 +43,15 @@ texts_at read own place = texts_in read (filter (is_at place) own)
 
 -- what stands for an entity: for its pairs, and what is written directly behind them
 abbrev pub written_for : Reading → List Edit → Entity → List Group
-written_for read own entity = flat_map (stand read own) (entity.head ∷ entity.pairs) ++ texts_at read own (entity_end entity)
+written_for read own entity = flat_map (stand read own) (entity.head ∷ entity.pairs)
+    ++ texts_at read own (entity_end entity)
 
 pub no_images : (images : Runs) (first : ℕ) → images_of images first (first + 0) ≡ []
 no_images images first =
     let same : first + 0 ≡ first = omega arith in
     let none : run_begin images first - run_begin images first ≡ 0 = omega arith in
-    ap (λ n. take (run_begin images n - run_begin images first) (drop (run_begin images first) images.points)) same ∙ ap (λ n. take n (drop (run_begin images first) images.points)) none
+    ap (λ n. take (run_begin images n - run_begin images first) (drop (run_begin images first) images.points)) same
+    ∙ ap (λ n. take n (drop (run_begin images first) images.points)) none
 
 abbrev no_points : List Pt
 no_points = []
@@ -62,28 +66,38 @@ none_dropped (suc b) = refl
 
 taken_both : (a b : ℕ) (points : List Pt) → take (a + b) points ≡ take a points ++ take b (drop a points)
 taken_both zero b points = let none : 0 + b ≡ b = omega arith in ap (λ n. take n points) none
-taken_both (suc a) b [] = let more : suc a + b ≡ suc (a + b) = omega arith in ap (λ n. take n no_points) more ∙ sym (none_taken b)
-taken_both (suc a) b (point ∷ points) = let more : suc a + b ≡ suc (a + b) = omega arith in ap (λ n. take n (point ∷ points)) more ∙ ap (λ (rest : List Pt). point ∷ rest) (taken_both a b points)
+taken_both (suc a) b [] = let more : suc a + b ≡ suc (a + b) = omega arith in ap (λ n. take n no_points) more
+    ∙ sym (none_taken b)
+taken_both (suc a) b (point ∷ points) = let more : suc a + b ≡ suc (a + b) =
+    omega arith in ap (λ n. take n (point ∷ points)) more
+    ∙ ap (λ (rest : List Pt). point ∷ rest) (taken_both a b points)
 
 dropped_on : (a b : ℕ) (points : List Pt) → drop b (drop a points) ≡ drop (a + b) points
 dropped_on zero b points = let none : b ≡ 0 + b = omega arith in ap (λ n. drop n points) none
-dropped_on (suc a) b [] = let more : suc a + b ≡ suc (a + b) = omega arith in none_dropped b ∙ sym (ap (λ n. drop n no_points) more)
-dropped_on (suc a) b (point ∷ points) = let more : suc (a + b) ≡ suc a + b = omega arith in dropped_on a b points ∙ ap (λ n. drop n (point ∷ points)) more
+dropped_on (suc a) b [] = let more : suc a + b ≡ suc (a + b) = omega arith in none_dropped b
+    ∙ sym (ap (λ n. drop n no_points) more)
+dropped_on (suc a) b (point ∷ points) = let more : suc (a + b) ≡ suc a + b = omega arith in dropped_on a b points
+    ∙ ap (λ n. drop n (point ∷ points)) more
 
 -- images of a range by a point between
-pub images_both : (images : Runs) (count a b c : ℕ) → AreGoodImages images count → a ≤ b → b < c → c ≤ count → images_of images a c ≡ images_of images a b ++ images_of images b c
+pub images_both : (images : Runs) (count a b c : ℕ) → AreGoodImages images count → a ≤ b → b < c → c ≤ count
+    → images_of images a c ≡ images_of images a b ++ images_of images b c
 images_both images count a b c good low high inside =
     let step = good.runs.rises b c high inside in
     let order : run_begin images a ≤ run_begin images b = by_order (b - a) refl in
-    let total : run_begin images c - run_begin images a ≡ (run_begin images b - run_begin images a) + (run_begin images c - run_begin images b) = omega arith in
+    let total : run_begin images c - run_begin images a ≡ (run_begin images b - run_begin images a)
+    + (run_begin images c - run_begin images b) = omega arith in
     let on : run_begin images a + (run_begin images b - run_begin images a) ≡ run_begin images b = omega arith in
     ap (λ n. take n (drop (run_begin images a) images.points)) total
-    ∙ (taken_both (run_begin images b - run_begin images a) (run_begin images c - run_begin images b) (drop (run_begin images a) images.points)
+    ∙ (taken_both (run_begin images b - run_begin images a) (run_begin images c - run_begin images b)
+    (drop (run_begin images a) images.points)
     ∙ ap (λ (rest : List Pt). images_of images a b ++ take (run_begin images c - run_begin images b) rest)
-    (dropped_on (run_begin images a) (run_begin images b - run_begin images a) images.points ∙ ap (λ n. drop n images.points) on))
+    (dropped_on (run_begin images a) (run_begin images b - run_begin images a) images.points
+    ∙ ap (λ n. drop n images.points) on))
   where
     by_order : (more : ℕ) → b - a ≡ more → run_begin images a ≤ run_begin images b
-    by_order zero is = let same : a ≡ b = omega arith in let on : run_begin images a ≡ run_begin images b = ap (run_begin images) same in omega arith
+    by_order zero is = let same : a ≡ b = omega arith in let on : run_begin images a ≡ run_begin images b =
+        ap (run_begin images) same in omega arith
     by_order (suc more) is = let rises = good.runs.rises a b (omega arith) (omega arith) in omega arith
 
 -- an entity whose pairs stay
@@ -91,22 +105,36 @@ each_stays : (read : Reading) (pairs : List Pair) → flat_map (stand read []) p
 each_stays read [] = refl
 each_stays read (pair ∷ pairs) = ap (λ (more : List Group). group_in read.bytes pair ∷ more) (each_stays read pairs)
 
-pub stays_written : (read : Reading) (how : How) (seeded : Bool) (from : Spot) (entity : Entity) (here : Turn) (wanted : List Outline) → IsSet read.bytes entity → ends_sections (group_in read.bytes entity.head) ≡ false
-    → turn how seeded from (entity_told read.bytes entity) ≡ Some here → all_ends here.shapes ≡ all_ends wanted → IsWritten (group_in read.bytes entity.head) how seeded from here.next wanted (written_for read [] entity)
+pub stays_written : (read : Reading) (how : How) (seeded : Bool) (from : Spot) (entity : Entity) (here : Turn)
+    (wanted : List Outline) → IsSet read.bytes entity → ends_sections (group_in read.bytes entity.head) ≡ false
+    → turn how seeded from (entity_told read.bytes entity) ≡ Some here → all_ends here.shapes ≡ all_ends wanted
+    → IsWritten (group_in read.bytes entity.head) how seeded from here.next wanted (written_for read [] entity)
 stays_written read how seeded from entity here wanted set goes_on is ends =
-    let groups : written_for read [] entity ≡ told_groups (entity_told read.bytes entity) = append-nil (flat_map (stand read []) (entity.head ∷ entity.pairs)) ∙ each_stays read (entity.head ∷ entity.pairs) in
+    let groups : written_for read [] entity ≡ told_groups (entity_told read.bytes entity) =
+    append-nil (flat_map (stand read []) (entity.head ∷ entity.pairs))
+    ∙ each_stays read (entity.head ∷ entity.pairs) in
     subst (IsWritten (group_in read.bytes entity.head) how seeded from here.next wanted) (sym groups)
-    (one_written how seeded from (entity_told read.bytes entity) here wanted (record { head = set.is_head; goes_on = goes_on; body = grouped_no_head read.bytes entity.pairs set.lines.body }) is ends)
+    (one_written how seeded from (entity_told read.bytes entity) here wanted
+    (record {
+      head = set.is_head;
+      goes_on = goes_on;
+      body =
+          grouped_no_head read.bytes entity.pairs set.lines.body;
+    }) is ends)
 
 -- the end of a polyline
-pub kinds_same : (images : Runs) (count first : ℕ) (kind : PathKind) (vertices : List Vertex) → AreGoodImages images count → first + length vertices ≤ count → kind_of_points kind (images_of images first (first + length vertices)) ≡ kind_with kind vertices
+pub kinds_same : (images : Runs) (count first : ℕ) (kind : PathKind) (vertices : List Vertex)
+    → AreGoodImages images count → first + length vertices ≤ count
+    → kind_of_points kind (images_of images first (first + length vertices)) ≡ kind_with kind vertices
 kinds_same images count first kind [] good inside = ap (kind_of_points kind) (no_images images first)
 kinds_same images count first kind (vertex ∷ vertices) good inside =
     let past = first + length (vertex ∷ vertices) in
     let begins = good.runs.rises first past (omega arith) inside in
     let ends = good.runs.inside past inside in
     let rest = length-drop (run_begin images first) images.points in
-    let size : length (images_of images first past) ≡ run_begin images past - run_begin images first = length-take-le (run_begin images past - run_begin images first) (drop (run_begin images first) images.points) (omega arith) in
+    let size : length (images_of images first past) ≡ run_begin images past - run_begin images first =
+    length-take-le (run_begin images past - run_begin images first) (drop (run_begin images first) images.points)
+    (omega arith) in
     some_points (images_of images first past) (omega arith)
   where
     some_points : (points : List Pt) → 0 < length points → kind_of_points kind points ≡ Some kind
@@ -117,26 +145,43 @@ pub length_mapped : {A B : Type 0} (f : A → B) (items : List A) → length (ma
 length_mapped f [] = refl
 length_mapped f (item ∷ items) = ap suc (length_mapped f items)
 
-pub end_written : (read : Reading) (how : How) (seed : Option Pair) (entity : Entity) (kind : PathKind) (vertices : List Vertex) (count first : ℕ) → IsSet read.bytes entity → ends_sections (group_in read.bytes entity.head) ≡ false
-    → is_kind read.bytes (codes "VERTEX") entity ≡ false → is_kind read.bytes (codes "SEQEND") entity ≡ true → AreGoodImages read.images count → first + length vertices ≤ count
-    → IsWritten (group_in read.bytes entity.head) how (is_seeded seed) (imaged_spot read.images first (reading kind vertices)) alone (imaged_outlines read.images first (heavy_shape kind vertices ∷ [])) (written_for read [] entity)
+pub end_written : (read : Reading) (how : How) (seed : Option Pair) (entity : Entity) (kind : PathKind)
+    (vertices : List Vertex) (count first : ℕ) → IsSet read.bytes entity
+    → ends_sections (group_in read.bytes entity.head) ≡ false
+    → is_kind read.bytes (codes "VERTEX") entity ≡ false → is_kind read.bytes (codes "SEQEND") entity ≡ true
+    → AreGoodImages read.images count → first + length vertices ≤ count
+    → IsWritten (group_in read.bytes entity.head) how (is_seeded seed)
+    (imaged_spot read.images first (reading kind vertices)) alone
+    (imaged_outlines read.images first (heavy_shape kind vertices ∷ [])) (written_for read [] entity)
 end_written read how seed entity kind vertices count first set goes_on no_vertex is_end good inside =
     let points = images_of read.images first (first + length vertices) in
-    let here : turn how (is_seeded seed) (open_line kind points) (entity_told read.bytes entity) ≡ Some (turn_of (light_outline kind points ∷ [])) = rw (no_vertex, is_end) refl in
-    let same_count : length (map (λ (vertex : Vertex). point_of vertex.spot) vertices) ≡ length vertices = length_mapped (λ (vertex : Vertex). point_of vertex.spot) vertices in
+    let here : turn how (is_seeded seed) (open_line kind points) (entity_told read.bytes entity)
+    ≡ Some (turn_of (light_outline kind points ∷ [])) = rw (no_vertex, is_end) refl in
+    let same_count : length (map (λ (vertex : Vertex). point_of vertex.spot) vertices) ≡ length vertices =
+    length_mapped (λ (vertex : Vertex). point_of vertex.spot) vertices in
     let image : imaged_outlines read.images first (heavy_shape kind vertices ∷ []) ≡ light_outline kind points ∷ [] =
-    ap (λ (n : ℕ). (record { kind = kind_with kind vertices; points = images_of read.images first (first + n) }) ∷ []) same_count
-    ∙ ap (λ (k : Option PathKind). (record { kind = k; points = points }) ∷ []) (sym (kinds_same read.images count first kind vertices good inside)) in
-    stays_written read how (is_seeded seed) (open_line kind points) entity (turn_of (light_outline kind points ∷ [])) (imaged_outlines read.images first (heavy_shape kind vertices ∷ [])) set goes_on here (ap all_ends (sym image))
+    ap (λ (n : ℕ). (record { kind = kind_with kind vertices; points = images_of read.images first (first + n) }) ∷ [])
+    same_count
+    ∙ ap (λ (k : Option PathKind). (record { kind = k; points = points }) ∷ [])
+    (sym (kinds_same read.images count first kind vertices good inside)) in
+    stays_written read how (is_seeded seed) (open_line kind points) entity (turn_of (light_outline kind points ∷ []))
+    (imaged_outlines read.images first (heavy_shape kind vertices ∷ [])) set goes_on here (ap all_ends (sym image))
 
 -- nothing is written behind an entity of which values, or all pairs, are replaced
-pub behind_whole : (read : Reading) (own : List Edit) (entity : Entity) → filter (is_at (entity_end entity)) own ≡ [] → written_for read own entity ≡ flat_map (stand read own) (entity.head ∷ entity.pairs)
-behind_whole read own entity none = ap (λ (e : List Edit). flat_map (stand read own) (entity.head ∷ entity.pairs) ++ texts_in read e) none ∙ append-nil (flat_map (stand read own) (entity.head ∷ entity.pairs))
+pub behind_whole : (read : Reading) (own : List Edit) (entity : Entity) → filter (is_at (entity_end entity)) own ≡ []
+    → written_for read own entity ≡ flat_map (stand read own) (entity.head ∷ entity.pairs)
+behind_whole read own entity none = ap (λ (e : List Edit). flat_map (stand read own) (entity.head ∷ entity.pairs)
+    ++ texts_in read e) none ∙ append-nil (flat_map (stand read own) (entity.head ∷ entity.pairs))
 
 -- the images of the path that stands first behind so many
-pub images_found : (rows before more : List PathRow) (path : ℕ) (images : Runs) (row : PathRow) → rows ≡ before ++ row ∷ more → length before ≡ path → path_images rows images path ≡ images_of images row.first row.past
+pub images_found : (rows before more : List PathRow) (path : ℕ) (images : Runs) (row : PathRow)
+    → rows ≡ before ++ row ∷ more → length before ≡ path
+    → path_images rows images path ≡ images_of images row.first row.past
 images_found rows before more path images row are count =
     let none : length before + 0 ≡ length before = omega arith in
-    let at : get_or (before ++ row ∷ more) (length before) no_path ≡ row = ap (λ n. get_or (before ++ row ∷ more) n no_path) (sym none) ∙ get_or-append-add before (row ∷ more) 0 no_path in
+    let at : get_or (before ++ row ∷ more) (length before) no_path ≡ row =
+    ap (λ n. get_or (before ++ row ∷ more) n no_path) (sym none)
+    ∙ get_or-append-add before (row ∷ more) 0 no_path in
     ap (λ (list : List PathRow). path_images list images path) are
-    ∙ (ap (λ n. path_images (before ++ row ∷ more) images n) (sym count) ∙ ap (λ (found : PathRow). images_of images found.first found.past) at)
+    ∙ (ap (λ n. path_images (before ++ row ∷ more) images n) (sym count)
+    ∙ ap (λ (found : PathRow). images_of images found.first found.past) at)

@@ -1,5 +1,6 @@
 -- Images that fit a drawing's sheet are good for its walk.
-use Rattle.std.proofs.Common.{◌≡◌, ◌≢◌, ℕ, suc, ◌+◌, ◌-◌, ap, List, [], ◌∷◌, ◌++◌, length, Option, None, Some, All, arith, inl}
+use Rattle.std.proofs.Common.{◌≡◌, ◌≢◌, ℕ, suc, ◌+◌, ◌-◌, ap, List, [], ◌∷◌, ◌++◌, length, Option, None, Some, All}
+use Rattle.std.proofs.Common.{arith, inl}
 use Rattle.sheet_base.specs.declared.paths.PathKind.{PathKind}
 use Rattle.sheet_base.specs.declared.paths.PathKind.TheVariants as paths
 use Rattle.sheet_base.specs.declared.paths.PathRow.{PathRow}
@@ -26,24 +27,42 @@ good_images sheet images fits = record {
 }
 
 -- the rows from some on
-tail_all : (images : Runs) (row : PathRow) (rows : List PathRow) → All (EndsAlone images) (row ∷ rows) → All (EndsAlone images) rows
+tail_all : (images : Runs) (row : PathRow) (rows : List PathRow) → All (EndsAlone images) (row ∷ rows)
+    → All (EndsAlone images) rows
 tail_all images row rows all i d inside = all (suc i) d (omega arith)
 
-first_all : (images : Runs) (row : PathRow) (rows : List PathRow) → All (EndsAlone images) (row ∷ rows) → EndsAlone images row
+first_all : (images : Runs) (row : PathRow) (rows : List PathRow) → All (EndsAlone images) (row ∷ rows)
+    → EndsAlone images row
 first_all images row rows all = all 0 row (omega arith)
 
 dot_off : paths.Dot ≢ paths.Loop
 dot_off is = cc
 
-pub dots_alone : (images : Runs) (first : ℕ) (shapes : List Shape) → AreWhole shapes → All (EndsAlone images) (rows_behind first shapes) → DotsAlone images first shapes
+pub dots_alone : (images : Runs) (first : ℕ) (shapes : List Shape) → AreWhole shapes
+    → All (EndsAlone images) (rows_behind first shapes) → DotsAlone images first shapes
 dots_alone images first [] whole all = tt
-dots_alone images first (shape ∷ shapes) whole all = by_kind shape.kind whole.0 all (dots_alone images (first + length shape.points) shapes whole.1) where
-  by_kind : (kind : Option PathKind) → IsWholeBy kind (length shape.points) → All (EndsAlone images) (rows_of kind first (first + length shape.points) ++ rows_behind (first + length shape.points) shapes)
-      → (All (EndsAlone images) (rows_behind (first + length shape.points) shapes) → DotsAlone images (first + length shape.points) shapes)
-      → AloneFor kind images first × DotsAlone images (first + length shape.points) shapes
-  by_kind None count all rest = (tt, rest all)
-  by_kind (Some paths.Dot) count all rest =
-      let row : PathRow = record { kind = paths.Dot; first = first; past = first + length shape.points } in
-      (first_all images row (rows_behind (first + length shape.points) shapes) all (inl dot_off) first (omega (arith, count)), rest (tail_all images row (rows_behind (first + length shape.points) shapes) all))
-  by_kind (Some paths.Line) count all rest = (tt, rest (tail_all images (record { kind = paths.Line; first = first; past = first + length shape.points }) (rows_behind (first + length shape.points) shapes) all))
-  by_kind (Some paths.Loop) count all rest = (tt, rest (tail_all images (record { kind = paths.Loop; first = first; past = first + length shape.points }) (rows_behind (first + length shape.points) shapes) all))
+dots_alone images first (shape ∷ shapes) whole all =
+    by_kind shape.kind whole.0 all (dots_alone images (first + length shape.points) shapes whole.1) where
+      by_kind : (kind : Option PathKind) → IsWholeBy kind (length shape.points)
+          → All (EndsAlone images) (rows_of kind first (first + length shape.points)
+          ++ rows_behind (first + length shape.points) shapes)
+          → (All (EndsAlone images) (rows_behind (first + length shape.points) shapes)
+          → DotsAlone images (first + length shape.points) shapes)
+          → AloneFor kind images first × DotsAlone images (first + length shape.points) shapes
+      by_kind None count all rest = (tt, rest all)
+      by_kind (Some paths.Dot) count all rest =
+          let row : PathRow = record { kind = paths.Dot; first = first; past = first + length shape.points } in (
+            first_all images row (rows_behind (first + length shape.points) shapes) all (inl dot_off) first
+                (omega (arith, count)),
+            rest (tail_all images row (rows_behind (first + length shape.points) shapes) all),
+          )
+      by_kind (Some paths.Line) count all rest = (
+        tt,
+        rest (tail_all images (record { kind = paths.Line; first = first; past = first + length shape.points })
+            (rows_behind (first + length shape.points) shapes) all),
+      )
+      by_kind (Some paths.Loop) count all rest = (
+        tt,
+        rest (tail_all images (record { kind = paths.Loop; first = first; past = first + length shape.points })
+            (rows_behind (first + length shape.points) shapes) all),
+      )

@@ -1,5 +1,6 @@
 -- The handles that copies are given follow each other from the next handle of the drawing on.
-use Rattle.std.proofs.Common.{◌≡◌, ◌==◌, ℕ, zero, suc, ◌+◌, ◌-◌, ◌<◌, ◌≤◌, Bool, true, false, cond, refl, ap, sym, ◌∙◌, subst, List, [], ◌∷◌, ◌++◌, length, take, flat_map, Option, None, Some, arith}
+use Rattle.std.proofs.Common.{◌≡◌, ◌==◌, ℕ, zero, suc, ◌+◌, ◌-◌, ◌<◌, ◌≤◌, Bool, true, false, cond, refl, ap, sym, ◌∙◌}
+use Rattle.std.proofs.Common.{subst, List, [], ◌∷◌, ◌++◌, length, take, flat_map, Option, None, Some, arith}
 use Rattle.std.specs.Prelude.{nat_lt, sum_by, slice_index_or, filter}
 use Rattle.std.specs.List.{AllByRecursion, range_with_len}
 use Rattle.std.specs.List.Sorted.{IsStrictlyIncreasing}
@@ -17,49 +18,59 @@ use Rattle.sheet_base.specs.Splices.{AreInOrder}
 use Rattle.sheet_base.proofs.Splicing.{no_edit}
 use Rattle.dxf_pairs.specs.Laws.{PairsTile}
 use Rattle.dxf_layer.specs.Entities.{Entity}
-use Rattle.dxf_layer.specs.Rendering.{Reading, run_of, entity_at, has_handle, taken_by, taken_as, taken, first_handle, next_at, next_behind, text_as, text_of, is_earlier}
-use Rattle.dxf_layer.specs.Copies.{line_values, vertex_values, handles_in, values_as, given_to, given, all_given, HandlesAreNew}
+use Rattle.dxf_layer.specs.Rendering.{Reading, run_of, entity_at, has_handle, taken_by, taken_as, taken, first_handle}
+use Rattle.dxf_layer.specs.Rendering.{next_at, next_behind, text_as, text_of, is_earlier}
+use Rattle.dxf_layer.specs.Copies.{line_values, vertex_values, handles_in, values_as, given_to, given, all_given}
+use Rattle.dxf_layer.specs.Copies.{HandlesAreNew}
 use Rattle.dxf_layer.proofs.Taking.{earlier_take}
 use Rattle.dxf_layer.proofs.Whole.{sheet_in_order}
 
 -- ---- the handles of the copies of one entity
-lines_behind : (next : ℕ) (images : List Pt) → handles_in (line_values false next images) ≡ range_with_len next (length images - 1)
+lines_behind : (next : ℕ) (images : List Pt)
+    → handles_in (line_values false next images) ≡ range_with_len next (length images - 1)
 lines_behind next [] = refl
 lines_behind next (begin ∷ []) = refl
 lines_behind next (begin ∷ end ∷ images) =
     let count : suc (length (end ∷ images) - 1) ≡ length (begin ∷ end ∷ images) - 1 = omega arith in
     ap (λ (rest : List ℕ). next ∷ rest) (lines_behind (next + 1) (end ∷ images)) ∙ ap (range_with_len next) count
 
-line_handles : (next : ℕ) (images : List Pt) → handles_in (line_values true next images) ≡ range_with_len next ((length images - 1) - 1)
+line_handles : (next : ℕ) (images : List Pt)
+    → handles_in (line_values true next images) ≡ range_with_len next ((length images - 1) - 1)
 line_handles next [] = refl
 line_handles next (begin ∷ []) = refl
 line_handles next (begin ∷ end ∷ images) =
     let count : length (end ∷ images) - 1 ≡ (length (begin ∷ end ∷ images) - 1) - 1 = omega arith in
     lines_behind next (end ∷ images) ∙ ap (range_with_len next) count
 
-vertices_behind : (next : ℕ) (images : List Pt) → handles_in (vertex_values false next images) ≡ range_with_len next (length images)
+vertices_behind : (next : ℕ) (images : List Pt)
+    → handles_in (vertex_values false next images) ≡ range_with_len next (length images)
 vertices_behind next [] = refl
 vertices_behind next (image ∷ images) = ap (λ (rest : List ℕ). next ∷ rest) (vertices_behind (next + 1) images)
 
-vertex_handles : (next : ℕ) (images : List Pt) → handles_in (vertex_values true next images) ≡ range_with_len next (length images - 1)
+vertex_handles : (next : ℕ) (images : List Pt)
+    → handles_in (vertex_values true next images) ≡ range_with_len next (length images - 1)
 vertex_handles next [] = refl
 vertex_handles next (image ∷ images) =
     let count : length images ≡ length (image ∷ images) - 1 = omega arith in
     vertices_behind next images ∙ ap (range_with_len next) count
 
-given_line : (next : ℕ) (images : List Pt) (found : Option Entity) → given_to found (line_values true next images) ≡ range_with_len next (taken_by found (length images - 1))
+given_line : (next : ℕ) (images : List Pt) (found : Option Entity)
+    → given_to found (line_values true next images) ≡ range_with_len next (taken_by found (length images - 1))
 given_line next images None = refl
 given_line next images (Some entity) = by_test (has_handle entity)
   where
-    by_test : (has : Bool) → cond has (handles_in (line_values true next images)) [] ≡ range_with_len next (cond has ((length images - 1) - 1) 0)
+    by_test : (has : Bool) → cond has (handles_in (line_values true next images)) []
+        ≡ range_with_len next (cond has ((length images - 1) - 1) 0)
     by_test true = line_handles next images
     by_test false = refl
 
-given_vertex : (next : ℕ) (images : List Pt) (found : Option Entity) → given_to found (vertex_values true next images) ≡ range_with_len next (taken_by found (length images))
+given_vertex : (next : ℕ) (images : List Pt) (found : Option Entity)
+    → given_to found (vertex_values true next images) ≡ range_with_len next (taken_by found (length images))
 given_vertex next images None = refl
 given_vertex next images (Some entity) = by_test (has_handle entity)
   where
-    by_test : (has : Bool) → cond has (handles_in (vertex_values true next images)) [] ≡ range_with_len next (cond has (length images - 1) 0)
+    by_test : (has : Bool) → cond has (handles_in (vertex_values true next images)) []
+        ≡ range_with_len next (cond has (length images - 1) 0)
     by_test true = vertex_handles next images
     by_test false = refl
 
@@ -71,15 +82,20 @@ given_none next (Some entity) = by_test (has_handle entity)
     by_test true = refl
     by_test false = refl
 
-given_as : (read : Reading) (place : ℕ) (what : What) → given_to (entity_at read place) (values_as read place what) ≡ range_with_len (next_at read place) (taken_as read place what)
-given_as read place (edits.Lines path) = given_line (next_at read place) (path_images read.sheet.paths read.images path) (entity_at read place)
-given_as read place (edits.Vertex point) = given_vertex (next_at read place) (run_of read.images point) (entity_at read place)
+given_as : (read : Reading) (place : ℕ) (what : What)
+    → given_to (entity_at read place) (values_as read place what)
+    ≡ range_with_len (next_at read place) (taken_as read place what)
+given_as read place (edits.Lines path) = given_line (next_at read place) (path_images read.sheet.paths read.images path)
+    (entity_at read place)
+given_as read place (edits.Vertex point) =
+    given_vertex (next_at read place) (run_of read.images point) (entity_at read place)
 given_as read place what = given_none (next_at read place) (entity_at read place)
 
 given_is : (read : Reading) (edit : Edit) → given read edit ≡ range_with_len (next_at read edit.start) (taken read edit)
 given_is read edit = by_test (nat_lt edit.start edit.end)
   where
-    by_test : (some : Bool) → cond some (given_to (entity_at read edit.start) (values_as read edit.start edit.what)) [] ≡ range_with_len (next_at read edit.start) (cond some (taken_as read edit.start edit.what) 0)
+    by_test : (some : Bool) → cond some (given_to (entity_at read edit.start) (values_as read edit.start edit.what)) []
+        ≡ range_with_len (next_at read edit.start) (cond some (taken_as read edit.start edit.what) 0)
     by_test true = given_as read edit.start edit.what
     by_test false = refl
 
@@ -92,9 +108,11 @@ range_both from zero n =
 range_both from (suc m) n =
     let on : from + suc m ≡ from + 1 + m = omega arith in
     let all : suc (m + n) ≡ suc m + n = omega arith in
-    ap (λ (rest : List ℕ). from ∷ rest) (ap (λ (k : ℕ). range_with_len (from + 1) m ++ range_with_len k n) on ∙ range_both (from + 1) m n) ∙ ap (range_with_len from) all
+    ap (λ (rest : List ℕ). from ∷ rest) (ap (λ (k : ℕ). range_with_len (from + 1) m ++ range_with_len k n) on
+    ∙ range_both (from + 1) m n) ∙ ap (range_with_len from) all
 
-at_front : (front : List Edit) (edit : Edit) (behind : List Edit) → slice_index_or (front ++ edit ∷ behind) (length front) no_edit ≡ edit
+at_front : (front : List Edit) (edit : Edit) (behind : List Edit)
+    → slice_index_or (front ++ edit ∷ behind) (length front) no_edit ≡ edit
 at_front [] edit behind = refl
 at_front (first ∷ front) edit behind = at_front front edit behind
 
@@ -103,33 +121,49 @@ take_front [] behind = refl
 take_front (first ∷ front) behind = ap (λ (rest : List Edit). first ∷ rest) (take_front front behind)
 
 -- the next handle where an edit stands is behind those of the edits in front of it
-next_behind_front : (read : Reading) (front : List Edit) (edit : Edit) (behind : List Edit) → AreInOrder 0 read.sheet.edits (length read.bytes) → read.sheet.edits ≡ front ++ edit ∷ behind
+next_behind_front : (read : Reading) (front : List Edit) (edit : Edit) (behind : List Edit)
+    → AreInOrder 0 read.sheet.edits (length read.bytes) → read.sheet.edits ≡ front ++ edit ∷ behind
     → next_at read edit.start ≡ first_handle read + sum_by (taken read) front
 next_behind_front read front edit behind order are =
     let within : length front < length (front ++ edit ∷ behind) = rw length-append (omega arith) in
-    let earlier = earlier_take read 0 (front ++ edit ∷ behind) (length read.bytes) (length front) (subst (λ (all : List Edit). AreInOrder 0 all (length read.bytes)) are order) within in
-    let at_place : sum_by (taken read) (filter (is_earlier edit.start) (front ++ edit ∷ behind)) ≡ sum_by (taken read) (take (length front) (front ++ edit ∷ behind)) =
-    subst (λ (e : Edit). sum_by (taken read) (filter (is_earlier e.start) (front ++ edit ∷ behind)) ≡ sum_by (taken read) (take (length front) (front ++ edit ∷ behind))) (at_front front edit behind) earlier in
+    let earlier = earlier_take read 0 (front ++ edit ∷ behind) (length read.bytes) (length front)
+    (subst (λ (all : List Edit). AreInOrder 0 all (length read.bytes)) are order) within in
+    let at_place : sum_by (taken read) (filter (is_earlier edit.start) (front ++ edit ∷ behind))
+    ≡ sum_by (taken read) (take (length front) (front ++ edit ∷ behind)) =
+    subst (λ (e : Edit). sum_by (taken read) (filter (is_earlier e.start) (front ++ edit ∷ behind))
+    ≡ sum_by (taken read) (take (length front) (front ++ edit ∷ behind))) (at_front front edit behind) earlier in
     ap (λ (all : List Edit). first_handle read + sum_by (taken read) (filter (is_earlier edit.start) all)) are
     ∙ ap (λ (n : ℕ). first_handle read + n) (at_place ∙ ap (sum_by (taken read)) (take_front front (edit ∷ behind)))
 
-sum_append : (read : Reading) (front : List Edit) (edit : Edit) → sum_by (taken read) (front ++ edit ∷ []) ≡ sum_by (taken read) front + taken read edit
+sum_append : (read : Reading) (front : List Edit) (edit : Edit)
+    → sum_by (taken read) (front ++ edit ∷ []) ≡ sum_by (taken read) front + taken read edit
 sum_append read [] edit = rw (sum_by-cons (taken read) edit []) refl
-sum_append read (first ∷ front) edit = rw (sum_by-cons (taken read) first (front ++ edit ∷ []), sum_by-cons (taken read) first front, sum_append read front edit) (omega arith)
+sum_append read (first ∷ front) edit = rw (
+  sum_by-cons (taken read) first (front ++ edit ∷ []),
+  sum_by-cons (taken read)
+      first front,
+  sum_append read front edit,
+) (omega arith)
 
-rest_given : (read : Reading) (front behind : List Edit) → AreInOrder 0 read.sheet.edits (length read.bytes) → read.sheet.edits ≡ front ++ behind
-    → flat_map (given read) behind ≡ range_with_len (first_handle read + sum_by (taken read) front) (sum_by (taken read) behind)
+rest_given : (read : Reading) (front behind : List Edit) → AreInOrder 0 read.sheet.edits (length read.bytes)
+    → read.sheet.edits ≡ front ++ behind
+    → flat_map (given read) behind ≡ range_with_len (first_handle read + sum_by (taken read) front)
+    (sum_by (taken read) behind)
 rest_given read front [] order are = refl
 rest_given read front (edit ∷ behind) order are =
     let next = first_handle read + sum_by (taken read) front in
-    let here : given read edit ≡ range_with_len next (taken read edit) = given_is read edit ∙ ap (λ (n : ℕ). range_with_len n (taken read edit)) (next_behind_front read front edit behind order are) in
+    let here : given read edit ≡ range_with_len next (taken read edit) = given_is read edit
+    ∙ ap (λ (n : ℕ). range_with_len n (taken read edit)) (next_behind_front read front edit behind order are) in
     let moved : read.sheet.edits ≡ (front ++ edit ∷ []) ++ behind = are ∙ sym (append_assoc front (edit ∷ []) behind) in
-    let place : first_handle read + sum_by (taken read) (front ++ edit ∷ []) ≡ next + taken read edit = rw (sum_append read front edit) (omega arith) in
+    let place : first_handle read + sum_by (taken read) (front ++ edit ∷ []) ≡ next + taken read edit =
+    rw (sum_append read front edit) (omega arith) in
     let rest : flat_map (given read) behind ≡ range_with_len (next + taken read edit) (sum_by (taken read) behind) =
-    rest_given read (front ++ edit ∷ []) behind order moved ∙ ap (λ (n : ℕ). range_with_len n (sum_by (taken read) behind)) place in
+    rest_given read (front ++ edit ∷ []) behind order moved
+    ∙ ap (λ (n : ℕ). range_with_len n (sum_by (taken read) behind)) place in
     ap (λ (handles : List ℕ). handles ++ flat_map (given read) behind) here
     ∙ (ap (λ (handles : List ℕ). range_with_len next (taken read edit) ++ handles) rest
-    ∙ (range_both next (taken read edit) (sum_by (taken read) behind) ∙ ap (range_with_len next) (sym (sum_by-cons (taken read) edit behind))))
+    ∙ (range_both next (taken read edit) (sum_by (taken read) behind)
+    ∙ ap (range_with_len next) (sym (sum_by-cons (taken read) edit behind))))
 
 -- ---- numbers that follow each other
 range_increases : (from count : ℕ) → IsStrictlyIncreasing (range_with_len from count)
@@ -139,12 +173,14 @@ range_increases from count k within =
     let next = get_or-range_with_len from count (k + 1) 0 inside in
     omega (arith, here, next)
 
-range_below : (from count bound : ℕ) → from + count ≤ bound → AllByRecursion (λ handle. handle < bound) (range_with_len from count)
+range_below : (from count bound : ℕ) → from + count ≤ bound
+    → AllByRecursion (λ handle. handle < bound) (range_with_len from count)
 range_below from zero bound most = tt
 range_below from (suc count) bound most = (omega arith, range_below (from + 1) count bound (omega arith))
 
 -- the next handle is written where some were given
-seed_written : (read : Reading) (edit : Edit) (count : ℕ) → next_behind read ≡ first_handle read + count → 0 < count → edit.what ≡ edits.NextHandle → text_of read edit ≡ digits 16 true (next_behind read)
+seed_written : (read : Reading) (edit : Edit) (count : ℕ) → next_behind read ≡ first_handle read + count → 0 < count
+    → edit.what ≡ edits.NextHandle → text_of read edit ≡ digits 16 true (next_behind read)
 seed_written read edit count behind some is =
     let other : (next_behind read == first_handle read) ≡ false = grind (arith, nat_tests, behind, some) in
     ap (text_as read (next_at read edit.start) edit) is ∙ rw other refl
@@ -154,7 +190,8 @@ handles_are_new tile how bytes pairs sheet images pairs_are sheet_is = record {
   numbers = numbers;
   differ = subst IsStrictlyIncreasing (sym all) (range_increases (first_handle read) (sum_by (taken read) sheet.edits));
   behind = behind;
-  below = subst (AllByRecursion (λ handle. handle < next_behind read)) (sym all) (range_below (first_handle read) (sum_by (taken read) sheet.edits) (next_behind read) (omega arith));
+  below = subst (AllByRecursion (λ handle. handle < next_behind read)) (sym all)
+      (range_below (first_handle read) (sum_by (taken read) sheet.edits) (next_behind read) (omega arith));
   written = λ edit is some. seed_written read edit (length (all_given read)) behind some is;
 }
   where
@@ -166,7 +203,8 @@ handles_are_new tile how bytes pairs sheet images pairs_are sheet_is = record {
 
     all : all_given read ≡ range_with_len (first_handle read) (sum_by (taken read) sheet.edits)
     all =
-        rest_given read [] sheet.edits (sheet_in_order bytes how pairs sheet (tile bytes pairs pairs_are) pairs_are sheet_is) refl
+        rest_given read [] sheet.edits (sheet_in_order bytes how pairs sheet (tile bytes pairs pairs_are) pairs_are
+        sheet_is) refl
         ∙ ap (λ (n : ℕ). range_with_len n (sum_by (taken read) sheet.edits)) (none_in_front (first_handle read))
 
     count : length (all_given read) ≡ sum_by (taken read) sheet.edits

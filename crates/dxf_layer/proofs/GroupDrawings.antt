@@ -1,5 +1,6 @@
 -- The paths and points of a drawing are those of its groups.
-use Rattle.std.proofs.Common.{◌≡◌, ℕ, ℤ, pos, Bool, true, false, cond, refl, ap, List, [], ◌∷◌, ◌++◌, map, take_while, Option, None, Some, Ok, Err, codes, bytes_eq}
+use Rattle.std.proofs.Common.{◌≡◌, ℕ, ℤ, pos, Bool, true, false, cond, refl, ap, List, [], ◌∷◌, ◌++◌, map, take_while}
+use Rattle.std.proofs.Common.{Option, None, Some, Ok, Err, codes, bytes_eq}
 use Rattle.std.specs.Prelude.{◌&&◌, not, if◌then◌else◌}
 use Rattle.plane_base.specs.declared.shapes.Pt.{Pt}
 use Rattle.sheet_base.specs.declared.flags.How.{How}
@@ -10,17 +11,20 @@ use Rattle.dxf_pairs.specs.Groups.{Group, group_in, value_in}
 use Rattle.dxf_layer.specs.declared.drawing.Vertex.{Vertex}
 use Rattle.dxf_layer.specs.declared.entities.Where.{Where}
 use Rattle.dxf_layer.specs.declared.entities.Where.TheVariants.{Outside, Begun, Header, Entities, Other}
-use Rattle.dxf_layer.specs.Entities.{Entity, has_code, is_kind, section, behind, is_no_head, entity_of, begins_entity, entities_from}
+use Rattle.dxf_layer.specs.Entities.{Entity, has_code, is_kind, section, behind, is_no_head, entity_of, begins_entity}
+use Rattle.dxf_layer.specs.Entities.{entities_from}
 use Rattle.dxf_layer.specs.Fields.{and_then}
 use Rattle.dxf_layer.specs.Handles.{is_handle, as_seed, names_seed, seed_from}
 use Rattle.dxf_layer.specs.Shapes.{Shape}
 use Rattle.dxf_layer.specs.Polylines.{entity_vertex, heavy_shape}
-use Rattle.dxf_layer.specs.Walks.{Place, free, staying, reading, Step, shapes_read, step_reading, step, walk_end, walked}
+use Rattle.dxf_layer.specs.Walks.{Place, free, staying, reading, Step, shapes_read, step_reading, step, walk_end}
+use Rattle.dxf_layer.specs.Walks.{walked}
 use Rattle.dxf_layer.proofs.Telling.{next, told, chain, either_told, front_mapped}
 use Rattle.dxf_layer.proofs.GroupFields.{coded, fields_in, groups_in}
 use Rattle.dxf_layer.proofs.GroupShapes.{Outline, outline, outlines, is_seeded}
 use Rattle.dxf_layer.proofs.GroupPolylines.{kind_with_told, spots_of, spot_point, light_outline, own_point, own_told}
-use Rattle.dxf_layer.proofs.GroupWalks.{Told, entity_told, has_kind, Spot, alone, kept, open_line, spot_told, Turn, turn_told, turn_of, ends_sections, free_turn, free_told, kept_turn, kept_told}
+use Rattle.dxf_layer.proofs.GroupWalks.{Told, entity_told, has_kind, Spot, alone, kept, open_line, spot_told, Turn}
+use Rattle.dxf_layer.proofs.GroupWalks.{turn_told, turn_of, ends_sections, free_turn, free_told, kept_turn, kept_told}
 
 -- an entity behind the points so far of a polyline
 abbrev pub with_more : PathKind → List Pt → Pt → Option Turn
@@ -28,37 +32,52 @@ with_more kind points point = Some (record { shapes = []; next = open_line kind 
 
 abbrev pub open_turn : How → Bool → PathKind → List Pt → Told → Option Turn
 open_turn how seeded kind points entity =
-    if has_kind (codes "VERTEX") entity then next (with_more kind points) (own_point how.exact seeded (fields_in entity.groups))
+    if has_kind (codes "VERTEX") entity then next (with_more kind points)
+    (own_point how.exact seeded (fields_in entity.groups))
     else if has_kind (codes "SEQEND") entity then Some (turn_of (light_outline kind points ∷ []))
     else None
 
-spots_behind : (vertices : List Vertex) (vertex : Vertex) → spots_of (vertices ++ vertex ∷ []) ≡ spots_of vertices ++ spot_point vertex ∷ []
+spots_behind : (vertices : List Vertex) (vertex : Vertex)
+    → spots_of (vertices ++ vertex ∷ []) ≡ spots_of vertices ++ spot_point vertex ∷ []
 spots_behind [] vertex = refl
 spots_behind (first ∷ vertices) vertex = ap (λ more. spot_point first ∷ more) (spots_behind vertices vertex)
 
-heavy_told : (kind : PathKind) (vertices : List Vertex) → outline (heavy_shape kind vertices) ≡ light_outline kind (spots_of vertices)
-heavy_told kind vertices = ap (λ (k : Option PathKind). record { kind = k; points = spots_of vertices }) (kind_with_told kind vertices)
+heavy_told : (kind : PathKind) (vertices : List Vertex)
+    → outline (heavy_shape kind vertices) ≡ light_outline kind (spots_of vertices)
+heavy_told kind vertices = ap (λ (k : Option PathKind). record { kind = k; points = spots_of vertices })
+    (kind_with_told kind vertices)
 
-open_told : (bytes : List ℕ) (how : How) (seed : Option Pair) (kind : PathKind) (vertices : List Vertex) (entity : Entity)
-    → told turn_told (step_reading bytes how seed kind vertices entity) ≡ open_turn how (is_seeded seed) kind (spots_of vertices) (entity_told bytes entity)
+open_told : (bytes : List ℕ) (how : How) (seed : Option Pair) (kind : PathKind) (vertices : List Vertex)
+    (entity : Entity)
+    → told turn_told (step_reading bytes how seed kind vertices entity)
+    ≡ open_turn how (is_seeded seed) kind (spots_of vertices) (entity_told bytes entity)
 open_told bytes how seed kind vertices entity =
     either_told turn_told (is_kind bytes (codes "VERTEX") entity)
-    (and_then (λ (vertex : Vertex). Ok (record { shapes = []; next = reading kind (vertices ++ vertex ∷ []) })) (entity_vertex bytes how.exact seed entity))
-    (cond (is_kind bytes (codes "SEQEND") entity) (Ok (shapes_read (heavy_shape kind vertices ∷ []))) (Err (faults.Count entity.head.line)))
+    (and_then (λ (vertex : Vertex). Ok (record { shapes = []; next = reading kind (vertices ++ vertex ∷ []) }))
+    (entity_vertex bytes how.exact seed entity))
+    (cond (is_kind bytes (codes "SEQEND") entity) (Ok (shapes_read (heavy_shape kind vertices ∷ [])))
+    (Err (faults.Count entity.head.line)))
     (next (with_more kind (spots_of vertices)) (own_point how.exact (is_seeded seed) (groups_in bytes entity)))
     (cond (is_kind bytes (codes "SEQEND") entity) (Some (turn_of (light_outline kind (spots_of vertices) ∷ []))) None)
-    (chain spot_point turn_told (λ (vertex : Vertex). Ok (record { shapes = []; next = reading kind (vertices ++ vertex ∷ []) })) (with_more kind (spots_of vertices))
-    (entity_vertex bytes how.exact seed entity) (own_point how.exact (is_seeded seed) (groups_in bytes entity)) (own_told bytes how.exact seed entity)
-    (λ vertex. ap (λ (points : List Pt). Some (record { shapes = []; next = open_line kind points })) (spots_behind vertices vertex)))
-    (either_told turn_told (is_kind bytes (codes "SEQEND") entity) (Ok (shapes_read (heavy_shape kind vertices ∷ []))) (Err (faults.Count entity.head.line))
-    (Some (turn_of (light_outline kind (spots_of vertices) ∷ []))) None (ap (λ (o : Outline). Some (turn_of (o ∷ []))) (heavy_told kind vertices)) refl)
+    (chain spot_point turn_told (λ (vertex : Vertex). Ok
+    (record { shapes = []; next = reading kind (vertices ++ vertex ∷ []) })) (with_more kind (spots_of vertices))
+    (entity_vertex bytes how.exact seed entity) (own_point how.exact (is_seeded seed) (groups_in bytes entity))
+    (own_told bytes how.exact seed entity)
+    (λ vertex. ap (λ (points : List Pt). Some (record { shapes = []; next = open_line kind points }))
+    (spots_behind vertices vertex)))
+    (either_told turn_told (is_kind bytes (codes "SEQEND") entity) (Ok (shapes_read (heavy_shape kind vertices ∷ [])))
+    (Err (faults.Count entity.head.line))
+    (Some (turn_of (light_outline kind (spots_of vertices) ∷ []))) None
+    (ap (λ (o : Outline). Some (turn_of (o ∷ []))) (heavy_told kind vertices)) refl)
 
 abbrev pub turn : How → Bool → Spot → Told → Option Turn
 turn how seeded alone entity = free_turn how seeded entity
 turn how seeded kept entity = kept_turn how seeded entity
 turn how seeded (open_line kind points) entity = open_turn how seeded kind points entity
 
-pub step_told : (bytes : List ℕ) (how : How) (seed : Option Pair) (place : Place) (entity : Entity) → told turn_told (step bytes how seed place entity) ≡ turn how (is_seeded seed) (spot_told place) (entity_told bytes entity)
+pub step_told : (bytes : List ℕ) (how : How) (seed : Option Pair) (place : Place) (entity : Entity)
+    → told turn_told (step bytes how seed place entity)
+    ≡ turn how (is_seeded seed) (spot_told place) (entity_told bytes entity)
 step_told bytes how seed free entity = free_told bytes how seed entity
 step_told bytes how seed staying entity = kept_told bytes how seed entity
 step_told bytes how seed (reading kind vertices) entity = open_told bytes how seed kind vertices entity
@@ -74,7 +93,9 @@ in_front shapes more = Some (shapes ++ more)
 -- the outlines of entities in order
 abbrev pub walk : How → Bool → Spot → List Told → Option (List Outline)
 walk how seeded spot [] = last_turn spot
-walk how seeded spot (entity ∷ entities) = next (λ (here : Turn). next (in_front here.shapes) (walk how seeded here.next entities)) (turn how seeded spot entity)
+walk how seeded spot (entity ∷ entities) =
+    next (λ (here : Turn). next (in_front here.shapes) (walk how seeded here.next entities))
+    (turn how seeded spot entity)
 
 outlines_both : (shapes more : List Shape) → outlines (shapes ++ more) ≡ outlines shapes ++ outlines more
 outlines_both [] more = refl
@@ -86,15 +107,20 @@ end_told staying = refl
 end_told (reading kind vertices) = refl
 
 walk_told : (bytes : List ℕ) (how : How) (seed : Option Pair) (place : Place) (entities : List Entity)
-    → told outlines (walked bytes how seed place entities) ≡ walk how (is_seeded seed) (spot_told place) (map (entity_told bytes) entities)
+    → told outlines (walked bytes how seed place entities)
+    ≡ walk how (is_seeded seed) (spot_told place) (map (entity_told bytes) entities)
 walk_told bytes how seed place [] = end_told place
 walk_told bytes how seed place (entity ∷ entities) =
     let rest = map (entity_told bytes) entities in
-    chain turn_told outlines (λ (here : Step). and_then (λ (more : List Shape). Ok (here.shapes ++ more)) (walked bytes how seed here.next entities))
-    (λ (here : Turn). next (in_front here.shapes) (walk how (is_seeded seed) here.next rest)) (step bytes how seed place entity) (turn how (is_seeded seed) (spot_told place) (entity_told bytes entity))
+    chain turn_told outlines (λ (here : Step). and_then (λ (more : List Shape). Ok (here.shapes ++ more))
+    (walked bytes how seed here.next entities))
+    (λ (here : Turn). next (in_front here.shapes) (walk how (is_seeded seed) here.next rest))
+    (step bytes how seed place entity) (turn how (is_seeded seed) (spot_told place) (entity_told bytes entity))
     (step_told bytes how seed place entity)
-    (λ here. chain outlines outlines (λ (more : List Shape). Ok (here.shapes ++ more)) (in_front (outlines here.shapes)) (walked bytes how seed here.next entities)
-    (walk how (is_seeded seed) (spot_told here.next) rest) (walk_told bytes how seed here.next entities) (λ more. ap Some (outlines_both here.shapes more)))
+    (λ here. chain outlines outlines (λ (more : List Shape). Ok (here.shapes ++ more)) (in_front (outlines here.shapes))
+    (walked bytes how seed here.next entities)
+    (walk how (is_seeded seed) (spot_told here.next) rest) (walk_told bytes how seed here.next entities)
+    (λ more. ap Some (outlines_both here.shapes more)))
 
 -- sections, by groups
 abbrev pub is_group : ℤ → List ℕ → Group → Bool
@@ -113,7 +139,8 @@ behind_group Header group = inside_behind Header group
 behind_group Entities group = inside_behind Entities group
 behind_group Other group = inside_behind Other group
 
-pub behind_told : (bytes : List ℕ) (place : Where) (pair : Pair) → behind bytes place pair ≡ behind_group place (group_in bytes pair)
+pub behind_told : (bytes : List ℕ) (place : Where) (pair : Pair)
+    → behind bytes place pair ≡ behind_group place (group_in bytes pair)
 behind_told bytes Outside pair = refl
 behind_told bytes Begun pair = refl
 behind_told bytes Header pair = refl
@@ -124,7 +151,8 @@ abbrev pub begins_told : Where → Group → Bool
 begins_told Entities group = coded (pos 0) group
 begins_told place group = false
 
-begins_is : (bytes : List ℕ) (place : Where) (pair : Pair) → begins_entity place pair ≡ begins_told place (group_in bytes pair)
+begins_is : (bytes : List ℕ) (place : Where) (pair : Pair)
+    → begins_entity place pair ≡ begins_told place (group_in bytes pair)
 begins_is bytes Outside pair = refl
 begins_is bytes Begun pair = refl
 begins_is bytes Header pair = refl
@@ -143,16 +171,24 @@ entities_told place (group ∷ groups) =
     let more = entities_told (behind_group place group) groups in
     if begins_told place group then told_from group groups ∷ more else more
 
-entity_is : (bytes : List ℕ) (pair : Pair) (pairs : List Pair) → entity_told bytes (entity_of pair pairs) ≡ told_from (group_in bytes pair) (map (group_in bytes) pairs)
-entity_is bytes pair pairs = ap (λ (groups : List Group). record { head = group_in bytes pair; groups = groups }) (front_mapped is_no_head not_head (group_in bytes) (λ other. refl) pairs)
+entity_is : (bytes : List ℕ) (pair : Pair) (pairs : List Pair)
+    → entity_told bytes (entity_of pair pairs) ≡ told_from (group_in bytes pair) (map (group_in bytes) pairs)
+entity_is bytes pair pairs = ap (λ (groups : List Group). record { head = group_in bytes pair; groups = groups })
+    (front_mapped is_no_head not_head (group_in bytes) (λ other. refl) pairs)
 
-entities_are : (bytes : List ℕ) (place : Where) (pairs : List Pair) → map (entity_told bytes) (entities_from bytes place pairs) ≡ entities_told place (map (group_in bytes) pairs)
+entities_are : (bytes : List ℕ) (place : Where) (pairs : List Pair)
+    → map (entity_told bytes) (entities_from bytes place pairs) ≡ entities_told place (map (group_in bytes) pairs)
 entities_are bytes place [] = refl
 entities_are bytes place (pair ∷ pairs) =
-    rw (← behind_told bytes place pair, ← begins_is bytes place pair) (by_test (begins_entity place pair) (entities_are bytes (behind bytes place pair) pairs)) where
-      by_test : (begins : Bool) → map (entity_told bytes) (entities_from bytes (behind bytes place pair) pairs) ≡ entities_told (behind bytes place pair) (map (group_in bytes) pairs)
-          → map (entity_told bytes) (cond begins (entity_of pair pairs ∷ entities_from bytes (behind bytes place pair) pairs) (entities_from bytes (behind bytes place pair) pairs))
-          ≡ cond begins (told_from (group_in bytes pair) (map (group_in bytes) pairs) ∷ entities_told (behind bytes place pair) (map (group_in bytes) pairs)) (entities_told (behind bytes place pair) (map (group_in bytes) pairs))
+    rw (← behind_told bytes place pair, ← begins_is bytes place pair)
+    (by_test (begins_entity place pair) (entities_are bytes (behind bytes place pair) pairs)) where
+      by_test : (begins : Bool) → map (entity_told bytes) (entities_from bytes (behind bytes place pair) pairs)
+          ≡ entities_told (behind bytes place pair) (map (group_in bytes) pairs)
+          → map (entity_told bytes) (cond begins (entity_of pair pairs
+          ∷ entities_from bytes (behind bytes place pair) pairs) (entities_from bytes (behind bytes place pair) pairs))
+          ≡ cond begins (told_from (group_in bytes pair) (map (group_in bytes) pairs)
+          ∷ entities_told (behind bytes place pair) (map (group_in bytes) pairs))
+          (entities_told (behind bytes place pair) (map (group_in bytes) pairs))
       by_test true rest = rw (entity_is bytes pair pairs, rest) refl
       by_test false rest = rest
 
@@ -167,28 +203,36 @@ names_next place group = false
 
 abbrev pub seeded_from : Where → List Group → Bool
 seeded_from place [] = false
-seeded_from place (group ∷ groups) = if names_next place group then begins_seeded groups else seeded_from (behind_group place group) groups
+seeded_from place (group ∷ groups) = if names_next place group then begins_seeded groups else seeded_from
+    (behind_group place group) groups
 
-names_is : (bytes : List ℕ) (place : Where) (pair : Pair) → names_seed bytes place pair ≡ names_next place (group_in bytes pair)
+names_is : (bytes : List ℕ) (place : Where) (pair : Pair)
+    → names_seed bytes place pair ≡ names_next place (group_in bytes pair)
 names_is bytes Outside pair = refl
 names_is bytes Begun pair = refl
 names_is bytes Header pair = refl
 names_is bytes Entities pair = refl
 names_is bytes Other pair = refl
 
-as_told : (bytes : List ℕ) (pairs : List Pair) → is_seeded (as_seed bytes pairs) ≡ begins_seeded (map (group_in bytes) pairs)
+as_told : (bytes : List ℕ) (pairs : List Pair)
+    → is_seeded (as_seed bytes pairs) ≡ begins_seeded (map (group_in bytes) pairs)
 as_told bytes [] = refl
 as_told bytes (pair ∷ pairs) = by_test (has_code (pos 5) pair && is_handle (value_in bytes pair)) where
   by_test : (good : Bool) → is_seeded (cond good (Some pair) None) ≡ good
   by_test true = refl
   by_test false = refl
 
-pub seeded_told : (bytes : List ℕ) (place : Where) (pairs : List Pair) → is_seeded (seed_from bytes place pairs) ≡ seeded_from place (map (group_in bytes) pairs)
+pub seeded_told : (bytes : List ℕ) (place : Where) (pairs : List Pair)
+    → is_seeded (seed_from bytes place pairs) ≡ seeded_from place (map (group_in bytes) pairs)
 seeded_told bytes place [] = refl
 seeded_told bytes place (pair ∷ pairs) =
-    rw (← behind_told bytes place pair, ← names_is bytes place pair) (by_test (names_seed bytes place pair) (seeded_told bytes (behind bytes place pair) pairs)) where
-      by_test : (names : Bool) → is_seeded (seed_from bytes (behind bytes place pair) pairs) ≡ seeded_from (behind bytes place pair) (map (group_in bytes) pairs)
-          → is_seeded (cond names (as_seed bytes pairs) (seed_from bytes (behind bytes place pair) pairs)) ≡ cond names (begins_seeded (map (group_in bytes) pairs)) (seeded_from (behind bytes place pair) (map (group_in bytes) pairs))
+    rw (← behind_told bytes place pair, ← names_is bytes place pair)
+    (by_test (names_seed bytes place pair) (seeded_told bytes (behind bytes place pair) pairs)) where
+      by_test : (names : Bool) → is_seeded (seed_from bytes (behind bytes place pair) pairs)
+          ≡ seeded_from (behind bytes place pair) (map (group_in bytes) pairs)
+          → is_seeded (cond names (as_seed bytes pairs) (seed_from bytes (behind bytes place pair) pairs))
+          ≡ cond names (begins_seeded (map (group_in bytes) pairs))
+          (seeded_from (behind bytes place pair) (map (group_in bytes) pairs))
       by_test true rest = as_told bytes pairs
       by_test false rest = rest
 
@@ -197,6 +241,8 @@ abbrev pub outlines_of : How → List Group → Option (List Outline)
 outlines_of how groups = walk how (seeded_from Outside groups) alone (entities_told Outside groups)
 
 pub drawing_told : (bytes : List ℕ) (how : How) (pairs : List Pair)
-    → told outlines (walked bytes how (seed_from bytes Outside pairs) free (entities_from bytes Outside pairs)) ≡ outlines_of how (map (group_in bytes) pairs)
+    → told outlines (walked bytes how (seed_from bytes Outside pairs) free (entities_from bytes Outside pairs))
+    ≡ outlines_of how (map (group_in bytes) pairs)
 drawing_told bytes how pairs =
-    rw (← seeded_told bytes Outside pairs, ← entities_are bytes Outside pairs) (walk_told bytes how (seed_from bytes Outside pairs) free (entities_from bytes Outside pairs))
+    rw (← seeded_told bytes Outside pairs, ← entities_are bytes Outside pairs)
+    (walk_told bytes how (seed_from bytes Outside pairs) free (entities_from bytes Outside pairs))

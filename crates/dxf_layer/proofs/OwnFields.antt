@@ -1,5 +1,6 @@
 -- The room behind a vertex in fields stands behind its own fields of codes 10 and 20.
-use Rattle.std.proofs.Common.{◌≡◌, ℕ, ◌+◌, pos, List, [], ◌∷◌, ◌++◌, Bool, true, false, cond, refl, ap, sym, ◌∙◌, subst, Ok, Err, Some}
+use Rattle.std.proofs.Common.{◌≡◌, ℕ, ◌+◌, pos, List, [], ◌∷◌, ◌++◌, Bool, true, false, cond, refl, ap, sym, ◌∙◌, subst}
+use Rattle.std.proofs.Common.{Ok, Err, Some}
 use Rattle.std.specs.Prelude.{int_lt}
 use Rattle.std.specs.List.{AllByRecursion, prefix_len}
 use Rattle.std.proofs.lemmas.List.{append_assoc}
@@ -21,47 +22,71 @@ use Rattle.dxf_layer.proofs.VertexPlaces.{IsProper, ends_at, in_front_of, in_fro
 use Rattle.dxf_layer.proofs.EntityPlaces.{of_entity, front_taken, front_proper}
 
 -- one vertex, with the fields of its group behind it
-one_vertex : (read : Reading) (past : ℕ) → AreTiles 0 1 read.pairs past → (front fields : List Pair) (x y : Pair) (pairs : List Pair) (vertex : Vertex) → read.pairs ≡ front ++ (x ∷ y ∷ pairs) → IsProper fields pairs → x.code ≡ pos 10 → y.code ≡ pos 20
+one_vertex : (read : Reading) (past : ℕ) → AreTiles 0 1 read.pairs past
+    → (front fields : List Pair) (x y : Pair) (pairs : List Pair) (vertex : Vertex)
+    → read.pairs ≡ front ++ (x ∷ y ∷ pairs) → IsProper fields pairs → x.code ≡ pos 10 → y.code ≡ pos 20
     → IsVertex read.bytes x y fields vertex → HasOwnFields read vertex
 one_vertex read past tiles front fields x y pairs vertex are proper ten twenty is =
     let here = tiles_behind front 0 1 past x (y ∷ pairs) (subst (λ (ps : List Pair). AreTiles 0 1 ps past) are tiles) in
     let ends = ends_at read.bytes y.end (here.0 + 2 + 2) past vertex.past fields pairs here.1.5.5 proper is.past in
-    let all : read.pairs ≡ (front ++ (x ∷ y ∷ ends.group)) ++ ends.next ∷ ends.rest = are ∙ (ap (λ (ps : List Pair). front ++ (x ∷ y ∷ ps)) ends.whole ∙ in_front_of front ends.group ends.rest x y ends.next) in
+    let all : read.pairs ≡ (front ++ (x ∷ y ∷ ends.group)) ++ ends.next ∷ ends.rest = are
+    ∙ (ap (λ (ps : List Pair). front ++ (x ∷ y ∷ ps)) ends.whole
+    ∙ in_front_of front ends.group ends.rest x y ends.next) in
     let first : coded_before read (pos 10) vertex.past ≡ Some x =
-    ap (λ (n : ℕ). coded_before read (pos 10) n) (sym ends.starts) ∙ (before_is read (pos 10) (front ++ (x ∷ y ∷ ends.group)) past ends.next ends.rest all tiles ∙ last_ten front x y ends.group ten twenty ends.are) in
+    ap (λ (n : ℕ). coded_before read (pos 10) n) (sym ends.starts)
+    ∙ (before_is read (pos 10) (front ++ (x ∷ y ∷ ends.group)) past ends.next ends.rest all tiles
+    ∙ last_ten front x y ends.group ten twenty ends.are) in
     let second : coded_before read (pos 20) vertex.past ≡ Some y =
-    ap (λ (n : ℕ). coded_before read (pos 20) n) (sym ends.starts) ∙ (before_is read (pos 20) (front ++ (x ∷ y ∷ ends.group)) past ends.next ends.rest all tiles ∙ last_twenty front x y ends.group twenty ends.are) in
+    ap (λ (n : ℕ). coded_before read (pos 20) n) (sym ends.starts)
+    ∙ (before_is read (pos 20) (front ++ (x ∷ y ∷ ends.group)) past ends.next ends.rest all tiles
+    ∙ last_twenty front x y ends.group twenty ends.are) in
     (first ∙ ap (λ (p : Pair). Some p) (sym is.east), second ∙ ap (λ (p : Pair). Some p) (sym is.north))
 
 -- all vertices that are read of the first of the pairs
-all_vertices : (read : Reading) (past : ℕ) → AreTiles 0 1 read.pairs past → (exact : Bool) (front fields pairs : List Pair) (vertices : List Vertex) → read.pairs ≡ front ++ pairs → IsProper fields pairs → vertices_in read.bytes exact fields ≡ Ok vertices
+all_vertices : (read : Reading) (past : ℕ) → AreTiles 0 1 read.pairs past
+    → (exact : Bool) (front fields pairs : List Pair) (vertices : List Vertex) → read.pairs ≡ front ++ pairs
+    → IsProper fields pairs → vertices_in read.bytes exact fields ≡ Ok vertices
     → AllByRecursion (HasOwnFields read) vertices
-all_vertices read past tiles exact front [] pairs vertices are proper is = let none : [] ≡ vertices = cc in subst (AllByRecursion (HasOwnFields read)) none tt
+all_vertices read past tiles exact front [] pairs vertices are proper is = let none : [] ≡ vertices =
+    cc in subst (AllByRecursion (HasOwnFields read)) none tt
 all_vertices read past tiles exact front (field ∷ []) pairs vertices are proper is = by_test (is_number field) is where
-  by_test : (number : Bool) → cond number (Err (Count field.line)) (Ok []) ≡ Ok vertices → AllByRecursion (HasOwnFields read) vertices
+  by_test : (number : Bool) → cond number (Err (Count field.line)) (Ok []) ≡ Ok vertices
+      → AllByRecursion (HasOwnFields read) vertices
   by_test true made = absurd (cc)
   by_test false made = let none : [] ≡ vertices = cc in subst (AllByRecursion (HasOwnFields read)) none tt
 all_vertices read past tiles exact front (first ∷ second ∷ fields) [] vertices are proper is = absurd proper
 all_vertices read past tiles exact front (first ∷ second ∷ fields) (x ∷ []) vertices are proper is = absurd proper.1
 all_vertices read past tiles exact front (first ∷ second ∷ fields) (x ∷ y ∷ pairs) vertices are proper is =
     by_tests (begins_vertex first second) (is_number first) refl is
-    (λ vs vs_is. all_vertices read past tiles exact (front ++ (x ∷ y ∷ [])) fields pairs vs (are ∙ in_front_two front pairs x y) proper.1.1 vs_is)
-    (λ vs_is. all_vertices read past tiles exact (front ++ x ∷ []) (second ∷ fields) (y ∷ pairs) vertices (are ∙ in_front_one front (y ∷ pairs) x) proper.1 vs_is) where
+    (λ vs vs_is. all_vertices read past tiles exact (front ++ (x ∷ y ∷ [])) fields pairs vs
+    (are ∙ in_front_two front pairs x y) proper.1.1 vs_is)
+    (λ vs_is. all_vertices read past tiles exact (front ++ x ∷ []) (second ∷ fields) (y ∷ pairs) vertices
+    (are ∙ in_front_one front (y ∷ pairs) x) proper.1 vs_is) where
       by_tests : (begins number : Bool) → begins_vertex first second ≡ begins
-          → cond begins (and_then (λ (vertex : Vertex). and_then (λ (more : List Vertex). Ok (vertex ∷ more)) (vertices_in read.bytes exact fields)) (vertex_of read.bytes exact first second fields))
+          → cond begins (and_then (λ (vertex : Vertex). and_then (λ (more : List Vertex). Ok (vertex ∷ more))
+          (vertices_in read.bytes exact fields)) (vertex_of read.bytes exact first second fields))
           (cond number (Err (Count first.line)) (vertices_in read.bytes exact (second ∷ fields))) ≡ Ok vertices
           → ((vs : List Vertex) → vertices_in read.bytes exact fields ≡ Ok vs → AllByRecursion (HasOwnFields read) vs)
-          → (vertices_in read.bytes exact (second ∷ fields) ≡ Ok vertices → AllByRecursion (HasOwnFields read) vertices) → AllByRecursion (HasOwnFields read) vertices
+          → (vertices_in read.bytes exact (second ∷ fields) ≡ Ok vertices → AllByRecursion (HasOwnFields read) vertices)
+          → AllByRecursion (HasOwnFields read) vertices
       by_tests true number begins made behind later =
-          let one = went (λ (vertex : Vertex). and_then (λ (more : List Vertex). Ok (vertex ∷ more)) (vertices_in read.bytes exact fields)) (vertex_of read.bytes exact first second fields) vertices made in
-          let more = went (λ (more : List Vertex). Ok (one.value ∷ more)) (vertices_in read.bytes exact fields) vertices one.gives in
+          let one = went (λ (vertex : Vertex). and_then (λ (more : List Vertex). Ok (vertex ∷ more))
+          (vertices_in read.bytes exact fields)) (vertex_of read.bytes exact first second fields) vertices made in
+          let more = went (λ (more : List Vertex). Ok (one.value ∷ more)) (vertices_in read.bytes exact fields) vertices
+          one.gives in
           let whole : one.value ∷ more.value ≡ vertices = cc in
           let codes = both_true (has_code (pos 10) first) (has_code (pos 20) second) begins in
           let vertex : IsVertex read.bytes x y fields one.value =
-          subst (λ (p : Pair). IsVertex read.bytes p y fields one.value) proper.0 (subst (λ (p : Pair). IsVertex read.bytes first p fields one.value) proper.1.0 (vertex_is read.bytes exact first second fields one.value one.is)) in
+          subst (λ (p : Pair). IsVertex read.bytes p y fields one.value) proper.0
+          (subst (λ (p : Pair). IsVertex read.bytes first p fields one.value) proper.1.0
+          (vertex_is read.bytes exact first second fields one.value one.is)) in
           let ten : x.code ≡ pos 10 = sym (ap (λ (p : Pair). p.code) proper.0) ∙ coded first (pos 10) codes.0 in
           let twenty : y.code ≡ pos 20 = sym (ap (λ (p : Pair). p.code) proper.1.0) ∙ coded second (pos 20) codes.1 in
-          subst (AllByRecursion (HasOwnFields read)) whole (one_vertex read past tiles front fields x y pairs one.value are proper.1.1 ten twenty vertex, behind more.value more.is)
+          subst (AllByRecursion (HasOwnFields read)) whole (
+            one_vertex read past tiles front fields x y pairs one.value are proper.1.1 ten twenty vertex,
+            behind
+                more.value more.is,
+          )
       by_tests false true begins made behind later = absurd (cc)
       by_tests false false begins made behind later = later made
 
@@ -75,11 +100,18 @@ vertices_copy_own_fields tile stand bytes pairs sheet images entity exact vertic
 
     of_pairs : (past : ℕ) → AreTiles 0 1 pairs past → AllByRecursion (HasOwnFields read) vertices
     of_pairs past tiles =
-        let here = tiles_behind is.front 0 1 past entity.head (is.next ∷ is.behind) (subst (λ (ps : List Pair). AreTiles 0 1 ps past) is.stands tiles) in
-        let own : AreInLines bytes (entity.head ∷ is.next ∷ is.behind) = lines_behind bytes is.front entity.head (is.next ∷ is.behind) (subst (λ (ps : List Pair). AreInLines bytes ps) is.stands (stand bytes pairs pairs_are)) in
+        let here = tiles_behind is.front 0 1 past entity.head (is.next ∷ is.behind)
+        (subst (λ (ps : List Pair). AreTiles 0 1 ps past) is.stands tiles) in
+        let own : AreInLines bytes (entity.head ∷ is.next ∷ is.behind) =
+        lines_behind bytes is.front entity.head (is.next ∷ is.behind)
+        (subst (λ (ps : List Pair). AreInLines bytes ps) is.stands (stand bytes pairs pairs_are)) in
         let of = of_entity bytes entity.head.end (here.0 + 2) past (is.next ∷ is.behind) here.1.5 own.1 in
         let whole : Entity = entity_of entity.head (is.next ∷ is.behind) in
-        let front : IsFront (fields_of whole) whole.pairs = front_taken (prefix_len (λ (pair : Pair). int_lt pair.code (pos 1000)) whole.pairs) whole.pairs in
-        let proper : IsProper (fields_of whole) (is.next ∷ is.behind) = front_proper (fields_of whole) whole.pairs (is.next ∷ is.behind) front of.proper in
-        all_vertices read past tiles exact (is.front ++ entity.head ∷ []) (fields_of whole) (is.next ∷ is.behind) vertices
-        (is.stands ∙ sym (append_assoc is.front (entity.head ∷ []) (is.next ∷ is.behind))) proper (subst (λ (e : Entity). vertices_in bytes exact (fields_of e) ≡ Ok vertices) is.own vertices_are)
+        let front : IsFront (fields_of whole) whole.pairs =
+        front_taken (prefix_len (λ (pair : Pair). int_lt pair.code (pos 1000)) whole.pairs) whole.pairs in
+        let proper : IsProper (fields_of whole) (is.next ∷ is.behind) =
+        front_proper (fields_of whole) whole.pairs (is.next ∷ is.behind) front of.proper in
+        all_vertices read past tiles exact (is.front ++ entity.head ∷ []) (fields_of whole) (is.next ∷ is.behind)
+        vertices
+        (is.stands ∙ sym (append_assoc is.front (entity.head ∷ []) (is.next ∷ is.behind))) proper
+        (subst (λ (e : Entity). vertices_in bytes exact (fields_of e) ≡ Ok vertices) is.own vertices_are)

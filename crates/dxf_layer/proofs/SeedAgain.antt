@@ -1,5 +1,6 @@
 -- A pair that is in no entity, in front of others, for the next handle and the end of the drawing.
-use Rattle.std.proofs.Common.{◌≡◌, ℕ, ℤ, pos, Bool, true, false, cond, refl, ap, sym, ◌∙◌, subst, List, [], ◌∷◌, None, Some, codes, bytes_eq}
+use Rattle.std.proofs.Common.{◌≡◌, ℕ, ℤ, pos, Bool, true, false, cond, refl, ap, sym, ◌∙◌, subst, List, [], ◌∷◌, None}
+use Rattle.std.proofs.Common.{Some, codes, bytes_eq}
 use Rattle.std.specs.Prelude.{◌||◌, ◌&&◌}
 use Rattle.std.specs.List.{list_any}
 use Rattle.std.specs.Ordering.{int_eq}
@@ -29,35 +30,46 @@ some_seed true pair = refl
 some_seed false pair = refl
 
 -- the pair names the next handle as it did
-names_same : (read : Reading) (extra : List Edit) (pair : Pair) (place : Where) → (h : IsHarmless read extra pair) → names_next place (record { code = pair.code; value = h.value }) ≡ names_seed read.bytes place pair
+names_same : (read : Reading) (extra : List Edit) (pair : Pair) (place : Where) → (h : IsHarmless read extra pair)
+    → names_next place (record { code = pair.code; value = h.value }) ≡ names_seed read.bytes place pair
 names_same read extra pair Outside h = refl
 names_same read extra pair Begun h = refl
 names_same read extra pair Entities h = refl
 names_same read extra pair Other h = refl
 names_same read extra pair Header h = by_test (has_code (pos 5) pair) refl where
-  by_test : (five : Bool) → has_code (pos 5) pair ≡ five → is_group (pos 9) (codes "$HANDSEED") (record { code = pair.code; value = h.value }) ≡ is_pair read.bytes (pos 9) (codes "$HANDSEED") pair
+  by_test : (five : Bool) → has_code (pos 5) pair ≡ five
+      → is_group (pos 9) (codes "$HANDSEED") (record { code = pair.code; value = h.value })
+      ≡ is_pair read.bytes (pos 9) (codes "$HANDSEED") pair
   by_test true five =
       let code : pair.code ≡ pos 5 = (Decides-int_eq pair.code (pos 5)).0 five in
-      subst (λ (c : ℤ). (int_eq c (pos 9) && bytes_eq h.value (codes "$HANDSEED")) ≡ (int_eq c (pos 9) && bytes_eq (value_in read.bytes pair) (codes "$HANDSEED"))) (sym code) refl
+      subst (λ (c : ℤ). (int_eq c (pos 9) && bytes_eq h.value (codes "$HANDSEED"))
+      ≡ (int_eq c (pos 9) && bytes_eq (value_in read.bytes pair) (codes "$HANDSEED"))) (sym code) refl
   by_test false five = ap (λ (v : List ℕ). int_eq pair.code (pos 9) && bytes_eq v (codes "$HANDSEED")) (h.same five)
 
-header_stays : (bytes : List ℕ) (place : Where) (pair : Pair) → names_seed bytes place pair ≡ true → behind bytes place pair ≡ Header
+header_stays : (bytes : List ℕ) (place : Where) (pair : Pair) → names_seed bytes place pair ≡ true
+    → behind bytes place pair ≡ Header
 header_stays bytes Outside pair is = absurd (cc)
 header_stays bytes Begun pair is = absurd (cc)
 header_stays bytes Entities pair is = absurd (cc)
 header_stays bytes Other pair is = absurd (cc)
 header_stays bytes Header pair is =
-    let nine : has_code (pos 9) pair ≡ true = both_first (has_code (pos 9) pair) (bytes_eq (value_in bytes pair) (codes "$HANDSEED")) is in
+    let nine : has_code (pos 9) pair ≡ true =
+    both_first (has_code (pos 9) pair) (bytes_eq (value_in bytes pair) (codes "$HANDSEED")) is in
     let code : pair.code ≡ pos 9 = (Decides-int_eq pair.code (pos 9)).0 nine in
     let no_head : has_code (pos 0) pair ≡ false = ap (λ (c : ℤ). int_eq c (pos 0)) code in
     rw no_head refl
 
-pub kept_single : (read : Reading) (extra : List Edit) (pair : Pair) (pairs : List Pair) (place : Where) → (h : IsHarmless read extra pair) → AreInLines read.bytes (pair ∷ pairs) → (groups : List Group) → IsKept read.bytes (behind read.bytes place pair) pairs groups
+pub kept_single : (read : Reading) (extra : List Edit) (pair : Pair) (pairs : List Pair) (place : Where)
+    → (h : IsHarmless read extra pair) → AreInLines read.bytes (pair ∷ pairs) → (groups : List Group)
+    → IsKept read.bytes (behind read.bytes place pair) pairs groups
     → IsKept read.bytes place (pair ∷ pairs) (record { code = pair.code; value = h.value } ∷ groups)
 kept_single read extra pair pairs place h lines groups rest = record {
-  begins = λ is. ap (λ (good : Bool). has_code (pos 5) pair && good) h.handle ∙ some_seed (has_code (pos 5) pair && is_handle (value_in read.bytes pair)) pair;
-  seeded = ap (λ (b : Bool). cond b (begins_seeded groups) (seeded_from (behind_group place group) groups)) (names_same read extra pair place h)
-      ∙ (ap (λ (w : Where). cond (names_seed read.bytes place pair) (begins_seeded groups) (seeded_from w groups)) (harmless_behind read extra pair place h)
+  begins = λ is. ap (λ (good : Bool). has_code (pos 5) pair && good) h.handle
+      ∙ some_seed (has_code (pos 5) pair && is_handle (value_in read.bytes pair)) pair;
+  seeded = ap (λ (b : Bool). cond b (begins_seeded groups) (seeded_from (behind_group place group) groups))
+      (names_same read extra pair place h)
+      ∙ (ap (λ (w : Where). cond (names_seed read.bytes place pair) (begins_seeded groups) (seeded_from w groups))
+      (harmless_behind read extra pair place h)
       ∙ by_names (names_seed read.bytes place pair) refl);
   ending = λ some. by_more pairs lines rest.ending;
 } where
@@ -65,13 +77,16 @@ kept_single read extra pair pairs place h lines groups rest = record {
   group = record { code = pair.code; value = h.value }
 
   by_names : (names : Bool) → names_seed read.bytes place pair ≡ names
-      → cond names (begins_seeded groups) (seeded_from (behind read.bytes place pair) groups) ≡ is_seeded (cond names (as_seed read.bytes pairs) (seed_from read.bytes (behind read.bytes place pair) pairs))
+      → cond names (begins_seeded groups) (seeded_from (behind read.bytes place pair) groups)
+      ≡ is_seeded (cond names (as_seed read.bytes pairs) (seed_from read.bytes (behind read.bytes place pair) pairs))
   by_names true is = rest.begins (header_stays read.bytes place pair is)
   by_names false is = rest.seeded
 
-  by_more : (more : List Pair) → AreInLines read.bytes (pair ∷ more) → (HasSome more → list_any ends groups ≡ true) → list_any ends (group ∷ groups) ≡ true
+  by_more : (more : List Pair) → AreInLines read.bytes (pair ∷ more) → (HasSome more → list_any ends groups ≡ true)
+      → list_any ends (group ∷ groups) ≡ true
   by_more [] last later =
-      let zero : has_code (pos 0) pair ≡ true = both_first (has_code (pos 0) pair) (bytes_eq (value_in read.bytes pair) (codes "EOF")) last.last in
+      let zero : has_code (pos 0) pair ≡ true =
+      both_first (has_code (pos 0) pair) (bytes_eq (value_in read.bytes pair) (codes "EOF")) last.last in
       let code : pair.code ≡ pos 0 = (Decides-int_eq pair.code (pos 0)).0 zero in
       let no_five : has_code (pos 5) pair ≡ false = ap (λ (c : ℤ). int_eq c (pos 5)) code in
       let here : ends group ≡ true = ap (is_last pair.code) (h.same no_five) ∙ last.last in

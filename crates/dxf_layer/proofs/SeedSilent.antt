@@ -1,5 +1,6 @@
 -- The edit of the next handle has nothing to do with the entities of a drawing, and is harmless elsewhere.
-use Rattle.std.proofs.Common.{◌≡◌, ℕ, zero, suc, ◌+◌, ◌<◌, ◌^◌, pos, Bool, true, false, cond, refl, ap, sym, ◌∙◌, List, [], ◌∷◌, take, Option, None, Some, arith, inl, inr}
+use Rattle.std.proofs.Common.{◌≡◌, ℕ, zero, suc, ◌+◌, ◌<◌, ◌^◌, pos, Bool, true, false, cond, refl, ap, sym, ◌∙◌, List}
+use Rattle.std.proofs.Common.{[], ◌∷◌, take, Option, None, Some, arith, inl, inr}
 use Rattle.std.specs.Prelude.{◌&&◌}
 use Rattle.std.specs.List.{prefix_len}
 use Rattle.std.specs.Ordering.{int_eq}
@@ -12,7 +13,8 @@ use Rattle.dxf_pairs.specs.InLines.{EndsDrawing, AreInLines}
 use Rattle.dxf_layer.specs.declared.entities.Where.{Where}
 use Rattle.dxf_layer.specs.declared.entities.Where.TheVariants.{Outside}
 use Rattle.dxf_layer.specs.declared.handles.TheConstants.{MOST_DIGITS}
-use Rattle.dxf_layer.specs.Entities.{Entity, has_code, is_no_head, ends_section, behind, begins_entity, entity_of, entities_from, entities_of, entity_end}
+use Rattle.dxf_layer.specs.Entities.{Entity, has_code, is_no_head, ends_section, behind, begins_entity, entity_of}
+use Rattle.dxf_layer.specs.Entities.{entities_from, entities_of, entity_end}
 use Rattle.dxf_layer.specs.Handles.{is_handle, as_seed, names_seed, seed_from, seed_of, seed_edits}
 use Rattle.dxf_layer.specs.Shapes.{value_edit}
 use Rattle.dxf_layer.specs.Rendering.{Reading, next_behind}
@@ -34,7 +36,8 @@ last_value : (bytes : List ℕ) (pair : Pair) → EndsDrawing bytes pair → val
 last_value bytes pair last none = never_both (int_eq pair.code (pos 0)) (sym (ap (is_last pair.code) none) ∙ last.last)
 
 -- the value of each pair of a drawing begins before the pair ends
-pub pairs_some : (bytes : List ℕ) (start line past : ℕ) (pairs : List Pair) → AreTiles start line pairs past → AreInLines bytes pairs → AreSome pairs
+pub pairs_some : (bytes : List ℕ) (start line past : ℕ) (pairs : List Pair) → AreTiles start line pairs past
+    → AreInLines bytes pairs → AreSome pairs
 pairs_some bytes start line past [] tiles lines = tt
 pairs_some bytes start line past (pair ∷ []) tiles last =
     let some = some_between bytes pair (last_value bytes pair last) in
@@ -48,64 +51,114 @@ some_taken zero pairs some = tt
 some_taken (suc n) [] some = tt
 some_taken (suc n) (pair ∷ pairs) some = (some.0, some_taken n pairs some.1)
 
-silent_entity : (bytes : List ℕ) (seed : Pair) (low high : ℕ) → Lies low seed high → seed.value < seed.end → (entity : Entity) → Follow entity.head.start (entity.head ∷ entity.pairs) (entity_end entity) → AreSome (entity.head ∷ entity.pairs)
-    → IsAside seed.start seed.end bytes entity → ends_section bytes entity.head ≡ false → (pair : Pair) → IsIn pair (entity.head ∷ entity.pairs) → AreSilent pair (value_edit edits.NextHandle seed ∷ [])
+silent_entity : (bytes : List ℕ) (seed : Pair) (low high : ℕ) → Lies low seed high → seed.value < seed.end
+    → (entity : Entity) → Follow entity.head.start (entity.head ∷ entity.pairs) (entity_end entity)
+    → AreSome (entity.head ∷ entity.pairs)
+    → IsAside seed.start seed.end bytes entity → ends_section bytes entity.head ≡ false → (pair : Pair)
+    → IsIn pair (entity.head ∷ entity.pairs) → AreSilent pair (value_edit edits.NextHandle seed ∷ [])
 silent_entity bytes seed low high place later entity follow some aside goes_on pair is_in = by_side aside where
   at : Lies entity.head.start pair (entity_end entity)
   at = lies entity.head.start pair (entity.head ∷ entity.pairs) (entity_end entity) follow is_in
 
   placed : IsPlaced pair
-  placed = record { code = at.code; value = at.value; inside = at.inside; some = some_at pair (entity.head ∷ entity.pairs) some is_in }
+  placed = record {
+    code = at.code;
+    value = at.value;
+    inside = at.inside;
+    some =
+        some_at pair (entity.head ∷ entity.pairs) some is_in;
+  }
 
   by_side : IsAside seed.start seed.end bytes entity → AreSilent pair (value_edit edits.NextHandle seed ∷ [])
   by_side (inr ends) = let both : true ≡ false = sym ends ∙ goes_on in absurd (cc)
-  by_side (inl (inl before)) = (edit_behind pair (value_edit edits.NextHandle seed) placed (omega (arith, at.ends, before, place.code)), tt)
-  by_side (inl (inr behind)) = (edit_before pair (value_edit edits.NextHandle seed) placed (omega (arith, later, behind, at.begins)) (omega (arith, place.inside, behind, at.begins)), tt)
+  by_side (inl (inl before)) = (
+    edit_behind pair (value_edit edits.NextHandle seed) placed
+        (omega (arith, at.ends, before, place.code)),
+    tt,
+  )
+  by_side (inl (inr behind)) = (
+    edit_before pair (value_edit edits.NextHandle seed) placed
+        (omega (arith, later, behind, at.begins)) (omega (arith, place.inside, behind, at.begins)),
+    tt,
+  )
 
-silent_from : (bytes : List ℕ) (seed : Pair) (low high : ℕ) → Lies low seed high → seed.value < seed.end → (pairs : List Pair) (place : Where) (from past : ℕ) → Follow from pairs past → AreSome pairs → AreAside seed.start seed.end bytes (entities_from bytes place pairs)
+silent_from : (bytes : List ℕ) (seed : Pair) (low high : ℕ) → Lies low seed high → seed.value < seed.end
+    → (pairs : List Pair) (place : Where) (from past : ℕ) → Follow from pairs past → AreSome pairs
+    → AreAside seed.start seed.end bytes (entities_from bytes place pairs)
     → SilentOn bytes (value_edit edits.NextHandle seed ∷ []) (entities_from bytes place pairs)
 silent_from bytes seed low high at later [] place from past follow some aside = tt
 silent_from bytes seed low high at later (pair ∷ pairs) place from past follow some aside =
-    by_test (begins_entity place pair) aside (silent_from bytes seed low high at later pairs (behind bytes place pair) pair.end past follow.4 some.1) where
+    by_test (begins_entity place pair) aside (silent_from bytes seed low high at later pairs (behind bytes place pair)
+    pair.end past follow.4 some.1) where
       entity : Entity
       entity = entity_of pair pairs
 
       own : Follow pair.start (pair ∷ entity.pairs) (entity_end entity)
-      own = (omega arith, follow.1, follow.2, follow.3, front_follows (prefix_len is_no_head pairs) pair.end pairs past follow.4)
+      own = (
+        omega arith,
+        follow.1,
+        follow.2,
+        follow.3,
+        front_follows (prefix_len is_no_head pairs) pair.end pairs past
+            follow.4,
+      )
 
-      by_test : (begins : Bool) → AreAside seed.start seed.end bytes (cond begins (entity ∷ entities_from bytes (behind bytes place pair) pairs) (entities_from bytes (behind bytes place pair) pairs))
-          → (AreAside seed.start seed.end bytes (entities_from bytes (behind bytes place pair) pairs) → SilentOn bytes (value_edit edits.NextHandle seed ∷ []) (entities_from bytes (behind bytes place pair) pairs))
-          → SilentOn bytes (value_edit edits.NextHandle seed ∷ []) (cond begins (entity ∷ entities_from bytes (behind bytes place pair) pairs) (entities_from bytes (behind bytes place pair) pairs))
-      by_test true all rest = (silent_entity bytes seed low high at later entity own (some.0, some_taken (prefix_len is_no_head pairs) pairs some.1) all.0, rest all.1)
+      by_test : (begins : Bool) → AreAside seed.start seed.end bytes
+          (cond begins (entity ∷ entities_from bytes (behind bytes place pair) pairs)
+          (entities_from bytes (behind bytes place pair) pairs))
+          → (AreAside seed.start seed.end bytes (entities_from bytes (behind bytes place pair) pairs)
+          → SilentOn bytes (value_edit edits.NextHandle seed ∷ [])
+          (entities_from bytes (behind bytes place pair) pairs))
+          → SilentOn bytes (value_edit edits.NextHandle seed ∷ [])
+          (cond begins (entity ∷ entities_from bytes (behind bytes place pair) pairs)
+          (entities_from bytes (behind bytes place pair) pairs))
+      by_test true all rest = (
+        silent_entity bytes seed low high at later entity own
+            (some.0, some_taken (prefix_len is_no_head pairs) pairs some.1) all.0,
+        rest all.1,
+      )
       by_test false all rest = rest all
 
 nothing_silent : (bytes : List ℕ) (entities : List Entity) → SilentOn bytes [] entities
 nothing_silent bytes [] = tt
 nothing_silent bytes (entity ∷ entities) = (λ goes_on pair is_in. tt, nothing_silent bytes entities)
 
-pub seed_silent : (bytes : List ℕ) (pairs : List Pair) (past : ℕ) → Follow 0 pairs past → AreSome pairs → (seed : Option Pair) → seed_of bytes pairs ≡ seed → SilentOn bytes (seed_edits seed) (entities_of bytes pairs)
+pub seed_silent : (bytes : List ℕ) (pairs : List Pair) (past : ℕ) → Follow 0 pairs past → AreSome pairs
+    → (seed : Option Pair) → seed_of bytes pairs ≡ seed → SilentOn bytes (seed_edits seed) (entities_of bytes pairs)
 seed_silent bytes pairs past follow some None is = nothing_silent bytes (entities_of bytes pairs)
 seed_silent bytes pairs past follow some (Some seed) is =
     let is_in = seed_in bytes pairs Outside seed is in
-    silent_from bytes seed 0 past (lies 0 seed pairs past follow is_in) (some_at seed pairs some is_in) pairs Outside 0 past follow some (seed_aside bytes pairs seed Outside 0 past follow is)
+    silent_from bytes seed 0 past (lies 0 seed pairs past follow is_in) (some_at seed pairs some is_in) pairs Outside 0
+    past follow some (seed_aside bytes pairs seed Outside 0 past follow is)
 
 -- the next handle has its code
-first_five : (bytes : List ℕ) (pairs : List Pair) (seed : Pair) → as_seed bytes pairs ≡ Some seed → has_code (pos 5) seed ≡ true
+first_five : (bytes : List ℕ) (pairs : List Pair) (seed : Pair) → as_seed bytes pairs ≡ Some seed
+    → has_code (pos 5) seed ≡ true
 first_five bytes [] seed is = absurd (cc)
-first_five bytes (pair ∷ pairs) seed is = by_tests (has_code (pos 5) pair) (is_handle (value_in bytes pair)) refl is where
-  by_tests : (five good : Bool) → has_code (pos 5) pair ≡ five → cond (five && good) (Some pair) None ≡ Some seed → has_code (pos 5) seed ≡ true
-  by_tests true true five_is made = let same : seed ≡ pair = cc in ap (λ (p : Pair). has_code (pos 5) p) same ∙ five_is
-  by_tests true false five_is made = absurd (cc)
-  by_tests false good five_is made = absurd (cc)
+first_five bytes (pair ∷ pairs) seed is = by_tests (has_code (pos 5) pair) (is_handle (value_in bytes pair)) refl is
+  where
+    by_tests : (five good : Bool) → has_code (pos 5) pair ≡ five → cond (five && good) (Some pair) None ≡ Some seed
+        → has_code (pos 5) seed ≡ true
+    by_tests true true five_is made = let same : seed ≡ pair = cc in ap (λ (p : Pair). has_code (pos 5) p) same
+        ∙ five_is
+    by_tests true false five_is made = absurd (cc)
+    by_tests false good five_is made = absurd (cc)
 
-seed_five : (bytes : List ℕ) (place : Where) (pairs : List Pair) (seed : Pair) → seed_from bytes place pairs ≡ Some seed → has_code (pos 5) seed ≡ true
+seed_five : (bytes : List ℕ) (place : Where) (pairs : List Pair) (seed : Pair) → seed_from bytes place pairs ≡ Some seed
+    → has_code (pos 5) seed ≡ true
 seed_five bytes place [] seed is = absurd (cc)
-seed_five bytes place (pair ∷ pairs) seed is = by_test (names_seed bytes place pair) is (seed_five bytes (behind bytes place pair) pairs seed) where
-  by_test : (names : Bool) → cond names (as_seed bytes pairs) (seed_from bytes (behind bytes place pair) pairs) ≡ Some seed → (seed_from bytes (behind bytes place pair) pairs ≡ Some seed → has_code (pos 5) seed ≡ true) → has_code (pos 5) seed ≡ true
-  by_test true made rest = first_five bytes pairs seed made
-  by_test false made rest = rest made
+seed_five bytes place (pair ∷ pairs) seed is =
+    by_test (names_seed bytes place pair) is (seed_five bytes (behind bytes place pair) pairs seed) where
+      by_test : (names : Bool) → cond names (as_seed bytes pairs) (seed_from bytes (behind bytes place pair) pairs)
+          ≡ Some seed → (seed_from bytes (behind bytes place pair) pairs ≡ Some seed → has_code (pos 5) seed ≡ true)
+          → has_code (pos 5) seed ≡ true
+      by_test true made rest = first_five bytes pairs seed made
+      by_test false made rest = rest made
 
-pub seed_no_harm : (read : Reading) (past : ℕ) → Follow 0 read.pairs past → AreSome read.pairs → next_behind read < 16 ^ MOST_DIGITS → (seed : Option Pair) → seed_of read.bytes read.pairs ≡ seed → (pair : Pair) → IsIn pair read.pairs → IsHarmless read (seed_edits seed) pair
+pub seed_no_harm : (read : Reading) (past : ℕ) → Follow 0 read.pairs past → AreSome read.pairs
+    → next_behind read < 16 ^ MOST_DIGITS → (seed : Option Pair) → seed_of read.bytes read.pairs ≡ seed → (pair : Pair)
+    → IsIn pair read.pairs → IsHarmless read (seed_edits seed) pair
 seed_no_harm read past follow some few None is pair is_in = none_harmless read pair
 seed_no_harm read past follow some few (Some seed) is pair is_in =
-    seed_harmless read 0 past follow some seed (seed_in read.bytes read.pairs Outside seed is) (seed_five read.bytes Outside read.pairs seed is) (seed_is read.bytes Outside read.pairs seed is) few pair is_in
+    seed_harmless read 0 past follow some seed (seed_in read.bytes read.pairs Outside seed is)
+    (seed_five read.bytes Outside read.pairs seed is) (seed_is read.bytes Outside read.pairs seed is) few pair is_in

@@ -1,5 +1,6 @@
 -- What is written in the place of an entity, where the walk stands.
-use Rattle.std.proofs.Common.{◌≡◌, ℕ, ◌+◌, ◌<◌, ◌≤◌, pos, Bool, true, false, cond, refl, ap, sym, ◌∙◌, subst, List, [], ◌∷◌, ◌++◌, length, Option, Some, Ok, arith, inl, inr, codes, bytes_eq}
+use Rattle.std.proofs.Common.{◌≡◌, ℕ, ◌+◌, ◌<◌, ◌≤◌, pos, Bool, true, false, cond, refl, ap, sym, ◌∙◌, subst, List, []}
+use Rattle.std.proofs.Common.{◌∷◌, ◌++◌, length, Option, Some, Ok, arith, inl, inr, codes, bytes_eq}
 use Rattle.std.specs.Prelude.{◌⊎◌, ◌||◌}
 use Rattle.std.proofs.lemmas.List.{length-append}
 use Rattle.std.proofs.lemmas.Slice.Eq.{bytes_eq-Decides}
@@ -22,10 +23,12 @@ use Rattle.dxf_layer.specs.Walks.{Place, free, staying, reading, Step, shapes_re
 use Rattle.dxf_layer.proofs.Members.{went}
 use Rattle.dxf_layer.proofs.Telling.{next, told}
 use Rattle.dxf_layer.proofs.GroupShapes.{Outline, is_seeded}
-use Rattle.dxf_layer.proofs.GroupWalks.{Told, entity_told, has_kind, Spot, alone, kept, open_line, Turn, turn_told, free_turn}
+use Rattle.dxf_layer.proofs.GroupWalks.{Told, entity_told, has_kind, Spot, alone, kept, open_line, Turn, turn_told}
+use Rattle.dxf_layer.proofs.GroupWalks.{free_turn}
 use Rattle.dxf_layer.proofs.GroupDrawings.{in_front, walk, turn, step_told}
 use Rattle.dxf_layer.proofs.ValueTurns.{AreGoodImages}
-use Rattle.dxf_layer.proofs.StepKinds.{FreeStep, at_end, on_paper, opens, by_itself, left_out, free_step, KeptStep, kept_vertex, kept_end, as_free, kept_step, dropped}
+use Rattle.dxf_layer.proofs.StepKinds.{FreeStep, at_end, on_paper, opens, by_itself, left_out, free_step, KeptStep}
+use Rattle.dxf_layer.proofs.StepKinds.{kept_vertex, kept_end, as_free, kept_step, dropped}
 use Rattle.dxf_layer.proofs.WalkTrails.{own_edits, ReadingStep, one_vertex, the_end, reading_step}
 use Rattle.dxf_layer.proofs.Shaped.{points_past}
 use Rattle.dxf_layer.proofs.WholeTurns.{whole_of, vertex_written, dropped_written}
@@ -38,15 +41,18 @@ use Rattle.dxf_layer.proofs.EntityCases.{IsFound, IsNumbered, LightsAreWritten, 
 abbrev pub IsNear : Runs → ℕ → Spot → Place → Type 0
 IsNear images first spot free = (spot ≡ alone) ⊎ (spot ≡ kept)
 IsNear images first spot staying = spot ≡ kept
-IsNear images first spot (reading kind vertices) = spot ≡ open_line kind (images_of images first (first + length vertices))
+IsNear images first spot (reading kind vertices) =
+    spot ≡ open_line kind (images_of images first (first + length vertices))
 
-pub record StepWritten (head : Group) (how : How) (seeded : Bool) (images : Runs) (from : Spot) (first : ℕ) (place : Place) (wanted : List Outline) (groups : List Group) : Type 0 where
+pub record StepWritten (head : Group) (how : How) (seeded : Bool) (images : Runs) (from : Spot) (first : ℕ)
+    (place : Place) (wanted : List Outline) (groups : List Group) : Type 0 where
   pub to : Spot
   pub near : IsNear images first to place
   pub written : IsWritten head how seeded from to wanted groups
 
 -- a value of one kind is none of another
-pub other_value : (value : List ℕ) (f : List ℕ → Bool) (kind : List ℕ) → f value ≡ true → f kind ≡ false → bytes_eq value kind ≡ false
+pub other_value : (value : List ℕ) (f : List ℕ → Bool) (kind : List ℕ) → f value ≡ true → f kind ≡ false
+    → bytes_eq value kind ≡ false
 other_value value f kind is off = by_test (bytes_eq value kind) refl where
   by_test : (same : Bool) → bytes_eq value kind ≡ same → same ≡ false
   by_test false same = refl
@@ -57,93 +63,150 @@ other_value value f kind is off = by_test (bytes_eq value kind) refl where
 
 abbrev alone_value : List ℕ → Bool
 alone_value value =
-    bytes_eq value (codes "POINT") || bytes_eq value (codes "LINE") || bytes_eq value (codes "LWPOLYLINE") || bytes_eq value (codes "TEXT") || bytes_eq value (codes "INSERT")
+    bytes_eq value (codes "POINT") || bytes_eq value (codes "LINE") || bytes_eq value (codes "LWPOLYLINE") || bytes_eq
+    value (codes "TEXT") || bytes_eq value (codes "INSERT")
 
 abbrev polyline_value : List ℕ → Bool
 polyline_value value = bytes_eq value (codes "POLYLINE")
 
 -- behind a polyline that stays, an entity of another kind is read as any other
-kept_free : (how : How) (seeded : Bool) (entity : Told) → has_kind (codes "VERTEX") entity ≡ false → has_kind (codes "SEQEND") entity ≡ false → turn how seeded kept entity ≡ free_turn how seeded entity
+kept_free : (how : How) (seeded : Bool) (entity : Told) → has_kind (codes "VERTEX") entity ≡ false
+    → has_kind (codes "SEQEND") entity ≡ false → turn how seeded kept entity ≡ free_turn how seeded entity
 kept_free how seeded entity no_vertex no_end = rw (no_vertex, no_end) refl
 
 -- the same of the entities in place of one that is read by itself
-lifted : (head : Group) (how : How) (seeded : Bool) (images : Runs) (first : ℕ) (wanted : List Outline) (groups : List Group) → bytes_eq head.value (codes "VERTEX") ≡ false → bytes_eq head.value (codes "SEQEND") ≡ false
-    → IsWritten head how seeded alone alone wanted groups → StepWritten head how seeded images kept first free wanted groups
-lifted head how seeded images first wanted groups no_vertex no_end written = by_entities written.entities written.are written.whole written.heads written.walks where
-  nothing_out : (outs : List Outline) → Some [] ≡ next (in_front outs) (Some []) → outs ≡ []
-  nothing_out [] is = refl
-  nothing_out (o ∷ outs) is = absurd (cc)
+lifted : (head : Group) (how : How) (seeded : Bool) (images : Runs) (first : ℕ) (wanted : List Outline)
+    (groups : List Group) → bytes_eq head.value (codes "VERTEX") ≡ false → bytes_eq head.value (codes "SEQEND") ≡ false
+    → IsWritten head how seeded alone alone wanted groups
+    → StepWritten head how seeded images kept first free wanted groups
+lifted head how seeded images first wanted groups no_vertex no_end written =
+    by_entities written.entities written.are written.whole written.heads written.walks where
+      nothing_out : (outs : List Outline) → Some [] ≡ next (in_front outs) (Some []) → outs ≡ []
+      nothing_out [] is = refl
+      nothing_out (o ∷ outs) is = absurd (cc)
 
-  by_entities : (entities : List Told) → groups ≡ groups_told entities → AreWholeTold entities → AreOf head entities
-      → ((more : List Told) → walk how seeded alone (entities ++ more) ≡ next (in_front written.outs) (walk how seeded alone more)) → StepWritten head how seeded images kept first free wanted groups
-  by_entities [] are whole heads walks =
-      let none : written.outs ≡ [] = nothing_out written.outs (walks []) in
-      record {
-        to = kept;
-        near = inr refl;
-        written = record { entities = []; are = are; whole = tt; heads = tt; outs = []; walks = λ more. none_in_front (walk how seeded kept more); same = sym (ap all_ends none) ∙ written.same };
-      }
-  by_entities (entity ∷ entities) are whole heads walks =
-      let off : has_kind (codes "VERTEX") entity ≡ false = ap (λ (g : Group). bytes_eq g.value (codes "VERTEX")) heads.0 ∙ no_vertex in
-      let off_too : has_kind (codes "SEQEND") entity ≡ false = ap (λ (g : Group). bytes_eq g.value (codes "SEQEND")) heads.0 ∙ no_end in
-      record {
-        to = alone;
-        near = inl refl;
-        written = record {
-          entities = entity ∷ entities;
-          are = are;
-          whole = whole;
-          heads = heads;
-          outs = written.outs;
-          walks = λ more. ap (next (λ (t : Turn). next (in_front t.shapes) (walk how seeded t.next (entities ++ more)))) (kept_free how seeded entity off off_too) ∙ walks more;
-          same = written.same;
-        };
-      }
+      by_entities : (entities : List Told) → groups ≡ groups_told entities → AreWholeTold entities → AreOf head entities
+          → ((more : List Told) → walk how seeded alone (entities ++ more)
+          ≡ next (in_front written.outs) (walk how seeded alone more))
+          → StepWritten head how seeded images kept first free wanted groups
+      by_entities [] are whole heads walks =
+          let none : written.outs ≡ [] = nothing_out written.outs (walks []) in
+          record {
+            to = kept;
+            near = inr refl;
+            written = record {
+              entities = [];
+              are = are;
+              whole = tt;
+              heads = tt;
+              outs = [];
+              walks =
+                  λ more. none_in_front (walk how seeded kept more);
+              same = sym (ap all_ends none) ∙ written.same;
+            };
+          }
+      by_entities (entity ∷ entities) are whole heads walks =
+          let off : has_kind (codes "VERTEX") entity ≡ false =
+          ap (λ (g : Group). bytes_eq g.value (codes "VERTEX")) heads.0
+          ∙ no_vertex in
+          let off_too : has_kind (codes "SEQEND") entity ≡ false =
+          ap (λ (g : Group). bytes_eq g.value (codes "SEQEND")) heads.0 ∙ no_end in
+          record {
+            to = alone;
+            near = inl refl;
+            written = record {
+              entities = entity ∷ entities;
+              are = are;
+              whole = whole;
+              heads = heads;
+              outs = written.outs;
+              walks = λ more. ap (next (λ (t : Turn). next (in_front t.shapes)
+                  (walk how seeded t.next (entities ++ more))))
+                  (kept_free how seeded entity off off_too) ∙ walks more;
+              same = written.same;
+            };
+          }
 
-module _ (read : Reading) (how : How) (seed : Option Pair) (count : ℕ) (follow : GroupsFollow) (good : AreGoodImages read.images count) (lights : LightsAreWritten read how seed count) (entity : Entity) (path first : ℕ) (at : IsFound read entity) where
+module _ (read : Reading) (how : How) (seed : Option Pair) (count : ℕ) (follow : GroupsFollow)
+    (good : AreGoodImages read.images count) (lights : LightsAreWritten read how seed count) (entity : Entity)
+    (path first : ℕ) (at : IsFound read entity) where
   abbrev Goal : Spot → Place → Step → Type 0
   Goal from place here =
-      StepWritten (group_in read.bytes entity.head) how (is_seeded seed) read.images from (points_past first here.shapes) here.next (imaged_outlines read.images first here.shapes) (written_for read (own_edits path first place entity here) entity)
+      StepWritten (group_in read.bytes entity.head) how (is_seeded seed) read.images from
+      (points_past first here.shapes) here.next (imaged_outlines read.images first here.shapes)
+      (written_for read (own_edits path first place entity here) entity)
 
   -- an entity that stays
-  stayed : (from : Spot) (to : Spot) (place : Place) → turn how (is_seeded seed) from (entity_told read.bytes entity) ≡ Some (record { shapes = []; next = to }) → IsNear read.images first to place
-      → StepWritten (group_in read.bytes entity.head) how (is_seeded seed) read.images from first place [] (written_for read [] entity)
-  stayed from to place is near = record { to = to; near = near; written = stays_written read how (is_seeded seed) from entity (record { shapes = []; next = to }) [] at.set at.goes_on is refl }
+  stayed : (from : Spot) (to : Spot) (place : Place)
+      → turn how (is_seeded seed) from (entity_told read.bytes entity) ≡ Some (record { shapes = []; next = to })
+      → IsNear read.images first to place
+      → StepWritten (group_in read.bytes entity.head) how (is_seeded seed) read.images from first place []
+      (written_for read [] entity)
+  stayed from to place is near = record {
+    to = to;
+    near = near;
+    written =
+        stays_written read how (is_seeded seed) from entity (record { shapes = []; next = to }) [] at.set at.goes_on is
+        refl;
+  }
 
-  free_told_turn : (here : Step) → step read.bytes how seed free entity ≡ Ok here → free_turn how (is_seeded seed) (entity_told read.bytes entity) ≡ Some (turn_told here)
+  free_told_turn : (here : Step) → step read.bytes how seed free entity ≡ Ok here
+      → free_turn how (is_seeded seed) (entity_told read.bytes entity) ≡ Some (turn_told here)
   free_told_turn here is = sym (step_told read.bytes how seed free entity) ∙ ap (told turn_told) is
 
   paper_next : (polyline : Bool) → IsNear read.images first (cond polyline kept alone) (cond polyline staying free)
   paper_next true = refl
   paper_next false = inl refl
 
-  paper_spot : (polyline : Bool) → turn_told (record { shapes = []; next = cond polyline staying free }) ≡ record { shapes = []; next = cond polyline kept alone }
+  paper_spot : (polyline : Bool) → turn_told (record { shapes = []; next = cond polyline staying free })
+      ≡ record { shapes = []; next = cond polyline kept alone }
   paper_spot true = refl
   paper_spot false = refl
 
-  on_alone : (here : Step) → step read.bytes how seed free entity ≡ Ok here → here ≡ stays read.bytes entity → Goal alone free here
+  on_alone : (here : Step) → step read.bytes how seed free entity ≡ Ok here → here ≡ stays read.bytes entity
+      → Goal alone free here
   on_alone here is here_is =
       subst (Goal alone free) (sym here_is)
-      (stayed alone (cond (is_kind read.bytes (codes "POLYLINE") entity) kept alone) (cond (is_kind read.bytes (codes "POLYLINE") entity) staying free)
-      (free_told_turn here is ∙ (ap (λ (h : Step). Some (turn_told h)) here_is ∙ ap Some (paper_spot (is_kind read.bytes (codes "POLYLINE") entity)))) (paper_next (is_kind read.bytes (codes "POLYLINE") entity)))
+      (stayed alone (cond (is_kind read.bytes (codes "POLYLINE") entity) kept alone)
+      (cond (is_kind read.bytes (codes "POLYLINE") entity) staying free)
+      (free_told_turn here is ∙ (ap (λ (h : Step). Some (turn_told h)) here_is
+      ∙ ap Some (paper_spot (is_kind read.bytes (codes "POLYLINE") entity))))
+      (paper_next (is_kind read.bytes (codes "POLYLINE") entity)))
 
-  on_kept : (here : Step) → step read.bytes how seed free entity ≡ Ok here → here ≡ stays read.bytes entity → Goal kept free here
-  on_kept here is here_is = subst (Goal kept free) (sym here_is) (by_tests (is_kind read.bytes (codes "VERTEX") entity) (is_kind read.bytes (codes "SEQEND") entity) (is_kind read.bytes (codes "POLYLINE") entity) refl refl refl) where
-    by_tests : (vertex end polyline : Bool) → is_kind read.bytes (codes "VERTEX") entity ≡ vertex → is_kind read.bytes (codes "SEQEND") entity ≡ end → is_kind read.bytes (codes "POLYLINE") entity ≡ polyline
-        → StepWritten (group_in read.bytes entity.head) how (is_seeded seed) read.images kept first (cond polyline staying free) [] (written_for read [] entity)
-    by_tests true end true v e p = let off = other_value (value_in read.bytes entity.head) polyline_value (codes "VERTEX") p refl in let both : true ≡ false = sym v ∙ off in absurd (cc)
-    by_tests true end false v e p = stayed kept kept free (rw v refl) (inr refl)
-    by_tests false true true v e p = let off = other_value (value_in read.bytes entity.head) polyline_value (codes "SEQEND") p refl in let both : true ≡ false = sym e ∙ off in absurd (cc)
-    by_tests false true false v e p = stayed kept alone free (rw (v, e) refl) (inl refl)
-    by_tests false false polyline v e p =
-        stayed kept (cond polyline kept alone) (cond polyline staying free)
-        (kept_free how (is_seeded seed) (entity_told read.bytes entity) v e ∙ (free_told_turn here is ∙ (ap (λ (h : Step). Some (turn_told h)) here_is ∙ (ap (λ (b : Bool). Some (turn_told (record { shapes = []; next = cond b staying free }))) p ∙ ap Some (paper_spot polyline)))))
-        (paper_next polyline)
+  on_kept : (here : Step) → step read.bytes how seed free entity ≡ Ok here → here ≡ stays read.bytes entity
+      → Goal kept free here
+  on_kept here is here_is = subst (Goal kept free) (sym here_is)
+      (by_tests (is_kind read.bytes (codes "VERTEX") entity) (is_kind read.bytes (codes "SEQEND") entity)
+      (is_kind read.bytes (codes "POLYLINE") entity) refl refl refl) where
+        by_tests : (vertex end polyline : Bool) → is_kind read.bytes (codes "VERTEX") entity ≡ vertex
+            → is_kind read.bytes (codes "SEQEND") entity ≡ end → is_kind read.bytes (codes "POLYLINE") entity ≡ polyline
+            → StepWritten (group_in read.bytes entity.head) how (is_seeded seed) read.images kept first
+            (cond polyline staying free) [] (written_for read [] entity)
+        by_tests true end true v e p = let off = other_value (value_in read.bytes entity.head) polyline_value
+            (codes "VERTEX") p refl in let both : true ≡ false = sym v ∙ off in absurd (cc)
+        by_tests true end false v e p = stayed kept kept free (rw v refl) (inr refl)
+        by_tests false true true v e p = let off =
+            other_value (value_in read.bytes entity.head) polyline_value (codes "SEQEND") p refl in let both : true
+            ≡ false = sym e ∙ off in absurd (cc)
+        by_tests false true false v e p = stayed kept alone free (rw (v, e) refl) (inl refl)
+        by_tests false false polyline v e p =
+            stayed kept (cond polyline kept alone) (cond polyline staying free)
+            (kept_free how (is_seeded seed) (entity_told read.bytes entity) v e
+            ∙ (free_told_turn here is ∙ (ap (λ (h : Step). Some (turn_told h)) here_is
+            ∙ (ap (λ (b : Bool). Some (turn_told (record { shapes = []; next = cond b staying free }))) p
+            ∙ ap Some (paper_spot polyline)))))
+            (paper_next polyline)
 
-  opened_at : (from : Spot) (kind : PathKind) → turn how (is_seeded seed) from (entity_told read.bytes entity) ≡ Some (record { shapes = []; next = open_line kind [] }) → Goal from free (record { shapes = []; next = reading kind [] })
-  opened_at from kind is = stayed from (open_line kind []) (reading kind []) is (ap (open_line kind) (sym (no_images read.images first)))
+  opened_at : (from : Spot) (kind : PathKind)
+      → turn how (is_seeded seed) from (entity_told read.bytes entity)
+      ≡ Some (record { shapes = []; next = open_line kind [] })
+      → Goal from free (record { shapes = []; next = reading kind [] })
+  opened_at from kind is = stayed from (open_line kind []) (reading kind []) is
+      (ap (open_line kind) (sym (no_images read.images first)))
 
-  pub free_written : (spot : Spot) → IsNear read.images first spot free → (here : Step) → step read.bytes how seed free entity ≡ Ok here → IsNumbered read count path first here.shapes → Goal spot free here
+  pub free_written : (spot : Spot) → IsNear read.images first spot free → (here : Step)
+      → step read.bytes how seed free entity ≡ Ok here → IsNumbered read count path first here.shapes
+      → Goal spot free here
   free_written spot near here is numbered = by_step (free_step read.bytes how seed entity here is) where
     by_near : (P : Spot → Type 0) → P alone → P kept → (spot ≡ alone) ⊎ (spot ≡ kept) → P spot
     by_near P first_case second_case (inl same) = subst P (sym same) first_case
@@ -151,63 +214,109 @@ module _ (read : Reading) (how : How) (seed : Option Pair) (count : ℕ) (follow
 
     by_step : FreeStep read.bytes how seed entity here → Goal spot free here
     by_step (at_end last) = let both : true ≡ false = sym last.ends ∙ at.goes_on in absurd (cc)
-    by_step (on_paper on) = by_near (λ (s : Spot). Goal s free here) (on_alone here is on.here_is) (on_kept here is on.here_is) near
+    by_step (on_paper on) = by_near (λ (s : Spot). Goal s free here) (on_alone here is on.here_is)
+        (on_kept here is on.here_is) near
     by_step (opens begun) =
         let off = other_value (value_in read.bytes entity.head) polyline_value (codes "VERTEX") begun.polyline refl in
-        let off_too = other_value (value_in read.bytes entity.head) polyline_value (codes "SEQEND") begun.polyline refl in
+        let off_too = other_value (value_in read.bytes entity.head) polyline_value (codes "SEQEND") begun.polyline
+        refl in
         let turned = free_told_turn here is ∙ ap (λ (h : Step). Some (turn_told h)) begun.here_is in
         subst (Goal spot free) (sym begun.here_is)
-        (by_near (λ (s : Spot). Goal s free (record { shapes = []; next = reading begun.kind [] })) (opened_at alone begun.kind turned)
-        (opened_at kept begun.kind (kept_free how (is_seeded seed) (entity_told read.bytes entity) off off_too ∙ turned)) near)
+        (by_near (λ (s : Spot). Goal s free (record { shapes = []; next = reading begun.kind [] }))
+        (opened_at alone begun.kind turned)
+        (opened_at kept begun.kind (kept_free how (is_seeded seed) (entity_told read.bytes entity) off off_too
+        ∙ turned)) near)
     by_step (by_itself lone) =
         let off = other_value (value_in read.bytes entity.head) alone_value (codes "VERTEX") lone.read.alone refl in
         let off_too = other_value (value_in read.bytes entity.head) alone_value (codes "SEQEND") lone.read.alone refl in
         let numbered_too = subst (λ (h : Step). IsNumbered read count path first h.shapes) lone.here_is numbered in
-        let written = alone_case read how seed count follow good lights entity path first at lone.shapes lone.read numbered_too in
+        let written = alone_case read how seed count follow good lights entity path first at lone.shapes lone.read
+        numbered_too in
         subst (Goal spot free) (sym lone.here_is)
-        (by_near (λ (s : Spot). Goal s free (shapes_read lone.shapes)) (record { to = alone; near = inl refl; written = written })
-        (lifted (group_in read.bytes entity.head) how (is_seeded seed) read.images (points_past first lone.shapes) (imaged_outlines read.images first lone.shapes) _ off off_too written) near)
+        (by_near (λ (s : Spot). Goal s free (shapes_read lone.shapes))
+        (record { to = alone; near = inl refl; written = written })
+        (lifted (group_in read.bytes entity.head) how (is_seeded seed) read.images (points_past first lone.shapes)
+        (imaged_outlines read.images first lone.shapes) _ off off_too written) near)
     by_step (left_out left) =
         subst (Goal spot free) (sym left.here_is) (record {
           to = spot;
           near = near;
-          written = subst (IsWritten (group_in read.bytes entity.head) how (is_seeded seed) spot spot (imaged_outlines read.images first (dropped entity ∷ []))) (sym (whole_end read entity at.set (whole_of entity edits.Drop) refl))
-              (dropped_written read how (is_seeded seed) spot entity (imaged_outlines read.images first (dropped entity ∷ [])) at.set refl);
+          written = subst (IsWritten (group_in read.bytes entity.head) how (is_seeded seed) spot spot
+              (imaged_outlines read.images first (dropped entity ∷ [])))
+              (sym (whole_end read entity at.set (whole_of entity edits.Drop) refl))
+              (dropped_written read how (is_seeded seed) spot entity
+              (imaged_outlines read.images first (dropped entity ∷ [])) at.set refl);
         })
 
-  pub kept_written : (here : Step) → step read.bytes how seed staying entity ≡ Ok here → IsNumbered read count path first here.shapes → Goal kept staying here
+  pub kept_written : (here : Step) → step read.bytes how seed staying entity ≡ Ok here
+      → IsNumbered read count path first here.shapes → Goal kept staying here
   kept_written here is numbered = by_step (kept_step read.bytes how seed entity here is) where
     turned : turn how (is_seeded seed) kept (entity_told read.bytes entity) ≡ Some (turn_told here)
     turned = sym (step_told read.bytes how seed staying entity) ∙ ap (told turn_told) is
 
     by_step : KeptStep read.bytes how seed entity here → Goal kept staying here
-    by_step (kept_vertex vertex) = subst (Goal kept staying) (sym vertex.here_is) (stayed kept kept staying (turned ∙ ap (λ (h : Step). Some (turn_told h)) vertex.here_is) refl)
-    by_step (kept_end end) = subst (Goal kept staying) (sym end.here_is) (stayed kept alone free (turned ∙ ap (λ (h : Step). Some (turn_told h)) end.here_is) (inl refl))
+    by_step (kept_vertex vertex) = subst (Goal kept staying) (sym vertex.here_is)
+        (stayed kept kept staying (turned ∙ ap (λ (h : Step). Some (turn_told h)) vertex.here_is) refl)
+    by_step (kept_end end) = subst (Goal kept staying) (sym end.here_is)
+        (stayed kept alone free (turned ∙ ap (λ (h : Step). Some (turn_told h)) end.here_is) (inl refl))
     by_step (as_free other) = free_written kept (inr refl) here other.other numbered
 
-  pub reading_written : (kind : PathKind) (vertices : List Vertex) (here : Step) → step read.bytes how seed (reading kind vertices) entity ≡ Ok here → first + length vertices ≤ count
-      → ((more : Vertex) → here ≡ record { shapes = []; next = reading kind (vertices ++ more ∷ []) } → first + length vertices < count) → Goal (imaged_spot read.images first (reading kind vertices)) (reading kind vertices) here
-  reading_written kind vertices here is inside one_more = by_step (reading_step read.bytes how seed kind vertices entity here is) where
-    n : ℕ
-    n = first + length vertices
+  pub reading_written : (kind : PathKind) (vertices : List Vertex) (here : Step)
+      → step read.bytes how seed (reading kind vertices) entity ≡ Ok here → first + length vertices ≤ count
+      → ((more : Vertex) → here ≡ record { shapes = []; next = reading kind (vertices ++ more ∷ []) }
+      → first + length vertices < count) → Goal (imaged_spot read.images first (reading kind vertices))
+      (reading kind vertices) here
+  reading_written kind vertices here is inside one_more =
+      by_step (reading_step read.bytes how seed kind vertices entity here is) where
+        n : ℕ
+        n = first + length vertices
 
-    by_step : ReadingStep read.bytes how seed kind vertices entity here → Goal (imaged_spot read.images first (reading kind vertices)) (reading kind vertices) here
-    by_step (the_end end) =
-        subst (Goal (imaged_spot read.images first (reading kind vertices)) (reading kind vertices)) (sym end.here_is)
-        (record { to = alone; near = inl refl; written = end_written read how seed entity kind vertices count first at.set at.goes_on end.no_vertex end.is_end good inside })
-    by_step (one_vertex vertex) =
-        let own = went (λ (o : Unit {0}). and_then (λ (spot : Read_point). and_then (λ (p : Unit {0}). Ok (record { spot = spot; start = entity.head.start; past = entity_end entity })) (plain read.bytes entity)) (spot_at read.bytes how.exact (pos 10) (pos 20) entity))
-        (handle seed entity) vertex.vertex vertex.vertex_is in
-        let spot = went (λ (s : Read_point). and_then (λ (p : Unit {0}). Ok (record { spot = s; start = entity.head.start; past = entity_end entity })) (plain read.bytes entity)) (spot_at read.bytes how.exact (pos 10) (pos 20) entity) vertex.vertex own.gives in
-        let flat = went (λ (p : Unit {0}). Ok (record { spot = spot.value; start = entity.head.start; past = entity_end entity })) (plain read.bytes entity) vertex.vertex spot.gives in
-        let less = one_more vertex.vertex vertex.here_is in
-        let more : first + length (vertices ++ vertex.vertex ∷ []) ≡ n + 1 = omega (arith, length-append vertices (vertex.vertex ∷ [])) in
-        let images : images_of read.images first n ++ run_of read.images n ≡ images_of read.images first (first + length (vertices ++ vertex.vertex ∷ [])) =
-        sym (images_both read.images count first n (n + 1) good (omega arith) (omega arith) (omega arith)) ∙ ap (images_of read.images first) (sym more) in
-        subst (Goal (imaged_spot read.images first (reading kind vertices)) (reading kind vertices)) (sym vertex.here_is) (record {
-          to = open_line kind (images_of read.images first n ++ run_of read.images n);
-          near = ap (open_line kind) images;
-          written = subst (IsWritten (group_in read.bytes entity.head) how (is_seeded seed) (open_line kind (images_of read.images first n)) (open_line kind (images_of read.images first n ++ run_of read.images n)) [])
-              (sym (whole_end read entity at.set (whole_of entity (edits.Vertex n)) refl))
-              (vertex_written follow read how seed entity spot.value kind (images_of read.images first n) count n at.set at.goes_on vertex.is_vertex (record { own = own.is; spot_is = spot.is; plain_is = flat.is }) at.found good less);
-        })
+        by_step : ReadingStep read.bytes how seed kind vertices entity here
+            → Goal (imaged_spot read.images first (reading kind vertices)) (reading kind vertices) here
+        by_step (the_end end) =
+            subst (Goal (imaged_spot read.images first (reading kind vertices)) (reading kind vertices))
+            (sym end.here_is)
+            (record {
+              to = alone;
+              near = inl refl;
+              written =
+                  end_written read how seed entity kind vertices count first at.set at.goes_on end.no_vertex end.is_end
+                  good
+                  inside;
+            })
+        by_step (one_vertex vertex) =
+            let own = went (λ (o : Unit {0}). and_then
+            (λ (spot : Read_point). and_then (λ (p : Unit {0}). Ok
+            (record { spot = spot; start = entity.head.start; past = entity_end entity })) (plain read.bytes entity))
+            (spot_at read.bytes how.exact (pos 10) (pos 20) entity))
+            (handle seed entity) vertex.vertex vertex.vertex_is in
+            let spot = went (λ (s : Read_point). and_then
+            (λ (p : Unit {0}). Ok (record { spot = s; start = entity.head.start; past = entity_end entity }))
+            (plain read.bytes entity)) (spot_at read.bytes how.exact (pos 10) (pos 20) entity) vertex.vertex
+            own.gives in
+            let flat = went (λ (p : Unit {0}). Ok (record {
+              spot = spot.value;
+              start = entity.head.start;
+              past =
+                  entity_end entity;
+            })) (plain read.bytes entity) vertex.vertex spot.gives in
+            let less = one_more vertex.vertex vertex.here_is in
+            let more : first + length (vertices ++ vertex.vertex ∷ []) ≡ n + 1 =
+            omega (arith, length-append vertices (vertex.vertex ∷ [])) in
+            let images : images_of read.images first n ++ run_of read.images n
+            ≡ images_of read.images first (first + length (vertices ++ vertex.vertex ∷ [])) =
+            sym (images_both read.images count first n (n + 1) good (omega arith) (omega arith) (omega arith))
+            ∙ ap (images_of read.images first) (sym more) in
+            subst (Goal (imaged_spot read.images first (reading kind vertices)) (reading kind vertices))
+            (sym vertex.here_is) (record {
+              to = open_line kind (images_of read.images first n ++ run_of read.images n);
+              near = ap (open_line kind) images;
+              written = subst (IsWritten (group_in read.bytes entity.head) how (is_seeded seed)
+                  (open_line kind (images_of read.images first n))
+                  (open_line kind (images_of read.images first n ++ run_of read.images n)) [])
+                  (sym (whole_end read entity at.set (whole_of entity (edits.Vertex n)) refl))
+                  (vertex_written follow read how seed entity spot.value kind (images_of read.images first n) count n
+                  at.set
+                  at.goes_on vertex.is_vertex (record { own = own.is; spot_is = spot.is; plain_is = flat.is }) at.found
+                  good less);
+            })

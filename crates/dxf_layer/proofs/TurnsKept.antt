@@ -14,26 +14,33 @@ use Rattle.dxf_layer.proofs.GroupWalks.{Told, turn_of, flat_in, upright_told, ou
 use Rattle.dxf_layer.proofs.ChangedFields.{Agree, value_same}
 
 -- an entity that is read by itself, and not on paper
-pub record IsReadSo (bytes : List ℕ) (how : How) (seed : Option Pair) (entity : Entity) (shapes : List Shape) : Type 0 where
-  pub goes_on : ends_section bytes entity.head ≡ false
-  pub paper : Option Pair
-  pub paper_is : field (pos 67) entity ≡ Ok paper
-  pub off_paper : is_there_as bytes 1 paper ≡ false
-  pub polyline : is_kind bytes (codes "POLYLINE") entity ≡ false
-  pub alone : is_read_alone bytes entity ≡ true
-  pub flat : upright bytes entity ≡ Ok tt
-  pub shapes_are : shapes_of bytes how seed entity ≡ Ok shapes
+pub record IsReadSo (bytes : List ℕ) (how : How) (seed : Option Pair) (entity : Entity) (shapes : List Shape) : Type 0
+  where
+    pub goes_on : ends_section bytes entity.head ≡ false
+    pub paper : Option Pair
+    pub paper_is : field (pos 67) entity ≡ Ok paper
+    pub off_paper : is_there_as bytes 1 paper ≡ false
+    pub polyline : is_kind bytes (codes "POLYLINE") entity ≡ false
+    pub alone : is_read_alone bytes entity ≡ true
+    pub flat : upright bytes entity ≡ Ok tt
+    pub shapes_are : shapes_of bytes how seed entity ≡ Ok shapes
 
 -- where its fields agree, the new entity is read as such a one
-pub turn_kept : (bytes : List ℕ) (how : How) (seed : Option Pair) (entity : Entity) (shapes : List Shape) (groups : List Group) (new : List Outline) → IsReadSo bytes how seed entity shapes
-    → Agree (groups_in bytes entity) (fields_in groups) → outlines_in how (is_seeded seed) (record { head = group_in bytes entity.head; groups = groups }) ≡ Some new
-    → free_turn how (is_seeded seed) (record { head = group_in bytes entity.head; groups = groups }) ≡ Some (turn_of new)
+pub turn_kept : (bytes : List ℕ) (how : How) (seed : Option Pair) (entity : Entity) (shapes : List Shape)
+    (groups : List Group) (new : List Outline) → IsReadSo bytes how seed entity shapes
+    → Agree (groups_in bytes entity) (fields_in groups)
+    → outlines_in how (is_seeded seed) (record { head = group_in bytes entity.head; groups = groups }) ≡ Some new
+    → free_turn how (is_seeded seed) (record { head = group_in bytes entity.head; groups = groups })
+    ≡ Some (turn_of new)
 turn_kept bytes how seed entity shapes groups new read agree are =
     let made : Told = record { head = group_in bytes entity.head; groups = groups } in
     let paper : value_at (pos 67) (fields_in groups) ≡ Some (option_map (value_in bytes) read.paper) =
-    value_same (groups_in bytes entity) (fields_in groups) (pos 67) agree refl ∙ (sym (field_told bytes (pos 67) entity) ∙ ap (told (option_map (value_in bytes))) read.paper_is) in
-    let off : is_value 1 (option_map (value_in bytes) read.paper) ≡ false = sym (there_as_told bytes 1 read.paper) ∙ read.off_paper in
-    let flat : flat_in (fields_in groups) ≡ Some tt = agree.flat ∙ (sym (upright_told bytes entity) ∙ ap (told itself) read.flat) in
+    value_same (groups_in bytes entity) (fields_in groups) (pos 67) agree refl
+    ∙ (sym (field_told bytes (pos 67) entity) ∙ ap (told (option_map (value_in bytes))) read.paper_is) in
+    let off : is_value 1 (option_map (value_in bytes) read.paper) ≡ false = sym (there_as_told bytes 1 read.paper)
+    ∙ read.off_paper in
+    let flat : flat_in (fields_in groups) ≡ Some tt = agree.flat
+    ∙ (sym (upright_told bytes entity) ∙ ap (told itself) read.flat) in
     let goes_on = read.goes_on in
     let polyline = read.polyline in
     let alone = read.alone in

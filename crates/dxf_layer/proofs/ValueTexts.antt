@@ -1,5 +1,6 @@
 -- Texts that are written as values: numbers and handles.
-use Rattle.std.proofs.Common.{◌≡◌, ◌==◌, ℕ, zero, suc, ◌+◌, ◌-◌, ◌/◌, ◌%◌, ◌<◌, ℤ, pos, negsuc, List, [], ◌∷◌, ◌++◌, length, get_or, Bool, true, false, cond, refl, arith}
+use Rattle.std.proofs.Common.{◌≡◌, ◌==◌, ℕ, zero, suc, ◌+◌, ◌-◌, ◌/◌, ◌%◌, ◌<◌, ℤ, pos, negsuc, List, [], ◌∷◌, ◌++◌}
+use Rattle.std.proofs.Common.{length, get_or, Bool, true, false, cond, refl, arith}
 use Rattle.std.specs.Prelude.{⊤, ◌&&◌, nat_lt, decimal}
 use Rattle.std.specs.List.{list_all}
 use Rattle.std.specs.Char.{is_ascii_hexdigit}
@@ -48,18 +49,25 @@ plain_glyph upper digit = by_tests (nat_lt digit 10) upper where
   by_tests false true = omega arith
   by_tests false false = omega arith
 
-plain_onto : (k base : ℕ) (upper : Bool) (n : ℕ) (text : List ℕ) → IsPlain text → IsPlain (digits_onto k base upper n text)
+plain_onto : (k base : ℕ) (upper : Bool) (n : ℕ) (text : List ℕ) → IsPlain text
+    → IsPlain (digits_onto k base upper n text)
 plain_onto zero base upper n text plain = plain
-plain_onto (suc k) base upper n text plain = by_test (n / base == 0) (plain_onto k base upper (n / base) (digit_glyph upper (n % base) ∷ text) (plain_glyph upper (n % base), plain)) where
-  by_test : (last : Bool) → IsPlain (digits_onto k base upper (n / base) (digit_glyph upper (n % base) ∷ text)) → IsPlain (cond last (digit_glyph upper (n % base) ∷ text) (digits_onto k base upper (n / base) (digit_glyph upper (n % base) ∷ text)))
-  by_test true more = (plain_glyph upper (n % base), plain)
-  by_test false more = more
+plain_onto (suc k) base upper n text plain =
+    by_test (n / base == 0) (plain_onto k base upper (n / base) (digit_glyph upper (n % base) ∷ text)
+    (plain_glyph upper (n % base), plain)) where
+      by_test : (last : Bool) → IsPlain (digits_onto k base upper (n / base) (digit_glyph upper (n % base) ∷ text))
+          → IsPlain (cond last (digit_glyph upper (n % base) ∷ text)
+          (digits_onto k base upper (n / base) (digit_glyph upper (n % base) ∷ text)))
+      by_test true more = (plain_glyph upper (n % base), plain)
+      by_test false more = more
 
 pub plain_digits : (base : ℕ) (upper : Bool) (n : ℕ) → IsPlain (digits base upper n)
 plain_digits base upper n = unfold digits in plain_onto 64 base upper n [] tt
 
 plain_metres : (size : ℕ) → IsPlain (metres_text size)
-plain_metres size = plain_both (decimal (size / 1000)) (46 ∷ (digit_text (size / 100) ++ (digit_text (size / 10) ++ digit_text size))) (plain_digits 10 false (size / 1000))
+plain_metres size = plain_both (decimal (size / 1000))
+    (46 ∷ (digit_text (size / 100) ++ (digit_text (size / 10) ++ digit_text size)))
+    (plain_digits 10 false (size / 1000))
     (omega arith, (omega arith, (omega arith, (omega arith, tt))))
 
 pub plain_written : (mm : ℤ) → IsPlain (written mm)

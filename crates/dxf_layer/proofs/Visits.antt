@@ -1,5 +1,6 @@
 -- The entities of a drawing, read so far.
-use Rattle.std.proofs.Common.{◌≡◌, ℕ, ◌+◌, ◌*◌, ◌≤◌, ◌<◌, List, [], ◌∷◌, ◌++◌, length, drop, get_or, Bool, true, false, refl, ap, sym, ◌∙◌, subst, arith, Result, Ok, Err, Option, pos}
+use Rattle.std.proofs.Common.{◌≡◌, ℕ, ◌+◌, ◌*◌, ◌≤◌, ◌<◌, List, [], ◌∷◌, ◌++◌, length, drop, get_or, Bool, true, false}
+use Rattle.std.proofs.Common.{refl, ap, sym, ◌∙◌, subst, arith, Result, Ok, Err, Option, pos}
 use Rattle.std.specs.Prelude.{OnOk}
 use Rattle.std.proofs.lemmas.List.{append_assoc, length-drop}
 use Rattle.std.proofs.lemmas.List.Sums.{prefix_len-le-length}
@@ -20,63 +21,94 @@ use Rattle.dxf_layer.specs.Held.{HoldsAtMost, GrowsBy, GrowsAlong, Stands, GoesT
 abbrev pub behind_shapes : List Shape → Result (List Shape) LayerFault → Result (List Shape) LayerFault
 behind_shapes done rest = and_then (λ more. Ok (done ++ more)) rest
 
-pub record IsWalkedTo (bytes : List ℕ) (how : How) (seed : Option Pair) (pairs : List Pair) (section : Where) (place : Held) (number : ℕ) (before now : Contents) : Type 0 where
+pub record IsWalkedTo (bytes : List ℕ) (how : How) (seed : Option Pair) (pairs : List Pair) (section : Where)
+    (place : Held) (number : ℕ) (before now : Contents) : Type 0 where
   pub shapes : List Shape
   pub spot : Place
   pub stands : Stands place now (with_shapes before shapes) spot
-  pub whole : walked bytes how seed free (entities_of bytes pairs) ≡ behind_shapes shapes (walked bytes how seed spot (entities_from bytes section (drop number pairs)))
+  pub whole : walked bytes how seed free (entities_of bytes pairs)
+      ≡ behind_shapes shapes (walked bytes how seed spot (entities_from bytes section (drop number pairs)))
   pub room : HoldsAtMost (2 * number + room_before (drop number pairs)) now
 
 none_done : (r : Result (List Shape) LayerFault) → behind_shapes [] r ≡ r
 none_done (Ok shapes) = refl
 none_done (Err fault) = refl
 
-pub nothing_walked : (bytes : List ℕ) (how : How) (seed : Option Pair) (pairs : List Pair) (before : Contents) → HoldsAtMost 0 before → IsWalkedTo bytes how seed pairs Outside Free 0 before before
+pub nothing_walked : (bytes : List ℕ) (how : How) (seed : Option Pair) (pairs : List Pair) (before : Contents)
+    → HoldsAtMost 0 before → IsWalkedTo bytes how seed pairs Outside Free 0 before before
 nothing_walked bytes how seed pairs before room = record {
   shapes = [];
   spot = free;
   stands = record { held = refl; shows = tt };
   whole = sym (none_done (walked bytes how seed free (entities_of bytes pairs)));
-  room = record { points = omega (arith, room.points); paths = omega (arith, room.paths); inexact = omega (arith, room.inexact); dropped = omega (arith, room.dropped) };
+  room = record {
+    points = omega (arith, room.points);
+    paths = omega (arith, room.paths);
+    inexact =
+        omega (arith, room.inexact);
+    dropped = omega (arith, room.dropped);
+  };
 }
 
 -- the walk over what is left is the visit of its first pair, and the walk from there
-abbrev pub onward : List ℕ → How → Option Pair → Where → List Pair → Result Step LayerFault → Result (List Shape) LayerFault
-onward bytes how seed section pairs here = and_then (λ (step : Step). behind_shapes step.shapes (walked bytes how seed step.next (entities_from bytes section pairs))) here
+abbrev pub onward : List ℕ → How → Option Pair → Where → List Pair → Result Step LayerFault
+    → Result (List Shape) LayerFault
+onward bytes how seed section pairs here =
+    and_then (λ (step : Step). behind_shapes step.shapes
+    (walked bytes how seed step.next (entities_from bytes section pairs))) here
 
-pub visit_goes : (bytes : List ℕ) (how : How) (seed : Option Pair) (section : Where) (spot : Place) (head : Pair) (pairs : List Pair)
-    → walked bytes how seed spot (entities_from bytes section (head ∷ pairs)) ≡ onward bytes how seed (behind bytes section head) pairs (visited bytes how seed section spot (head ∷ pairs))
+pub visit_goes : (bytes : List ℕ) (how : How) (seed : Option Pair) (section : Where) (spot : Place) (head : Pair)
+    (pairs : List Pair)
+    → walked bytes how seed spot (entities_from bytes section (head ∷ pairs))
+    ≡ onward bytes how seed (behind bytes section head) pairs (visited bytes how seed section spot (head ∷ pairs))
 visit_goes bytes how seed section spot head pairs = by_test (begins_entity section head) refl where
   by_test : (begins : Bool) → begins_entity section head ≡ begins
-      → walked bytes how seed spot (entities_from bytes section (head ∷ pairs)) ≡ onward bytes how seed (behind bytes section head) pairs (visited bytes how seed section spot (head ∷ pairs))
+      → walked bytes how seed spot (entities_from bytes section (head ∷ pairs))
+      ≡ onward bytes how seed (behind bytes section head) pairs (visited bytes how seed section spot (head ∷ pairs))
   by_test true is = rw is refl
-  by_test false is = rw is (sym (none_done (walked bytes how seed spot (entities_from bytes (behind bytes section head) pairs))))
+  by_test false is = rw is (sym (none_done (walked bytes how seed spot
+      (entities_from bytes (behind bytes section head) pairs))))
 
-more_done : (done here : List Shape) (r : Result (List Shape) LayerFault) → behind_shapes done (behind_shapes here r) ≡ behind_shapes (done ++ here) r
+more_done : (done here : List Shape) (r : Result (List Shape) LayerFault)
+    → behind_shapes done (behind_shapes here r) ≡ behind_shapes (done ++ here) r
 more_done done here (Ok shapes) = ap Ok (sym (append_assoc done here shapes))
 more_done done here (Err fault) = refl
 
-with_more : (before : Contents) (done here : List Shape) → with_shapes (with_shapes before done) here ≡ with_shapes before (done ++ here)
+with_more : (before : Contents) (done here : List Shape)
+    → with_shapes (with_shapes before done) here ≡ with_shapes before (done ++ here)
 with_more before [] here = refl
 with_more before (shape ∷ done) here = with_more (with_shape before shape) done here
 
 -- one pair more is visited
-pub pair_walked : (bytes : List ℕ) (how : How) (seed : Option Pair) (pairs : List Pair) (section : Where) (place next : Held) (number : ℕ) (before now new : Contents) (head : Pair)
-    → (so_far : IsWalkedTo bytes how seed pairs section place number before now) → drop number pairs ≡ head ∷ drop (number + 1) pairs
-    → GoesTo (visited bytes how seed section so_far.spot (drop number pairs)) (with_shapes before so_far.shapes) next new → GrowsAlong (drop number pairs) now new
+pub pair_walked : (bytes : List ℕ) (how : How) (seed : Option Pair) (pairs : List Pair) (section : Where)
+    (place next : Held) (number : ℕ) (before now new : Contents) (head : Pair)
+    → (so_far : IsWalkedTo bytes how seed pairs section place number before now)
+    → drop number pairs ≡ head ∷ drop (number + 1) pairs
+    → GoesTo (visited bytes how seed section so_far.spot (drop number pairs)) (with_shapes before so_far.shapes) next
+    new → GrowsAlong (drop number pairs) now new
     → IsWalkedTo bytes how seed pairs (behind bytes section head) next (number + 1) before new
 pair_walked bytes how seed pairs section place next number before now new head so_far split goes grown =
-    by_visit (visited bytes how seed section so_far.spot (head ∷ drop (number + 1) pairs)) refl (subst (λ left. GoesTo (visited bytes how seed section so_far.spot left) (with_shapes before so_far.shapes) next new) split goes) where
-      by_visit : (here : Result Step LayerFault) → visited bytes how seed section so_far.spot (head ∷ drop (number + 1) pairs) ≡ here → GoesTo here (with_shapes before so_far.shapes) next new
+    by_visit (visited bytes how seed section so_far.spot (head ∷ drop (number + 1) pairs)) refl
+    (subst (λ left. GoesTo (visited bytes how seed section so_far.spot left) (with_shapes before so_far.shapes) next
+    new) split goes) where
+      by_visit : (here : Result Step LayerFault)
+          → visited bytes how seed section so_far.spot (head ∷ drop (number + 1) pairs) ≡ here
+          → GoesTo here (with_shapes before so_far.shapes) next new
           → IsWalkedTo bytes how seed pairs (behind bytes section head) next (number + 1) before new
       by_visit (Err fault) is there = absurd there
       by_visit (Ok here) is there =
-          let rest = walked bytes how seed here.next (entities_from bytes (behind bytes section head) (drop (number + 1) pairs)) in
-          let first : walked bytes how seed so_far.spot (entities_from bytes section (drop number pairs)) ≡ behind_shapes here.shapes rest =
-          ap (λ left. walked bytes how seed so_far.spot (entities_from bytes section left)) split ∙ (visit_goes bytes how seed section so_far.spot head (drop (number + 1) pairs)
+          let rest = walked bytes how seed here.next
+          (entities_from bytes (behind bytes section head) (drop (number + 1) pairs)) in
+          let first : walked bytes how seed so_far.spot (entities_from bytes section (drop number pairs))
+          ≡ behind_shapes here.shapes rest =
+          ap (λ left. walked bytes how seed so_far.spot (entities_from bytes section left)) split
+          ∙ (visit_goes bytes how seed section so_far.spot head (drop (number + 1) pairs)
           ∙ ap (onward bytes how seed (behind bytes section head) (drop (number + 1) pairs)) is) in
-          let size : drop 1 (drop number pairs) ≡ drop (number + 1) pairs = ap (λ (left : List Pair). drop 1 left) split in
-          let count : (2 * number + 2) + room_before (drop 1 (drop number pairs)) ≡ 2 * (number + 1) + room_before (drop (number + 1) pairs) = ap (λ left. (2 * number + 2) + room_before left) size ∙ omega arith in
+          let size : drop 1 (drop number pairs) ≡ drop (number + 1) pairs =
+          ap (λ (left : List Pair). drop 1 left) split in
+          let count : (2 * number + 2) + room_before (drop 1 (drop number pairs)) ≡ 2 * (number + 1)
+          + room_before (drop (number + 1) pairs) = ap (λ left. (2 * number + 2) + room_before left) size
+          ∙ omega arith in
           record {
             shapes = so_far.shapes ++ here.shapes;
             spot = here.next;
@@ -86,24 +118,31 @@ pair_walked bytes how seed pairs section place next number before now new head s
           }
 
 -- a fault at a pair is the fault of the walk
-pub walk_refused : (bytes : List ℕ) (how : How) (seed : Option Pair) (pairs : List Pair) (section : Where) (place : Held) (number : ℕ) (before now : Contents) (head : Pair) (fault : LayerFault)
-    → (so_far : IsWalkedTo bytes how seed pairs section place number before now) → drop number pairs ≡ head ∷ drop (number + 1) pairs
-    → visited bytes how seed section so_far.spot (drop number pairs) ≡ Err fault → walked bytes how seed free (entities_of bytes pairs) ≡ Err fault
+pub walk_refused : (bytes : List ℕ) (how : How) (seed : Option Pair) (pairs : List Pair) (section : Where)
+    (place : Held) (number : ℕ) (before now : Contents) (head : Pair) (fault : LayerFault)
+    → (so_far : IsWalkedTo bytes how seed pairs section place number before now)
+    → drop number pairs ≡ head ∷ drop (number + 1) pairs
+    → visited bytes how seed section so_far.spot (drop number pairs) ≡ Err fault
+    → walked bytes how seed free (entities_of bytes pairs) ≡ Err fault
 walk_refused bytes how seed pairs section place number before now head fault so_far split refused =
-    let here : visited bytes how seed section so_far.spot (head ∷ drop (number + 1) pairs) ≡ Err fault = ap (visited bytes how seed section so_far.spot) (sym split) ∙ refused in
+    let here : visited bytes how seed section so_far.spot (head ∷ drop (number + 1) pairs) ≡ Err fault =
+    ap (visited bytes how seed section so_far.spot) (sym split) ∙ refused in
     let left : walked bytes how seed so_far.spot (entities_from bytes section (drop number pairs)) ≡ Err fault =
-    ap (λ rest. walked bytes how seed so_far.spot (entities_from bytes section rest)) split ∙ (visit_goes bytes how seed section so_far.spot head (drop (number + 1) pairs)
+    ap (λ rest. walked bytes how seed so_far.spot (entities_from bytes section rest)) split
+    ∙ (visit_goes bytes how seed section so_far.spot head (drop (number + 1) pairs)
     ∙ ap (onward bytes how seed (behind bytes section head) (drop (number + 1) pairs)) here) in
     so_far.whole ∙ ap (behind_shapes so_far.shapes) left
 
-no_room : (section : Where) (head : Pair) (pairs : List Pair) → begins_entity section head ≡ true → room_before (head ∷ pairs) ≡ 0
+no_room : (section : Where) (head : Pair) (pairs : List Pair) → begins_entity section head ≡ true
+    → room_before (head ∷ pairs) ≡ 0
 no_room Outside head pairs begins = absurd (cc)
 no_room Begun head pairs begins = absurd (cc)
 no_room Header head pairs begins = absurd (cc)
 no_room Other head pairs begins = absurd (cc)
 no_room Entities head pairs begins = rw begins refl
 
-grows_by : (section : Where) (pairs : List Pair) (d : Pair) (size : ℕ) (before now : Contents) → 0 < length pairs → begins_entity section (get_or pairs 0 d) ≡ true → size ≡ room_before (drop 1 pairs)
+grows_by : (section : Where) (pairs : List Pair) (d : Pair) (size : ℕ) (before now : Contents) → 0 < length pairs
+    → begins_entity section (get_or pairs 0 d) ≡ true → size ≡ room_before (drop 1 pairs)
     → GrowsBy (size + 2) before now → GrowsAlong pairs before now
 grows_by section [] d size before now some begins size_is grown = absurd (omega arith)
 grows_by section (head ∷ pairs) d size before now some begins size_is grown = λ count room.
@@ -112,9 +151,12 @@ grows_by section (head ∷ pairs) d size before now some begins size_is grown = 
     let here : HoldsAtMost count before = subst (λ n. HoldsAtMost n before) (omega (arith, none)) room in
     subst (λ n. HoldsAtMost n now) at (grown count here)
 
-pub grows_along : (section : Where) (pairs : List Pair) (d : Pair) (size : ℕ) (before now : Contents) (result : Result Held LayerFault) → 0 < length pairs → begins_entity section (get_or pairs 0 d) ≡ true
-    → size ≡ room_before (drop 1 pairs) → OnOk result (GrowsBy (size + 2) before now) → OnOk result (GrowsAlong pairs before now)
-grows_along section pairs d size before now (Ok place) some begins size_is grown = grows_by section pairs d size before now some begins size_is grown
+pub grows_along : (section : Where) (pairs : List Pair) (d : Pair) (size : ℕ) (before now : Contents)
+    (result : Result Held LayerFault) → 0 < length pairs → begins_entity section (get_or pairs 0 d) ≡ true
+    → size ≡ room_before (drop 1 pairs) → OnOk result (GrowsBy (size + 2) before now)
+    → OnOk result (GrowsAlong pairs before now)
+grows_along section pairs d size before now (Ok place) some begins size_is grown =
+    grows_by section pairs d size before now some begins size_is grown
 grows_along section pairs d size before now (Err fault) some begins size_is grown = grown
 
 abbrev pub no_pair : Pair

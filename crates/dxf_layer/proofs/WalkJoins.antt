@@ -24,37 +24,54 @@ IsHeaded (group ∷ groups) = coded (pos 0) group ≡ true
 goes_on : (group : Group) → coded (pos 0) group ≡ false → ends_sections group ≡ false
 goes_on group is = rw is refl
 
-front_of : (groups rest : List Group) → HaveNoHead groups → IsHeaded rest → take_while not_head (groups ++ rest) ≡ groups
+front_of : (groups rest : List Group) → HaveNoHead groups → IsHeaded rest
+    → take_while not_head (groups ++ rest) ≡ groups
 front_of [] [] none headed = refl
 front_of [] (group ∷ rest) none headed = take_while-cons not_head group rest ∙ rw headed refl
-front_of (group ∷ groups) rest none headed = take_while-cons not_head group (groups ++ rest) ∙ (let here = none.0 in rw here (ap (λ (g : List Group). group ∷ g) (front_of groups rest none.1 headed)))
+front_of (group ∷ groups) rest none headed = take_while-cons not_head group (groups ++ rest)
+    ∙ (let here = none.0 in rw here (ap (λ (g : List Group). group ∷ g) (front_of groups rest none.1 headed)))
 
-pub past_body : (groups rest : List Group) → HaveNoHead groups → entities_told Entities (groups ++ rest) ≡ entities_told Entities rest
+pub past_body : (groups rest : List Group) → HaveNoHead groups
+    → entities_told Entities (groups ++ rest) ≡ entities_told Entities rest
 past_body [] rest none = refl
 past_body (group ∷ groups) rest none =
     let here = none.0 in
     rw here (past_body groups rest none.1)
 
 -- whole entities in front of what begins with a head
-pub entities_front : (entities : List Told) (rest : List Group) → AreWholeTold entities → IsHeaded rest → entities_told Entities (groups_told entities ++ rest) ≡ entities ++ entities_told Entities rest
+pub entities_front : (entities : List Told) (rest : List Group) → AreWholeTold entities → IsHeaded rest
+    → entities_told Entities (groups_told entities ++ rest) ≡ entities ++ entities_told Entities rest
 entities_front [] rest whole headed = refl
 entities_front (entity ∷ entities) rest whole headed =
     let head = whole.0.head in
     let on = whole.0.goes_on in
-    let join : (entity.groups ++ groups_told entities) ++ rest ≡ entity.groups ++ (groups_told entities ++ rest) = append_assoc entity.groups (groups_told entities) rest in
-    let front : take_while not_head (entity.groups ++ (groups_told entities ++ rest)) ≡ entity.groups = front_of entity.groups (groups_told entities ++ rest) whole.0.body (all_headed entities whole.1) in
-    let later : entities_told Entities (entity.groups ++ (groups_told entities ++ rest)) ≡ entities ++ entities_told Entities rest = past_body entity.groups (groups_told entities ++ rest) whole.0.body ∙ entities_front entities rest whole.1 headed in
-    rw (join, on, head, later) (ap (λ (g : List Group). (record { head = entity.head; groups = g }) ∷ (entities ++ entities_told Entities rest)) front)
+    let join : (entity.groups ++ groups_told entities) ++ rest ≡ entity.groups ++ (groups_told entities ++ rest) =
+    append_assoc entity.groups (groups_told entities) rest in
+    let front : take_while not_head (entity.groups ++ (groups_told entities ++ rest)) ≡ entity.groups =
+    front_of entity.groups (groups_told entities ++ rest) whole.0.body (all_headed entities whole.1) in
+    let later : entities_told Entities (entity.groups ++ (groups_told entities ++ rest)) ≡ entities
+    ++ entities_told Entities rest = past_body entity.groups (groups_told entities ++ rest) whole.0.body
+    ∙ entities_front entities rest whole.1 headed in
+    rw (join, on, head, later) (ap (λ (g : List Group). (record { head = entity.head; groups = g })
+    ∷ (entities ++ entities_told Entities rest)) front)
   where
     all_headed : (entities : List Told) → AreWholeTold entities → IsHeaded (groups_told entities ++ rest)
     all_headed [] all = headed
     all_headed (first ∷ entities) all = all.0.head
 
-pub headed_front : (entities : List Told) (rest : List Group) → AreWholeTold entities → IsHeaded rest → IsHeaded (groups_told entities ++ rest)
+pub headed_front : (entities : List Told) (rest : List Group) → AreWholeTold entities → IsHeaded rest
+    → IsHeaded (groups_told entities ++ rest)
 headed_front [] rest whole headed = headed
 headed_front (entity ∷ entities) rest whole headed = whole.0.head
 
-pub imaged_both : (images : Runs) (first : ℕ) (shapes more : List Shape) → imaged_outlines images first (shapes ++ more) ≡ imaged_outlines images first shapes ++ imaged_outlines images (points_past first shapes) more
+pub imaged_both : (images : Runs) (first : ℕ) (shapes more : List Shape)
+    → imaged_outlines images first (shapes ++ more) ≡ imaged_outlines images first shapes
+    ++ imaged_outlines images (points_past first shapes) more
 imaged_both images first [] more = refl
 imaged_both images first (shape ∷ shapes) more =
-    ap (λ (rest : List Outline). (record { kind = shape.kind; points = images_of images first (first + length shape.points) }) ∷ rest) (imaged_both images (first + length shape.points) shapes more)
+    ap (λ (rest : List Outline). (record {
+      kind = shape.kind;
+      points =
+          images_of images first (first + length shape.points);
+    }) ∷ rest)
+    (imaged_both images (first + length shape.points) shapes more)

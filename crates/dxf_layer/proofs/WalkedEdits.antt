@@ -1,5 +1,6 @@
 -- The edits of all entities of a drawing stand at its pairs.
-use Rattle.std.proofs.Common.{◌≡◌, ℕ, ◌+◌, pos, List, [], ◌∷◌, ◌++◌, length, Bool, true, false, cond, refl, sym, subst, inl, inr, Result, Ok, Err, Option}
+use Rattle.std.proofs.Common.{◌≡◌, ℕ, ◌+◌, pos, List, [], ◌∷◌, ◌++◌, length, Bool, true, false, cond, refl, sym, subst}
+use Rattle.std.proofs.Common.{inl, inr, Result, Ok, Err, Option}
 use Rattle.std.specs.Prelude.{◌⊎◌, ⊤, codes}
 use Rattle.sheet_base.specs.declared.edits.Edit.{Edit}
 use Rattle.sheet_base.specs.declared.edits.What.TheVariants as edits
@@ -13,7 +14,9 @@ use Rattle.dxf_layer.specs.Entities.{Entity, entity_end, is_kind, ends_section}
 use Rattle.dxf_layer.specs.Fields.{and_then, field, is_there_as}
 use Rattle.dxf_layer.specs.Shapes.{Shape}
 use Rattle.dxf_layer.specs.Polylines.{kind_of, entity_vertex, copy_edits, heavy_shape}
-use Rattle.dxf_layer.specs.Walks.{Place, free, staying, reading, Step, shapes_read, upright, other_kind, shapes_of, polyline_step, alone_step, is_read_alone, by_kind, stays, step_free, step_staying, step_reading, step, walk_end, walked}
+use Rattle.dxf_layer.specs.Walks.{Place, free, staying, reading, Step, shapes_read, upright, other_kind, shapes_of}
+use Rattle.dxf_layer.specs.Walks.{polyline_step, alone_step, is_read_alone, by_kind, stays, step_free, step_staying}
+use Rattle.dxf_layer.specs.Walks.{step_reading, step, walk_end, walked}
 use Rattle.dxf_layer.specs.Rendering.{Reading}
 use Rattle.dxf_layer.proofs.Members.{went}
 use Rattle.dxf_layer.proofs.Stepping.{copies_behind}
@@ -42,87 +45,138 @@ no_step read fault here is = absurd (cc)
 one_step : (read : Reading) (made : Step) → IsStepOn read made → StepsOn read (Ok made)
 one_step read made on here is = let same : made ≡ here = cc in subst (IsStepOn read) same on
 
-alone_on : (read : Reading) (how : How) (seed : Option Pair) (entity : Entity) → IsSource read entity → StepsOn read (alone_step read.bytes how seed entity)
+alone_on : (read : Reading) (how : How) (seed : Option Pair) (entity : Entity) → IsSource read entity
+    → StepsOn read (alone_step read.bytes how seed entity)
 alone_on read how seed entity source here is =
-    let flat = went (λ (flat : Unit {0}). and_then (λ (shapes : List Shape). Ok (shapes_read shapes)) (shapes_of read.bytes how seed entity)) (upright read.bytes entity) here is in
-    let found = went (λ (shapes : List Shape). Ok (shapes_read shapes)) (shapes_of read.bytes how seed entity) here flat.gives in
+    let flat = went (λ (flat : Unit {0}). and_then (λ (shapes : List Shape). Ok (shapes_read shapes))
+    (shapes_of read.bytes how seed entity)) (upright read.bytes entity) here is in
+    let found = went (λ (shapes : List Shape). Ok (shapes_read shapes)) (shapes_of read.bytes how seed entity) here
+    flat.gives in
     let made : shapes_read found.value ≡ here = cc in
     subst (IsStepOn read) made (shapes_stand read how seed entity source found.value found.is, tt)
 
 polyline_on : (read : Reading) (entity : Entity) → StepsOn read (polyline_step read.bytes entity)
 polyline_on read entity here is =
-    let flat = went (λ (flat : Unit {0}). and_then (λ (kind : PathKind). Ok (record { shapes = []; next = reading kind [] })) (kind_of read.bytes entity)) (upright read.bytes entity) here is in
-    let found = went (λ (kind : PathKind). Ok (record { shapes = []; next = reading kind [] })) (kind_of read.bytes entity) here flat.gives in
+    let flat = went (λ (flat : Unit {0}). and_then
+    (λ (kind : PathKind). Ok (record { shapes = []; next = reading kind [] })) (kind_of read.bytes entity))
+    (upright read.bytes entity) here is in
+    let found = went (λ (kind : PathKind). Ok (record { shapes = []; next = reading kind [] }))
+    (kind_of read.bytes entity) here flat.gives in
     let begun : Step = record { shapes = []; next = reading found.value [] } in
     let made : begun ≡ here = cc in
     subst (IsStepOn read) made (tt, (λ n. tt))
 
 other_on : (read : Reading) (how : How) (entity : Entity) → IsSource read entity → StepsOn read (other_kind how entity)
 other_on read how entity source =
-    either (StepsOn read) how.drop_other (Ok (shapes_read (left_out entity ∷ []))) (Err (faults.Entity entity.head.line))
-    (one_step read (shapes_read (left_out entity ∷ [])) (((λ path first. (source.drop, tt)), tt), tt)) (no_step read (faults.Entity entity.head.line))
+    either (StepsOn read) how.drop_other (Ok (shapes_read (left_out entity ∷ [])))
+    (Err (faults.Entity entity.head.line))
+    (one_step read (shapes_read (left_out entity ∷ [])) (((λ path first. (source.drop, tt)), tt), tt))
+    (no_step read (faults.Entity entity.head.line))
 
-kind_on : (read : Reading) (how : How) (seed : Option Pair) (entity : Entity) → IsSource read entity → StepsOn read (by_kind read.bytes how seed entity)
+kind_on : (read : Reading) (how : How) (seed : Option Pair) (entity : Entity) → IsSource read entity
+    → StepsOn read (by_kind read.bytes how seed entity)
 kind_on read how seed entity source =
-    either (StepsOn read) (is_kind read.bytes (codes "POLYLINE") entity) (polyline_step read.bytes entity) _ (polyline_on read entity)
-    (either (StepsOn read) (is_read_alone read.bytes entity) (alone_step read.bytes how seed entity) (other_kind how entity) (alone_on read how seed entity source) (other_on read how entity source))
+    either (StepsOn read) (is_kind read.bytes (codes "POLYLINE") entity) (polyline_step read.bytes entity) _
+    (polyline_on read entity)
+    (either (StepsOn read) (is_read_alone read.bytes entity) (alone_step read.bytes how seed entity)
+    (other_kind how entity) (alone_on read how seed entity source) (other_on read how entity source))
 
-paper_on : (read : Reading) (how : How) (seed : Option Pair) (entity : Entity) → IsSource read entity → (paper : Option Pair) → StepsOn read (cond (is_there_as read.bytes 1 paper) (Ok (stays read.bytes entity)) (by_kind read.bytes how seed entity))
+paper_on : (read : Reading) (how : How) (seed : Option Pair) (entity : Entity) → IsSource read entity
+    → (paper : Option Pair) → StepsOn read (cond (is_there_as read.bytes 1 paper) (Ok (stays read.bytes entity))
+    (by_kind read.bytes how seed entity))
 paper_on read how seed entity source paper =
-    either (StepsOn read) (is_there_as read.bytes 1 paper) (Ok (stays read.bytes entity)) (by_kind read.bytes how seed entity)
-    (either (λ (next : Place). StepsOn read (Ok (record { shapes = []; next = next }))) (is_kind read.bytes (codes "POLYLINE") entity) staying free
-    (one_step read (record { shapes = []; next = staying }) (tt, tt)) (one_step read (record { shapes = []; next = free }) (tt, tt)))
+    either (StepsOn read) (is_there_as read.bytes 1 paper) (Ok (stays read.bytes entity))
+    (by_kind read.bytes how seed entity)
+    (either (λ (next : Place). StepsOn read (Ok (record { shapes = []; next = next })))
+    (is_kind read.bytes (codes "POLYLINE") entity) staying free
+    (one_step read (record { shapes = []; next = staying }) (tt, tt))
+    (one_step read (record { shapes = []; next = free }) (tt, tt)))
     (kind_on read how seed entity source)
 
 -- an entity is a source, or ends a section
 abbrev pub IsSourceOrEnd : Reading → Entity → Type 0
 IsSourceOrEnd read entity = IsSource read entity ⊎ (ends_section read.bytes entity.head ≡ true)
 
-free_on : (read : Reading) (how : How) (seed : Option Pair) (entity : Entity) → IsSourceOrEnd read entity → StepsOn read (step_free read.bytes how seed entity)
+free_on : (read : Reading) (how : How) (seed : Option Pair) (entity : Entity) → IsSourceOrEnd read entity
+    → StepsOn read (step_free read.bytes how seed entity)
 free_on read how seed entity (inr ends) = rw ends (one_step read (shapes_read []) (tt, tt))
 free_on read how seed entity (inl source) =
-    either (StepsOn read) (ends_section read.bytes entity.head) (Ok (shapes_read [])) _ (one_step read (shapes_read []) (tt, tt))
+    either (StepsOn read) (ends_section read.bytes entity.head) (Ok (shapes_read [])) _
+    (one_step read (shapes_read []) (tt, tt))
     (λ here is.
-    let found = went (λ (paper : Option Pair). cond (is_there_as read.bytes 1 paper) (Ok (stays read.bytes entity)) (by_kind read.bytes how seed entity)) (field (pos 67) entity) here is in
+    let found = went (λ (paper : Option Pair). cond (is_there_as read.bytes 1 paper) (Ok (stays read.bytes entity))
+    (by_kind read.bytes how seed entity)) (field (pos 67) entity) here is in
     paper_on read how seed entity source found.value here found.gives)
 
-staying_on : (read : Reading) (how : How) (seed : Option Pair) (entity : Entity) → IsSourceOrEnd read entity → StepsOn read (step_staying read.bytes how seed entity)
+staying_on : (read : Reading) (how : How) (seed : Option Pair) (entity : Entity) → IsSourceOrEnd read entity
+    → StepsOn read (step_staying read.bytes how seed entity)
 staying_on read how seed entity source =
-    either (StepsOn read) (is_kind read.bytes (codes "VERTEX") entity) (Ok (record { shapes = []; next = staying })) _ (one_step read (record { shapes = []; next = staying }) (tt, tt))
-    (either (StepsOn read) (is_kind read.bytes (codes "SEQEND") entity) (Ok (shapes_read [])) (step_free read.bytes how seed entity) (one_step read (shapes_read []) (tt, tt)) (free_on read how seed entity source))
+    either (StepsOn read) (is_kind read.bytes (codes "VERTEX") entity) (Ok (record { shapes = []; next = staying })) _
+    (one_step read (record { shapes = []; next = staying }) (tt, tt))
+    (either (StepsOn read) (is_kind read.bytes (codes "SEQEND") entity) (Ok (shapes_read []))
+    (step_free read.bytes how seed entity) (one_step read (shapes_read []) (tt, tt))
+    (free_on read how seed entity source))
 
-vertex_source : (read : Reading) (entity : Entity) → is_kind read.bytes (codes "VERTEX") entity ≡ true → IsSourceOrEnd read entity → IsSource read entity
+vertex_source : (read : Reading) (entity : Entity) → is_kind read.bytes (codes "VERTEX") entity ≡ true
+    → IsSourceOrEnd read entity → IsSource read entity
 vertex_source read entity kind (inl source) = source
 vertex_source read entity kind (inr ends) = absurd (vertex_ends_none read.bytes entity kind ends)
 
-vertex_on : (read : Reading) (kind : PathKind) (vertices : List Vertex) (vertex : Vertex) (entity : Entity) → IsSource read entity → vertex.start ≡ entity.head.start → vertex.past ≡ entity_end entity → IsOpenOn read (reading kind vertices)
+vertex_on : (read : Reading) (kind : PathKind) (vertices : List Vertex) (vertex : Vertex) (entity : Entity)
+    → IsSource read entity → vertex.start ≡ entity.head.start → vertex.past ≡ entity_end entity
+    → IsOpenOn read (reading kind vertices)
     → IsOpenOn read (reading kind (vertices ++ vertex ∷ []))
 vertex_on read kind vertices vertex entity source starts ends opened n =
     let edit : Edit = record { start = vertex.start; end = vertex.past; what = edits.Vertex (n + length vertices) } in
-    let own : StandsOn read read.pairs (record { start = vertex.start; end = vertex.past; what = edits.Vertex (n + length vertices) }) =
-    subst (λ (s : ℕ). StandsOn read read.pairs (record { start = s; end = vertex.past; what = edits.Vertex (n + length vertices) })) (sym starts)
-    (subst (λ (e : ℕ). StandsOn read read.pairs (record { start = entity.head.start; end = e; what = edits.Vertex (n + length vertices) })) (sym ends) (source.vertex (n + length vertices))) in
-    subst (StandOn read read.pairs) (sym (copies_behind n vertices vertex)) (stand_both read read.pairs (copy_edits n vertices) (edit ∷ []) (opened n) (own, tt))
+    let own : StandsOn read read.pairs (record {
+      start = vertex.start;
+      end = vertex.past;
+      what =
+          edits.Vertex (n + length vertices);
+    }) =
+    subst (λ (s : ℕ). StandsOn read read.pairs
+    (record { start = s; end = vertex.past; what = edits.Vertex (n + length vertices) })) (sym starts)
+    (subst (λ (e : ℕ). StandsOn read read.pairs
+    (record { start = entity.head.start; end = e; what = edits.Vertex (n + length vertices) })) (sym ends)
+    (source.vertex (n + length vertices))) in
+    subst (StandOn read read.pairs) (sym (copies_behind n vertices vertex))
+    (stand_both read read.pairs (copy_edits n vertices) (edit ∷ []) (opened n) (own, tt))
 
-reading_on : (read : Reading) (how : How) (seed : Option Pair) (kind : PathKind) (vertices : List Vertex) (entity : Entity) → IsSourceOrEnd read entity → IsOpenOn read (reading kind vertices) → StepsOn read (step_reading read.bytes how seed kind vertices entity)
-reading_on read how seed kind vertices entity source opened = by_test (is_kind read.bytes (codes "VERTEX") entity) refl where
-  by_test : (is_vertex : Bool) → is_kind read.bytes (codes "VERTEX") entity ≡ is_vertex
-      → StepsOn read (cond is_vertex (and_then (λ (vertex : Vertex). Ok (record { shapes = []; next = reading kind (vertices ++ vertex ∷ []) })) (entity_vertex read.bytes how.exact seed entity))
-      (cond (is_kind read.bytes (codes "SEQEND") entity) (Ok (shapes_read (heavy_shape kind vertices ∷ []))) (Err (faults.Count entity.head.line))))
-  by_test true kind_is here is =
-      let found = went (λ (vertex : Vertex). Ok (record { shapes = []; next = reading kind (vertices ++ vertex ∷ []) })) (entity_vertex read.bytes how.exact seed entity) here is in
-      let next : Step = record { shapes = []; next = reading kind (vertices ++ found.value ∷ []) } in
-      let made : next ≡ here = cc in
-      let at = own_vertex read.bytes how.exact seed entity found.value found.is in
-      subst (IsStepOn read) made (tt, vertex_on read kind vertices found.value entity (vertex_source read entity kind_is source) at.0 at.1 opened)
-  by_test false kind_is here is =
-      either (StepsOn read) (is_kind read.bytes (codes "SEQEND") entity) (Ok (shapes_read (heavy_shape kind vertices ∷ []))) (Err (faults.Count entity.head.line))
-      (one_step read (shapes_read (heavy_shape kind vertices ∷ [])) (((λ path first. opened first), tt), tt)) (no_step read (faults.Count entity.head.line)) here is
+reading_on : (read : Reading) (how : How) (seed : Option Pair) (kind : PathKind) (vertices : List Vertex)
+    (entity : Entity) → IsSourceOrEnd read entity → IsOpenOn read (reading kind vertices)
+    → StepsOn read (step_reading read.bytes how seed kind vertices entity)
+reading_on read how seed kind vertices entity source opened =
+    by_test (is_kind read.bytes (codes "VERTEX") entity) refl where
+      by_test : (is_vertex : Bool) → is_kind read.bytes (codes "VERTEX") entity ≡ is_vertex
+          → StepsOn read (cond is_vertex (and_then
+          (λ (vertex : Vertex). Ok (record { shapes = []; next = reading kind (vertices ++ vertex ∷ []) }))
+          (entity_vertex read.bytes how.exact seed entity))
+          (cond (is_kind read.bytes (codes "SEQEND") entity) (Ok (shapes_read (heavy_shape kind vertices ∷ [])))
+          (Err (faults.Count entity.head.line))))
+      by_test true kind_is here is =
+          let found = went (λ (vertex : Vertex). Ok
+          (record { shapes = []; next = reading kind (vertices ++ vertex ∷ []) }))
+          (entity_vertex read.bytes how.exact seed entity) here is in
+          let next : Step = record { shapes = []; next = reading kind (vertices ++ found.value ∷ []) } in
+          let made : next ≡ here = cc in
+          let at = own_vertex read.bytes how.exact seed entity found.value found.is in
+          subst (IsStepOn read) made (
+            tt,
+            vertex_on read kind vertices found.value entity
+                (vertex_source read entity kind_is source) at.0 at.1 opened,
+          )
+      by_test false kind_is here is =
+          either (StepsOn read) (is_kind read.bytes (codes "SEQEND") entity)
+          (Ok (shapes_read (heavy_shape kind vertices ∷ []))) (Err (faults.Count entity.head.line))
+          (one_step read (shapes_read (heavy_shape kind vertices ∷ [])) (((λ path first. opened first), tt), tt))
+          (no_step read (faults.Count entity.head.line)) here is
 
-all_on : (read : Reading) (how : How) (seed : Option Pair) (place : Place) (entity : Entity) → IsSourceOrEnd read entity → IsOpenOn read place → StepsOn read (step read.bytes how seed place entity)
+all_on : (read : Reading) (how : How) (seed : Option Pair) (place : Place) (entity : Entity) → IsSourceOrEnd read entity
+    → IsOpenOn read place → StepsOn read (step read.bytes how seed place entity)
 all_on read how seed free entity source opened = free_on read how seed entity source
 all_on read how seed staying entity source opened = staying_on read how seed entity source
-all_on read how seed (reading kind vertices) entity source opened = reading_on read how seed kind vertices entity source opened
+all_on read how seed (reading kind vertices) entity source opened =
+    reading_on read how seed kind vertices entity source opened
 
 end_on : (read : Reading) (place : Place) (shapes : List Shape) → walk_end place ≡ Ok shapes → AreStanding read shapes
 end_on read free shapes is = let none : [] ≡ shapes = cc in subst (AreStanding read) none tt
@@ -130,11 +184,14 @@ end_on read staying shapes is = let none : [] ≡ shapes = cc in subst (AreStand
 end_on read (reading kind vertices) shapes is = absurd (cc)
 
 -- what is read of the entities
-pub walk_stands : (read : Reading) (how : How) (seed : Option Pair) (entities : List Entity) (place : Place) → AreSources read entities → IsOpenOn read place → DoStand read (walked read.bytes how seed place entities)
+pub walk_stands : (read : Reading) (how : How) (seed : Option Pair) (entities : List Entity) (place : Place)
+    → AreSources read entities → IsOpenOn read place → DoStand read (walked read.bytes how seed place entities)
 walk_stands read how seed [] place source opened shapes is = end_on read place shapes is
 walk_stands read how seed (entity ∷ entities) place source opened shapes is =
-    let first = went (λ (here : Step). and_then (λ (more : List Shape). Ok (here.shapes ++ more)) (walked read.bytes how seed here.next entities)) (step read.bytes how seed place entity) shapes is in
-    let rest = went (λ (more : List Shape). Ok (first.value.shapes ++ more)) (walked read.bytes how seed first.value.next entities) shapes first.gives in
+    let first = went (λ (here : Step). and_then (λ (more : List Shape). Ok (here.shapes ++ more))
+    (walked read.bytes how seed here.next entities)) (step read.bytes how seed place entity) shapes is in
+    let rest = went (λ (more : List Shape). Ok (first.value.shapes ++ more))
+    (walked read.bytes how seed first.value.next entities) shapes first.gives in
     let made : first.value.shapes ++ rest.value ≡ shapes = cc in
     let here = all_on read how seed place entity source.0 opened first.value first.is in
     let later = walk_stands read how seed entities first.value.next source.1 here.1 rest.value rest.is in

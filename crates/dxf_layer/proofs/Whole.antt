@@ -1,5 +1,6 @@
 -- What is read of a drawing makes a sheet whose edits are in order.
-use Rattle.std.proofs.Common.{◌≡◌, ℕ, ◌+◌, ◌≤◌, List, [], ◌∷◌, length, refl, ap, sym, ◌∙◌, subst, arith, inl, inr, Result, Ok, Err, Option, None, Some}
+use Rattle.std.proofs.Common.{◌≡◌, ℕ, ◌+◌, ◌≤◌, List, [], ◌∷◌, length, refl, ap, sym, ◌∙◌, subst, arith, inl, inr}
+use Rattle.std.proofs.Common.{Result, Ok, Err, Option, None, Some}
 use Rattle.std.specs.Prelude.{take_while}
 use Rattle.sheet_base.specs.declared.edits.Edit.{Edit}
 use Rattle.sheet_base.specs.declared.edits.What.TheVariants.{NextHandle}
@@ -24,9 +25,11 @@ use Rattle.dxf_layer.proofs.Shaped.{IsClear, AreClear, AreGood, IsTiled, whole_t
 use Rattle.dxf_layer.proofs.Sections.{AreSpread, spread, all_aside, seed_in, seed_aside}
 use Rattle.dxf_layer.proofs.Ordered.{walk_good}
 
-tiles_short : (start line : ℕ) (pairs : List Pair) (past : ℕ) → AreTiles start line pairs past → start + length pairs ≤ past
+tiles_short : (start line : ℕ) (pairs : List Pair) (past : ℕ) → AreTiles start line pairs past
+    → start + length pairs ≤ past
 tiles_short start line [] past tiles = omega (arith, tiles)
-tiles_short start line (pair ∷ pairs) past tiles = omega (arith, tiles.0, tiles.2, tiles.3, tiles.4, tiles_short pair.end (line + 2) pairs past tiles.5)
+tiles_short start line (pair ∷ pairs) past tiles =
+    omega (arith, tiles.0, tiles.2, tiles.3, tiles.4, tiles_short pair.end (line + 2) pairs past tiles.5)
 
 -- a drawing has no more pairs than bytes
 pub few_pairs : (bytes : List ℕ) (pairs : List Pair) → Tile bytes pairs → length pairs ≤ length bytes
@@ -36,31 +39,41 @@ pub pairs_follow : (bytes : List ℕ) (pairs : List Pair) → Tile bytes pairs �
 pairs_follow bytes pairs tile = later tile.0 (length bytes) 0 pairs tile.1 (tiles_follow 0 1 pairs tile.0 tile.2) where
   later : (past more from : ℕ) (pairs : List Pair) → past ≤ more → Follow from pairs past → Follow from pairs more
   later past more from [] above follow = omega (arith, follow)
-  later past more from (pair ∷ pairs) above follow = (follow.0, follow.1, follow.2, follow.3, later past more pair.end pairs above follow.4)
+  later past more from (pair ∷ pairs) above follow =
+      (follow.0, follow.1, follow.2, follow.3, later past more pair.end pairs above follow.4)
 
 -- all entities stand in order between the first byte and the last
-pub entities_spread : (bytes : List ℕ) (pairs : List Pair) (size : ℕ) → Follow 0 pairs size → AreSpread 0 (entities_of bytes pairs) size
-entities_spread bytes pairs size follow = from_start (past_pairs 0 (take_while is_no_head pairs)) (entities_of bytes pairs) (spread bytes pairs Outside 0 size follow) where
-  from_start : (from : ℕ) (entities : List Entity) → AreSpread from entities size → AreSpread 0 entities size
-  from_start from [] spread = omega arith
-  from_start from (entity ∷ entities) spread = (omega arith, spread.1, spread.2)
+pub entities_spread : (bytes : List ℕ) (pairs : List Pair) (size : ℕ) → Follow 0 pairs size
+    → AreSpread 0 (entities_of bytes pairs) size
+entities_spread bytes pairs size follow = from_start (past_pairs 0 (take_while is_no_head pairs))
+    (entities_of bytes pairs) (spread bytes pairs Outside 0 size follow) where
+      from_start : (from : ℕ) (entities : List Entity) → AreSpread from entities size → AreSpread 0 entities size
+      from_start from [] spread = omega arith
+      from_start from (entity ∷ entities) spread = (omega arith, spread.1, spread.2)
 
-off_seed : (seed : Pair) (low high : ℕ) (edits : List Edit) → Lies low seed high → AreWithin low edits high → AreClear seed.start seed.end edits → IsApartFromAll (value_edit NextHandle seed) edits
+off_seed : (seed : Pair) (low high : ℕ) (edits : List Edit) → Lies low seed high → AreWithin low edits high
+    → AreClear seed.start seed.end edits → IsApartFromAll (value_edit NextHandle seed) edits
 off_seed seed low high [] at within clear = tt
-off_seed seed low high (edit ∷ edits) at within clear = (by_side clear.0, off_seed seed low high edits at within.3 clear.1) where
-  by_side : IsClear seed.start seed.end edit.start edit.end → IsApart (value_edit NextHandle seed) edit
-  by_side (inl before) = inr (omega (arith, at.code), omega (arith, at.code, within.1))
-  by_side (inr behind) = inl (omega (arith, at.inside))
+off_seed seed low high (edit ∷ edits) at within clear =
+    (by_side clear.0, off_seed seed low high edits at within.3 clear.1) where
+      by_side : IsClear seed.start seed.end edit.start edit.end → IsApart (value_edit NextHandle seed) edit
+      by_side (inl before) = inr (omega (arith, at.code), omega (arith, at.code, within.1))
+      by_side (inr behind) = inl (omega (arith, at.inside))
 
 -- what is read of the bytes, with the edit of the next handle
 abbrev IsMade : ℕ → Contents → Type 0
 IsMade size contents = IsTiled contents × StandApart 0 contents.edits size
 
-made_without : (low high size : ℕ) (shapes : List Shape) → AreGood low high 0 shapes size → IsMade size (with_shapes (begun None) shapes)
-made_without low high size shapes good =
-    (whole_tiles (begun None) shapes refl good.whole, subst (λ edits. StandApart 0 edits size) (sym (edits_are (begun None) shapes)) (good.apart 0 0))
+made_without : (low high size : ℕ) (shapes : List Shape) → AreGood low high 0 shapes size
+    → IsMade size (with_shapes (begun None) shapes)
+made_without low high size shapes good = (
+  whole_tiles (begun None) shapes refl good.whole,
+  subst (λ edits. StandApart 0 edits size)
+      (sym (edits_are (begun None) shapes)) (good.apart 0 0),
+)
 
-made_with : (seed : Pair) (size : ℕ) (shapes : List Shape) → Lies 0 seed size → AreGood seed.start seed.end 0 shapes size → IsMade size (with_shapes (begun (Some seed)) shapes)
+made_with : (seed : Pair) (size : ℕ) (shapes : List Shape) → Lies 0 seed size
+    → AreGood seed.start seed.end 0 shapes size → IsMade size (with_shapes (begun (Some seed)) shapes)
 made_with seed size shapes at good =
     let own = good.apart 0 0 in (
       whole_tiles (begun (Some seed)) shapes refl good.whole,
@@ -70,42 +83,63 @@ made_with seed size shapes at good =
       }),
     )
 
-shapes_made : (bytes : List ℕ) (how : How) (pairs : List Pair) (size : ℕ) (shapes : List Shape) → Follow 0 pairs size → (seed : Option Pair) → seed_of bytes pairs ≡ seed
+shapes_made : (bytes : List ℕ) (how : How) (pairs : List Pair) (size : ℕ) (shapes : List Shape) → Follow 0 pairs size
+    → (seed : Option Pair) → seed_of bytes pairs ≡ seed
     → walked bytes how seed free (entities_of bytes pairs) ≡ Ok shapes → IsMade size (with_shapes (begun seed) shapes)
 shapes_made bytes how pairs size shapes follow None seed_is is =
-    made_without 0 0 size shapes (walk_good 0 0 bytes how None (entities_of bytes pairs) free 0 0 size shapes (omega arith) (entities_spread bytes pairs size follow) (all_aside bytes (entities_of bytes pairs)) is)
+    made_without 0 0 size shapes (walk_good 0 0 bytes how None (entities_of bytes pairs) free 0 0 size shapes
+    (omega arith) (entities_spread bytes pairs size follow) (all_aside bytes (entities_of bytes pairs)) is)
 shapes_made bytes how pairs size shapes follow (Some seed) seed_is is =
     made_with seed size shapes (lies 0 seed pairs size follow (seed_in bytes pairs Outside seed seed_is))
-    (walk_good seed.start seed.end bytes how (Some seed) (entities_of bytes pairs) free 0 0 size shapes (omega arith) (entities_spread bytes pairs size follow) (seed_aside bytes pairs seed Outside 0 size follow seed_is) is)
+    (walk_good seed.start seed.end bytes how (Some seed) (entities_of bytes pairs) free 0 0 size shapes (omega arith)
+    (entities_spread bytes pairs size follow) (seed_aside bytes pairs seed Outside 0 size follow seed_is) is)
 
 -- what was read makes a sheet whose edits are in order
-pub read_made : (bytes : List ℕ) (how : How) (pairs : List Pair) (now : Contents) → Tile bytes pairs → AddsAs (begun (seed_of bytes pairs)) (walked bytes how (seed_of bytes pairs) free (entities_of bytes pairs)) now
+pub read_made : (bytes : List ℕ) (how : How) (pairs : List Pair) (now : Contents) → Tile bytes pairs
+    → AddsAs (begun (seed_of bytes pairs)) (walked bytes how (seed_of bytes pairs) free (entities_of bytes pairs)) now
     → IsTiled now × AreInOrder 0 (in_order now.edits) (length bytes)
-read_made bytes how pairs now tile added = by_read (walked bytes how (seed_of bytes pairs) free (entities_of bytes pairs)) refl added where
-  by_read : (read : Result (List Shape) LayerFault) → walked bytes how (seed_of bytes pairs) free (entities_of bytes pairs) ≡ read → AddsAs (begun (seed_of bytes pairs)) read now → IsTiled now × AreInOrder 0 (in_order now.edits) (length bytes)
-  by_read (Ok shapes) is made =
-      let good = shapes_made bytes how pairs (length bytes) shapes (pairs_follow bytes pairs tile) (seed_of bytes pairs) refl is in
-      subst (λ (c : Contents). IsTiled c × AreInOrder 0 (in_order c.edits) (length bytes)) (sym made)
-      (good.0, sorted_in_order (length bytes) (with_shapes (begun (seed_of bytes pairs)) shapes).edits good.1)
-  by_read (Err fault) is made = absurd made
+read_made bytes how pairs now tile added =
+    by_read (walked bytes how (seed_of bytes pairs) free (entities_of bytes pairs)) refl added where
+      by_read : (read : Result (List Shape) LayerFault)
+          → walked bytes how (seed_of bytes pairs) free (entities_of bytes pairs) ≡ read
+          → AddsAs (begun (seed_of bytes pairs)) read now
+          → IsTiled now × AreInOrder 0 (in_order now.edits) (length bytes)
+      by_read (Ok shapes) is made =
+          let good = shapes_made bytes how pairs (length bytes) shapes (pairs_follow bytes pairs tile)
+          (seed_of bytes pairs)
+          refl is in
+          subst (λ (c : Contents). IsTiled c × AreInOrder 0 (in_order c.edits) (length bytes)) (sym made)
+          (good.0, sorted_in_order (length bytes) (with_shapes (begun (seed_of bytes pairs)) shapes).edits good.1)
+      by_read (Err fault) is made = absurd made
 
 -- the same by what the code hands on
-pub read_whole : (bytes : List ℕ) (how : How) (pairs first left : List Pair) (seed : Option Pair) (start now : Contents) → Tile bytes pairs → first ≡ pairs → left ≡ pairs → seed ≡ seed_of bytes first → start ≡ begun seed
-    → AddsAs start (walked bytes how seed free (entities_of bytes left)) now → IsTiled now × AreInOrder 0 (in_order now.edits) (length bytes)
+pub read_whole : (bytes : List ℕ) (how : How) (pairs first left : List Pair) (seed : Option Pair) (start now : Contents)
+    → Tile bytes pairs → first ≡ pairs → left ≡ pairs → seed ≡ seed_of bytes first → start ≡ begun seed
+    → AddsAs start (walked bytes how seed free (entities_of bytes left)) now
+    → IsTiled now × AreInOrder 0 (in_order now.edits) (length bytes)
 read_whole bytes how pairs first left seed start now tile first_is left_is seed_is start_is added =
     let known : seed ≡ seed_of bytes pairs = seed_is ∙ ap (seed_of bytes) first_is in
-    let one : AddsAs (begun seed) (walked bytes how seed free (entities_of bytes left)) now = subst (λ s. AddsAs s (walked bytes how seed free (entities_of bytes left)) now) start_is added in
-    let two : AddsAs (begun seed) (walked bytes how seed free (entities_of bytes pairs)) now = subst (λ ps. AddsAs (begun seed) (walked bytes how seed free (entities_of bytes ps)) now) left_is one in
-    read_made bytes how pairs now tile (subst (λ s. AddsAs (begun s) (walked bytes how s free (entities_of bytes pairs)) now) known two)
+    let one : AddsAs (begun seed) (walked bytes how seed free (entities_of bytes left)) now =
+    subst (λ s. AddsAs s (walked bytes how seed free (entities_of bytes left)) now) start_is added in
+    let two : AddsAs (begun seed) (walked bytes how seed free (entities_of bytes pairs)) now =
+    subst (λ ps. AddsAs (begun seed) (walked bytes how seed free (entities_of bytes ps)) now) left_is one in
+    read_made bytes how pairs now tile (subst
+    (λ s. AddsAs (begun s) (walked bytes how s free (entities_of bytes pairs)) now) known two)
 
 -- the edits of a drawing's sheet are in order
-pub sheet_in_order : (bytes : List ℕ) (how : How) (pairs : List Pair) (sheet : Contents) → Tile bytes pairs → drawing bytes ≡ Ok pairs → drawing_sheet how bytes ≡ Ok sheet → AreInOrder 0 sheet.edits (length bytes)
+pub sheet_in_order : (bytes : List ℕ) (how : How) (pairs : List Pair) (sheet : Contents) → Tile bytes pairs
+    → drawing bytes ≡ Ok pairs → drawing_sheet how bytes ≡ Ok sheet → AreInOrder 0 sheet.edits (length bytes)
 sheet_in_order bytes how pairs sheet tile pairs_are is =
-    by_read (walked bytes how (seed_of bytes pairs) free (entities_of bytes pairs)) refl (subst (λ read. from_pairs bytes how read ≡ Ok sheet) pairs_are is) where
-      by_read : (read : Result (List Shape) LayerFault) → walked bytes how (seed_of bytes pairs) free (entities_of bytes pairs) ≡ read
-          → and_then (λ shapes. Ok (sheet_of (seed_of bytes pairs) shapes)) read ≡ Ok sheet → AreInOrder 0 sheet.edits (length bytes)
+    by_read (walked bytes how (seed_of bytes pairs) free (entities_of bytes pairs)) refl
+    (subst (λ read. from_pairs bytes how read ≡ Ok sheet) pairs_are is) where
+      by_read : (read : Result (List Shape) LayerFault)
+          → walked bytes how (seed_of bytes pairs) free (entities_of bytes pairs) ≡ read
+          → and_then (λ shapes. Ok (sheet_of (seed_of bytes pairs) shapes)) read ≡ Ok sheet
+          → AreInOrder 0 sheet.edits (length bytes)
       by_read (Ok shapes) walk made =
-          let good = shapes_made bytes how pairs (length bytes) shapes (pairs_follow bytes pairs tile) (seed_of bytes pairs) refl walk in
+          let good = shapes_made bytes how pairs (length bytes) shapes (pairs_follow bytes pairs tile)
+          (seed_of bytes pairs) refl walk in
           let same : sheet ≡ sheet_of (seed_of bytes pairs) shapes = cc in
-          subst (λ (s : Contents). AreInOrder 0 s.edits (length bytes)) (sym same) (sorted_in_order (length bytes) (with_shapes (begun (seed_of bytes pairs)) shapes).edits good.1)
+          subst (λ (s : Contents). AreInOrder 0 s.edits (length bytes)) (sym same)
+          (sorted_in_order (length bytes) (with_shapes (begun (seed_of bytes pairs)) shapes).edits good.1)
       by_read (Err fault) walk made = absurd (cc)

@@ -1,5 +1,6 @@
 -- Lines whose groups come to an end are those of a drawing.
-use Rattle.std.proofs.Common.{◌≡◌, ◌==◌, min, codes, get_or, ℕ, ◌+◌, ℤ, Bool, true, false, cond, refl, ap, sym, subst, List, [], ◌∷◌, ◌++◌, length, Option, None, Some, Result, Ok, Err, inl, inr, nat_eq, arith}
+use Rattle.std.proofs.Common.{◌≡◌, ◌==◌, min, codes, get_or, ℕ, ◌+◌, ℤ, Bool, true, false, cond, refl, ap, sym, subst}
+use Rattle.std.proofs.Common.{List, [], ◌∷◌, ◌++◌, length, Option, None, Some, Result, Ok, Err, inl, inr, nat_eq, arith}
 use Rattle.std.specs.List.{list_any, starts_with, AllPass, slice_split, onto_first}
 use Rattle.std.proofs.lemmas.Bool.Decides.{nat_tests}
 use Rattle.std.specs.Str.Parse.{IsNumeral, digits_value}
@@ -30,10 +31,12 @@ behind_read : (pair : Pair) (rest : Result (List Pair) PairFault) → AreRead re
 behind_read pair rest read = record { pairs = pair ∷ read.pairs; is = ap (behind (pair ∷ [])) read.is }
 
 two_read : (first second : Line) (code : Option ℤ) (rest : Result (List Pair) PairFault) (groups : List Group)
-    → (list_any ends groups ≡ true → AreRead rest) → list_any ends (group_of_two code (value_of second.text) groups) ≡ true → AreRead (of_two first second code rest)
+    → (list_any ends groups ≡ true → AreRead rest)
+    → list_any ends (group_of_two code (value_of second.text) groups) ≡ true → AreRead (of_two first second code rest)
 two_read first second None rest groups more some = absurd (cc)
 two_read first second (Some code) rest groups more some = by_test (is_last code (value_of second.text)) refl some where
-  by_test : (last : Bool) → is_last code (value_of second.text) ≡ last → list_any ends (first_group (record { code = code; value = value_of second.text }) last groups) ≡ true
+  by_test : (last : Bool) → is_last code (value_of second.text) ≡ last
+      → list_any ends (first_group (record { code = code; value = value_of second.text }) last groups) ≡ true
       → AreRead (first_pair (pair_of code first second) last rest)
   by_test true is any = record { pairs = pair_of code first second ∷ []; is = refl }
   by_test false is any = behind_read (pair_of code first second) rest (more (rw is at any))
@@ -45,11 +48,14 @@ past size start text = min (start + length text + 1) size
 abbrev line : ℕ → ℕ → ℕ → List ℕ → Line
 line size start number text = record { text = text; number = number; start = start; end = past size start text }
 
-lines_read : (size start number : ℕ) (texts : List (List ℕ)) → list_any ends (groups_of_lines texts) ≡ true → AreRead (reading (placed size start number texts))
+lines_read : (size start number : ℕ) (texts : List (List ℕ)) → list_any ends (groups_of_lines texts) ≡ true
+    → AreRead (reading (placed size start number texts))
 lines_read size start number [] some = absurd (cc)
 lines_read size start number (first ∷ []) some = absurd (cc)
 lines_read size start number (first ∷ second ∷ texts) some =
-    two_read (line size start number first) (line size (past size start first) (number + 1) second) (code_of first) (reading (placed size (past size (past size start first) second) (number + 1 + 1) texts)) (groups_of_lines texts)
+    two_read (line size start number first) (line size (past size start first) (number + 1) second) (code_of first)
+    (reading (placed size (past size (past size start first) second) (number + 1 + 1) texts))
+    (groups_of_lines texts)
     (λ more. lines_read size (past size (past size start first) second) (number + 1 + 1) texts more) some
 
 first_same : (a b : ℕ) (x y : List ℕ) → a ∷ x ≡ b ∷ y → a ≡ b
@@ -66,27 +72,39 @@ no_code text code is =
           let (low, high) = digit_from_value byte numeral.1.0 in
           omega (arith, first_same 65 byte text (digits ++ behind) whole)
 
-      by_sign : (sign digits behind : List ℕ) → 65 ∷ text ≡ (sign ++ digits) ++ behind → IsNumeral 10 digits → IsSigned sign (digits_value 10 digits) code → ⊥
-      by_sign sign digits behind whole numeral (inl (inl none, is)) = by_digits digits behind (subst (λ (s : List ℕ). 65 ∷ text ≡ (s ++ digits) ++ behind) none whole) numeral
-      by_sign sign digits behind whole numeral (inl (inr plus, is)) = let w : 65 ∷ text ≡ (codes "+" ++ digits) ++ behind = subst (λ (s : List ℕ). 65 ∷ text ≡ (s ++ digits) ++ behind) plus whole in omega (arith, first_same 65 43 text (digits ++ behind) w)
-      by_sign sign digits behind whole numeral (inr (minus, is)) = let w : 65 ∷ text ≡ (codes "-" ++ digits) ++ behind = subst (λ (s : List ℕ). 65 ∷ text ≡ (s ++ digits) ++ behind) minus whole in omega (arith, first_same 65 45 text (digits ++ behind) w)
+      by_sign : (sign digits behind : List ℕ) → 65 ∷ text ≡ (sign ++ digits) ++ behind → IsNumeral 10 digits
+          → IsSigned sign (digits_value 10 digits) code → ⊥
+      by_sign sign digits behind whole numeral (inl (inl none, is)) =
+          by_digits digits behind (subst (λ (s : List ℕ). 65 ∷ text ≡ (s ++ digits) ++ behind) none whole) numeral
+      by_sign sign digits behind whole numeral (inl (inr plus, is)) =
+          let w : 65 ∷ text ≡ (codes "+" ++ digits) ++ behind =
+          subst (λ (s : List ℕ). 65 ∷ text ≡ (s ++ digits) ++ behind) plus whole in omega
+          (arith, first_same 65 43 text (digits ++ behind) w)
+      by_sign sign digits behind whole numeral (inr (minus, is)) = let w : 65 ∷ text ≡ (codes "-" ++ digits) ++ behind =
+          subst (λ (s : List ℕ). 65 ∷ text ≡ (s ++ digits) ++ behind) minus whole in omega
+          (arith, first_same 65 45 text (digits ++ behind) w)
 
-      by_parts : (before sign digits behind : List ℕ) → 65 ∷ text ≡ before ++ ((sign ++ digits) ++ behind) → AllPass is_blank before → IsNumeral 10 digits → IsSigned sign (digits_value 10 digits) code → ⊥
+      by_parts : (before sign digits behind : List ℕ) → 65 ∷ text ≡ before ++ ((sign ++ digits) ++ behind)
+          → AllPass is_blank before → IsNumeral 10 digits → IsSigned sign (digits_value 10 digits) code → ⊥
       by_parts [] sign digits behind whole blanks numeral signed = by_sign sign digits behind whole numeral signed
       by_parts (byte ∷ before) sign digits behind whole blanks numeral signed =
           let blank : is_blank byte ≡ true = blanks 0 0 (omega arith) in
-          let never : is_blank 65 ≡ true = subst (λ (b : ℕ). is_blank b ≡ true) (sym (first_same 65 byte text (before ++ ((sign ++ digits) ++ behind)) whole)) blank in
+          let never : is_blank 65 ≡ true = subst (λ (b : ℕ). is_blank b ≡ true)
+          (sym (first_same 65 byte text (before ++ ((sign ++ digits) ++ behind)) whole)) blank in
           cc
 
-no_group : (code : Option ℤ) (value : List ℕ) (groups : List Group) → ((number : ℤ) → code ≡ Some number → ⊥) → list_any ends (group_of_two code value groups) ≡ true → ⊥
+no_group : (code : Option ℤ) (value : List ℕ) (groups : List Group) → ((number : ℤ) → code ≡ Some number → ⊥)
+    → list_any ends (group_of_two code value groups) ≡ true → ⊥
 no_group None value groups never some = cc
 no_group (Some code) value groups never some = never code refl
 
 no_lines : (text : List ℕ) (texts : List (List ℕ)) → list_any ends (groups_of_lines ((65 ∷ text) ∷ texts)) ≡ true → ⊥
 no_lines text [] some = cc
-no_lines text (second ∷ texts) some = no_group (code_of (65 ∷ text)) (value_of second) (groups_of_lines texts) (no_code text) some
+no_lines text (second ∷ texts) some = no_group (code_of (65 ∷ text)) (value_of second) (groups_of_lines texts)
+    (no_code text) some
 
-first_line : (parts : List (List ℕ)) → list_any ends (groups_of_lines (without_empty_last (onto_first 65 parts))) ≡ true → ⊥
+first_line : (parts : List (List ℕ)) → list_any ends (groups_of_lines (without_empty_last (onto_first 65 parts))) ≡ true
+    → ⊥
 first_line [] some = no_lines [] [] some
 first_line (part ∷ []) some = no_lines part [] some
 first_line (part ∷ next ∷ parts) some = no_lines part (without_empty_last (next ∷ parts)) some
@@ -97,12 +115,14 @@ no_binary (byte ∷ bytes) is some = by_test (nat_eq 65 byte) refl is where
   by_test : (same : Bool) → nat_eq 65 byte ≡ same → starts_with nat_eq (byte ∷ bytes) BINARY.now ≡ true → ⊥
   by_test true same is =
       let capital : byte ≡ 65 = grind (arith, nat_tests, same) in
-      first_line (slice_split (λ b. b == LINE_FEED) bytes) (subst (λ (b : ℕ). list_any ends (groups_of (b ∷ bytes)) ≡ true) capital some)
+      first_line (slice_split (λ b. b == LINE_FEED) bytes)
+      (subst (λ (b : ℕ). list_any ends (groups_of (b ∷ bytes)) ≡ true) capital some)
   by_test false same is = let never : false ≡ true = rw same at is in cc
 
 -- a text whose groups come to an end is one of a drawing, with these groups
 pub is_drawing : (bytes : List ℕ) → list_any ends (groups_of bytes) ≡ true → AreRead (drawing bytes)
 is_drawing bytes some = by_test (starts_with nat_eq bytes BINARY.now) refl where
-  by_test : (binary : Bool) → starts_with nat_eq bytes BINARY.now ≡ binary → AreRead (cond binary (Err Binary) (reading (lines bytes)))
+  by_test : (binary : Bool) → starts_with nat_eq bytes BINARY.now ≡ binary
+      → AreRead (cond binary (Err Binary) (reading (lines bytes)))
   by_test true is = absurd (no_binary bytes is some)
   by_test false is = lines_read (length bytes) 0 1 (lines_of bytes) some

@@ -1,5 +1,6 @@
 -- The pairs of a written drawing are those of the drawing, with its edits.
-use Rattle.std.proofs.Common.{◌≡◌, ◌==◌, ℕ, ◌≤◌, pos, List, [], ◌∷◌, length, Bool, true, false, ◌&&◌, cond, refl, ap, sym, ◌∙◌, subst, Result, Ok, Err, Option, None, Some}
+use Rattle.std.proofs.Common.{◌≡◌, ◌==◌, ℕ, ◌≤◌, pos, List, [], ◌∷◌, length, Bool, true, false, ◌&&◌, cond, refl, ap}
+use Rattle.std.proofs.Common.{sym, ◌∙◌, subst, Result, Ok, Err, Option, None, Some}
 use Rattle.std.specs.Prelude.{nat_le, flat_map}
 use Rattle.std.specs.Fmt.{digits}
 use Rattle.sheet_base.specs.declared.edits.Edit.{Edit}
@@ -39,88 +40,120 @@ use Rattle.dxf_layer.proofs.ShapeEdits.{stand_both, standing_edits}
 use Rattle.dxf_layer.proofs.WalkedEdits.{walk_stands}
 
 -- the next handle begins no entity
-first_no_head : (bytes : List ℕ) (pairs : List Pair) (seed : Pair) → as_seed bytes pairs ≡ Some seed → has_code (pos 0) seed ≡ false
+first_no_head : (bytes : List ℕ) (pairs : List Pair) (seed : Pair) → as_seed bytes pairs ≡ Some seed
+    → has_code (pos 0) seed ≡ false
 first_no_head bytes [] seed is = absurd (cc)
-first_no_head bytes (pair ∷ pairs) seed is = by_tests (has_code (pos 5) pair) (is_handle (value_in bytes pair)) refl is where
-  by_tests : (five good : Bool) → has_code (pos 5) pair ≡ five → cond (five && good) (Some pair) None ≡ Some seed → has_code (pos 0) seed ≡ false
-  by_tests true true five_is made =
-      let same : pair ≡ seed = cc in
-      let code : pair.code ≡ pos 5 = coded pair (pos 5) five_is in
-      subst (λ (p : Pair). has_code (pos 0) p ≡ false) same (rw code refl)
-  by_tests true false five_is made = absurd (cc)
-  by_tests false good five_is made = absurd (cc)
+first_no_head bytes (pair ∷ pairs) seed is =
+    by_tests (has_code (pos 5) pair) (is_handle (value_in bytes pair)) refl is where
+      by_tests : (five good : Bool) → has_code (pos 5) pair ≡ five → cond (five && good) (Some pair) None ≡ Some seed
+          → has_code (pos 0) seed ≡ false
+      by_tests true true five_is made =
+          let same : pair ≡ seed = cc in
+          let code : pair.code ≡ pos 5 = coded pair (pos 5) five_is in
+          subst (λ (p : Pair). has_code (pos 0) p ≡ false) same (rw code refl)
+      by_tests true false five_is made = absurd (cc)
+      by_tests false good five_is made = absurd (cc)
 
-seed_no_head : (bytes : List ℕ) (place : Where) (pairs : List Pair) (seed : Pair) → seed_from bytes place pairs ≡ Some seed → has_code (pos 0) seed ≡ false
+seed_no_head : (bytes : List ℕ) (place : Where) (pairs : List Pair) (seed : Pair)
+    → seed_from bytes place pairs ≡ Some seed → has_code (pos 0) seed ≡ false
 seed_no_head bytes place [] seed is = absurd (cc)
-seed_no_head bytes place (pair ∷ pairs) seed is = by_test (names_seed bytes place pair) is (seed_no_head bytes (behind bytes place pair) pairs seed) where
-  by_test : (names : Bool) → cond names (as_seed bytes pairs) (seed_from bytes (behind bytes place pair) pairs) ≡ Some seed → (seed_from bytes (behind bytes place pair) pairs ≡ Some seed → has_code (pos 0) seed ≡ false) → has_code (pos 0) seed ≡ false
-  by_test true made rest = first_no_head bytes pairs seed made
-  by_test false made rest = rest made
+seed_no_head bytes place (pair ∷ pairs) seed is =
+    by_test (names_seed bytes place pair) is (seed_no_head bytes (behind bytes place pair) pairs seed) where
+      by_test : (names : Bool) → cond names (as_seed bytes pairs) (seed_from bytes (behind bytes place pair) pairs)
+          ≡ Some seed → (seed_from bytes (behind bytes place pair) pairs ≡ Some seed → has_code (pos 0) seed ≡ false)
+          → has_code (pos 0) seed ≡ false
+      by_test true made rest = first_no_head bytes pairs seed made
+      by_test false made rest = rest made
 
 some_handle : (text : List ℕ) → is_handle text ≡ true → text ≡ [] → ⊥
 some_handle text is none = let no : is_handle text ≡ false = rw none refl in cc
 
-seed_value : (read : Reading) (seed : Pair) → is_handle (value_in read.bytes seed) ≡ true → IsValue (seed_text read (value_edit NextHandle seed))
+seed_value : (read : Reading) (seed : Pair) → is_handle (value_in read.bytes seed) ≡ true
+    → IsValue (seed_text read (value_edit NextHandle seed))
 seed_value read seed is = by_test (next_behind read == first_handle read) where
   by_test : (same : Bool) → IsValue (cond same (value_in read.bytes seed) (digits 16 true (next_behind read)))
   by_test true = plain_value _ (plain_hexes (value_in read.bytes seed) (handle_digits (value_in read.bytes seed) is))
   by_test false = plain_value _ (plain_digits 16 true (next_behind read))
 
-seed_stands : (read : Reading) (seed : Option Pair) → seed_of read.bytes read.pairs ≡ seed → StandOn read read.pairs (seed_edits seed)
+seed_stands : (read : Reading) (seed : Option Pair) → seed_of read.bytes read.pairs ≡ seed
+    → StandOn read read.pairs (seed_edits seed)
 seed_stands read None is = tt
 seed_stands read (Some seed) is =
     let handle : is_handle (value_in read.bytes seed) ≡ true = seed_is read.bytes Outside read.pairs seed is in (
-      value_stands read read.pairs seed (value_edit NextHandle seed) (seed_in read.bytes read.pairs Outside seed is) (record {
-        start = refl;
-        end = refl;
-        some = some_between read.bytes seed (some_handle (value_in read.bytes seed) handle);
-        no_head = seed_no_head read.bytes Outside read.pairs seed is;
-        text = seed_value read seed handle;
-      }),
+      value_stands read read.pairs seed (value_edit NextHandle seed) (seed_in read.bytes read.pairs Outside seed is)
+          (record {
+            start = refl;
+            end = refl;
+            some = some_between read.bytes seed (some_handle (value_in read.bytes seed) handle);
+            no_head = seed_no_head read.bytes Outside read.pairs seed is;
+            text = seed_value read seed handle;
+          }),
       tt,
     )
 
 -- edits in another order
-among_stand : (read : Reading) (pairs : List Pair) (edit : Edit) (others : List Edit) → StandsOn read pairs edit → StandOn read pairs others → StandOn read pairs (edit_among edit others)
+among_stand : (read : Reading) (pairs : List Pair) (edit : Edit) (others : List Edit) → StandsOn read pairs edit
+    → StandOn read pairs others → StandOn read pairs (edit_among edit others)
 among_stand read pairs edit [] on all = (on, tt)
-among_stand read pairs edit (other ∷ others) on all = by_test (nat_le edit.start other.start) (among_stand read pairs edit others on all.1) where
-  by_test : (before : Bool) → StandOn read pairs (edit_among edit others) → StandOn read pairs (cond before (edit ∷ other ∷ others) (other ∷ edit_among edit others))
-  by_test true rest = (on, all)
-  by_test false rest = (all.0, rest)
+among_stand read pairs edit (other ∷ others) on all =
+    by_test (nat_le edit.start other.start) (among_stand read pairs edit others on all.1) where
+      by_test : (before : Bool) → StandOn read pairs (edit_among edit others)
+          → StandOn read pairs (cond before (edit ∷ other ∷ others) (other ∷ edit_among edit others))
+      by_test true rest = (on, all)
+      by_test false rest = (all.0, rest)
 
-order_stand : (read : Reading) (pairs : List Pair) (edits : List Edit) → StandOn read pairs edits → StandOn read pairs (in_order edits)
+order_stand : (read : Reading) (pairs : List Pair) (edits : List Edit) → StandOn read pairs edits
+    → StandOn read pairs (in_order edits)
 order_stand read pairs [] all = tt
-order_stand read pairs (edit ∷ edits) all = among_stand read pairs edit (in_order edits) all.0 (order_stand read pairs edits all.1)
+order_stand read pairs (edit ∷ edits) all =
+    among_stand read pairs edit (in_order edits) all.0 (order_stand read pairs edits all.1)
 
 -- the edits of a drawing's sheet stand at its pairs
-pub edits_stand : GroupsFollow → (how : How) (read : Reading) (past : ℕ) → AreTiles 0 1 read.pairs past → AreInLines read.bytes read.pairs → drawing read.bytes ≡ Ok read.pairs → (sheet : Contents) → drawing_sheet how read.bytes ≡ Ok sheet
+pub edits_stand : GroupsFollow → (how : How) (read : Reading) (past : ℕ) → AreTiles 0 1 read.pairs past
+    → AreInLines read.bytes read.pairs → drawing read.bytes ≡ Ok read.pairs → (sheet : Contents)
+    → drawing_sheet how read.bytes ≡ Ok sheet
     → StandOn read read.pairs sheet.edits
 edits_stand follow how read past tiles lines pairs_are sheet is =
-    by_read (walked read.bytes how seed free (entities_of read.bytes read.pairs)) refl (subst (λ (r : Result (List Pair) PairFault). from_pairs read.bytes how r ≡ Ok sheet) pairs_are is) where
+    by_read (walked read.bytes how seed free (entities_of read.bytes read.pairs)) refl
+    (subst (λ (r : Result (List Pair) PairFault). from_pairs read.bytes how r ≡ Ok sheet) pairs_are is) where
       seed : Option Pair
       seed = seed_of read.bytes read.pairs
 
-      by_read : (result : Result (List Shape) LayerFault) → walked read.bytes how seed free (entities_of read.bytes read.pairs) ≡ result → and_then (λ shapes. Ok (sheet_of seed shapes)) result ≡ Ok sheet → StandOn read read.pairs sheet.edits
+      by_read : (result : Result (List Shape) LayerFault)
+          → walked read.bytes how seed free (entities_of read.bytes read.pairs) ≡ result
+          → and_then (λ shapes. Ok (sheet_of seed shapes)) result ≡ Ok sheet → StandOn read read.pairs sheet.edits
       by_read (Ok shapes) walk made =
           let same : sheet_of seed shapes ≡ sheet = cc in
-          let standing = walk_stands read how seed (entities_of read.bytes read.pairs) free (sources follow read past tiles lines [] read.pairs Outside refl) tt shapes walk in
+          let standing = walk_stands read how seed (entities_of read.bytes read.pairs) free
+          (sources follow read past tiles lines [] read.pairs Outside refl) tt shapes walk in
           let all : StandOn read read.pairs (with_shapes (begun seed) shapes).edits =
-          subst (StandOn read read.pairs) (sym (edits_are (begun seed) shapes)) (stand_both read read.pairs (seed_edits seed) (edits_with 0 0 shapes) (seed_stands read seed refl) (standing_edits read shapes standing 0 0)) in
-          subst (λ (s : Contents). StandOn read read.pairs s.edits) same (order_stand read read.pairs (with_shapes (begun seed) shapes).edits all)
+          subst (StandOn read read.pairs) (sym (edits_are (begun seed) shapes))
+          (stand_both read read.pairs (seed_edits seed) (edits_with 0 0 shapes) (seed_stands read seed refl)
+          (standing_edits read shapes standing 0 0)) in
+          subst (λ (s : Contents). StandOn read read.pairs s.edits) same
+          (order_stand read read.pairs (with_shapes (begun seed) shapes).edits all)
       by_read (Err fault) walk made = absurd (cc)
 
-from_first : GroupsFollow → (read : Reading) (past size : ℕ) (pairs : List Pair) → AreInLines read.bytes pairs → AreTiles 0 1 pairs past → past ≤ size → AreInOrder 0 read.sheet.edits size → StandOn read pairs read.sheet.edits
-    → groups_of (spliced_from read.bytes (text_of read) 0 read.sheet.edits) ≡ flat_map (groups_in read read.sheet.edits) pairs
+from_first : GroupsFollow → (read : Reading) (past size : ℕ) (pairs : List Pair) → AreInLines read.bytes pairs
+    → AreTiles 0 1 pairs past → past ≤ size → AreInOrder 0 read.sheet.edits size → StandOn read pairs read.sheet.edits
+    → groups_of (spliced_from read.bytes (text_of read) 0 read.sheet.edits)
+    ≡ flat_map (groups_in read read.sheet.edits) pairs
 from_first follow read past size [] lines tiles inside order stand = absurd lines
 from_first follow read past size (pair ∷ pairs) lines tiles inside order stand =
-    let moved : AreTiles pair.start 1 (pair ∷ pairs) past = subst (λ (n : ℕ). AreTiles n 1 (pair ∷ pairs) past) (sym tiles.0) tiles in
-    let ordered : AreInOrder pair.start read.sheet.edits size = subst (λ (n : ℕ). AreInOrder n read.sheet.edits size) (sym tiles.0) order in
-    ap (λ (n : ℕ). groups_of (spliced_from read.bytes (text_of read) n read.sheet.edits)) (sym tiles.0) ∙ spliced_groups follow read 1 past size pair pairs read.sheet.edits lines moved inside ordered stand
+    let moved : AreTiles pair.start 1 (pair ∷ pairs) past =
+    subst (λ (n : ℕ). AreTiles n 1 (pair ∷ pairs) past) (sym tiles.0) tiles in
+    let ordered : AreInOrder pair.start read.sheet.edits size =
+    subst (λ (n : ℕ). AreInOrder n read.sheet.edits size) (sym tiles.0) order in
+    ap (λ (n : ℕ). groups_of (spliced_from read.bytes (text_of read) n read.sheet.edits)) (sym tiles.0)
+    ∙ spliced_groups follow read 1 past size pair pairs read.sheet.edits lines moved inside ordered stand
 
 pub written : PairsTile → PairsAreInLines → GroupsFollow → GroupsAreWritten
 written tile in_lines follow how bytes pairs sheet images pairs_are sheet_is fit =
     let read : Reading = record { bytes = bytes; pairs = pairs; sheet = sheet; images = images } in
     let (past, inside, tiles) = tile bytes pairs pairs_are in
     let lines = in_lines bytes pairs pairs_are in
-    ap (λ (r : Result (List Pair) PairFault). groups_of (spliced bytes (λ (edit : Edit). text_by r bytes sheet images edit) sheet.edits)) pairs_are
-    ∙ from_first follow read past (length bytes) pairs lines tiles inside (sheet_in_order bytes how pairs sheet (tile bytes pairs pairs_are) pairs_are sheet_is) (edits_stand follow how read past tiles lines pairs_are sheet sheet_is)
+    ap (λ (r : Result (List Pair) PairFault). groups_of
+    (spliced bytes (λ (edit : Edit). text_by r bytes sheet images edit) sheet.edits)) pairs_are
+    ∙ from_first follow read past (length bytes) pairs lines tiles inside
+    (sheet_in_order bytes how pairs sheet (tile bytes pairs pairs_are) pairs_are sheet_is)
+    (edits_stand follow how read past tiles lines pairs_are sheet sheet_is)

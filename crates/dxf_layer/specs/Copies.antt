@@ -1,5 +1,7 @@
--- The groups of copies of entities, the handles that copies are given, and whose fields are copied: laws of what is written.
-use Rattle.std.specs.Prelude.{◌≡◌, ℕ, ◌+◌, ◌<◌, pos, Bool, true, false, nat_lt, if◌then◌else◌, List, [], ◌∷◌, ◌++◌, length, map, drop, filter_map, flat_map, Option, None, Some, Ok}
+-- The groups of copies of entities, the handles that copies are given, and whose fields are copied: laws of what is
+-- written.
+use Rattle.std.specs.Prelude.{◌≡◌, ℕ, ◌+◌, ◌<◌, pos, Bool, true, false, nat_lt, if◌then◌else◌, List, [], ◌∷◌, ◌++◌}
+use Rattle.std.specs.Prelude.{length, map, drop, filter_map, flat_map, Option, None, Some, Ok}
 use Rattle.std.specs.List.{AllByRecursion, range_with_len}
 use Rattle.std.specs.List.Sorted.{IsStrictlyIncreasing}
 use Rattle.std.specs.Fmt.{digits}
@@ -21,16 +23,20 @@ use Rattle.dxf_layer.specs.Drawings.{drawing_sheet}
 use Rattle.dxf_layer.specs.Entities.{Entity, entity_of}
 use Rattle.dxf_layer.specs.Fields.{fields_of}
 use Rattle.dxf_layer.specs.Polylines.{vertices_in}
-use Rattle.dxf_layer.specs.Rendering.{Reading, run_of, value_for, value_text, new_handle, handle_behind, line_copies, vertex_copies, coded_before, entity_at, has_handle, first_handle, next_at, next_behind, text_of, drawing_text}
+use Rattle.dxf_layer.specs.Rendering.{Reading, run_of, value_for, value_text, new_handle, handle_behind, line_copies}
+use Rattle.dxf_layer.specs.Rendering.{vertex_copies, coded_before, entity_at, has_handle, first_handle, next_at}
+use Rattle.dxf_layer.specs.Rendering.{next_behind, text_of, drawing_text}
 
 -- ---- what is written is a drawing
 abbrev pub WrittenIsADrawing : Type 0
 WrittenIsADrawing =
-    (how : How) (bytes : List ℕ) (sheet : Contents) (images : Runs) → drawing_sheet how bytes ≡ Ok sheet → DoFit sheet images
+    (how : How) (bytes : List ℕ) (sheet : Contents) (images : Runs) → drawing_sheet how bytes ≡ Ok sheet
+    → DoFit sheet images
     → (pairs : List Pair) × (drawing (spliced bytes (drawing_text bytes sheet images) sheet.edits) ≡ Ok pairs)
 
 -- ---- what a copy is
--- the entity of the drawing with these pairs: its pair of code 0, with others behind it, and the pairs up to the next code 0
+-- the entity of the drawing with these pairs: its pair of code 0, with others behind it, and the pairs up to the next
+-- code 0
 pub record IsEntityOf (pairs : List Pair) (entity : Entity) : Type 0 where
   pub front : List Pair
   pub next : Pair
@@ -45,39 +51,50 @@ own_or same (Some value) = value_text value
 
 -- a field in a copy: under 10, 20, 11, 21 and 5 with the copy's value, where it has one
 abbrev pub field_in_copy : List ℕ → Copied → Pair → Group
-field_in_copy bytes copied pair = record { code = pair.code; value = own_or (value_in bytes pair) (value_for copied pair.code) }
+field_in_copy bytes copied pair = record {
+  code = pair.code;
+  value =
+      own_or (value_in bytes pair) (value_for copied pair.code);
+}
 
 -- a copy of an entity: its groups, of which the fields have the copy's values; from the first code of 1000 on all stay
 abbrev pub groups_of_copy : List ℕ → Entity → Copied → List Group
 groups_of_copy bytes entity copied =
-    group_in bytes entity.head ∷ (map (field_in_copy bytes copied) (fields_of entity) ++ map (group_in bytes) (drop (length (fields_of entity)) entity.pairs))
+    group_in bytes entity.head ∷ (map (field_in_copy bytes copied) (fields_of entity)
+    ++ map (group_in bytes) (drop (length (fields_of entity)) entity.pairs))
 
 -- what the copies of a line have of their own: two images that follow each other, and a handle behind the first copy
 abbrev pub line_values : Bool → ℕ → List Pt → List Copied
 line_values first next [] = []
 line_values first next (begin ∷ []) = []
 line_values first next (begin ∷ end ∷ images) =
-    record { begin = begin; end = Some end; handle = new_handle first next } ∷ line_values false (handle_behind first next) (end ∷ images)
+    record { begin = begin; end = Some end; handle = new_handle first next }
+    ∷ line_values false (handle_behind first next) (end ∷ images)
 
 -- and those of a vertex: an image, and a handle behind the first copy
 abbrev pub vertex_values : Bool → ℕ → List Pt → List Copied
 vertex_values first next [] = []
 vertex_values first next (image ∷ images) =
-    record { begin = image; end = None; handle = new_handle first next } ∷ vertex_values false (handle_behind first next) images
+    record { begin = image; end = None; handle = new_handle first next }
+    ∷ vertex_values false (handle_behind first next) images
 
 -- the groups of the texts that take the place of a line and of a vertex are those of copies of its entity
 abbrev pub CopiesAreOfEntities : Type 0
 CopiesAreOfEntities =
-    (bytes : List ℕ) (pairs : List Pair) (entity : Entity) → drawing bytes ≡ Ok pairs → IsEntityOf pairs entity → (next : ℕ) (images : List Pt)
-    → (groups_of (line_copies bytes entity true next images) ≡ flat_map (groups_of_copy bytes entity) (line_values true next images))
-    × (groups_of (vertex_copies bytes entity true next images) ≡ flat_map (groups_of_copy bytes entity) (vertex_values true next images))
+    (bytes : List ℕ) (pairs : List Pair) (entity : Entity) → drawing bytes ≡ Ok pairs → IsEntityOf pairs entity
+    → (next : ℕ) (images : List Pt)
+    → (groups_of (line_copies bytes entity true next images)
+    ≡ flat_map (groups_of_copy bytes entity) (line_values true next images))
+    × (groups_of (vertex_copies bytes entity true next images)
+    ≡ flat_map (groups_of_copy bytes entity) (vertex_values true next images))
 
 -- ---- the handles
 abbrev pub handles_in : List Copied → List ℕ
 handles_in copies = filter_map (λ (copied : Copied). copied.handle) copies
 
 abbrev pub values_as : Reading → ℕ → What → List Copied
-values_as read place (edits.Lines path) = line_values true (next_at read place) (path_images read.sheet.paths read.images path)
+values_as read place (edits.Lines path) = line_values true (next_at read place)
+    (path_images read.sheet.paths read.images path)
 values_as read place (edits.Vertex point) = vertex_values true (next_at read place) (run_of read.images point)
 values_as read place what = []
 
@@ -88,31 +105,38 @@ given_to (Some entity) copies = if has_handle entity then handles_in copies else
 
 -- the handles that the copies in the place of an edit are given
 abbrev pub given : Reading → Edit → List ℕ
-given read edit = if nat_lt edit.start edit.end then given_to (entity_at read edit.start) (values_as read edit.start edit.what) else []
+given read edit = if nat_lt edit.start edit.end then given_to (entity_at read edit.start)
+    (values_as read edit.start edit.what) else []
 
 -- those of all copies, in order of the text
 abbrev pub all_given : Reading → List ℕ
 all_given read = flat_map (given read) read.sheet.edits
 
--- they are the numbers from the next handle of the drawing on, no two are the same, and the next handle that is written is behind them
+-- they are the numbers from the next handle of the drawing on, no two are the same, and the next handle that is written
+-- is behind them
 pub record AreNewHandles (read : Reading) : Type 0 where
   pub numbers : all_given read ≡ range_with_len (first_handle read) (length (all_given read))
   pub differ : IsStrictlyIncreasing (all_given read)
   pub behind : next_behind read ≡ first_handle read + length (all_given read)
   pub below : AllByRecursion (λ handle. handle < next_behind read) (all_given read)
-  pub written : (edit : Edit) → edit.what ≡ edits.NextHandle → 0 < length (all_given read) → text_of read edit ≡ digits 16 true (next_behind read)
+  pub written : (edit : Edit) → edit.what ≡ edits.NextHandle → 0 < length (all_given read)
+      → text_of read edit ≡ digits 16 true (next_behind read)
 
 abbrev pub HandlesAreNew : Type 0
 HandlesAreNew =
-    (how : How) (bytes : List ℕ) (pairs : List Pair) (sheet : Contents) (images : Runs) → drawing bytes ≡ Ok pairs → drawing_sheet how bytes ≡ Ok sheet
+    (how : How) (bytes : List ℕ) (pairs : List Pair) (sheet : Contents) (images : Runs) → drawing bytes ≡ Ok pairs
+    → drawing_sheet how bytes ≡ Ok sheet
     → AreNewHandles (record { bytes = bytes; pairs = pairs; sheet = sheet; images = images })
 
 -- ---- vertices in fields
 -- the last pairs of codes 10 and 20 before the room behind a vertex are its own
 abbrev pub HasOwnFields : Reading → Vertex → Type 0
-HasOwnFields read vertex = (coded_before read (pos 10) vertex.past ≡ Some vertex.spot.x.pair) × (coded_before read (pos 20) vertex.past ≡ Some vertex.spot.y.pair)
+HasOwnFields read vertex = (coded_before read (pos 10) vertex.past ≡ Some vertex.spot.x.pair)
+    × (coded_before read (pos 20) vertex.past ≡ Some vertex.spot.y.pair)
 
 abbrev pub VerticesCopyOwnFields : Type 0
 VerticesCopyOwnFields =
-    (bytes : List ℕ) (pairs : List Pair) (sheet : Contents) (images : Runs) (entity : Entity) (exact : Bool) (vertices : List Vertex) → drawing bytes ≡ Ok pairs → IsEntityOf pairs entity
-    → vertices_in bytes exact (fields_of entity) ≡ Ok vertices → AllByRecursion (HasOwnFields (record { bytes = bytes; pairs = pairs; sheet = sheet; images = images })) vertices
+    (bytes : List ℕ) (pairs : List Pair) (sheet : Contents) (images : Runs) (entity : Entity) (exact : Bool)
+    (vertices : List Vertex) → drawing bytes ≡ Ok pairs → IsEntityOf pairs entity
+    → vertices_in bytes exact (fields_of entity) ≡ Ok vertices
+    → AllByRecursion (HasOwnFields (record { bytes = bytes; pairs = pairs; sheet = sheet; images = images })) vertices

@@ -28,7 +28,14 @@ begun seed = record { paths = []; points = []; edits = seed_edits seed; inexact 
 
 -- the sheet of what is read: all edits are in order of the text
 abbrev pub ordered : Contents → Contents
-ordered whole = record { paths = whole.paths; points = whole.points; edits = in_order whole.edits; inexact = whole.inexact; dropped = whole.dropped }
+ordered whole = record {
+  paths = whole.paths;
+  points = whole.points;
+  edits = in_order whole.edits;
+  inexact =
+      whole.inexact;
+  dropped = whole.dropped;
+}
 
 abbrev pub sheet_of : Option Pair → List Shape → Contents
 sheet_of seed shapes = ordered (with_shapes (begun seed) shapes)

@@ -24,7 +24,8 @@ ends_section bytes pair = is_pair bytes (pos 0) (codes "ENDSEC") pair || is_pair
 
 -- the section of a name
 abbrev pub section : List ℕ → Where
-section name = if bytes_eq name (codes "ENTITIES") then Entities else (if bytes_eq name (codes "HEADER") then Header else Other)
+section name = if bytes_eq name (codes "ENTITIES") then Entities else
+    (if bytes_eq name (codes "HEADER") then Header else Other)
 
 abbrev pub behind_inside : List ℕ → Where → Pair → Where
 behind_inside bytes place pair = if ends_section bytes pair then Outside else place

@@ -1,5 +1,6 @@
 -- The fields of an entity, looked up by code, and what their values are compared with.
-use Rattle.std.specs.Prelude.{ℕ, ◌*◌, ℤ, pos, Bool, false, ◌&&◌, not, if◌then◌else◌, List, [], ◌∷◌, filter, take_while, int_lt, Option, None, Some, Result, Ok, Err}
+use Rattle.std.specs.Prelude.{ℕ, ◌*◌, ℤ, pos, Bool, false, ◌&&◌, not, if◌then◌else◌, List, [], ◌∷◌, filter, take_while}
+use Rattle.std.specs.Prelude.{int_lt, Option, None, Some, Result, Ok, Err}
 use Rattle.std.specs.Ordering.{int_eq}
 use Rattle.mm_decimal.specs.Measured.{measured}
 use Rattle.mm_decimal.specs.declared.reading.MmRead.{MmRead}

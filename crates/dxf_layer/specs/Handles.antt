@@ -1,5 +1,7 @@
--- The next handle of a drawing: the value of the pair of code 5 that directly follows the first pair `9 $HANDSEED` in a section HEADER.
-use Rattle.std.specs.Prelude.{ℕ, pos, Bool, false, ◌&&◌, nat_le, if◌then◌else◌, codes, List, [], ◌∷◌, length, Option, None, Some, Result, Ok, Err}
+-- The next handle of a drawing: the value of the pair of code 5 that directly follows the first pair `9 $HANDSEED` in a
+-- section HEADER.
+use Rattle.std.specs.Prelude.{ℕ, pos, Bool, false, ◌&&◌, nat_le, if◌then◌else◌, codes, List, [], ◌∷◌, length, Option}
+use Rattle.std.specs.Prelude.{None, Some, Result, Ok, Err}
 use Rattle.std.specs.List.{list_all}
 use Rattle.std.specs.Char.{is_ascii_hexdigit}
 use Rattle.sheet_base.specs.declared.edits.Edit.{Edit}
@@ -32,7 +34,8 @@ names_seed bytes place pair = false
 -- the pair directly behind the first of these that names it, where the first stands here
 abbrev pub seed_from : List ℕ → Where → List Pair → Option Pair
 seed_from bytes place [] = None
-seed_from bytes place (pair ∷ pairs) = if names_seed bytes place pair then as_seed bytes pairs else seed_from bytes (behind bytes place pair) pairs
+seed_from bytes place (pair ∷ pairs) = if names_seed bytes place pair then as_seed bytes pairs else seed_from bytes
+    (behind bytes place pair) pairs
 
 -- the pair of the next handle, where the drawing gives one
 abbrev pub seed_of : List ℕ → List Pair → Option Pair

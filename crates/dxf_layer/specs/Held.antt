@@ -1,5 +1,6 @@
 -- What the code has read so far, as contents. Only private functions speak of it.
-use Rattle.std.specs.Prelude.{◌≡◌, ◌≢◌, ℕ, ◌+◌, ◌*◌, ◌≤◌, List, [], ◌∷◌, ◌++◌, length, map, sum_by, drop, Bool, Option, None, Some, Result, Ok, Err, ⊤}
+use Rattle.std.specs.Prelude.{◌≡◌, ◌≢◌, ℕ, ◌+◌, ◌*◌, ◌≤◌, List, [], ◌∷◌, ◌++◌, length, map, sum_by, drop, Bool, Option}
+use Rattle.std.specs.Prelude.{None, Some, Result, Ok, Err, ⊤}
 use Rattle.std.specs.List.{prefix_len}
 use Rattle.sheet_base.specs.declared.edits.Edit.{Edit}
 use Rattle.sheet_base.specs.declared.paths.PathRow.{PathRow}
@@ -20,16 +21,44 @@ use Rattle.dxf_layer.specs.Polylines.{vertices_in, vertex_edits, own_shape}
 use Rattle.dxf_layer.specs.Walks.{Place, free, staying, reading, Step}
 
 abbrev pub seen : Drawing → Contents
-seen drawing = record { paths = drawing.paths.items; points = drawing.points.items; edits = drawing.edits.items; inexact = drawing.inexact; dropped = drawing.dropped }
+seen drawing = record {
+  paths = drawing.paths.items;
+  points = drawing.points.items;
+  edits =
+      drawing.edits.items;
+  inexact = drawing.inexact;
+  dropped = drawing.dropped;
+}
 
 abbrev pub with_point : Contents → Spot → Contents
-with_point before spot = record { paths = before.paths; points = before.points ++ point_of spot ∷ []; edits = before.edits; inexact = before.inexact + lost_of spot; dropped = before.dropped }
+with_point before spot = record {
+  paths = before.paths;
+  points = before.points ++ point_of spot ∷ [];
+  edits =
+      before.edits;
+  inexact = before.inexact + lost_of spot;
+  dropped = before.dropped;
+}
 
 abbrev pub with_edits : Contents → List Edit → Contents
-with_edits before edits = record { paths = before.paths; points = before.points; edits = before.edits ++ edits; inexact = before.inexact; dropped = before.dropped }
+with_edits before edits = record {
+  paths = before.paths;
+  points = before.points;
+  edits =
+      before.edits ++ edits;
+  inexact = before.inexact;
+  dropped = before.dropped;
+}
 
 abbrev pub with_rows : Contents → List PathRow → Contents
-with_rows before rows = record { paths = before.paths ++ rows; points = before.points; edits = before.edits; inexact = before.inexact; dropped = before.dropped }
+with_rows before rows = record {
+  paths = before.paths ++ rows;
+  points = before.points;
+  edits = before.edits;
+  inexact =
+      before.inexact;
+  dropped = before.dropped;
+}
 
 -- vertices in fields, without their path
 abbrev pub with_vertices : Contents → List Vertex → Contents
@@ -52,7 +81,7 @@ pub record HoldsAtMost (count : ℕ) (contents : Contents) : Type 0 where
 abbrev pub GrowsBy : ℕ → Contents → Contents → Type 0
 GrowsBy more before now = (count : ℕ) → HoldsAtMost count before → HoldsAtMost (count + more) now
 
--- what was read is added, or the first fault is answered; want of memory may come always
+-- what was read is added, or the first fault is answered; memory may always run out
 abbrev pub AddsAs : Contents → Result (List Shape) LayerFault → Contents → Type 0
 AddsAs before (Ok shapes) now = now ≡ with_shapes before shapes
 AddsAs before (Err fault) now = ⊥
@@ -76,7 +105,8 @@ ReadsVertices wanted before (Err fault) now = RefusesBy wanted fault
 -- a vertex with an entity of its own, which copies replace
 abbrev pub with_own_vertex : Contents → Vertex → Contents
 with_own_vertex before vertex =
-    with_edits (with_point before vertex.spot) (record { start = vertex.start; end = vertex.past; what = edits.Vertex (length before.points) } ∷ [])
+    with_edits (with_point before vertex.spot)
+    (record { start = vertex.start; end = vertex.past; what = edits.Vertex (length before.points) } ∷ [])
 
 -- the vertices so far of a polyline that is read stand behind what was read before it, without their path
 abbrev pub with_pending : Contents → Place → Contents
@@ -106,7 +136,8 @@ Goes wanted before (Err fault) now = RefusesBy wanted fault
 
 -- the vertices in fields, by the one with which they begin
 abbrev pub vertices_by : List ℕ → Bool → List Pair → Result (Option Vertex) LayerFault → Result (List Vertex) LayerFault
-vertices_by bytes exact fields (Ok (Some vertex)) = and_then (λ more. Ok (vertex ∷ more)) (vertices_in bytes exact (drop 2 fields))
+vertices_by bytes exact fields (Ok (Some vertex)) =
+    and_then (λ more. Ok (vertex ∷ more)) (vertices_in bytes exact (drop 2 fields))
 vertices_by bytes exact fields (Ok None) = vertices_in bytes exact (drop 1 fields)
 vertices_by bytes exact fields (Err fault) = Err fault
 
@@ -116,4 +147,5 @@ room_before pairs = prefix_len is_no_head pairs
 
 -- what is read at the first of the pairs has room beside the pairs up to the next head
 abbrev pub GrowsAlong : List Pair → Contents → Contents → Type 0
-GrowsAlong pairs before now = (count : ℕ) → HoldsAtMost (count + room_before pairs) before → HoldsAtMost ((count + 2) + room_before (drop 1 pairs)) now
+GrowsAlong pairs before now = (count : ℕ) → HoldsAtMost (count + room_before pairs) before
+    → HoldsAtMost ((count + 2) + room_before (drop 1 pairs)) now

@@ -3,4 +3,10 @@ use Rattle.dxf_layer.specs.declared.pages.Page.{Page}
 use Rattle.dxf_layer.specs.Rendering.{Reading}
 
 abbrev pub read_of : Page → Reading
-read_of page = record { bytes = page.bytes.now; pairs = page.pairs.now; sheet = page.sheet.now; images = page.images.now }
+read_of page = record {
+  bytes = page.bytes.now;
+  pairs = page.pairs.now;
+  sheet = page.sheet.now;
+  images =
+      page.images.now;
+}

@@ -1,5 +1,6 @@
 -- Points, inserts, texts and lines of a drawing (AutoCAD DXF reference, entities).
-use Rattle.std.specs.Prelude.{ℕ, ℤ, pos, ◌+◌, Bool, false, ◌||◌, if◌then◌else◌, List, [], ◌∷◌, Option, None, Some, Result, Ok, Err}
+use Rattle.std.specs.Prelude.{ℕ, ℤ, pos, ◌+◌, Bool, false, ◌||◌, if◌then◌else◌, List, [], ◌∷◌, Option, None, Some}
+use Rattle.std.specs.Prelude.{Result, Ok, Err}
 use Rattle.std.specs.Ordering.{int_eq}
 use Rattle.mm_decimal.specs.Measured.{measured}
 use Rattle.mm_decimal.specs.declared.reading.MmRead.{MmRead}
@@ -19,28 +20,40 @@ use Rattle.dxf_layer.specs.Shapes.{Shape, point_of, lost_of, spot_edits}
 -- the point of the wanted fields of two codes, the first read before the second
 abbrev pub spot_at : List ℕ → Bool → ℤ → ℤ → Entity → Result Spot LayerFault
 spot_at bytes exact x y entity =
-    and_then (λ east. and_then (λ north. Ok (record { x = east; y = north })) (coordinate_at bytes exact y entity)) (coordinate_at bytes exact x entity)
+    and_then (λ east. and_then (λ north. Ok (record { x = east; y = north })) (coordinate_at bytes exact y entity))
+    (coordinate_at bytes exact x entity)
 
 -- a dot, whose values are replaced
 abbrev pub dot_of : Spot → Shape
-dot_of spot = record { kind = Some paths.Dot; points = point_of spot ∷ []; lost = lost_of spot; dropped = 0; edits = λ path first. spot_edits first spot }
+dot_of spot = record {
+  kind = Some paths.Dot;
+  points = point_of spot ∷ [];
+  lost = lost_of spot;
+  dropped = 0;
+  edits =
+      λ path first. spot_edits first spot;
+}
 
 -- a point
 abbrev pub point_shapes : List ℕ → Bool → Entity → Result (List Shape) LayerFault
-point_shapes bytes exact entity = and_then (λ spot. Ok (dot_of spot ∷ [])) (spot_at bytes exact (pos 10) (pos 20) entity)
+point_shapes bytes exact entity = and_then (λ spot. Ok (dot_of spot ∷ []))
+    (spot_at bytes exact (pos 10) (pos 20) entity)
 
 -- an insert, which has no attributes
 abbrev pub insert_shapes : List ℕ → Bool → Entity → Result (List Shape) LayerFault
-insert_shapes bytes exact entity = and_then (λ none. point_shapes bytes exact entity) (zero_at bytes Attribs (pos 66) entity)
+insert_shapes bytes exact entity = and_then (λ none. point_shapes bytes exact entity)
+    (zero_at bytes Attribs (pos 66) entity)
 
 -- the second point of a text, where its first or its second justification is not zero
 abbrev pub second_by : List ℕ → Bool → Entity → Option Pair → Option Pair → Result (Option Spot) LayerFault
 second_by bytes exact entity across along =
-    if is_not_zero bytes across || is_not_zero bytes along then and_then (λ spot. Ok (Some spot)) (spot_at bytes exact (pos 11) (pos 21) entity) else Ok None
+    if is_not_zero bytes across || is_not_zero bytes along then and_then (λ spot. Ok (Some spot))
+    (spot_at bytes exact (pos 11) (pos 21) entity) else Ok None
 
 abbrev pub second_spot : List ℕ → Bool → Entity → Result (Option Spot) LayerFault
 second_spot bytes exact entity =
-    and_then (λ across. and_then (λ along. second_by bytes exact entity across along) (field (pos 73) entity)) (field (pos 72) entity)
+    and_then (λ across. and_then (λ along. second_by bytes exact entity across along) (field (pos 73) entity))
+    (field (pos 72) entity)
 
 abbrev pub dots_of : Option Spot → List Shape
 dots_of None = []
@@ -49,7 +62,8 @@ dots_of (Some spot) = dot_of spot ∷ []
 -- a text
 abbrev pub text_shapes : List ℕ → Bool → Entity → Result (List Shape) LayerFault
 text_shapes bytes exact entity =
-    and_then (λ spot. and_then (λ second. Ok (dot_of spot ∷ dots_of second)) (second_spot bytes exact entity)) (spot_at bytes exact (pos 10) (pos 20) entity)
+    and_then (λ spot. and_then (λ second. Ok (dot_of spot ∷ dots_of second)) (second_spot bytes exact entity))
+    (spot_at bytes exact (pos 10) (pos 20) entity)
 
 -- the millimetres of a height, of which a missing one is 0 and one that is no numeral has none
 abbrev pub height_of : Result MmRead NumFault → Option ℤ
@@ -67,7 +81,8 @@ are_level first second = false
 -- both ends of a line have one height
 abbrev pub level : List ℕ → Entity → Result (Unit {0}) LayerFault
 level bytes entity =
-    and_then (λ first. and_then (λ second. if are_level (height bytes first) (height bytes second) then Ok tt else Err (Slope entity.head.line)) (field (pos 31) entity))
+    and_then (λ first. and_then (λ second. if are_level (height bytes first) (height bytes second) then Ok tt else Err
+    (Slope entity.head.line)) (field (pos 31) entity))
     (field (pos 30) entity)
 
 -- a line between two points; copies of the entity take its place
@@ -88,4 +103,5 @@ line_ends bytes exact seed entity =
 
 -- a line
 abbrev pub line_shapes : List ℕ → Bool → Option Pair → Entity → Result (List Shape) LayerFault
-line_shapes bytes exact seed entity = and_then (λ ends. Ok (line_of entity ends.0 ends.1 ∷ [])) (line_ends bytes exact seed entity)
+line_shapes bytes exact seed entity = and_then (λ ends. Ok (line_of entity ends.0 ends.1 ∷ []))
+    (line_ends bytes exact seed entity)

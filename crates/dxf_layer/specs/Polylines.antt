@@ -1,5 +1,6 @@
 -- Polylines of a drawing, with their vertices in fields (LWPOLYLINE) or in entities of their own (POLYLINE).
-use Rattle.std.specs.Prelude.{ℕ, ◌+◌, pos, nat_lt, Bool, ◌&&◌, ◌||◌, if◌then◌else◌, List, [], ◌∷◌, ◌++◌, length, map, sum_by, Option, None, Some, Result, Ok, Err}
+use Rattle.std.specs.Prelude.{ℕ, ◌+◌, pos, nat_lt, Bool, ◌&&◌, ◌||◌, if◌then◌else◌, List, [], ◌∷◌, ◌++◌, length, map}
+use Rattle.std.specs.Prelude.{sum_by, Option, None, Some, Result, Ok, Err}
 use Rattle.sheet_base.specs.declared.edits.Edit.{Edit}
 use Rattle.sheet_base.specs.declared.edits.What.TheVariants as edits
 use Rattle.sheet_base.specs.declared.paths.PathKind.{PathKind}
@@ -36,7 +37,8 @@ rows_from kind first past = if nat_lt first past then record { kind = kind; firs
 
 -- the codes of a vertex's group besides its two numbers
 abbrev pub is_group_code : Pair → Bool
-is_group_code pair = has_code (pos 40) pair || has_code (pos 41) pair || has_code (pos 42) pair || has_code (pos 91) pair
+is_group_code pair = has_code (pos 40) pair || has_code (pos 41) pair || has_code (pos 42) pair || has_code (pos 91)
+    pair
 
 -- a field of a vertex's group: widths and bulges are zero
 abbrev pub fault_in_group : List ℕ → Pair → Option LayerFault
@@ -53,12 +55,15 @@ first_fault (Some fault) rest = Err fault
 -- the place past a vertex's group, with which these fields begin, behind this place
 abbrev pub past_group : List ℕ → ℕ → List Pair → Result ℕ LayerFault
 past_group bytes past [] = Ok past
-past_group bytes past (pair ∷ pairs) = if is_group_code pair then first_fault (fault_in_group bytes pair) (past_group bytes pair.end pairs) else Ok past
+past_group bytes past (pair ∷ pairs) = if is_group_code pair then first_fault (fault_in_group bytes pair)
+    (past_group bytes pair.end pairs) else Ok past
 
 -- the vertex of two fields of codes 10 and 20, and of its group among the fields behind them
 abbrev pub vertex_of : List ℕ → Bool → Pair → Pair → List Pair → Result Vertex LayerFault
 vertex_of bytes exact x y behind =
-    and_then (λ east. and_then (λ north. and_then (λ past. Ok (record { spot = record { x = east; y = north }; start = x.start; past = past })) (past_group bytes y.end behind))
+    and_then (λ east. and_then (λ north. and_then
+    (λ past. Ok (record { spot = record { x = east; y = north }; start = x.start; past = past }))
+    (past_group bytes y.end behind))
     (coordinate bytes exact y)) (coordinate bytes exact x)
 
 abbrev pub begins_vertex : Pair → Pair → Bool
@@ -73,7 +78,8 @@ vertices_in bytes exact [] = Ok []
 vertices_in bytes exact (pair ∷ []) = if is_number pair then Err (Count pair.line) else Ok []
 vertices_in bytes exact (pair ∷ next ∷ pairs) =
     if begins_vertex pair next
-    then and_then (λ vertex. and_then (λ more. Ok (vertex ∷ more)) (vertices_in bytes exact pairs)) (vertex_of bytes exact pair next pairs)
+    then and_then (λ vertex. and_then (λ more. Ok (vertex ∷ more)) (vertices_in bytes exact pairs))
+    (vertex_of bytes exact pair next pairs)
     else if is_number pair then Err (Count pair.line)
     else vertices_in bytes exact (next ∷ pairs)
 
@@ -81,7 +87,8 @@ vertices_in bytes exact (pair ∷ next ∷ pairs) =
 abbrev pub vertex_edits : ℕ → List Vertex → List Edit
 vertex_edits point [] = []
 vertex_edits point (vertex ∷ vertices) =
-    spot_edits point vertex.spot ++ (record { start = vertex.past; end = vertex.past; what = edits.Vertices point } ∷ vertex_edits (point + 1) vertices)
+    spot_edits point vertex.spot ++ (record { start = vertex.past; end = vertex.past; what = edits.Vertices point }
+    ∷ vertex_edits (point + 1) vertices)
 
 abbrev pub as_count : List ℕ → ℕ → Pair → Result Pair LayerFault
 as_count bytes number pair = if equals bytes number pair then Ok pair else Err (Count pair.line)
@@ -97,30 +104,35 @@ light_shape kind vertices count = record {
   points = map (λ vertex. point_of vertex.spot) vertices;
   lost = sum_by (λ vertex. lost_of vertex.spot) vertices;
   dropped = 0;
-  edits = λ path first. vertex_edits first vertices ++ value_edit (edits.Tally first (first + length vertices)) count ∷ [];
+  edits = λ path first. vertex_edits first vertices ++ value_edit (edits.Tally first (first + length vertices)) count
+      ∷ [];
 }
 
 abbrev pub light_shapes : List ℕ → Bool → Entity → Result (List Shape) LayerFault
 light_shapes bytes exact entity =
-    and_then (λ kind. and_then (λ vertices. and_then (λ count. Ok (light_shape kind vertices count ∷ [])) (count_of bytes (length vertices) entity))
+    and_then (λ kind. and_then (λ vertices. and_then (λ count. Ok (light_shape kind vertices count ∷ []))
+    (count_of bytes (length vertices) entity))
     (vertices_in bytes exact (fields_of entity))) (kind_of bytes entity)
 
 -- a vertex's entity has no width, no bulge and no flags
 abbrev pub plain : List ℕ → Entity → Result (Unit {0}) LayerFault
 plain bytes entity =
-    and_then (λ begin. and_then (λ end. and_then (λ bulge. zero_at bytes Flags (pos 70) entity) (zero_at bytes Bulge (pos 42) entity)) (zero_at bytes Width (pos 41) entity))
+    and_then (λ begin. and_then (λ end. and_then (λ bulge. zero_at bytes Flags (pos 70) entity)
+    (zero_at bytes Bulge (pos 42) entity)) (zero_at bytes Width (pos 41) entity))
     (zero_at bytes Width (pos 40) entity)
 
 -- the vertex of an entity of its own
 abbrev pub entity_vertex : List ℕ → Bool → Option Pair → Entity → Result Vertex LayerFault
 entity_vertex bytes exact seed entity =
-    and_then (λ own. and_then (λ spot. and_then (λ is. Ok (record { spot = spot; start = entity.head.start; past = entity_end entity })) (plain bytes entity))
+    and_then (λ own. and_then (λ spot. and_then
+    (λ is. Ok (record { spot = spot; start = entity.head.start; past = entity_end entity })) (plain bytes entity))
     (spot_at bytes exact (pos 10) (pos 20) entity)) (handle seed entity)
 
 -- copies of each vertex take its place
 abbrev pub copy_edits : ℕ → List Vertex → List Edit
 copy_edits point [] = []
-copy_edits point (vertex ∷ vertices) = record { start = vertex.start; end = vertex.past; what = edits.Vertex point } ∷ copy_edits (point + 1) vertices
+copy_edits point (vertex ∷ vertices) = record { start = vertex.start; end = vertex.past; what = edits.Vertex point }
+    ∷ copy_edits (point + 1) vertices
 
 abbrev pub own_shape : Option PathKind → List Vertex → Shape
 own_shape kind vertices = record {

@@ -1,5 +1,6 @@
 -- When what is written of a drawing can be read back, and what its groups are.
-use Rattle.std.specs.Prelude.{◌≡◌, ℕ, ◌<◌, ◌^◌, Bool, ◌&&◌, ◌==◌, nat_lt, nat_le, if◌then◌else◌, List, [], ◌∷◌, ◌++◌, flat_map, filter, Option, None, Some, Result, Ok, Err}
+use Rattle.std.specs.Prelude.{◌≡◌, ℕ, ◌<◌, ◌^◌, Bool, ◌&&◌, ◌==◌, nat_lt, nat_le, if◌then◌else◌, List, [], ◌∷◌, ◌++◌}
+use Rattle.std.specs.Prelude.{flat_map, filter, Option, None, Some, Result, Ok, Err}
 use Rattle.std.specs.List.{find, list_any}
 use Rattle.sheet_base.specs.declared.edits.Edit.{Edit}
 use Rattle.sheet_base.specs.declared.flags.How.{How}
@@ -17,7 +18,8 @@ use Rattle.dxf_layer.specs.Rendering.{Reading, next_behind, text_of, drawing_tex
 
 -- the next handle behind the last one given has no more digits than one that is read may have
 abbrev pub IsNextShort : Result (List Pair) PairFault → List ℕ → Contents → Runs → Type 0
-IsNextShort (Ok pairs) bytes sheet images = next_behind (record { bytes = bytes; pairs = pairs; sheet = sheet; images = images }) < 16 ^ MOST_DIGITS
+IsNextShort (Ok pairs) bytes sheet images =
+    next_behind (record { bytes = bytes; pairs = pairs; sheet = sheet; images = images }) < 16 ^ MOST_DIGITS
 IsNextShort (Err fault) bytes sheet images = ⊥
 
 -- what is written of a drawing reads back where that is so
@@ -42,20 +44,28 @@ value_with read pair (Some edit) = text_of read edit
 
 abbrev pub kept_group : Reading → Pair → List Group
 kept_group read pair =
-    if list_any (covers pair) read.sheet.edits then [] else record { code = pair.code; value = value_with read pair (find (is_of_value pair) read.sheet.edits) } ∷ []
+    if list_any (covers pair) read.sheet.edits then [] else
+    record { code = pair.code; value = value_with read pair (find (is_of_value pair) read.sheet.edits) } ∷ []
 
--- the groups that stand for a pair: those of the texts that begin where it begins, and its own, unless an edit replaces it
+-- the groups that stand for a pair: those of the texts that begin where it begins, and its own, unless an edit replaces
+-- it
 abbrev pub groups_for : Reading → Pair → List Group
-groups_for read pair = flat_map (λ (edit : Edit). groups_of (text_of read edit)) (filter (begins_at pair) read.sheet.edits) ++ kept_group read pair
+groups_for read pair = flat_map (λ (edit : Edit). groups_of (text_of read edit))
+    (filter (begins_at pair) read.sheet.edits) ++ kept_group read pair
 
 -- A law: the groups of a written drawing are those that stand for its pairs, one behind the other.
 abbrev pub GroupsAreWritten : Type 0
 GroupsAreWritten =
-    (how : How) (bytes : List ℕ) (pairs : List Pair) (sheet : Contents) (images : Runs) → drawing bytes ≡ Ok pairs → drawing_sheet how bytes ≡ Ok sheet → DoFit sheet images
-    → groups_of (spliced bytes (drawing_text bytes sheet images) sheet.edits) ≡ flat_map (groups_for (record { bytes = bytes; pairs = pairs; sheet = sheet; images = images })) pairs
+    (how : How) (bytes : List ℕ) (pairs : List Pair) (sheet : Contents) (images : Runs) → drawing bytes ≡ Ok pairs
+    → drawing_sheet how bytes ≡ Ok sheet → DoFit sheet images
+    → groups_of (spliced bytes (drawing_text bytes sheet images) sheet.edits)
+    ≡ flat_map (groups_for (record { bytes = bytes; pairs = pairs; sheet = sheet; images = images })) pairs
 
--- A law: what is written of a drawing is read again, where the next handle is short, and its segments are those between the images.
+-- A law: what is written of a drawing is read again, where the next handle is short, and its segments are those between
+-- the images.
 abbrev pub DrawingsReadBack : Type 0
 DrawingsReadBack =
-    (how : How) (bytes : List ℕ) (sheet : Contents) (images : Runs) → drawing_sheet how bytes ≡ Ok sheet → DoFit sheet images → DoesReadBack how bytes sheet images
-    → IsReadBack (λ text back. drawing_sheet how text ≡ Ok back) sheet images (spliced bytes (drawing_text bytes sheet images) sheet.edits)
+    (how : How) (bytes : List ℕ) (sheet : Contents) (images : Runs) → drawing_sheet how bytes ≡ Ok sheet
+    → DoFit sheet images → DoesReadBack how bytes sheet images
+    → IsReadBack (λ text back. drawing_sheet how text ≡ Ok back) sheet images
+    (spliced bytes (drawing_text bytes sheet images) sheet.edits)

@@ -1,5 +1,7 @@
 -- The texts that take the place of edits in a drawing, for given images.
-use Rattle.std.specs.Prelude.{ℕ, ℤ, pos, ◌+◌, ◌-◌, ◌*◌, ◌==◌, nat_lt, nat_le, Bool, true, false, if◌then◌else◌, List, [], ◌∷◌, ◌++◌, length, take, drop, filter, sum_by, flat_map, Option, None, Some, Result, Ok, Err}
+use Rattle.std.specs.Prelude.{ℕ, ℤ, pos, ◌+◌, ◌-◌, ◌*◌, ◌==◌, nat_lt, nat_le, Bool, true, false, if◌then◌else◌, List}
+use Rattle.std.specs.Prelude.{[], ◌∷◌, ◌++◌, length, take, drop, filter, sum_by, flat_map, Option, None, Some, Result}
+use Rattle.std.specs.Prelude.{Ok, Err}
 use Rattle.std.specs.List.{prefix_len, fold}
 use Rattle.std.specs.Option.{option_map}
 use Rattle.std.specs.Ordering.{int_eq}
@@ -59,7 +61,8 @@ copied_with rest bytes from pair (Some value) same = between from pair.value byt
 abbrev pub copied_from : List ℕ → Copied → ℕ → List Pair → ℕ → List ℕ
 copied_from bytes copied past [] from = between from past bytes
 copied_from bytes copied past (pair ∷ pairs) from =
-    copied_with (λ (field : Pair). copied_from bytes copied past pairs field.value_end) bytes from pair (value_for copied pair.code) (copied_from bytes copied past pairs from)
+    copied_with (λ (field : Pair). copied_from bytes copied past pairs field.value_end) bytes from pair
+    (value_for copied pair.code) (copied_from bytes copied past pairs from)
 
 -- a copy of an entity
 abbrev pub copy_text : List ℕ → Copied → Entity → List ℕ
@@ -77,17 +80,20 @@ abbrev pub line_copies : List ℕ → Entity → Bool → ℕ → List Pt → Li
 line_copies bytes entity first next [] = []
 line_copies bytes entity first next (begin ∷ []) = []
 line_copies bytes entity first next (begin ∷ end ∷ images) =
-    copy_text bytes (record { begin = begin; end = Some end; handle = new_handle first next }) entity ++ line_copies bytes entity false (handle_behind first next) (end ∷ images)
+    copy_text bytes (record { begin = begin; end = Some end; handle = new_handle first next }) entity
+    ++ line_copies bytes entity false (handle_behind first next) (end ∷ images)
 
 -- copies of a vertex's entity, one for each image
 abbrev pub vertex_copies : List ℕ → Entity → Bool → ℕ → List Pt → List ℕ
 vertex_copies bytes entity first next [] = []
 vertex_copies bytes entity first next (image ∷ images) =
-    copy_text bytes (record { begin = image; end = None; handle = new_handle first next }) entity ++ vertex_copies bytes entity false (handle_behind first next) images
+    copy_text bytes (record { begin = image; end = None; handle = new_handle first next }) entity
+    ++ vertex_copies bytes entity false (handle_behind first next) images
 
 -- the two fields of a vertex with other values, their other bytes as they stand
 abbrev pub field_copy : List ℕ → Pair → Pair → Pt → List ℕ
-field_copy bytes x y image = between x.start x.value bytes ++ (written image.x ++ (between x.value_end y.value bytes ++ (written image.y ++ between y.value_end y.end bytes)))
+field_copy bytes x y image = between x.start x.value bytes
+    ++ (written image.x ++ (between x.value_end y.value bytes ++ (written image.y ++ between y.value_end y.end bytes)))
 
 abbrev pub field_copies : List ℕ → Option Pair → Option Pair → List Pt → List ℕ
 field_copies bytes (Some x) (Some y) images = flat_map (field_copy bytes x y) images
@@ -133,7 +139,8 @@ taken_by None copies = 0
 taken_by (Some entity) copies = if has_handle entity then copies - 1 else 0
 
 abbrev pub taken_as : Reading → ℕ → What → ℕ
-taken_as read place (edits.Lines path) = taken_by (entity_at read place) (length (path_images read.sheet.paths read.images path) - 1)
+taken_as read place (edits.Lines path) = taken_by (entity_at read place)
+    (length (path_images read.sheet.paths read.images path) - 1)
 taken_as read place (edits.Vertex point) = taken_by (entity_at read place) (length (run_of read.images point))
 taken_as read place what = 0
 
@@ -167,11 +174,13 @@ next_behind read = first_handle read + sum_by (taken read) read.sheet.edits
 
 -- the next handle's text, which stays where none was given
 abbrev pub seed_text : Reading → Edit → List ℕ
-seed_text read edit = if next_behind read == first_handle read then between edit.start edit.end read.bytes else digits 16 true (next_behind read)
+seed_text read edit = if next_behind read == first_handle read then between edit.start edit.end read.bytes else digits
+    16 true (next_behind read)
 
 abbrev pub line_text : Reading → ℕ → Option Entity → ℕ → List ℕ
 line_text read next None path = []
-line_text read next (Some entity) path = line_copies read.bytes entity true next (path_images read.sheet.paths read.images path)
+line_text read next (Some entity) path = line_copies read.bytes entity true next
+    (path_images read.sheet.paths read.images path)
 
 abbrev pub vertex_text : Reading → ℕ → Option Entity → ℕ → List ℕ
 vertex_text read next None point = []
@@ -182,7 +191,8 @@ abbrev pub text_as : Reading → ℕ → Edit → What → List ℕ
 text_as read next edit (edits.X point) = written (image_of read.images point).x
 text_as read next edit (edits.Y point) = written (image_of read.images point).y
 text_as read next edit (edits.Vertices point) =
-    field_copies read.bytes (coded_before read (pos 10) edit.start) (coded_before read (pos 20) edit.start) (crossings_of read.images point)
+    field_copies read.bytes (coded_before read (pos 10) edit.start) (coded_before read (pos 20) edit.start)
+    (crossings_of read.images point)
 text_as read next edit (edits.Tally first past) = digits 10 false (length (images_of read.images first past))
 text_as read next edit (edits.Lines path) = line_text read next (entity_at read edit.start) path
 text_as read next edit (edits.Vertex point) = vertex_text read next (entity_at read edit.start) point
@@ -193,7 +203,8 @@ abbrev pub text_of : Reading → Edit → List ℕ
 text_of read edit = text_as read (next_at read edit.start) edit edit.what
 
 abbrev pub text_by : Result (List Pair) PairFault → List ℕ → Contents → Runs → Edit → List ℕ
-text_by (Ok pairs) bytes sheet images edit = text_of (record { bytes = bytes; pairs = pairs; sheet = sheet; images = images }) edit
+text_by (Ok pairs) bytes sheet images edit =
+    text_of (record { bytes = bytes; pairs = pairs; sheet = sheet; images = images }) edit
 text_by (Err fault) bytes sheet images edit = []
 
 -- the text that takes the place of an edit's span

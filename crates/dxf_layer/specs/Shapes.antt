@@ -10,7 +10,8 @@ use Rattle.sheet_base.specs.Sheets.{Contents}
 use Rattle.dxf_pairs.specs.declared.pairs.Pair.{Pair}
 use Rattle.dxf_layer.specs.declared.drawing.Spot.{Spot}
 
--- the path's kind, where there is one, its points, how many of their numbers lost digits, how many entities are left out, and the edits by the numbers of the path and of its first point
+-- the path's kind, where there is one, its points, how many of their numbers lost digits, how many entities are left
+-- out, and the edits by the numbers of the path and of its first point
 pub record Shape : Type 0 where
   pub kind : Option PathKind
   pub points : List Pt
@@ -44,13 +45,15 @@ rows_of (Some kind) first past = record { kind = kind; first = first; past = pas
 -- an edit among others in order of the text, before those that start at the same place
 abbrev pub edit_among : Edit → List Edit → List Edit
 edit_among edit [] = edit ∷ []
-edit_among edit (other ∷ edits) = if nat_le edit.start other.start then edit ∷ other ∷ edits else other ∷ edit_among edit edits
+edit_among edit (other ∷ edits) = if nat_le edit.start other.start then edit ∷ other ∷ edits else other
+    ∷ edit_among edit edits
 
 abbrev pub in_order : List Edit → List Edit
 in_order [] = []
 in_order (edit ∷ edits) = edit_among edit (in_order edits)
 
--- what is read so far, with a shape behind it: its path and its points have the next numbers, and the edits are in order of the shapes
+-- what is read so far, with a shape behind it: its path and its points have the next numbers, and the edits are in
+-- order of the shapes
 abbrev pub with_shape : Contents → Shape → Contents
 with_shape before shape =
     let first = length before.points in

@@ -5,7 +5,8 @@ ghost use Rattle.sheet_base.specs.Splices.{AreInOrder};
 ghost use Rattle.dxf_layer.specs.Handles.{is_handle};
 ghost use Rattle.dxf_layer.specs.Told.{told};
 ghost use Rattle.dxf_layer.specs.Paged.{read_of};
-ghost use Rattle.dxf_layer.specs.Rendering.{digit_of, handle_number, number_at, has_handle, taken_by, entity_at, taken, first_handle, next_behind};
+ghost use Rattle.dxf_layer.specs.Rendering.{digit_of, handle_number, number_at, has_handle, taken_by, entity_at, taken};
+ghost use Rattle.dxf_layer.specs.Rendering.{first_handle, next_behind};
 
 use crate::entities::{Entity, value_in};
 use crate::fields::{fields_of, has_field};

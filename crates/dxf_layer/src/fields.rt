@@ -2,7 +2,10 @@
 
 ghost use Rattle.std.specs.Prelude.{◌≡◌};
 ghost use Rattle.dxf_layer.specs.Told.{told};
-ghost use Rattle.dxf_layer.specs.Fields.{fields_of as fields, field as field_at, wanted as wanted_at, coordinate as coordinate_of, coordinate_at as coordinate_read, equals as is_number, is_there_as as there_as, is_not_zero as not_zero, not_zero_at as not_zero_line};
+ghost use Rattle.dxf_layer.specs.Fields.{fields_of as fields, field as field_at, wanted as wanted_at};
+ghost use Rattle.dxf_layer.specs.Fields.{coordinate as coordinate_of, coordinate_at as coordinate_read};
+ghost use Rattle.dxf_layer.specs.Fields.{equals as is_number, is_there_as as there_as, is_not_zero as not_zero};
+ghost use Rattle.dxf_layer.specs.Fields.{not_zero_at as not_zero_line};
 ghost use Rattle.dxf_layer.specs.Walks.{any_has_code};
 
 use crate::entities::{Entity, has_code, value_in};

@@ -1,9 +1,11 @@
 //! Laws of the definitions.
 
+ghost use Rattle.std.specs.Prelude.{◌≡◌};
+ghost use Rattle.dxf_layer.specs.declared.handles.TheConstants.{MOST_DIGITS};
 ghost use Rattle.dxf_layer.specs.Copies.{WrittenIsADrawing, CopiesAreOfEntities, HandlesAreNew, VerticesCopyOwnFields};
 ghost use Rattle.dxf_layer.specs.ReadBack.{GroupsAreWritten, DrawingsReadBack};
 
-/// The pairs of a written drawing are those of the drawing that was read, but for their places: the
+/// The pairs of a written drawing are those of the drawing that was read, except for their places: the
 /// values of edits are replaced, copies stand where their entities or vertices do, and what an edit
 /// leaves out is missing.
 pub fn written_pairs()
@@ -23,7 +25,8 @@ pub fn drawings_read_back()
     dxf_pairs::pairs_are_in_lines();
 }
 
-/// What is written of a drawing, with images that fit its sheet, has the pairs of a drawing, whatever its next handle is.
+/// What is written of a drawing, with images that fit its sheet, has the pairs of a drawing, whatever its next handle
+/// is.
 pub fn written_is_a_drawing()
     ensures { WrittenIsADrawing }
 {
@@ -31,8 +34,8 @@ pub fn written_is_a_drawing()
     dxf_pairs::pairs_are_in_lines();
 }
 
-/// A copy that takes the place of a line or of a vertex is its entity, pair by pair: the values under 10, 20, 11, 21 and 5
-/// are those of the copy, where it has them, and all other pairs are the entity's own.
+/// A copy that takes the place of a line or of a vertex is its entity, pair by pair: the values under 10, 20, 11, 21
+/// and 5 are those of the copy, where it has them, and all other pairs are the entity's own.
 pub fn copies_are_of_entities()
     ensures { CopiesAreOfEntities }
 {
@@ -40,19 +43,24 @@ pub fn copies_are_of_entities()
     dxf_pairs::pairs_are_in_lines();
 }
 
-/// The handles that copies are given are the numbers from the next handle of the drawing on, in order of the text. No two are
-/// the same, and the next handle that is written is behind them.
+/// The handles that copies are given are the numbers from the next handle of the drawing on, in order of the text. No
+/// two are the same, and the next handle that is written is behind them.
 pub fn handles_are_new()
     ensures { HandlesAreNew }
 {
     dxf_pairs::pairs_tile();
 }
 
-/// The room for crossings behind a vertex in fields copies the vertex's own fields: the last pairs of codes 10 and 20 before
-/// it are those whose values are the vertex.
+/// The room for crossings behind a vertex in fields copies the vertex's own fields: the last pairs of codes 10 and 20
+/// before it are those whose values are the vertex.
 pub fn vertices_copy_own_fields()
     ensures { VerticesCopyOwnFields }
 {
     dxf_pairs::pairs_tile();
     dxf_pairs::pairs_are_in_lines();
 }
+
+/// A law: a next handle that is read has at most so many digits.
+pub fn limits_are_stated()
+    ensures digits { MOST_DIGITS ≡ 15 }
+{}

@@ -22,8 +22,8 @@ mod texts;
 mod walking;
 
 pub use laws::{
-    copies_are_of_entities, drawings_read_back, handles_are_new, vertices_copy_own_fields,
-    written_is_a_drawing, written_pairs,
+    copies_are_of_entities, drawings_read_back, handles_are_new, limits_are_stated,
+    vertices_copy_own_fields, written_is_a_drawing, written_pairs,
 };
 pub use layer::Dxf;
 pub use reading::read_drawing;

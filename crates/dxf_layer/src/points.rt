@@ -3,7 +3,8 @@
 ghost use Rattle.std.specs.Prelude.{◌≡◌, ◌+◌, ◌^◌, OnOk, ◌∷◌};
 ghost use Rattle.dxf_layer.specs.Told.{told};
 ghost use Rattle.dxf_layer.specs.Shapes.{with_shape, with_shapes};
-ghost use Rattle.dxf_layer.specs.Points.{spot_at, dot_of, dots_of, point_shapes, insert_shapes, second_spot, text_shapes, height, level, line_of, line_ends, line_shapes};
+ghost use Rattle.dxf_layer.specs.Points.{spot_at, dot_of, dots_of, point_shapes, insert_shapes, second_spot};
+ghost use Rattle.dxf_layer.specs.Points.{text_shapes, height, level, line_of, line_ends, line_shapes};
 ghost use Rattle.dxf_layer.specs.Held.{seen, HoldsAtMost, GrowsBy, Reads};
 
 use crate::drawing::{Drawing, Spot};

@@ -2,7 +2,8 @@
 
 ghost use Rattle.std.specs.Prelude.{◌≡◌, ◌++◌, ◌+◌, ◌<◌, ◌^◌, None, true, OnOk, length};
 ghost use Rattle.dxf_layer.specs.Told.{told, told_of};
-ghost use Rattle.dxf_layer.specs.Rendering.{run_of, crossings_of, image_of, line_copies, vertex_copies, last_coded, first_entity};
+ghost use Rattle.dxf_layer.specs.Rendering.{run_of, crossings_of, image_of, line_copies, vertex_copies, last_coded};
+ghost use Rattle.dxf_layer.specs.Rendering.{first_entity};
 
 use crate::copies::{Copied, push_copy};
 use crate::entities::{Entity, has_code, pairs_before_head};

@@ -7,7 +7,9 @@ ghost use Rattle.dxf_layer.specs.Entities.{is_kind as has_kind};
 ghost use Rattle.dxf_layer.specs.declared.drawing.Vertex.{Vertex};
 ghost use Rattle.dxf_layer.specs.Shapes.{with_shape};
 ghost use Rattle.dxf_layer.specs.Polylines.{own_shape};
-ghost use Rattle.dxf_layer.specs.Walks.{other_kind, shapes_of, is_read_alone as are_read_alone, polyline_step, alone_step, by_kind, step_free, step_staying, step_reading, step, Place as Spot};
+ghost use Rattle.dxf_layer.specs.Walks.{other_kind, shapes_of, is_read_alone as are_read_alone, polyline_step};
+ghost use Rattle.dxf_layer.specs.Walks.{alone_step, by_kind, step_free, step_staying, step_reading, step};
+ghost use Rattle.dxf_layer.specs.Walks.{Place as Spot};
 ghost use Rattle.dxf_layer.specs.Held.{seen, HoldsAtMost, GrowsBy, Reads, Stands, Goes};
 
 use crate::drawing::Drawing;

@@ -1,5 +1,6 @@
 -- Texts of group codes.
-use Rattle.std.proofs.Common.{◌≡◌, ◌==◌, ℕ, ◌≤◌, ℤ, pos, List, [], ◌∷◌, length, drop, Bool, true, false, cond, refl, sym, arith, FitsSigned, w32, nat_lt, nat_le, Some, None, neg_ℤ}
+use Rattle.std.proofs.Common.{◌≡◌, ◌==◌, ℕ, ◌≤◌, ℤ, pos, List, [], ◌∷◌, length, drop, Bool, true, false, cond, refl}
+use Rattle.std.proofs.Common.{sym, arith, FitsSigned, w32, nat_lt, nat_le, Some, None, neg_ℤ}
 use Rattle.std.specs.Prelude.{unsigned_abs}
 use Rattle.std.proofs.lemmas.Int.{ints}
 use Rattle.std.specs.Str.{all_ascii_digits, IsUtf8}
@@ -21,7 +22,8 @@ pub record AreCodeDigits (digits : List ℕ) : Type 0 where
 
 pub are_digits : (digits : List ℕ) → are_code_digits digits ≡ true → AreCodeDigits digits
 are_digits digits h =
-    let parts = and_three_parts (nat_lt 0 (length digits)) (all_ascii_digits digits) (nat_le (digits_value 10 digits) MOST_CODE) h in
+    let parts = and_three_parts (nat_lt 0 (length digits)) (all_ascii_digits digits)
+    (nat_le (digits_value 10 digits) MOST_CODE) h in
     let first = parts.0 in let last = parts.2 in
     record {
       numeral = (grind (arith, nat_tests, first), digit_texts.to digits parts.1);
@@ -43,7 +45,8 @@ fits : (minus : Bool) (value : ℕ) → value ≤ MOST_CODE → FitsSigned w32 (
 fits true value h = omega (arith, ints)
 fits false value h = omega (arith, ints)
 
-pub code_fits : (text : List ℕ) → AreCodeDigits (without_leading_sign text) → FitsSigned w32 (signed_digits_value 10 text)
+pub code_fits : (text : List ℕ) → AreCodeDigits (without_leading_sign text)
+    → FitsSigned w32 (signed_digits_value 10 text)
 code_fits text h = fits (starts_with_minus text) (digits_value 10 (without_leading_sign text)) h.small
 
 -- a text whose digits are ASCII is so too
@@ -58,7 +61,8 @@ signs_ascii [] h = IsAscii-nil
 signs_ascii (b ∷ bs) h = by_sign b bs (b == 45) (b == 43) refl refl h
 
 pub code_utf8 : (text : List ℕ) → AreCodeDigits (without_leading_sign text) → IsUtf8 text
-code_utf8 text h = IsUtf8-from_ascii text (signs_ascii text (IsAscii-from_digits (without_leading_sign text) h.numeral.1))
+code_utf8 text h = IsUtf8-from_ascii text (signs_ascii text
+    (IsAscii-from_digits (without_leading_sign text) h.numeral.1))
 
 -- the number of a text, by whether its digits are those of a group code
 by_test : (text : List ℕ) (test : Bool) → test ≡ are_code_digits (without_leading_sign text)
@@ -72,12 +76,15 @@ no_number text never = by (are_code_digits (without_leading_sign text)) refl
     by true is = absurd (never (are_digits (without_leading_sign text) (sym is)))
     by false is = sym ((by_test text false is).0 refl)
 
-pub the_number : (text : List ℕ) → AreCodeDigits (without_leading_sign text) → number_of text ≡ Some (signed_digits_value 10 text)
+pub the_number : (text : List ℕ) → AreCodeDigits (without_leading_sign text)
+    → number_of text ≡ Some (signed_digits_value 10 text)
 the_number text h = (by_test text true (sym (digits_are (without_leading_sign text) h))).1 refl
 
 -- what is read as a number of this magnitude is a group code
-pub read_code : (text : List ℕ) (code : ℤ) → IsNumeral 10 (without_leading_sign text) → code ≡ signed_digits_value 10 text → unsigned_abs code ≤ MOST_CODE
+pub read_code : (text : List ℕ) (code : ℤ) → IsNumeral 10 (without_leading_sign text)
+    → code ≡ signed_digits_value 10 text → unsigned_abs code ≤ MOST_CODE
     → Some code ≡ number_of text
 read_code text code numeral is small =
-    let size : unsigned_abs code ≡ digits_value 10 (without_leading_sign text) = rw is (magnitude (starts_with_minus text) (digits_value 10 (without_leading_sign text))) in
+    let size : unsigned_abs code ≡ digits_value 10 (without_leading_sign text) =
+    rw is (magnitude (starts_with_minus text) (digits_value 10 (without_leading_sign text))) in
     rw is (sym (the_number text (record { numeral = numeral; small = omega arith })))

@@ -1,5 +1,7 @@
 -- Lines of digits between blanks.
-use Rattle.std.proofs.Common.{◌≡◌, ◌==◌, inl, ℕ, pos, ◌<◌, ◌≤◌, ◌+◌, ◌^◌, List, [], ◌∷◌, ◌++◌, length, take, drop, get_or, Bool, true, false, refl, sym, ◌∙◌, ap, subst, arith, add-one, lit<, append_assoc, take-add}
+use Rattle.std.proofs.Common.{◌≡◌, ◌==◌, inl, ℕ, pos, ◌<◌, ◌≤◌, ◌+◌, ◌^◌, List, [], ◌∷◌, ◌++◌, length, take, drop}
+use Rattle.std.proofs.Common.{get_or, Bool, true, false, refl, sym, ◌∙◌, ap, subst, arith, add-one, lit<, append_assoc}
+use Rattle.std.proofs.Common.{take-add}
 use Rattle.std.specs.Prelude.{Some}
 use Rattle.std.specs.List.{prefix_len, AllPass}
 use Rattle.std.specs.Int.{IsInRange}
@@ -31,7 +33,8 @@ digit_stays byte (low, high) = by (byte == LINE_FEED) refl
     by false is = is
 
 digits_stay : (text : List ℕ) → AllDigits 10 text → IsOneLine text
-digits_stay text digits = λ k d below. rw (get_or_default text k d 0 below) (digit_stays (get_or text k 0) (digit_at text k digits below))
+digits_stay text digits = λ k d below. rw (get_or_default text k d 0 below)
+    (digit_stays (get_or text k 0) (digit_at text k digits below))
 
 -- the blanks in front
 blanks_in_front : (text : List ℕ) (count : ℕ) → count ≡ prefix_len is_blank text → AllPass is_blank (take count text)
@@ -48,7 +51,8 @@ few_digits digits all few =
     omega (arith, small, most)
 
 -- the number of so many digits at the front
-pub front_small : (text : List ℕ) (count number : ℕ) → count ≤ length text → count ≤ 4 → AllDigits 10 (take count text) → number ≡ digits_value 10 (take count text)
+pub front_small : (text : List ℕ) (count number : ℕ) → count ≤ length text → count ≤ 4 → AllDigits 10 (take count text)
+    → number ≡ digits_value 10 (take count text)
     → number ≤ MOST_CODE
 front_small text count number within few all is =
     let size = length-take-le count text within in
@@ -91,13 +95,17 @@ module _ (text : List ℕ) (before digits behind : ℕ) (is : IsPlain text befor
   one =
       subst IsOneLine (sym parts)
       (All-append (λ byte. (byte == LINE_FEED) ≡ false) front (middle ++ back) (blanks_one_line front blank_front)
-      (All-append (λ byte. (byte == LINE_FEED) ≡ false) middle back (digits_stay middle is.all_digits) (blanks_one_line back blank_back)))
+      (All-append (λ byte. (byte == LINE_FEED) ≡ false) middle back (digits_stay middle is.all_digits)
+      (blanks_one_line back blank_back)))
 
-  pub plain_line : lines_of text ≡ take (before + digits + behind) text ∷ lines_of (drop (before + digits + behind + 1) text)
+  pub plain_line : lines_of text ≡ take (before + digits + behind) text
+      ∷ lines_of (drop (before + digits + behind + 1) text)
   plain_line =
       let end = before + digits + behind in
-      let cut : text ≡ take end text ++ (get_or text end 0 ∷ drop (end + 1) text) = rw add-one (split_at text end 0 is.within) in
-      let whole : text ≡ take end text ++ (LINE_FEED ∷ drop (end + 1) text) = cut ∙ ap (λ byte. take end text ++ (byte ∷ drop (end + 1) text)) is.feed in
+      let cut : text ≡ take end text ++ (get_or text end 0 ∷ drop (end + 1) text) =
+      rw add-one (split_at text end 0 is.within) in
+      let whole : text ≡ take end text ++ (LINE_FEED ∷ drop (end + 1) text) = cut
+      ∙ ap (λ byte. take end text ++ (byte ∷ drop (end + 1) text)) is.feed in
       ap lines_of whole ∙ line_before_text (take end text) (drop (end + 1) text) one
 
   pub plain_number : code_of (take (before + digits + behind) text) ≡ Some (pos (digits_value 10 middle))

@@ -1,5 +1,7 @@
 -- Lines where they stand in the bytes.
-use Rattle.std.proofs.Common.{All, append-nil, ◌⊎◌, inl, inr, ◌≡◌, ◌==◌, ◌<◌, ◌≤◌, ◌+◌, ◌-◌, ℕ, ℤ, List, [], ◌∷◌, ◌++◌, length, take, drop, Bool, true, false, refl, ◌∙◌, ap, arith, sym, min, Option, Some, None, Result, Ok, Err}
+use Rattle.std.proofs.Common.{All, append-nil, ◌⊎◌, inl, inr, ◌≡◌, ◌==◌, ◌<◌, ◌≤◌, ◌+◌, ◌-◌, ℕ, ℤ, List, [], ◌∷◌, ◌++◌}
+use Rattle.std.proofs.Common.{length, take, drop, Bool, true, false, refl, ◌∙◌, ap, arith, sym, min, Option, Some, None}
+use Rattle.std.proofs.Common.{Result, Ok, Err}
 use Rattle.std.specs.List.{slice_split, join_with_byte, prefix_len, suffix_len}
 use Rattle.std.proofs.lemmas.List.{length-drop, length-append, drop-drop, length-take, length-take-le}
 use Rattle.std.proofs.Math.Seq.{take-append_seam, drop-append_seam}
@@ -26,20 +28,28 @@ use Rattle.dxf_pairs.specs.Laws.{AreTiles, IsWithin, PairsTile, PairsAreWithin, 
 abbrev pub Stand : List ℕ → ℕ → List (List ℕ) → Type 0
 Stand bytes start [] = start ≤ length bytes
 Stand bytes start (text ∷ texts) =
-    (start + length text ≤ length bytes) × (between start (start + length text) bytes ≡ text) × Stand bytes (min (start + length text + 1) (length bytes)) texts
+    (start + length text ≤ length bytes) × (between start (start + length text) bytes ≡ text)
+    × Stand bytes (min (start + length text + 1) (length bytes)) texts
 
 -- a text in front of others in what stands from a place on
-pub in_front : (bytes : List ℕ) (start : ℕ) (text more : List ℕ) → start ≤ length bytes → text ++ more ≡ drop start bytes
-    → (start + length text ≤ length bytes) × (between start (start + length text) bytes ≡ text) × (more ≡ drop (start + length text) bytes)
+pub in_front : (bytes : List ℕ) (start : ℕ) (text more : List ℕ) → start ≤ length bytes
+    → text ++ more ≡ drop start bytes
+    → (start + length text ≤ length bytes) × (between start (start + length text) bytes ≡ text)
+    × (more ≡ drop (start + length text) bytes)
 in_front bytes start text more within is =
     let size = length-drop start bytes in
     let sizes = length-append text more in
     let same : length (text ++ more) ≡ length (drop start bytes) = ap length is in
-    let count : start + length text - start ≡ length text = omega arith in
-    (omega arith, rw (count, ← is) (take-append_seam text more), rw (← drop-drop (length text) start bytes, ← is) (sym (drop-append_seam text more)))
+    let count : start + length text - start ≡ length text = omega arith in (
+      omega arith,
+      rw (count, ← is) (take-append_seam text more),
+      rw (← drop-drop (length text) start bytes, ← is)
+          (sym (drop-append_seam text more)),
+    )
 
 -- what is joined from parts has the parts in it
-joined_stand : (bytes : List ℕ) (start : ℕ) (parts : List (List ℕ)) → start ≤ length bytes → join_with_byte LINE_FEED parts ≡ drop start bytes → Stand bytes start parts
+joined_stand : (bytes : List ℕ) (start : ℕ) (parts : List (List ℕ)) → start ≤ length bytes
+    → join_with_byte LINE_FEED parts ≡ drop start bytes → Stand bytes start parts
 joined_stand bytes start [] within is = within
 joined_stand bytes start (part ∷ []) within is =
     let here = in_front bytes start part [] within (append-nil part ∙ is) in
@@ -47,35 +57,42 @@ joined_stand bytes start (part ∷ []) within is =
 joined_stand bytes start (part ∷ next ∷ parts) within is =
     let here = in_front bytes start part (LINE_FEED ∷ join_with_byte LINE_FEED (next ∷ parts)) within is in
     let inside = here.0 in
-    let behind_feed = in_front bytes (start + length part) (LINE_FEED ∷ []) (join_with_byte LINE_FEED (next ∷ parts)) (here.0) here.2 in
+    let behind_feed = in_front bytes (start + length part) (LINE_FEED ∷ []) (join_with_byte LINE_FEED (next ∷ parts))
+    (here.0) here.2 in
     let feed_inside = behind_feed.0 in
     let past : min (start + length part + 1) (length bytes) ≡ start + length part + 1 = omega arith in
     (here.0, here.1, rw past (joined_stand bytes (start + length part + 1) (next ∷ parts) (omega arith) behind_feed.2))
 
 -- the lines are among the parts
-lines_stand : (bytes : List ℕ) (start : ℕ) (parts : List (List ℕ)) → Stand bytes start parts → Stand bytes start (without_empty_last parts)
+lines_stand : (bytes : List ℕ) (start : ℕ) (parts : List (List ℕ)) → Stand bytes start parts
+    → Stand bytes start (without_empty_last parts)
 lines_stand bytes start [] stand = stand
 lines_stand bytes start ([] ∷ []) stand = let inside = stand.0 in omega arith
 lines_stand bytes start ((byte ∷ part) ∷ []) stand = stand
-lines_stand bytes start (part ∷ next ∷ parts) stand = (stand.0, stand.1, lines_stand bytes (min (start + length part + 1) (length bytes)) (next ∷ parts) stand.2)
+lines_stand bytes start (part ∷ next ∷ parts) stand =
+    (stand.0, stand.1, lines_stand bytes (min (start + length part + 1) (length bytes)) (next ∷ parts) stand.2)
 
 pub all_stand : (bytes : List ℕ) → Stand bytes 0 (lines_of bytes)
 all_stand bytes = lines_stand bytes 0 (slice_split (λ byte. byte == LINE_FEED) bytes)
-    (joined_stand bytes 0 (slice_split (λ byte. byte == LINE_FEED) bytes) (omega arith) (join_with_byte-slice_split LINE_FEED bytes))
+    (joined_stand bytes 0 (slice_split (λ byte. byte == LINE_FEED) bytes) (omega arith)
+    (join_with_byte-slice_split LINE_FEED bytes))
 
 -- the value of a line lies in it
 pub value_inside : (text : List ℕ) → prefix_len is_blank text + length (value_of text) ≤ length text
 value_inside text =
     let before = prefix_len-le-length is_blank text in
     let front = length-drop (prefix_len is_blank text) text in
-    let cut = length-take (length (without_blanks_before text) - suffix_len is_blank (without_blanks_before text)) (without_blanks_before text) in
+    let cut = length-take (length (without_blanks_before text) - suffix_len is_blank (without_blanks_before text))
+    (without_blanks_before text) in
     omega arith
 
 pub value_front : (text : List ℕ) → take (length (value_of text)) (without_blanks_before text) ≡ value_of text
 value_front text =
     let count = length (without_blanks_before text) - suffix_len is_blank (without_blanks_before text) in
-    let size : length (value_of text) ≡ length (without_blanks_before text) - suffix_len is_blank (without_blanks_before text) =
-    length-take-le (length (without_blanks_before text) - suffix_len is_blank (without_blanks_before text)) (without_blanks_before text) (omega arith) in
+    let size : length (value_of text) ≡ length (without_blanks_before text) - suffix_len is_blank
+    (without_blanks_before text) =
+    length-take-le (length (without_blanks_before text) - suffix_len is_blank (without_blanks_before text))
+    (without_blanks_before text) (omega arith) in
     rw size refl
 
 -- a line with a group code is not empty
@@ -84,17 +101,21 @@ some_text [] code has = absurd (none-some code has)
 some_text (byte ∷ text) code has = omega arith
 
 -- what is read of two lines and more
-pub record AreRead (first second : Line) (code : ℤ) (more : List Pair) (has : Option ℤ) (rest : Result (List Pair) PairFault) (pairs : List Pair) : Type 0 where
+pub record AreRead (first second : Line) (code : ℤ) (more : List Pair) (has : Option ℤ)
+    (rest : Result (List Pair) PairFault) (pairs : List Pair) : Type 0 where
   pub code_is : has ≡ Some code
   pub pairs_are : pairs ≡ pair_of code first second ∷ more
-  pub rest_is : ((is_last code (value_of second.text) ≡ true) × (more ≡ [])) ⊎ ((is_last code (value_of second.text) ≡ false) × (rest ≡ Ok more))
+  pub rest_is : ((is_last code (value_of second.text) ≡ true) × (more ≡ []))
+      ⊎ ((is_last code (value_of second.text) ≡ false) × (rest ≡ Ok more))
 
-pub two_ok : (first second : Line) (has : Option ℤ) (rest : Result (List Pair) PairFault) (pairs : List Pair) → of_two first second has rest ≡ Ok pairs
+pub two_ok : (first second : Line) (has : Option ℤ) (rest : Result (List Pair) PairFault) (pairs : List Pair)
+    → of_two first second has rest ≡ Ok pairs
     → (code : ℤ) × (more : List Pair) × AreRead first second code more has rest pairs
 two_ok first second None rest pairs is = absurd (cc)
 two_ok first second (Some code) rest pairs is = by (is_last code (value_of second.text)) refl rest is
   where
-    by : (last : Bool) → is_last code (value_of second.text) ≡ last → (r : Result (List Pair) PairFault) → first_pair (pair_of code first second) last r ≡ Ok pairs
+    by : (last : Bool) → is_last code (value_of second.text) ≡ last → (r : Result (List Pair) PairFault)
+        → first_pair (pair_of code first second) last r ≡ Ok pairs
         → (number : ℤ) × (more : List Pair) × AreRead first second number more (Some code) r pairs
     by true ends r is = (code, [], record { code_is = refl; pairs_are = cc; rest_is = inl (ends, refl) })
     by false ends (Ok more) is = (code, more, record { code_is = refl; pairs_are = cc; rest_is = inr (ends, refl) })
@@ -105,10 +126,12 @@ no_one line None pairs is = cc
 no_one line (Some code) pairs is = cc
 
 -- the pairs of a drawing are read of its lines
-pub read_of_lines : (bytes : List ℕ) (pairs : List Pair) → drawing bytes ≡ Ok pairs → reading (placed (length bytes) 0 1 (lines_of bytes)) ≡ Ok pairs
+pub read_of_lines : (bytes : List ℕ) (pairs : List Pair) → drawing bytes ≡ Ok pairs
+    → reading (placed (length bytes) 0 1 (lines_of bytes)) ≡ Ok pairs
 read_of_lines bytes pairs is = by (starts_with nat_eq bytes BINARY.now) is
   where
-    by : (binary : Bool) → (if binary then Err Binary else reading (placed (length bytes) 0 1 (lines_of bytes))) ≡ Ok pairs → reading (placed (length bytes) 0 1 (lines_of bytes)) ≡ Ok pairs
+    by : (binary : Bool) → (if binary then Err Binary else reading (placed (length bytes) 0 1 (lines_of bytes)))
+        ≡ Ok pairs → reading (placed (length bytes) 0 1 (lines_of bytes)) ≡ Ok pairs
     by true is = absurd (cc)
     by false is = is
 
@@ -121,14 +144,19 @@ line_of size start number text = record { text = text; number = number; start = 
 
 -- what is read of the lines behind two lines
 abbrev pub reading_behind : List ℕ → ℕ → ℕ → List ℕ → List ℕ → List (List ℕ) → Result (List Pair) PairFault
-reading_behind bytes start line first second texts = reading (placed (length bytes) (past_of (length bytes) (past_of (length bytes) start first) second) (line + 1 + 1) texts)
+reading_behind bytes start line first second texts =
+    reading (placed (length bytes) (past_of (length bytes) (past_of (length bytes) start first) second) (line + 1 + 1)
+    texts)
 
 -- the pair of two lines
 abbrev pub pair_here : List ℕ → ℕ → ℕ → List ℕ → List ℕ → ℤ → Pair
-pair_here bytes start line first second code = pair_of code (line_of (length bytes) start line first) (line_of (length bytes) (past_of (length bytes) start first) (line + 1) second)
+pair_here bytes start line first second code =
+    pair_of code (line_of (length bytes) start line first)
+    (line_of (length bytes) (past_of (length bytes) start first) (line + 1) second)
 
 -- the pair of two lines in front of those that stand behind it
-tile_first : (bytes : List ℕ) (start line : ℕ) (first second : List ℕ) (code : ℤ) → code_of first ≡ Some code → start + length first ≤ length bytes
+tile_first : (bytes : List ℕ) (start line : ℕ) (first second : List ℕ) (code : ℤ) → code_of first ≡ Some code
+    → start + length first ≤ length bytes
     → past_of (length bytes) start first + length second ≤ length bytes → (more : List Pair) (past : ℕ)
     → AreTiles (past_of (length bytes) (past_of (length bytes) start first) second) (line + 2) more past
     → AreTiles start line (pair_here bytes start line first second code ∷ more) past
@@ -137,27 +165,44 @@ tile_first bytes start line first second code has inside second_inside more past
     let value = value_inside second in
     (refl, refl, omega arith, omega arith, omega arith, behind_it)
 
-tiles_from : (bytes : List ℕ) (start line : ℕ) (texts : List (List ℕ)) (pairs : List Pair) → Stand bytes start texts → reading (placed (length bytes) start line texts) ≡ Ok pairs
+tiles_from : (bytes : List ℕ) (start line : ℕ) (texts : List (List ℕ)) (pairs : List Pair) → Stand bytes start texts
+    → reading (placed (length bytes) start line texts) ≡ Ok pairs
     → (past : ℕ) × (past ≤ length bytes) × AreTiles start line pairs past
 tiles_from bytes start line [] pairs stand is = absurd (cc)
-tiles_from bytes start line (first ∷ []) pairs stand is = absurd (no_one (line_of (length bytes) start line first) (code_of first) pairs is)
+tiles_from bytes start line (first ∷ []) pairs stand is =
+    absurd (no_one (line_of (length bytes) start line first) (code_of first) pairs is)
 tiles_from bytes start line (first ∷ second ∷ texts) pairs stand is =
-    let (code, more, read) = two_ok (line_of (length bytes) start line first) (line_of (length bytes) (past_of (length bytes) start first) (line + 1) second) (code_of first)
+    let (code, more, read) = two_ok (line_of (length bytes) start line first)
+    (line_of (length bytes) (past_of (length bytes) start first) (line + 1) second) (code_of first)
     (reading_behind bytes start line first second texts) pairs is in
     joined code more read.code_is read.pairs_are read.rest_is
-    (λ others rest. tiles_from bytes (past_of (length bytes) (past_of (length bytes) start first) second) (line + 1 + 1) texts others stand.2.2 rest)
+    (λ others rest. tiles_from bytes (past_of (length bytes) (past_of (length bytes) start first) second) (line + 1 + 1)
+    texts others stand.2.2 rest)
   where
-    joined : (code : ℤ) (more : List Pair) → code_of first ≡ Some code → pairs ≡ pair_here bytes start line first second code ∷ more
-        → ((is_last code (value_of second) ≡ true) × (more ≡ [])) ⊎ ((is_last code (value_of second) ≡ false) × (reading_behind bytes start line first second texts ≡ Ok more))
+    joined : (code : ℤ) (more : List Pair) → code_of first ≡ Some code
+        → pairs ≡ pair_here bytes start line first second code ∷ more
+        → ((is_last code (value_of second) ≡ true) × (more ≡ []))
+        ⊎ ((is_last code (value_of second) ≡ false) × (reading_behind bytes start line first second texts ≡ Ok more))
         → ((others : List Pair) → reading_behind bytes start line first second texts ≡ Ok others
-        → (past : ℕ) × (past ≤ length bytes) × AreTiles (past_of (length bytes) (past_of (length bytes) start first) second) (line + 1 + 1) others past)
+        → (past : ℕ) × (past ≤ length bytes) × AreTiles
+        (past_of (length bytes) (past_of (length bytes) start first) second) (line + 1 + 1) others past)
         → (past : ℕ) × (past ≤ length bytes) × AreTiles start line pairs past
     joined code more has are (inl alone) behind_it =
-        rw (are, alone.1) (past_of (length bytes) (past_of (length bytes) start first) second, omega arith, tile_first bytes start line first second code has stand.0 stand.2.0 [] _ refl)
+        rw (are, alone.1) (
+          past_of (length bytes) (past_of (length bytes) start first) second,
+          omega arith,
+          tile_first
+              bytes start line first second code has stand.0 stand.2.0 [] _ refl,
+        )
     joined code more has are (inr others) behind_it =
         let (past, inside, tail) = behind_it more others.1 in
         let two_on : line + 1 + 1 ≡ line + 2 = omega arith in
-        rw are (past, inside, tile_first bytes start line first second code has stand.0 stand.2.0 more past (rw two_on at tail))
+        rw are (
+          past,
+          inside,
+          tile_first bytes start line first second code has stand.0 stand.2.0 more past
+              (rw two_on at tail),
+        )
 
 -- the bytes of a pair's value are the value of its line
 pub value_stands : (bytes : List ℕ) (start line : ℕ) (first second : List ℕ) (code : ℤ)
@@ -165,43 +210,62 @@ pub value_stands : (bytes : List ℕ) (start line : ℕ) (first second : List �
     → value_in bytes (pair_here bytes start line first second code) ≡ value_of second
 value_stands bytes start line first second code is =
     let inside = value_inside second in
-    let fits : prefix_len is_blank second + length (value_of second) ≤ past_of (length bytes) start first + length second - past_of (length bytes) start first = omega arith in
-    part_between bytes (past_of (length bytes) start first) (past_of (length bytes) start first + length second) (prefix_len is_blank second) (length (value_of second)) (omega arith) fits
-    ∙ ap (λ (text : List ℕ). take (length (value_of second)) (drop (prefix_len is_blank second) text)) is ∙ value_front second
+    let fits : prefix_len is_blank second + length (value_of second) ≤ past_of (length bytes) start first
+    + length second - past_of (length bytes) start first = omega arith in
+    part_between bytes (past_of (length bytes) start first) (past_of (length bytes) start first + length second)
+    (prefix_len is_blank second) (length (value_of second)) (omega arith) fits
+    ∙ ap (λ (text : List ℕ). take (length (value_of second)) (drop (prefix_len is_blank second) text)) is
+    ∙ value_front second
 
-groups_from : (bytes : List ℕ) (start line : ℕ) (texts : List (List ℕ)) (pairs : List Pair) → Stand bytes start texts → reading (placed (length bytes) start line texts) ≡ Ok pairs
+groups_from : (bytes : List ℕ) (start line : ℕ) (texts : List (List ℕ)) (pairs : List Pair) → Stand bytes start texts
+    → reading (placed (length bytes) start line texts) ≡ Ok pairs
     → map (group_in bytes) pairs ≡ groups_of_lines texts
 groups_from bytes start line [] pairs stand is = absurd (cc)
-groups_from bytes start line (first ∷ []) pairs stand is = absurd (no_one (line_of (length bytes) start line first) (code_of first) pairs is)
+groups_from bytes start line (first ∷ []) pairs stand is =
+    absurd (no_one (line_of (length bytes) start line first) (code_of first) pairs is)
 groups_from bytes start line (first ∷ second ∷ texts) pairs stand is =
-    let (code, more, read) = two_ok (line_of (length bytes) start line first) (line_of (length bytes) (past_of (length bytes) start first) (line + 1) second) (code_of first)
+    let (code, more, read) = two_ok (line_of (length bytes) start line first)
+    (line_of (length bytes) (past_of (length bytes) start first) (line + 1) second) (code_of first)
     (reading_behind bytes start line first second texts) pairs is in
     joined code more read.code_is read.pairs_are read.rest_is
-    (λ others rest. groups_from bytes (past_of (length bytes) (past_of (length bytes) start first) second) (line + 1 + 1) texts others stand.2.2 rest)
+    (λ others rest. groups_from bytes (past_of (length bytes) (past_of (length bytes) start first) second)
+    (line + 1 + 1) texts others stand.2.2 rest)
   where
-    joined : (code : ℤ) (more : List Pair) → code_of first ≡ Some code → pairs ≡ pair_here bytes start line first second code ∷ more
-        → ((is_last code (value_of second) ≡ true) × (more ≡ [])) ⊎ ((is_last code (value_of second) ≡ false) × (reading_behind bytes start line first second texts ≡ Ok more))
-        → ((others : List Pair) → reading_behind bytes start line first second texts ≡ Ok others → map (group_in bytes) others ≡ groups_of_lines texts)
+    joined : (code : ℤ) (more : List Pair) → code_of first ≡ Some code
+        → pairs ≡ pair_here bytes start line first second code ∷ more
+        → ((is_last code (value_of second) ≡ true) × (more ≡ []))
+        ⊎ ((is_last code (value_of second) ≡ false) × (reading_behind bytes start line first second texts ≡ Ok more))
+        → ((others : List Pair) → reading_behind bytes start line first second texts ≡ Ok others
+        → map (group_in bytes) others ≡ groups_of_lines texts)
         → map (group_in bytes) pairs ≡ group_of_two (code_of first) (value_of second) (groups_of_lines texts)
     joined code more has are (inl alone) behind_it =
         let value = value_stands bytes start line first second code stand.2.1 in
         rw (are, alone.1, has, alone.0) (ap (λ (text : List ℕ). (record { code = code; value = text }) ∷ []) value)
     joined code more has are (inr others) behind_it =
         let value = value_stands bytes start line first second code stand.2.1 in
-        rw (are, has, others.0, ← behind_it more others.1) (ap (λ (text : List ℕ). (record { code = code; value = text }) ∷ map (group_in bytes) more) value)
+        rw (are, has, others.0, ← behind_it more others.1)
+        (ap (λ (text : List ℕ). (record { code = code; value = text }) ∷ map (group_in bytes) more) value)
 
 pub tiles : PairsTile
 tiles bytes pairs is = tiles_from bytes 0 1 (lines_of bytes) pairs (all_stand bytes) (read_of_lines bytes pairs is)
 
 pub the_groups : PairsAreTheGroups
-the_groups bytes pairs is = groups_from bytes 0 1 (lines_of bytes) pairs (all_stand bytes) (read_of_lines bytes pairs is)
+the_groups bytes pairs is = groups_from bytes 0 1 (lines_of bytes) pairs (all_stand bytes)
+    (read_of_lines bytes pairs is)
 
 -- a pair of tiles lies before their end
-tile_at : (size start line past : ℕ) (pairs : List Pair) → past ≤ size → AreTiles start line pairs past → (start ≤ past) × All (IsWithin size) pairs
+tile_at : (size start line past : ℕ) (pairs : List Pair) → past ≤ size → AreTiles start line pairs past
+    → (start ≤ past) × All (IsWithin size) pairs
 tile_at size start line past [] inside is = (omega arith, λ i d within. absurd (omega arith))
 tile_at size start line past (pair ∷ pairs) inside (start_is, line_is, code, value, end, rest) =
     let (behind_it, others) = tile_at size pair.end (line + 2) past pairs inside rest in
-    let here : IsWithin size pair = record { behind_code = omega arith; value_order = value; value_inside = end; inside = omega arith } in
+    let here : IsWithin size pair = record {
+      behind_code = omega arith;
+      value_order = value;
+      value_inside =
+          end;
+      inside = omega arith;
+    } in
     (omega arith, All-cons (IsWithin size) pair pairs here others)
 
 pub within : PairsAreWithin

@@ -1,5 +1,6 @@
 -- Values and group codes by what stands on their lines.
-use Rattle.std.specs.Prelude.{◌≡◌, ◌⊎◌, ◌↔◌, ℕ, ◌<◌, ◌-◌, ◌≤◌, ℤ, pos, neg_ℤ, false, List, [], ◌++◌, length, slice_index, codes, Some}
+use Rattle.std.specs.Prelude.{◌≡◌, ◌⊎◌, ◌↔◌, ℕ, ◌<◌, ◌-◌, ◌≤◌, ℤ, pos, neg_ℤ, false, List, [], ◌++◌, length}
+use Rattle.std.specs.Prelude.{slice_index, codes, Some}
 use Rattle.std.specs.List.{AllPass}
 use Rattle.std.specs.Str.Parse.{IsNumeral, digits_value}
 use Rattle.dxf_pairs.specs.Values.{is_blank, value_of}
@@ -24,7 +25,8 @@ ValuesAreBetweenBlanks = (line value : List ℕ) → (value_of line ≡ value) �
 -- a number by its sign, of which there may be none, and its magnitude
 abbrev pub IsSigned : List ℕ → ℕ → ℤ → Type 0
 IsSigned sign magnitude number =
-    (((sign ≡ []) ⊎ (sign ≡ codes "+")) × (number ≡ pos magnitude)) ⊎ ((sign ≡ codes "-") × (number ≡ neg_ℤ (pos magnitude)))
+    (((sign ≡ []) ⊎ (sign ≡ codes "+")) × (number ≡ pos magnitude))
+    ⊎ ((sign ≡ codes "-") × (number ≡ neg_ℤ (pos magnitude)))
 
 -- a line that is blanks, a sign that may be missing, digits of a value that is not too great, and blanks
 pub record IsCodeLine (line : List ℕ) (code : ℤ) (before sign digits behind : List ℕ) : Type 0 where
@@ -36,7 +38,8 @@ pub record IsCodeLine (line : List ℕ) (code : ℤ) (before sign digits behind 
   pub signed : IsSigned sign (digits_value 10 digits) code
 
 abbrev pub HasCode : List ℕ → ℤ → Type 0
-HasCode line code = (before : List ℕ) × (sign : List ℕ) × (digits : List ℕ) × (behind : List ℕ) × IsCodeLine line code before sign digits behind
+HasCode line code = (before : List ℕ) × (sign : List ℕ) × (digits : List ℕ) × (behind : List ℕ)
+    × IsCodeLine line code before sign digits behind
 
 -- the group code of a line is the whole number that stands on it between blanks
 abbrev pub CodesAreWholeNumbers : Type 0

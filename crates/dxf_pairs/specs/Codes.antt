@@ -7,7 +7,8 @@ use Rattle.dxf_pairs.specs.declared.codes.TheConstants.{MOST_CODE}
 
 -- one digit or more, and a value that is not too great
 abbrev pub are_code_digits : List ℕ → Bool
-are_code_digits digits = nat_lt 0 (length digits) && all_ascii_digits digits && nat_le (digits_value 10 digits) MOST_CODE
+are_code_digits digits = nat_lt 0 (length digits) && all_ascii_digits digits && nat_le (digits_value 10 digits)
+    MOST_CODE
 
 -- the number of a text that is an optional sign and such digits
 abbrev pub number_of : List ℕ → Option ℤ

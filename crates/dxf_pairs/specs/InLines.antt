@@ -1,5 +1,6 @@
 -- The two lines of each pair in the bytes, and what they make with another value.
-use Rattle.std.specs.Prelude.{◌≡◌, ◌==◌, ℕ, ◌<◌, ◌-◌, true, false, List, [], ◌∷◌, ◌++◌, length, slice_index, drop, All, Some, Ok}
+use Rattle.std.specs.Prelude.{◌≡◌, ◌==◌, ℕ, ◌<◌, ◌-◌, true, false, List, [], ◌∷◌, ◌++◌, length, slice_index, drop, All}
+use Rattle.std.specs.Prelude.{Some, Ok}
 use Rattle.std.specs.List.{AllPass}
 use Rattle.dxf_pairs.specs.declared.pairs.Pair.{Pair}
 use Rattle.dxf_pairs.specs.declared.line_ends.TheConstants.{LINE_FEED}
@@ -19,7 +20,8 @@ pub record IsValue (text : List ℕ) : Type 0 where
   pub first : 0 < length text → is_blank (slice_index text 0) ≡ false
   pub last : 0 < length text → is_blank (slice_index text (length text - 1)) ≡ false
 
--- the bytes of a pair that does not end the drawing: the line of its code, and its value between blanks on a line of its own
+-- the bytes of a pair that does not end the drawing: the line of its code, and its value between blanks on a line of
+-- its own
 pub record IsTwoLines (bytes : List ℕ) (pair : Pair) (first before behind : List ℕ) : Type 0 where
   pub code_line : IsOneLine first
   pub code : code_of first ≡ Some pair.code
@@ -31,7 +33,8 @@ pub record IsTwoLines (bytes : List ℕ) (pair : Pair) (first before behind : Li
   pub goes_on : is_last pair.code (value_in bytes pair) ≡ false
 
 abbrev pub StandsInLines : List ℕ → Pair → Type 0
-StandsInLines bytes pair = (first : List ℕ) × (before : List ℕ) × (behind : List ℕ) × IsTwoLines bytes pair first before behind
+StandsInLines bytes pair = (first : List ℕ) × (before : List ℕ) × (behind : List ℕ)
+    × IsTwoLines bytes pair first before behind
 
 -- the pair that ends the drawing: from its start on there is no other group
 pub record EndsDrawing (bytes : List ℕ) (pair : Pair) : Type 0 where
@@ -47,7 +50,8 @@ AreInLines bytes (pair ∷ next ∷ pairs) = StandsInLines bytes pair × AreInLi
 abbrev pub PairsAreInLines : Type 0
 PairsAreInLines = (bytes : List ℕ) (pairs : List Pair) → drawing bytes ≡ Ok pairs → AreInLines bytes pairs
 
--- a pair of the bytes with another value, in front of a text: its group, and those of the text unless the group ends the drawing
+-- a pair of the bytes with another value, in front of a text: its group, and those of the text unless the group ends
+-- the drawing
 abbrev pub GroupsFollow : Type 0
 GroupsFollow =
     (bytes : List ℕ) (pair : Pair) (value more : List ℕ) → StandsInLines bytes pair → IsValue value

@@ -10,7 +10,8 @@ use Rattle.dxf_pairs.specs.Groups.{group_in, groups_of}
 abbrev pub AreTiles : ℕ → ℕ → List Pair → ℕ → Type 0
 AreTiles start line [] past = start ≡ past
 AreTiles start line (pair ∷ pairs) past =
-    (pair.start ≡ start) × (pair.line ≡ line) × (start < pair.value) × (pair.value ≤ pair.value_end) × (pair.value_end ≤ pair.end)
+    (pair.start ≡ start) × (pair.line ≡ line) × (start < pair.value) × (pair.value ≤ pair.value_end)
+    × (pair.value_end ≤ pair.end)
     × AreTiles pair.end (line + 2) pairs past
 
 -- the pairs stand so from the first byte on, and all lie in the bytes
@@ -34,8 +35,10 @@ PairsAreWithin = (bytes : List ℕ) (pairs : List Pair) → drawing bytes ≡ Ok
 
 -- the pairs of a drawing without their places are the groups of its text
 abbrev pub PairsAreTheGroups : Type 0
-PairsAreTheGroups = (bytes : List ℕ) (pairs : List Pair) → drawing bytes ≡ Ok pairs → map (group_in bytes) pairs ≡ groups_of bytes
+PairsAreTheGroups = (bytes : List ℕ) (pairs : List Pair) → drawing bytes ≡ Ok pairs
+    → map (group_in bytes) pairs ≡ groups_of bytes
 
 -- the lines of a text that goes on behind a line feed are those up to it and those behind it
 abbrev pub LinesFollow : Type 0
-LinesFollow = (front more : List ℕ) → lines_of (front ++ LINE_FEED ∷ more) ≡ lines_of (front ++ LINE_FEED ∷ []) ++ lines_of more
+LinesFollow = (front more : List ℕ) → lines_of (front ++ LINE_FEED ∷ more) ≡ lines_of (front ++ LINE_FEED ∷ [])
+    ++ lines_of more

@@ -20,7 +20,8 @@ without_empty_last (line ∷ next ∷ lines) = line ∷ without_empty_last (next
 abbrev pub lines_of : List ℕ → List (List ℕ)
 lines_of text = without_empty_last (slice_split (λ byte. byte == LINE_FEED) text)
 
--- a line: its bytes without the line feed, its number, where it starts, and the place past its line feed, or else the end of the bytes
+-- a line: its bytes without the line feed, its number, where it starts, and the place past its line feed, or else the
+-- end of the bytes
 pub record Line : Type 0 where
   pub text : List ℕ
   pub number : ℕ
@@ -48,4 +49,10 @@ between start end bytes = take (end - start) (drop start bytes)
 
 -- the line of these places in the bytes
 abbrev pub line_at : List ℕ → LineEnds → ℕ → Line
-line_at bytes ends number = record { text = between ends.start ends.end bytes; number = number; start = ends.start; end = ends.past }
+line_at bytes ends number = record {
+  text = between ends.start ends.end bytes;
+  number = number;
+  start =
+      ends.start;
+  end = ends.past;
+}

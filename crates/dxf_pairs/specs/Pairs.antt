@@ -1,6 +1,7 @@
 -- The pairs of a drawing, or why it has none. Lines are taken two by two, as a group code and its value
 -- (AutoCAD DXF reference, ASCII form).
-use Rattle.std.specs.Prelude.{ℕ, ◌+◌, ◌≡◌, ℤ, pos, Bool, true, false, ◌&&◌, if◌then◌else◌, List, [], ◌∷◌, ◌++◌, length, nat_eq, Option, None, Some, Result, Ok, Err}
+use Rattle.std.specs.Prelude.{ℕ, ◌+◌, ◌≡◌, ℤ, pos, Bool, true, false, ◌&&◌, if◌then◌else◌, List, [], ◌∷◌, ◌++◌, length}
+use Rattle.std.specs.Prelude.{nat_eq, Option, None, Some, Result, Ok, Err}
 use Rattle.std.specs.List.{prefix_len, starts_with}
 use Rattle.std.specs.Str.{bytes_eq}
 use Rattle.std.specs.Ordering.{int_eq}
@@ -16,7 +17,15 @@ use Rattle.dxf_pairs.specs.Codes.{code_of}
 abbrev pub pair_of : ℤ → Line → Line → Pair
 pair_of code first second =
     let value = second.start + prefix_len is_blank second.text in
-    record { code = code; start = first.start; value = value; value_end = value + length (value_of second.text); end = second.end; line = first.number }
+    record {
+      code = code;
+      start = first.start;
+      value = value;
+      value_end = value + length (value_of second.text);
+      end =
+          second.end;
+      line = first.number;
+    }
 
 -- a group code and a value that end a drawing
 abbrev pub is_last : ℤ → List ℕ → Bool
@@ -52,7 +61,7 @@ reading (first ∷ second ∷ lines) = of_two first second (code_of first.text) 
 abbrev pub drawing : List ℕ → Result (List Pair) PairFault
 drawing bytes = if starts_with nat_eq bytes BINARY.now then Err Binary else reading (lines bytes)
 
--- the answer is this fault; want of memory may come always
+-- the answer is this fault; memory may always run out
 abbrev pub Stops : Result (List Pair) PairFault → PairFault → Type 0
 Stops answer NoMemory = Unit {0}
 Stops answer fault = answer ≡ Err fault

@@ -10,7 +10,8 @@ use Rattle.frac128.specs.declared.frac.TheConstants.{TURN}
 use Rattle.frac128.specs.declared.frac.Frac.{Frac}
 
 pub product_fits : (a b : ℤ) → IsSmall a → IsSmall b → SFits w128 (a *ℤ b)
-product_fits a b h k = fits_signed_mul w128 a b (unsigned_abs TURN) (unsigned_abs TURN) (omega (arith, ints)) (omega (arith, ints)) (omega arith)
+product_fits a b h k = fits_signed_mul w128 a b (unsigned_abs TURN) (unsigned_abs TURN) (omega (arith, ints))
+    (omega (arith, ints)) (omega arith)
 
 product_small : (a b : ℤ) → IsSmall a → IsSmall b → unsigned_abs (a *ℤ b) < 2 ^ 126
 product_small a b h k =
@@ -19,7 +20,11 @@ product_small a b h k =
     omega (arith, ints, unsigned_abs-mul a b, mul-le-mul m n)
 
 pub compared_products_are_small : ComparedProductsAreSmall
-compared_products_are_small a b = (product_small a.num b.den a.num_small b.den_small, product_small b.num a.den b.num_small a.den_small)
+compared_products_are_small a b = (
+  product_small a.num b.den a.num_small b.den_small,
+  product_small b.num a.den
+      b.num_small a.den_small,
+)
 
 pub at_most_of_below : (a b : Frac) → IsBelow a b → IsAtMost a b
 at_most_of_below a b h = ≤_of_< (a.num *ℤ b.den) (b.num *ℤ a.den) h

@@ -18,17 +18,23 @@ below_of a b e = subst (λ (o : Ordering). MatchOrdering o (IsBelow a b) (IsSame
 same_of : (a b : Frac) → order_of a b ≡ Equal → IsSameValue a b
 same_of a b e = subst (λ (o : Ordering). MatchOrdering o (IsBelow a b) (IsSameValue a b) (IsBelow b a)) e (cases a b)
 
-is_order : (a b : Frac) (o : Ordering) → MatchOrdering o (IsBelow a b) (IsSameValue a b) (IsBelow b a) → o ≡ order_of a b
+is_order : (a b : Frac) (o : Ordering) → MatchOrdering o (IsBelow a b) (IsSameValue a b) (IsBelow b a)
+    → o ≡ order_of a b
 is_order a b o m = int_cmp_is (a.num *ℤ b.den) (b.num *ℤ a.den) o m
 
 below_trans : (a b c : Frac) → IsBelow a b → IsBelow b c → IsBelow a c
-below_trans a b c h k = frac-<-≤_trans a.num a.den b.num b.den c.num c.den a.positive b.positive c.positive h (≤_of_< (b.num *ℤ c.den) (c.num *ℤ b.den) k)
+below_trans a b c h k = frac-<-≤_trans a.num a.den b.num b.den c.num c.den a.positive b.positive c.positive h
+    (≤_of_< (b.num *ℤ c.den) (c.num *ℤ b.den) k)
 
 -- with a of the value of b: what is so of b and c is so of a and c
-alike : (a b c : Frac) → IsSameValue a b → (o : Ordering) → MatchOrdering o (IsBelow b c) (IsSameValue b c) (IsBelow c b) → MatchOrdering o (IsBelow a c) (IsSameValue a c) (IsBelow c a)
-alike a b c e Less m = frac-≤-<_trans a.num a.den b.num b.den c.num c.den a.positive b.positive c.positive (≤_of_≡ (a.num *ℤ b.den) (b.num *ℤ a.den) e) m
+alike : (a b c : Frac) → IsSameValue a b → (o : Ordering)
+    → MatchOrdering o (IsBelow b c) (IsSameValue b c) (IsBelow c b)
+    → MatchOrdering o (IsBelow a c) (IsSameValue a c) (IsBelow c a)
+alike a b c e Less m = frac-≤-<_trans a.num a.den b.num b.den c.num c.den a.positive b.positive c.positive
+    (≤_of_≡ (a.num *ℤ b.den) (b.num *ℤ a.den) e) m
 alike a b c e Equal m = frac-≡_trans a.num a.den b.num b.den c.num c.den b.positive e m
-alike a b c e Greater m = frac-<-≤_trans c.num c.den b.num b.den a.num a.den c.positive b.positive a.positive m (≤_of_≡ (b.num *ℤ a.den) (a.num *ℤ b.den) (sym e))
+alike a b c e Greater m = frac-<-≤_trans c.num c.den b.num b.den a.num a.den c.positive b.positive a.positive m
+    (≤_of_≡ (b.num *ℤ a.den) (a.num *ℤ b.den) (sym e))
 
 pub values_are_in_total_order : IsTotalOrder order_of
 values_are_in_total_order =

@@ -29,4 +29,5 @@ IsUpTo f n d = (n *ℤ f.den) ≤ℤ (f.num *ℤ d)
 
 -- both products of a comparison are below 2^126 in magnitude, so that 128 bits hold each
 abbrev pub ComparedProductsAreSmall : Type 0
-ComparedProductsAreSmall = (a b : Frac) → (unsigned_abs (a.num *ℤ b.den) < 2 ^ 126) × (unsigned_abs (b.num *ℤ a.den) < 2 ^ 126)
+ComparedProductsAreSmall = (a b : Frac) → (unsigned_abs (a.num *ℤ b.den) < 2 ^ 126)
+    × (unsigned_abs (b.num *ℤ a.den) < 2 ^ 126)

@@ -1,6 +1,8 @@
 //! Laws of fractions: their order, their rounding, and the size of the products that compare them.
 
+ghost use Rattle.std.specs.Prelude.{◌≡◌, ◌^◌, pos};
 ghost use Rattle.std.specs.Cmp.{IsTotalOrder};
+ghost use Rattle.frac128.specs.declared.frac.TheConstants.{TURN};
 ghost use Rattle.frac128.specs.Fractions.{order_of, ComparedProductsAreSmall};
 ghost use Rattle.frac128.specs.Rounding.{HalfUpIsNearest, HalfUpIsWithinHalf};
 
@@ -19,7 +21,13 @@ pub fn half_up_is_within_half()
     ensures { HalfUpIsWithinHalf }
 {}
 
-/// The two products by which two fractions are compared are below 2^126 in magnitude: 128 bits hold them with a bit to spare.
+/// The two products by which two fractions are compared are below 2^126 in magnitude: 128 bits hold them with a bit to
+/// spare.
 pub fn compared_products_are_small()
     ensures { ComparedProductsAreSmall }
+{}
+
+/// A law: the limit on numerators and denominators is this number.
+pub fn limits_are_stated()
+    ensures turn { TURN ≡ pos (2 ^ 63) }
 {}

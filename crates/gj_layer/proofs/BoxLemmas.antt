@@ -30,8 +30,24 @@ bounds_are (image ∷ images) = ap box_text (box_is image images)
 
 pub boxes_are_least : BoxesAreLeast
 boxes_are_least image images = record {
-  left = (fold-int_min_reached image.x (map x_of images) (box_of image images).x0 refl, fold-int_min_bounds image.x (map x_of images) (box_of image images).x0 refl);
-  bottom = (fold-int_min_reached image.y (map y_of images) (box_of image images).y0 refl, fold-int_min_bounds image.y (map y_of images) (box_of image images).y0 refl);
-  right = (fold-int_max_reached image.x (map x_of images) (box_of image images).x1 refl, fold-int_max_bounds image.x (map x_of images) (box_of image images).x1 refl);
-  top = (fold-int_max_reached image.y (map y_of images) (box_of image images).y1 refl, fold-int_max_bounds image.y (map y_of images) (box_of image images).y1 refl);
+  left = (
+    fold-int_min_reached image.x (map x_of images) (box_of image images).x0 refl,
+    fold-int_min_bounds image.x
+        (map x_of images) (box_of image images).x0 refl,
+  );
+  bottom = (
+    fold-int_min_reached image.y (map y_of images) (box_of image images).y0 refl,
+    fold-int_min_bounds image.y
+        (map y_of images) (box_of image images).y0 refl,
+  );
+  right = (
+    fold-int_max_reached image.x (map x_of images) (box_of image images).x1 refl,
+    fold-int_max_bounds image.x
+        (map x_of images) (box_of image images).x1 refl,
+  );
+  top = (
+    fold-int_max_reached image.y (map y_of images) (box_of image images).y1 refl,
+    fold-int_max_bounds image.y
+        (map y_of images) (box_of image images).y1 refl,
+  );
 }

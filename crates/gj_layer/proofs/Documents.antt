@@ -1,5 +1,6 @@
 -- A whole document, from its value on.
-use Rattle.std.proofs.Common.{◌≡◌, ℕ, ◌+◌, ◌<◌, ◌^◌, List, [], ◌∷◌, ◌++◌, length, refl, sym, ap, ◌∙◌, subst, arith, append-nil, length-append, Bool}
+use Rattle.std.proofs.Common.{◌≡◌, ℕ, ◌+◌, ◌<◌, ◌^◌, List, [], ◌∷◌, ◌++◌, length, refl, sym, ap, ◌∙◌, subst, arith}
+use Rattle.std.proofs.Common.{append-nil, length-append, Bool}
 use Rattle.std.specs.Prelude.{Some, None, Result, Ok, Err, IfOk, slice_get, flat_map}
 use Rattle.jtext.specs.Texts.{Whole, IsWhole, mark_text}
 use Rattle.jtext.specs.Values.{spelling}
@@ -24,15 +25,26 @@ use Rattle.gj_layer.proofs.Opened.{alone, alone_read, ok_same}
 use Rattle.gj_layer.proofs.Fine.{value_fine, part_is_sheet, order_wider}
 
 -- the frame of the whole value
-pub begins : (doc : Doc) (bytes : List ℕ) (exact : Bool) (whole : Whole) (node : Node) (pass : Pass) → IsReading whole doc bytes → slice_get doc.nodes 0 ≡ Some node → Holds pass nothing
-    → Going exact doc.nodes bytes (record { form = forms.Object holders.Layer; at = 0; end = node.next; ending = None } ∷ []) pass (layer_reading exact whole)
+pub begins : (doc : Doc) (bytes : List ℕ) (exact : Bool) (whole : Whole) (node : Node) (pass : Pass)
+    → IsReading whole doc bytes → slice_get doc.nodes 0 ≡ Some node → Holds pass nothing
+    → Going exact doc.nodes bytes (record { form = forms.Object holders.Layer; at = 0; end = node.next; ending = None }
+    ∷ []) pass (layer_reading exact whole)
 begins doc bytes exact whole node pass reading got held =
     let start = whole_start whole in
     let h = reading_stands whole doc bytes reading in
     let next = ap (λ (n : Node). n.next) (first_is doc.nodes bytes 0 start whole.value node h got) in
     let here : start ≡ start + 0 = omega arith in
     let count : 0 + node_count whole.value ≡ node.next = sym next in (
-      record { form = forms.Object holders.Layer; number = 0; next = 0; place = start; rest = alone whole.value; own = None; done = nothing },
+      record {
+        form = forms.Object holders.Layer;
+        number = 0;
+        next = 0;
+        place = start;
+        rest = alone whole.value;
+        own =
+            None;
+        done = nothing;
+      },
       [],
       record {
         form_is = refl;
@@ -49,23 +61,70 @@ begins doc bytes exact whole node pass reading got held =
 
 -- what is held is the sheet
 pub held_sheet : (pass : Pass) (part : Part) → Holds pass part
-    → (let sheet : Contents = record { paths = pass.paths.items; points = pass.points.items; edits = pass.edits.items; inexact = pass.inexact; dropped = 0 } in sheet) ≡ sheet_of part
+    → (let sheet : Contents = record {
+      paths = pass.paths.items;
+      points = pass.points.items;
+      edits =
+          pass.edits.items;
+      inexact = pass.inexact;
+      dropped = 0;
+    } in sheet) ≡ sheet_of part
 held_sheet pass part held =
-    let points : pass.points.items ≡ flat_map points_in part.paths = held.points_are ∙ append-nil (flat_map points_in part.paths) in
-    ap (λ x. let c : Contents = record { paths = x; points = pass.points.items; edits = pass.edits.items; inexact = pass.inexact; dropped = 0 } in c) held.paths
-    ∙ ap (λ x. let c : Contents = record { paths = rows_from 0 part.paths; points = x; edits = pass.edits.items; inexact = pass.inexact; dropped = 0 } in c) points
-    ∙ ap (λ x. let c : Contents = record { paths = rows_from 0 part.paths; points = flat_map points_in part.paths; edits = x; inexact = pass.inexact; dropped = 0 } in c) held.edits
-    ∙ ap (λ x. let c : Contents = record { paths = rows_from 0 part.paths; points = flat_map points_in part.paths; edits = part.edits; inexact = x; dropped = 0 } in c) held.inexact
+    let points : pass.points.items ≡ flat_map points_in part.paths = held.points_are
+    ∙ append-nil (flat_map points_in part.paths) in
+    ap (λ x. let c : Contents = record {
+      paths = x;
+      points = pass.points.items;
+      edits = pass.edits.items;
+      inexact =
+          pass.inexact;
+      dropped = 0;
+    } in c) held.paths
+    ∙ ap (λ x. let c : Contents = record {
+      paths = rows_from 0 part.paths;
+      points = x;
+      edits =
+          pass.edits.items;
+      inexact = pass.inexact;
+      dropped = 0;
+    } in c) points
+    ∙ ap (λ x. let c : Contents = record {
+      paths = rows_from 0 part.paths;
+      points =
+          flat_map points_in part.paths;
+      edits = x;
+      inexact = pass.inexact;
+      dropped = 0;
+    } in c) held.edits
+    ∙ ap (λ x. let c : Contents = record {
+      paths = rows_from 0 part.paths;
+      points =
+          flat_map points_in part.paths;
+      edits = part.edits;
+      inexact = x;
+      dropped = 0;
+    } in c) held.inexact
 
-pub held_is_sheet : (pass : Pass) (part : Part) (exact : Bool) (whole : Whole) → Holds pass part → layer_reading exact whole ≡ Ok part → length pass.points.items < 2 ^ 32
-    → (let sheet : Contents = record { paths = pass.paths.items; points = pass.points.items; edits = pass.edits.items; inexact = pass.inexact; dropped = 0 } in IsSheet sheet)
+pub held_is_sheet : (pass : Pass) (part : Part) (exact : Bool) (whole : Whole) → Holds pass part
+    → layer_reading exact whole ≡ Ok part → length pass.points.items < 2 ^ 32
+    → (let sheet : Contents = record {
+      paths = pass.paths.items;
+      points = pass.points.items;
+      edits =
+          pass.edits.items;
+      inexact = pass.inexact;
+      dropped = 0;
+    } in IsSheet sheet)
 held_is_sheet pass part exact whole held read few =
     let fine = value_fine whole.value exact (forms.Object holders.Layer) 0 (whole_start whole) part read in
-    let points : pass.points.items ≡ flat_map points_in part.paths = held.points_are ∙ append-nil (flat_map points_in part.paths) in
-    subst IsSheet (sym (held_sheet pass part held)) (part_is_sheet part fine.sound (subst (λ ps. length ps < 2 ^ 32) points few))
+    let points : pass.points.items ≡ flat_map points_in part.paths = held.points_are
+    ∙ append-nil (flat_map points_in part.paths) in
+    subst IsSheet (sym (held_sheet pass part held))
+    (part_is_sheet part fine.sound (subst (λ ps. length ps < 2 ^ 32) points few))
 
 -- the edits of a layer that is read stand in order inside it
-pub read_in_order : (exact : Bool) (bytes : List ℕ) (sheet : Contents) → IsReadAs exact bytes sheet → AreInOrder 0 sheet.edits (length bytes)
+pub read_in_order : (exact : Bool) (bytes : List ℕ) (sheet : Contents) → IsReadAs exact bytes sheet
+    → AreInOrder 0 sheet.edits (length bytes)
 read_in_order exact bytes sheet (part, (whole, text, read), is) =
     let start = whole_start whole in
     let fine = value_fine whole.value exact (forms.Object holders.Layer) 0 start part read in
@@ -74,12 +133,16 @@ read_in_order exact bytes sheet (part, (whole, text, read), is) =
     let value = length-append (spelling whole.value) whole.after in
     let long = ap length text.all in
     subst (λ (s : Contents). AreInOrder 0 s.edits (length bytes)) (sym is)
-    (order_wider start (start + length (spelling whole.value)) part.edits 0 (length bytes) (omega arith) (omega (arith, long, mark, before, value)) fine.order)
+    (order_wider start (start + length (spelling whole.value)) part.edits 0 (length bytes) (omega arith)
+    (omega (arith, long, mark, before, value)) fine.order)
 
-pub answer_ok : (exact : Bool) (bytes : List ℕ) (whole : Whole) (sheet : Contents) → IsWhole DEEPEST whole bytes → (part : Part) × (layer_reading exact whole ≡ Ok part) × (sheet ≡ sheet_of part) → IsReadAs exact bytes sheet
+pub answer_ok : (exact : Bool) (bytes : List ℕ) (whole : Whole) (sheet : Contents) → IsWhole DEEPEST whole bytes
+    → (part : Part) × (layer_reading exact whole ≡ Ok part) × (sheet ≡ sheet_of part) → IsReadAs exact bytes sheet
 answer_ok exact bytes whole sheet text (part, read, is) = (part, (whole, text, read), is)
 
-pub order_given : (exact : Bool) (bytes : List ℕ) (whole : Whole) (r : Result Contents LayerFault) → IsWhole DEEPEST whole bytes → Gives (λ sheet part. sheet ≡ sheet_of part) r (layer_reading exact whole)
+pub order_given : (exact : Bool) (bytes : List ℕ) (whole : Whole) (r : Result Contents LayerFault)
+    → IsWhole DEEPEST whole bytes → Gives (λ sheet part. sheet ≡ sheet_of part) r (layer_reading exact whole)
     → IfOk r (λ sheet. AreInOrder 0 sheet.edits (length bytes))
-order_given exact bytes whole (Ok sheet) text given = read_in_order exact bytes sheet (answer_ok exact bytes whole sheet text given)
+order_given exact bytes whole (Ok sheet) text given =
+    read_in_order exact bytes sheet (answer_ok exact bytes whole sheet text given)
 order_given exact bytes whole (Err fault) text given = tt

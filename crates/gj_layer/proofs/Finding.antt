@@ -15,22 +15,27 @@ use Rattle.gj_layer.proofs.There.{first_is}
 
 module _ (nodes : List Node) (bytes : List ℕ) (object past : ℕ) where
   -- the node of a member that was found
-  pub found_within : (found : Option ℕ) (number : ℕ) (one : Option Member) → found ≡ Some number → AreFound nodes bytes object past found one → number < length nodes
+  pub found_within : (found : Option ℕ) (number : ℕ) (one : Option Member) → found ≡ Some number
+      → AreFound nodes bytes object past found one → number < length nodes
   found_within (Some other) number (Some one) is are =
       let same : other ≡ number = cc in
-      subst (λ n. n < length nodes) same (slice_get_within nodes other (first_node other one.start one.value) (first_there nodes bytes other one.start one.value are.stands))
+      subst (λ n. n < length nodes) same (slice_get_within nodes other (first_node other one.start one.value)
+      (first_there nodes bytes other one.start one.value are.stands))
   found_within (Some other) number None is are = absurd are
   found_within None number one is are = cc
 
-  pub span_found : (found : Option ℕ) (number : ℕ) (one : Option Member) (node : Node) (what : What) → found ≡ Some number → AreFound nodes bytes object past found one → slice_get nodes number ≡ Some node
+  pub span_found : (found : Option ℕ) (number : ℕ) (one : Option Member) (node : Node) (what : What)
+      → found ≡ Some number → AreFound nodes bytes object past found one → slice_get nodes number ≡ Some node
       → ◌≡◌ {A = List Edit} (record { start = node.start; end = node.end; what = what } ∷ []) (value_edits one what)
   span_found (Some other) number (Some one) node what is are got =
       let same : number ≡ other = cc in
-      ap (λ (n : Node). record { start = n.start; end = n.end; what = what } ∷ []) (first_is nodes bytes other one.start one.value node are.stands (ap (slice_get nodes) (sym same) ∙ got))
+      ap (λ (n : Node). record { start = n.start; end = n.end; what = what } ∷ [])
+      (first_is nodes bytes other one.start one.value node are.stands (ap (slice_get nodes) (sym same) ∙ got))
   span_found (Some other) number None node what is are got = absurd are
   span_found None number one node what is are got = cc
 
-  pub content_found : (found : Option ℕ) (number : ℕ) (one : Option Member) (node : Node) → found ≡ Some number → AreFound nodes bytes object past found one → slice_get nodes number ≡ Some node
+  pub content_found : (found : Option ℕ) (number : ℕ) (one : Option Member) (node : Node) → found ≡ Some number
+      → AreFound nodes bytes object past found one → slice_get nodes number ≡ Some node
       → IsContentAt nodes bytes object past (number, node.next, node.start) one
   content_found (Some other) number (Some one) node is are got =
       let same : other ≡ number = cc in
@@ -48,13 +53,16 @@ module _ (nodes : List Node) (bytes : List ℕ) (object past : ℕ) where
   content_found None number one node is are got = cc
 
   -- a value that was found for a member
-  pub value_found : (found : Option ℕ) (number : ℕ) (one : Option Member) → found ≡ Some number → AreFound nodes bytes object past found one
+  pub value_found : (found : Option ℕ) (number : ℕ) (one : Option Member) → found ≡ Some number
+      → AreFound nodes bytes object past found one
       → (member : Member) × (one ≡ Some member) × Stands nodes bytes number member.start member.value
-  value_found (Some other) number (Some one) is are = let same : other ≡ number = cc in (one, refl, subst (λ n. Stands nodes bytes n one.start one.value) same are.stands)
+  value_found (Some other) number (Some one) is are = let same : other ≡ number =
+      cc in (one, refl, subst (λ n. Stands nodes bytes n one.start one.value) same are.stands)
   value_found (Some other) number None is are = absurd are
   value_found None number one is are = cc
 
-  pub none_found : (found : Option ℕ) (one : Option Member) → found ≡ None → AreFound nodes bytes object past found one → one ≡ None
+  pub none_found : (found : Option ℕ) (one : Option Member) → found ≡ None → AreFound nodes bytes object past found one
+      → one ≡ None
   none_found None None is are = refl
   none_found None (Some one) is are = absurd are
   none_found (Some other) one is are = cc

@@ -2,7 +2,8 @@
 use Rattle.std.proofs.Common.{◌≡◌, ℕ, suc, ◌≤◌, inl, inr, Bool, true, List, [], ◌∷◌, refl, sym, ap, ◌∙◌, subst, arith}
 use Rattle.std.specs.Prelude.{Option, Some, None, Ok, if◌then◌else◌}
 use Rattle.jtext.specs.Characters.{units_of}
-use Rattle.jtext.specs.Values.{Json, Members, null, truth, numeral, quoted, array, object, no_member, member, IsValue, AreMembers}
+use Rattle.jtext.specs.Values.{Json, Members, null, truth, numeral, quoted, array, object, no_member, member, IsValue}
+use Rattle.jtext.specs.Values.{AreMembers}
 use Rattle.jtext.specs.Nodes.{element_start, member_start, next_place}
 use Rattle.jtext.specs.Lookups.{are_same}
 use Rattle.gj_layer.specs.declared.forms.GeoType.{GeoType}
@@ -28,7 +29,8 @@ HasRoom (forms.Object holders.Features) depth = 2 ≤ depth
 HasRoom (forms.List items.Features) depth = 3 ≤ depth
 HasRoom form depth = Unit {0}
 
-pub content_room : (holder : Holder) (type : GeoType) (depth : ℕ) → is_allowed holder type ≡ true → HasRoom (forms.Object holder) (suc depth) → HasRoom (content_form type) depth
+pub content_room : (holder : Holder) (type : GeoType) (depth : ℕ) → is_allowed holder type ≡ true
+    → HasRoom (forms.Object holder) (suc depth) → HasRoom (content_form type) depth
 content_room holders.Layer types.FeatureCollection depth may room = omega (arith, room)
 content_room holders.Features types.FeatureCollection depth may room = cc
 content_room holders.Geometries types.FeatureCollection depth may room = cc
@@ -50,7 +52,8 @@ item_room items.Rings depth room = tt
 item_room items.Polygons depth room = tt
 
 -- only null may stand where nothing nests
-flat_read : (value : Json) (exact : Bool) (form : Form) (number start : ℕ) (part : Part) → reading exact form number start value ≡ Ok part → IsValue 0 value → form ≡ forms.Optional
+flat_read : (value : Json) (exact : Bool) (form : Form) (number start : ℕ) (part : Part)
+    → reading exact form number start value ≡ Ok part → IsValue 0 value → form ≡ forms.Optional
 flat_read null exact forms.Optional number start part is valid = refl
 flat_read null exact (forms.Object holder) number start part is valid = cc
 flat_read null exact (forms.Path trace) number start part is valid = cc
@@ -83,13 +86,16 @@ bare_feature types.MultiLineString kind start is = cc
 bare_feature types.Polygon kind start is = cc
 bare_feature types.MultiPolygon kind start is = cc
 
-no_feature : (holder : Holder) (type : GeoType) → type ≡ types.Feature → is_allowed holder type ≡ true → HasRoom (forms.Object holder) 1 → ⊥
+no_feature : (holder : Holder) (type : GeoType) → type ≡ types.Feature → is_allowed holder type ≡ true
+    → HasRoom (forms.Object holder) 1 → ⊥
 no_feature holders.Layer type is may room = absurd (omega (arith, room))
 no_feature holders.Features type is may room = absurd (omega (arith, room))
-no_feature holders.Geometries type is may room = let e : is_allowed holders.Geometries types.Feature ≡ true = subst (λ t. is_allowed holders.Geometries t ≡ true) is may in cc
+no_feature holders.Geometries type is may room = let e : is_allowed holders.Geometries types.Feature ≡ true =
+    subst (λ t. is_allowed holders.Geometries t ≡ true) is may in cc
 
 -- a member's value nests no deeper than the members may
-value_in : (name : List ℕ) (depth place : ℕ) (members : Members) (one : Member) (more : List Member) → AreMembers depth members → all_named name (members_at place members) ≡ one ∷ more → IsValue depth one.value
+value_in : (name : List ℕ) (depth place : ℕ) (members : Members) (one : Member) (more : List Member)
+    → AreMembers depth members → all_named name (members_at place members) ≡ one ∷ more → IsValue depth one.value
 value_in name depth place no_member one more valid is = cc
 value_in name depth place (member before key behind ahead value after rest) one more valid is =
     let start = member_start place before key behind ahead in
@@ -100,17 +106,22 @@ value_in name depth place (member before key behind ahead value after rest) one 
           let e : here ∷ others ≡ one ∷ more = sym (ap (λ b. if b then here ∷ others else others) t) ∙ is in
           let head : here ≡ one = cc in
           subst (λ (m : Member). IsValue depth m.value) head valid.4
-      | inr t ↦ value_in name depth (next_place start value after) rest one more valid.6 (sym (ap (λ b. if b then here ∷ others else others) t) ∙ is)
+      | inr t ↦ value_in name depth (next_place start value after) rest one more valid.6
+          (sym (ap (λ b. if b then here ∷ others else others) t) ∙ is)
     ]
 
 -- an object has a level for a box
-pub has_level : (exact : Bool) (holder : Holder) (number start place : ℕ) (members : Members) (type : GeoType) (inside : Part) → IsTyped holder start (members_at place members) type → HasRoom (forms.Object holder) 1
+pub has_level : (exact : Bool) (holder : Holder) (number start place : ℕ) (members : Members) (type : GeoType)
+    (inside : Part) → IsTyped holder start (members_at place members) type → HasRoom (forms.Object holder) 1
     → AreMembers 0 members → content_reading exact number place members type ≡ Ok inside → ⊥
 has_level exact holder number start place members type inside t room valid read = by t.found t.found_is t.has
   where
-    by : (found : Option Member) → find_member (content_key type) (members_at place members) ≡ Ok found → with_content type start found ≡ Ok type → ⊥
+    by : (found : Option Member) → find_member (content_key type) (members_at place members) ≡ Ok found
+        → with_content type start found ≡ Ok type → ⊥
     by None found_is has = no_feature holder type (bare_feature type type start has) t.may room
     by (Some one) found_is has =
         let only = at_most_is (all_named (content_key type) (members_at place members)) one found_is in
         let here = sym (content_is_read exact number place members type one [] only) ∙ read in
-        no_feature holder type (optional_feature type (flat_read one.value exact (content_form type) number one.start inside here (value_in (content_key type) 0 place members one [] valid only))) t.may room
+        no_feature holder type (optional_feature type
+        (flat_read one.value exact (content_form type) number one.start inside here
+        (value_in (content_key type) 0 place members one [] valid only))) t.may room

@@ -24,8 +24,10 @@ use Rattle.gj_layer.proofs.ValueTurns.{value_turned}
 use Rattle.gj_layer.proofs.SheetTurns.{sheet_suits, points_again, rows_again}
 
 -- the whole text of the value that the layer's value turns into
-whole_again : (exact : Bool) (bytes : List ℕ) (part : Part) (images : Runs) (whole : Whole) → IsWhole DEEPEST whole bytes → layer_reading exact whole ≡ Ok part → DoFit (sheet_of part) images
-    → ValueTurned exact (edit_text (sheet_of part) images) (path_images (rows_from 0 part.paths) images) (forms.Object holders.Layer) 0 (whole_start whole) DEEPEST whole.value part
+whole_again : (exact : Bool) (bytes : List ℕ) (part : Part) (images : Runs) (whole : Whole)
+    → IsWhole DEEPEST whole bytes → layer_reading exact whole ≡ Ok part → DoFit (sheet_of part) images
+    → ValueTurned exact (edit_text (sheet_of part) images) (path_images (rows_from 0 part.paths) images)
+    (forms.Object holders.Layer) 0 (whole_start whole) DEEPEST whole.value part
     → IsReadAgain (IsReadAs exact) (spliced bytes (edit_text (sheet_of part) images) part.edits) (sheet_of part) images
 whole_again exact bytes part images whole is read fit v =
     let text = edit_text (sheet_of part) images in
@@ -34,35 +36,51 @@ whole_again exact bytes part images whole is read fit v =
     let new : Whole = record { marked = whole.marked; before = whole.before; value = v.now; after = whole.after } in
     let d = v.reads start in
     let swap : Swapped text 0 (whole_text whole) part.edits (whole_text new) =
-    front_swapped text 0 (length mark) mark (whole.before ++ (spelling whole.value ++ whole.after)) part.edits (whole.before ++ (spelling v.now ++ whole.after)) (omega arith)
-    (front_swapped text (length mark) start whole.before (spelling whole.value ++ whole.after) part.edits (spelling v.now ++ whole.after) refl
+    front_swapped text 0 (length mark) mark (whole.before ++ (spelling whole.value ++ whole.after)) part.edits
+    (whole.before ++ (spelling v.now ++ whole.after)) (omega arith)
+    (front_swapped text (length mark) start whole.before (spelling whole.value ++ whole.after) part.edits
+    (spelling v.now ++ whole.after) refl
     (behind_swapped text start (spelling whole.value) whole.after part.edits (spelling v.now) v.swap)) in
-    let order : AreInOrder 0 part.edits (length bytes) = read_in_order exact bytes (sheet_of part) (part, (whole, is, read), refl) in
+    let order : AreInOrder 0 part.edits (length bytes) =
+    read_in_order exact bytes (sheet_of part) (part, (whole, is, read), refl) in
     let now : spliced bytes text part.edits ≡ whole_text new =
-    on_from bytes text 0 part.edits (length bytes) order ∙ ap (λ xs. spliced_on text 0 xs part.edits) is.all ∙ swapped_all text 0 (whole_text whole) part.edits (whole_text new) swap in
+    on_from bytes text 0 part.edits (length bytes) order ∙ ap (λ xs. spliced_on text 0 xs part.edits) is.all
+    ∙ swapped_all text 0 (whole_text whole) part.edits (whole_text new) swap in
     record {
       back = sheet_of d.part;
-      is_read = (d.part, (new, record { before = is.before; value = v.valid; after = is.after; all = now }, d.is), refl);
+      is_read = (
+        d.part,
+        (new, record { before = is.before; value = v.valid; after = is.after; all = now }, d.is),
+        refl,
+      );
       points = points_again part images fit d.part.paths d.drawn_are;
       paths = rows_again part images fit d.part.paths d.drawn_are;
       exact_all = d.exact_all;
     }
 
-part_again : (exact : Bool) (bytes : List ℕ) (part : Part) (images : Runs) (whole : Whole) → IsWhole DEEPEST whole bytes → layer_reading exact whole ≡ Ok part → DoFit (sheet_of part) images
+part_again : (exact : Bool) (bytes : List ℕ) (part : Part) (images : Runs) (whole : Whole) → IsWhole DEEPEST whole bytes
+    → layer_reading exact whole ≡ Ok part → DoFit (sheet_of part) images
     → IsReadAgain (IsReadAs exact) (spliced bytes (edit_text (sheet_of part) images) part.edits) (sheet_of part) images
 part_again exact bytes part images whole is read fit =
     let start = whole_start whole in
     let fine = value_fine whole.value exact (forms.Object holders.Layer) 0 start part read in
     whole_again exact bytes part images whole is read fit
-    (value_turned exact (edit_text (sheet_of part) images) (path_images (rows_from 0 part.paths) images) (texts_say part images fit) whole.value (forms.Object holders.Layer) 0 start DEEPEST part (omega arith) is.value read
+    (value_turned exact (edit_text (sheet_of part) images) (path_images (rows_from 0 part.paths) images)
+    (texts_say part images fit) whole.value (forms.Object holders.Layer) 0 start DEEPEST part (omega arith) is.value
+    read
     (sheet_suits part images fit fine.sound))
 
-pub read_again : (exact : Bool) (bytes : List ℕ) (sheet : Contents) (images : Runs) → IsReadAs exact bytes sheet → DoFit sheet images
+pub read_again : (exact : Bool) (bytes : List ℕ) (sheet : Contents) (images : Runs) → IsReadAs exact bytes sheet
+    → DoFit sheet images
     → IsReadAgain (IsReadAs exact) (spliced bytes (edit_text sheet images) sheet.edits) sheet images
 read_again exact bytes sheet images (part, (whole, text, read), same) fit =
-    subst (λ (s : Contents). IsReadAgain (IsReadAs exact) (spliced bytes (edit_text s images) s.edits) s images) (sym same) (part_again exact bytes part images whole text read (subst (λ (s : Contents). DoFit s images) same fit))
+    subst (λ (s : Contents). IsReadAgain (IsReadAs exact) (spliced bytes (edit_text s images) s.edits) s images)
+    (sym same) (part_again exact bytes part images whole text read
+    (subst (λ (s : Contents). DoFit s images) same fit))
 
-pub reads_back : (exact : Bool) (bytes : List ℕ) (sheet : Contents) (images : Runs) → IsReadAs exact bytes sheet → DoFit sheet images
+pub reads_back : (exact : Bool) (bytes : List ℕ) (sheet : Contents) (images : Runs) → IsReadAs exact bytes sheet
+    → DoFit sheet images
     → IsReadBack (IsReadAs exact) sheet images (spliced bytes (edit_text sheet images) sheet.edits)
 reads_back exact bytes sheet images is fit =
-    read_back (IsReadAs exact) (spliced bytes (edit_text sheet images) sheet.edits) sheet images (read_again exact bytes sheet images is fit)
+    read_back (IsReadAs exact) (spliced bytes (edit_text sheet images) sheet.edits) sheet images
+    (read_again exact bytes sheet images is fit)

@@ -27,16 +27,19 @@ kind_text Loop images = ring_text images
 kind_text kind images = list_text images
 
 -- a part is read, whose paths are these with their images, and no number loses digits
-pub record IsDrawn (images : ℕ → List Pt) (number : ℕ) (paths : List Path) (read : Result Part LayerFault) : Type 0 where
-  pub part : Part
-  pub is : read ≡ Ok part
-  pub drawn_are : map drawn part.paths ≡ redrawn images number paths
-  pub exact_all : sum_by lost_in part.paths ≡ 0
+pub record IsDrawn (images : ℕ → List Pt) (number : ℕ) (paths : List Path) (read : Result Part LayerFault) : Type 0
+  where
+    pub part : Part
+    pub is : read ≡ Ok part
+    pub drawn_are : map drawn part.paths ≡ redrawn images number paths
+    pub exact_all : sum_by lost_in part.paths ≡ 0
 
 -- as many paths are read as there were
-pub drawn_count : (images : ℕ → List Pt) (number : ℕ) (paths others : List Path) → map drawn others ≡ redrawn images number paths → length others ≡ length paths
+pub drawn_count : (images : ℕ → List Pt) (number : ℕ) (paths others : List Path)
+    → map drawn others ≡ redrawn images number paths → length others ≡ length paths
 drawn_count images number [] [] are = refl
 drawn_count images number [] (other ∷ others) are = cc
 drawn_count images number (path ∷ paths) [] are = cc
 drawn_count images number (path ∷ paths) (other ∷ others) are =
-    let rest : map drawn others ≡ redrawn images (number + 1) paths = cc in ap suc (drawn_count images (number + 1) paths others rest)
+    let rest : map drawn others ≡ redrawn images (number + 1) paths =
+    cc in ap suc (drawn_count images (number + 1) paths others rest)

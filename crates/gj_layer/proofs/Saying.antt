@@ -11,9 +11,11 @@ use Rattle.gj_layer.specs.declared.forms.Holder.{Holder}
 use Rattle.gj_layer.specs.Objects.{type_of}
 
 -- what says one thing says no other
-pub says_one : (text one other : List ℕ) → are_same one other ≡ false → are_same text one ≡ true → are_same text other ≡ false
+pub says_one : (text one other : List ℕ) → are_same one other ≡ false → are_same text one ≡ true
+    → are_same text other ≡ false
 says_one text one other apart is = subst (λ t. are_same t other ≡ false) (sym (same_is text one is)) apart
 
-pub no_text : (holder : Holder) (start at : ℕ) (value : Json) → (kind_of value ≡ kinds.Text → ⊥) → Err (Shape start) ≡ type_of holder start at value
+pub no_text : (holder : Holder) (start at : ℕ) (value : Json) → (kind_of value ≡ kinds.Text → ⊥)
+    → Err (Shape start) ≡ type_of holder start at value
 no_text holder start at (quoted chars) never = absurd (never refl)
 no_text holder start at value never = refl

@@ -13,7 +13,8 @@ use Rattle.gj_layer.proofs.Redrawing.{drawn, redrawn, AllSuit}
 -- ---- what is drawn, as the rows and points of a sheet
 rows_drawn : (first : ℕ) (paths : List Path) → rows_from first paths ≡ rows_of first (map drawn paths)
 rows_drawn first [] = refl
-rows_drawn first (path ∷ paths) = ap (λ rows. row_from first (drawn path) ∷ rows) (rows_drawn (first + length path.points) paths)
+rows_drawn first (path ∷ paths) = ap (λ rows. row_from first (drawn path) ∷ rows)
+    (rows_drawn (first + length path.points) paths)
 
 points_drawn : (paths : List Path) → flat_map points_in paths ≡ all_points (map drawn paths)
 points_drawn [] = refl
@@ -25,13 +26,21 @@ all_some (path ∷ paths) sound = (record { some = sound.0.0; dot = sound.0.1 },
 
 -- ---- the whole sheet
 module _ (part : Part) (images : Runs) (fit : DoFit (sheet_of part) images) where
-  pub sheet_suits : AllByRecursion IsSound part.paths → AllSuit (path_images (rows_from 0 part.paths) images) 0 part.paths
-  sheet_suits sound = sheets.sheet_suits (sheet_of part) images fit (map drawn part.paths) (rows_drawn 0 part.paths) (points_drawn part.paths) (all_some part.paths sound)
+  pub sheet_suits : AllByRecursion IsSound part.paths
+      → AllSuit (path_images (rows_from 0 part.paths) images) 0 part.paths
+  sheet_suits sound = sheets.sheet_suits (sheet_of part) images fit (map drawn part.paths) (rows_drawn 0 part.paths)
+      (points_drawn part.paths) (all_some part.paths sound)
 
-  pub points_again : (others : List Path) → map drawn others ≡ redrawn (path_images (rows_from 0 part.paths) images) 0 part.paths → flat_map points_in others ≡ images.points
+  pub points_again : (others : List Path) → map drawn others
+      ≡ redrawn (path_images (rows_from 0 part.paths) images) 0 part.paths → flat_map points_in others ≡ images.points
   points_again others are =
-      points_drawn others ∙ ap all_points are ∙ sheets.points_again (sheet_of part) images fit (map drawn part.paths) (rows_drawn 0 part.paths) (points_drawn part.paths)
+      points_drawn others ∙ ap all_points are ∙ sheets.points_again (sheet_of part) images fit (map drawn part.paths)
+      (rows_drawn 0 part.paths) (points_drawn part.paths)
 
-  pub rows_again : (others : List Path) → map drawn others ≡ redrawn (path_images (rows_from 0 part.paths) images) 0 part.paths → rows_from 0 others ≡ map (imaged images) (rows_from 0 part.paths)
+  pub rows_again : (others : List Path) → map drawn others
+      ≡ redrawn (path_images (rows_from 0 part.paths) images) 0 part.paths
+      → rows_from 0 others ≡ map (imaged images) (rows_from 0 part.paths)
   rows_again others are =
-      rows_drawn 0 others ∙ ap (rows_of 0) are ∙ sheets.rows_again (sheet_of part) images fit (map drawn part.paths) (rows_drawn 0 part.paths) (points_drawn part.paths)
+      rows_drawn 0 others ∙ ap (rows_of 0) are
+      ∙ sheets.rows_again (sheet_of part) images fit (map drawn part.paths) (rows_drawn 0 part.paths)
+      (points_drawn part.paths)

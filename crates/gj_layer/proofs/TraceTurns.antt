@@ -1,5 +1,6 @@
 -- How coordinates that are one path at most turn into the path's images.
-use Rattle.std.proofs.Common.{◌≡◌, ℕ, ◌-◌, ◌<◌, ◌≤◌, Bool, true, List, [], ◌∷◌, ◌++◌, length, map, take, refl, sym, ap, ◌∙◌, subst, arith, length-append}
+use Rattle.std.proofs.Common.{◌≡◌, ℕ, ◌-◌, ◌<◌, ◌≤◌, Bool, true, List, [], ◌∷◌, ◌++◌, length, map, take, refl, sym, ap}
+use Rattle.std.proofs.Common.{◌∙◌, subst, arith, length-append}
 use Rattle.std.specs.Prelude.{Ok, Err, sum_by, if◌then◌else◌}
 use Rattle.std.specs.List.{AllByRecursion}
 use Rattle.std.proofs.Math.Seq.{take-append_seam}
@@ -44,62 +45,95 @@ last_at : (points : List Pt) (p : Pt) → point_at (points ++ p ∷ []) (length 
 last_at [] p = refl
 last_at (q ∷ points) p = last_at points p
 
-closed_again : (image : Pt) (others : List Pt) → 3 ≤ length (image ∷ others) → is_closed ((image ∷ others) ++ image ∷ []) ≡ true
+closed_again : (image : Pt) (others : List Pt) → 3 ≤ length (image ∷ others)
+    → is_closed ((image ∷ others) ++ image ∷ []) ≡ true
 closed_again image others many =
     let points = (image ∷ others) ++ image ∷ [] in
     let size = length-append (image ∷ others) (image ∷ []) in
     let last : length points - 1 ≡ length (image ∷ others) = omega (arith, size) in
     closed_by points (omega (arith, size, many)) (sym (ap (point_at points) last ∙ last_at (image ∷ others) image))
 
-ring_made : (at : ℕ) (all : List Position) (points : List Pt) → map point_of all ≡ points → is_closed points ≡ true → ring_of at all ≡ Ok (path_of kinds.Loop (take (length points - 1) points) all)
+ring_made : (at : ℕ) (all : List Position) (points : List Pt) → map point_of all ≡ points → is_closed points ≡ true
+    → ring_of at all ≡ Ok (path_of kinds.Loop (take (length points - 1) points) all)
 ring_made at all points are closed =
     ap (λ ps. if is_closed ps then Ok (path_of kinds.Loop (take (length ps - 1) ps) all) else Err (RingFault at)) are
     ∙ ap (λ b. if b then Ok (path_of kinds.Loop (take (length points - 1) points) all) else Err (RingFault at)) closed
 
-some_all : (exact : Bool) (place : ℕ) (before : List ℕ) (value : Json) (after : List ℕ) (rest : Elements) (all : List Position) → positions exact place (element before value after rest) ≡ Ok all
+some_all : (exact : Bool) (place : ℕ) (before : List ℕ) (value : Json) (after : List ℕ) (rest : Elements)
+    (all : List Position) → positions exact place (element before value after rest) ≡ Ok all
     → (one : Position) × (more : List Position) × (all ≡ one ∷ more)
 some_all exact place before value after rest all is =
     let start = element_start place before in
-    let (first, first_is, onward) = split_then (λ one. and_then (in_front one) (positions exact (next_place start value after) rest)) (position exact start value) all is in
-    let (others, others_are, made) = split_then (in_front first) (positions exact (next_place start value after) rest) all onward in
+    let (first, first_is, onward) = split_then
+    (λ one. and_then (in_front one) (positions exact (next_place start value after) rest))
+    (position exact start value) all is in
+    let (others, others_are, made) = split_then (in_front first) (positions exact (next_place start value after) rest)
+    all onward in
     (first, others, cc)
 
 module _ (exact : Bool) (text : Edit → List ℕ) (images : ℕ → List Pt) (says : DoesSay text images) where
-  line_read : (number at : ℕ) (blank : List ℕ) (elements : Elements) (path : Path) (points : List Pt) → path.kind ≡ kinds.Line → images number ≡ points → 0 < length points
-      → ArePositionsAt points (positions exact (inner_place at blank) elements) → IsDrawn images number (path ∷ []) (and_then (part_of number) (traced exact traces.Line at (array blank elements)))
+  line_read : (number at : ℕ) (blank : List ℕ) (elements : Elements) (path : Path) (points : List Pt)
+      → path.kind ≡ kinds.Line → images number ≡ points → 0 < length points
+      → ArePositionsAt points (positions exact (inner_place at blank) elements)
+      → IsDrawn images number (path ∷ []) (and_then (part_of number)
+      (traced exact traces.Line at (array blank elements)))
   line_read number at blank elements path points kind_is images_are some p =
       subst (λ r. IsDrawn images number (path ∷ []) (and_then (part_of number) (and_then line_of r))) (sym p.is)
-      (path_drawn images number path kinds.Line (map point_of p.all) p.all (sym kind_is) (p.points ∙ sym images_are) p.exact_all (some_read points p.all p.points some))
+      (path_drawn images number path kinds.Line (map point_of p.all) p.all (sym kind_is) (p.points ∙ sym images_are)
+      p.exact_all (some_read points p.all p.points some))
 
-  ring_read : (number at : ℕ) (blank : List ℕ) (elements : Elements) (path : Path) (image : Pt) (others : List Pt) → path.kind ≡ kinds.Loop → images number ≡ image ∷ others → 3 ≤ length (image ∷ others)
+  ring_read : (number at : ℕ) (blank : List ℕ) (elements : Elements) (path : Path) (image : Pt) (others : List Pt)
+      → path.kind ≡ kinds.Loop → images number ≡ image ∷ others → 3 ≤ length (image ∷ others)
       → ArePositionsAt ((image ∷ others) ++ image ∷ []) (positions exact (inner_place at blank) elements)
-      → IsDrawn images number (path ∷ []) (and_then (part_of number) (traced exact traces.Ring at (array blank elements)))
+      → IsDrawn images number (path ∷ []) (and_then (part_of number)
+      (traced exact traces.Ring at (array blank elements)))
   ring_read number at blank elements path image others kind_is images_are many p =
       let points = (image ∷ others) ++ image ∷ [] in
       let size = length-append (image ∷ others) (image ∷ []) in
       let last : length points - 1 ≡ length (image ∷ others) = omega (arith, size) in
-      let kept : take (length points - 1) points ≡ image ∷ others = ap (λ n. take n points) last ∙ take-append_seam (image ∷ others) (image ∷ []) in
+      let kept : take (length points - 1) points ≡ image ∷ others = ap (λ n. take n points) last
+      ∙ take-append_seam (image ∷ others) (image ∷ []) in
       subst (λ r. IsDrawn images number (path ∷ []) (and_then (part_of number) (and_then (ring_of at) r))) (sym p.is)
-      (subst (λ r. IsDrawn images number (path ∷ []) (and_then (part_of number) r)) (sym (ring_made at p.all points p.points (closed_again image others many)))
-      (path_drawn images number path kinds.Loop (take (length points - 1) points) p.all (sym kind_is) (kept ∙ sym images_are) p.exact_all (some_read points p.all p.points (omega (arith, size)))))
+      (subst (λ r. IsDrawn images number (path ∷ []) (and_then (part_of number) r))
+      (sym (ring_made at p.all points p.points (closed_again image others many)))
+      (path_drawn images number path kinds.Loop (take (length points - 1) points) p.all (sym kind_is)
+      (kept ∙ sym images_are) p.exact_all (some_read points p.all p.points (omega (arith, size)))))
 
-  none_turned : (trace : Trace) (number start depth : ℕ) (blank : List ℕ) → ((at : ℕ) → traced exact trace at (array blank no_element) ≡ Ok []) → IsValue depth (array blank no_element)
+  none_turned : (trace : Trace) (number start depth : ℕ) (blank : List ℕ)
+      → ((at : ℕ) → traced exact trace at (array blank no_element) ≡ Ok []) → IsValue depth (array blank no_element)
       → ValueTurned exact text images (forms.Path trace) number start depth (array blank no_element) nothing
   none_turned trace number start depth blank none valid = record {
     now = array blank no_element;
     swap = kept_swapped text start (spelling (array blank no_element));
     valid = valid;
-    reads = λ at. record { part = nothing; is = ap (and_then (part_of number)) (none at); drawn_are = refl; exact_all = refl };
+    reads = λ at. record {
+      part = nothing;
+      is = ap (and_then (part_of number)) (none at);
+      drawn_are = refl;
+      exact_all =
+          refl;
+    };
   }
 
-  dot_traced : (trace : Trace) → ((at : ℕ) (image : Pt) → traced exact trace at (image_value image) ≡ and_then dot_of (position exact at (image_value image)))
-      → (number start depth : ℕ) (blank : List ℕ) (elements : Elements) (part : Part) → IsValue depth (array blank elements) → and_then (part_of number) (and_then dot_of (position exact start (array blank elements))) ≡ Ok part
-      → AllSuit images number part.paths → ValueTurned exact text images (forms.Path trace) number start depth (array blank elements) part
+  dot_traced : (trace : Trace) → ((at : ℕ) (image : Pt)
+      → traced exact trace at (image_value image) ≡ and_then dot_of (position exact at (image_value image)))
+      → (number start depth : ℕ) (blank : List ℕ) (elements : Elements) (part : Part)
+      → IsValue depth (array blank elements) → and_then (part_of number)
+      (and_then dot_of (position exact start (array blank elements))) ≡ Ok part
+      → AllSuit images number part.paths → ValueTurned exact text images (forms.Path trace) number start depth
+      (array blank elements) part
   dot_traced trace is_dot number start depth blank elements part valid is suit =
       let value = array blank elements in
       let (paths, read, made) = split_then (part_of number) (and_then dot_of (position exact start value)) part is in
       let (one, one_is, dot) = split_then dot_of (position exact start value) paths read in
-      let path : Path = record { kind = kinds.Dot; points = point_of one ∷ []; lost = sum_by lost_of (one ∷ []); start = one.start; end = one.end } in
+      let path : Path = record {
+        kind = kinds.Dot;
+        points = point_of one ∷ [];
+        lost = sum_by lost_of (one ∷ []);
+        start =
+            one.start;
+        end = one.end;
+      } in
       let same : path_of kinds.Dot (point_of one ∷ []) (one ∷ []) ≡ paths = cc in
       let whole : alone exact text images says number path ≡ part = let e = ap (part_of number) same ∙ made in cc in
       let suits = subst (λ (p : Part). AllSuit images number p.paths) (sym whole) suit in
@@ -107,29 +141,55 @@ module _ (exact : Bool) (text : Edit → List ℕ) (images : ℕ → List Pt) (s
       let (image, images_are) = one_image (images number) (suits.0.dot refl) in
       let reach = subst (AllByRecursion IsWithinReach) images_are suits.0.reach in
       subst (ValueTurned exact text images (forms.Path trace) number start depth value) whole
-      (dot_turned exact text images says trace is_dot number start depth blank elements path image refl ends.0 ends.1 images_are reach.0 valid)
+      (dot_turned exact text images says trace is_dot number start depth blank elements path image refl ends.0 ends.1
+      images_are reach.0 valid)
 
-  line_turned : (number start depth : ℕ) (blank before : List ℕ) (value : Json) (after : List ℕ) (rest : Elements) (one : Position) (more : List Position) (part : Part)
-      → IsValue depth (array blank (element before value after rest)) → positions exact (inner_place start blank) (element before value after rest) ≡ Ok (one ∷ more)
-      → part_of number (path_of kinds.Line (map point_of (one ∷ more)) (one ∷ more)) ≡ Ok part → AllSuit images number part.paths
-      → ValueTurned exact text images (forms.Path traces.Line) number start depth (array blank (element before value after rest)) part
+  line_turned : (number start depth : ℕ) (blank before : List ℕ) (value : Json) (after : List ℕ) (rest : Elements)
+      (one : Position) (more : List Position) (part : Part)
+      → IsValue depth (array blank (element before value after rest))
+      → positions exact (inner_place start blank) (element before value after rest) ≡ Ok (one ∷ more)
+      → part_of number (path_of kinds.Line (map point_of (one ∷ more)) (one ∷ more)) ≡ Ok part
+      → AllSuit images number part.paths
+      → ValueTurned exact text images (forms.Path traces.Line) number start depth
+      (array blank (element before value after rest)) part
   line_turned number start depth blank before value after rest one more part valid all_is made suit =
-      let path : Path = record { kind = kinds.Line; points = map point_of (one ∷ more); lost = sum_by lost_of (one ∷ more); start = one.start; end = end_of one more } in
+      let path : Path = record {
+        kind = kinds.Line;
+        points = map point_of (one ∷ more);
+        lost =
+            sum_by lost_of (one ∷ more);
+        start = one.start;
+        end = end_of one more;
+      } in
       let whole : alone exact text images says number path ≡ part = cc in
       let suits = subst (λ (p : Part). AllSuit images number p.paths) (sym whole) suit in
       let (image, others, images_are) = some_images (images number) suits.0.some in
       let reach = subst (AllByRecursion IsWithinReach) images_are suits.0.reach in
-      subst (ValueTurned exact text images (forms.Path traces.Line) number start depth (array blank (element before value after rest))) whole
-      (list_turned exact text images says traces.Line number start depth blank before value after rest path one more all_is refl refl valid image others (says.paths number path ∙ ap list_text images_are) reach
+      subst (ValueTurned exact text images (forms.Path traces.Line) number start depth
+      (array blank (element before value after rest))) whole
+      (list_turned exact text images says traces.Line number start depth blank before value after rest path one more
+      all_is refl refl valid image others (says.paths number path ∙ ap list_text images_are) reach
       (λ at elements p. line_read number at blank elements path (image ∷ others) refl images_are (omega arith) p))
 
-  ring_turned : (number start depth : ℕ) (blank before : List ℕ) (value : Json) (after : List ℕ) (rest : Elements) (one : Position) (more : List Position) (part : Part)
-      → IsValue depth (array blank (element before value after rest)) → positions exact (inner_place start blank) (element before value after rest) ≡ Ok (one ∷ more)
-      → 4 ≤ length (map point_of (one ∷ more)) → part_of number (path_of kinds.Loop (take (length (map point_of (one ∷ more)) - 1) (map point_of (one ∷ more))) (one ∷ more)) ≡ Ok part
-      → AllSuit images number part.paths → ValueTurned exact text images (forms.Path traces.Ring) number start depth (array blank (element before value after rest)) part
+  ring_turned : (number start depth : ℕ) (blank before : List ℕ) (value : Json) (after : List ℕ) (rest : Elements)
+      (one : Position) (more : List Position) (part : Part)
+      → IsValue depth (array blank (element before value after rest))
+      → positions exact (inner_place start blank) (element before value after rest) ≡ Ok (one ∷ more)
+      → 4 ≤ length (map point_of (one ∷ more))
+      → part_of number (path_of kinds.Loop (take (length (map point_of (one ∷ more)) - 1) (map point_of (one ∷ more)))
+      (one ∷ more)) ≡ Ok part
+      → AllSuit images number part.paths → ValueTurned exact text images (forms.Path traces.Ring) number start depth
+      (array blank (element before value after rest)) part
   ring_turned number start depth blank before value after rest one more part valid all_is four made suit =
       let points = map point_of (one ∷ more) in
-      let path : Path = record { kind = kinds.Loop; points = take (length points - 1) points; lost = sum_by lost_of (one ∷ more); start = one.start; end = end_of one more } in
+      let path : Path = record {
+        kind = kinds.Loop;
+        points = take (length points - 1) points;
+        lost =
+            sum_by lost_of (one ∷ more);
+        start = one.start;
+        end = end_of one more;
+      } in
       let whole : alone exact text images says number path ≡ part = cc in
       let suits = subst (λ (p : Part). AllSuit images number p.paths) (sym whole) suit in
       let (image, others, images_are) = some_images (images number) suits.0.some in
@@ -137,25 +197,36 @@ module _ (exact : Bool) (text : Edit → List ℕ) (images : ℕ → List Pt) (s
       let kept = length-take (length points - 1) points in
       let many = suits.0.many in
       let count = ap length images_are in
-      subst (ValueTurned exact text images (forms.Path traces.Ring) number start depth (array blank (element before value after rest))) whole
-      (list_turned exact text images says traces.Ring number start depth blank before value after rest path one more all_is refl refl valid image (others ++ image ∷ [])
-      (says.paths number path ∙ ap ring_text images_are ∙ ring_spelled image others) (reach.0, reach_append others image reach.1 reach.0)
-      (λ at elements p. ring_read number at blank elements path image others refl images_are (omega (arith, kept, many, count, four)) p))
+      subst (ValueTurned exact text images (forms.Path traces.Ring) number start depth
+      (array blank (element before value after rest))) whole
+      (list_turned exact text images says traces.Ring number start depth blank before value after rest path one more
+      all_is refl refl valid image (others ++ image ∷ [])
+      (says.paths number path ∙ ap ring_text images_are ∙ ring_spelled image others)
+      (reach.0, reach_append others image reach.1 reach.0)
+      (λ at elements p. ring_read number at blank elements path image others refl images_are
+      (omega (arith, kept, many, count, four)) p))
     where
-      reach_append : (others : List Pt) (image : Pt) → AllByRecursion IsWithinReach others → IsWithinReach image → AllByRecursion IsWithinReach (others ++ image ∷ [])
+      reach_append : (others : List Pt) (image : Pt) → AllByRecursion IsWithinReach others → IsWithinReach image
+          → AllByRecursion IsWithinReach (others ++ image ∷ [])
       reach_append [] image all one = (one, tt)
       reach_append (next ∷ others) image all one = (all.0, reach_append others image all.1 one)
 
-  pub traced_turned : (trace : Trace) (number start depth : ℕ) (blank : List ℕ) (elements : Elements) (part : Part) → IsValue depth (array blank elements)
-      → and_then (part_of number) (traced exact trace start (array blank elements)) ≡ Ok part → AllSuit images number part.paths
+  pub traced_turned : (trace : Trace) (number start depth : ℕ) (blank : List ℕ) (elements : Elements) (part : Part)
+      → IsValue depth (array blank elements)
+      → and_then (part_of number) (traced exact trace start (array blank elements)) ≡ Ok part
+      → AllSuit images number part.paths
       → ValueTurned exact text images (forms.Path trace) number start depth (array blank elements) part
   traced_turned traces.Point number start depth blank no_element part valid is suit =
-      let none : nothing ≡ part = cc in subst (ValueTurned exact text images (forms.Path traces.Point) number start depth (array blank no_element)) none (none_turned traces.Point number start depth blank (λ at. refl) valid)
+      let none : nothing ≡ part = cc in subst (ValueTurned exact text images (forms.Path traces.Point) number start
+      depth (array blank no_element)) none (none_turned traces.Point number start depth blank (λ at. refl) valid)
   traced_turned traces.Point number start depth blank (element before value after rest) part valid is suit =
-      dot_traced traces.Point (λ at image. refl) number start depth blank (element before value after rest) part valid is suit
-  traced_turned traces.Position number start depth blank elements part valid is suit = dot_traced traces.Position (λ at image. refl) number start depth blank elements part valid is suit
+      dot_traced traces.Point (λ at image. refl) number start depth blank (element before value after rest) part valid
+      is suit
+  traced_turned traces.Position number start depth blank elements part valid is suit =
+      dot_traced traces.Position (λ at image. refl) number start depth blank elements part valid is suit
   traced_turned traces.Line number start depth blank no_element part valid is suit =
-      let none : nothing ≡ part = cc in subst (ValueTurned exact text images (forms.Path traces.Line) number start depth (array blank no_element)) none (none_turned traces.Line number start depth blank (λ at. refl) valid)
+      let none : nothing ≡ part = cc in subst (ValueTurned exact text images (forms.Path traces.Line) number start depth
+      (array blank no_element)) none (none_turned traces.Line number start depth blank (λ at. refl) valid)
   traced_turned traces.Line number start depth blank (element before value after rest) part valid is suit =
       let here = positions exact (inner_place start blank) (element before value after rest) in
       let (paths, read, made) = split_then (part_of number) (and_then line_of here) part is in
@@ -163,7 +234,8 @@ module _ (exact : Bool) (text : Edit → List ℕ) (images : ℕ → List Pt) (s
       let (one, more, all_are) = some_all exact (inner_place start blank) before value after rest all all_is in
       let same : path_of kinds.Line (map point_of all) all ≡ paths = cc in
       line_turned number start depth blank before value after rest one more part valid (all_is ∙ ap Ok all_are)
-      (ap (λ ps. part_of number (path_of kinds.Line (map point_of ps) ps)) (sym all_are) ∙ ap (part_of number) same ∙ made) suit
+      (ap (λ ps. part_of number (path_of kinds.Line (map point_of ps) ps)) (sym all_are) ∙ ap (part_of number) same
+      ∙ made) suit
   traced_turned traces.Ring number start depth blank no_element part valid is suit = cc
   traced_turned traces.Ring number start depth blank (element before value after rest) part valid is suit =
       let here = positions exact (inner_place start blank) (element before value after rest) in
@@ -172,5 +244,7 @@ module _ (exact : Bool) (text : Edit → List ℕ) (images : ℕ → List Pt) (s
       let (one, more, all_are) = some_all exact (inner_place start blank) before value after rest all all_is in
       let (closed, same) = closed_ring start all paths ring in
       let four = closed_many (map point_of all) closed in
-      ring_turned number start depth blank before value after rest one more part valid (all_is ∙ ap Ok all_are) (subst (λ ps. 4 ≤ length (map point_of ps)) all_are four)
-      (ap (λ ps. part_of number (path_of kinds.Loop (take (length (map point_of ps) - 1) (map point_of ps)) ps)) (sym all_are) ∙ ap (part_of number) same ∙ made) suit
+      ring_turned number start depth blank before value after rest one more part valid (all_is ∙ ap Ok all_are)
+      (subst (λ ps. 4 ≤ length (map point_of ps)) all_are four)
+      (ap (λ ps. part_of number (path_of kinds.Loop (take (length (map point_of ps) - 1) (map point_of ps)) ps))
+      (sym all_are) ∙ ap (part_of number) same ∙ made) suit

@@ -1,6 +1,8 @@
--- How a value turns into the value that is written: its edits' texts take the place of their spans, and it is read with images in place of points.
+-- How a value turns into the value that is written: its edits' texts take the place of their spans, and it is read with
+-- images in place of points.
 use Rattle.std.proofs.Common.{◌≡◌, ℕ, suc, ◌+◌, Bool, List, [], ◌∷◌, ◌++◌, length, refl, arith}
-use Rattle.jtext.specs.Values.{Json, Elements, null, spelling, elements_text, elements_behind, IsValue, AreElements, IsArrayBlank}
+use Rattle.jtext.specs.Values.{Json, Elements, null, spelling, elements_text, elements_behind, IsValue, AreElements}
+use Rattle.jtext.specs.Values.{IsArrayBlank}
 use Rattle.plane_base.specs.declared.shapes.Pt.{Pt}
 use Rattle.sheet_base.specs.declared.edits.Edit.{Edit}
 use Rattle.sheet_base.specs.declared.edits.What.TheVariants.{Bounds, Null}
@@ -24,25 +26,32 @@ pub record DoesSay (text : Edit → List ℕ) (images : ℕ → List Pt) : Type 
   pub boxes : (one : Member) (first past : ℕ) → IsFlat (text (value_edit one (Bounds first past)))
   pub nulls : (one : Member) → text (value_edit one Null) ≡ spelling null
 
--- The value, whose text begins at this place, turns into another that nests no deeper. It is read in the same form, wherever it stands.
-pub record ValueTurned (exact : Bool) (text : Edit → List ℕ) (images : ℕ → List Pt) (form : Form) (number start depth : ℕ) (value : Json) (part : Part) : Type 0 where
+-- The value, whose text begins at this place, turns into another that nests no deeper. It is read in the same form,
+-- wherever it stands.
+pub record ValueTurned (exact : Bool) (text : Edit → List ℕ) (images : ℕ → List Pt) (form : Form)
+    (number start depth : ℕ) (value : Json) (part : Part) : Type 0 where
   pub now : Json
   pub swap : Swapped text start (spelling value) part.edits (spelling now)
   pub valid : IsValue depth now
   pub reads : (at : ℕ) → IsDrawn images number part.paths (reading exact form number at now)
 
 -- the same for elements
-pub record ElementsTurned (exact : Bool) (text : Edit → List ℕ) (images : ℕ → List Pt) (form : Form) (number place depth : ℕ) (elements : Elements) (part : Part) : Type 0 where
+pub record ElementsTurned (exact : Bool) (text : Edit → List ℕ) (images : ℕ → List Pt) (form : Form)
+    (number place depth : ℕ) (elements : Elements) (part : Part) : Type 0 where
   pub now : Elements
   pub swap : Swapped text place (elements_text elements) part.edits (elements_text now)
-  pub swap_behind : (from : ℕ) → place ≡ from + 1 → Swapped text from (elements_behind elements) part.edits (elements_behind now)
+  pub swap_behind : (from : ℕ) → place ≡ from + 1
+      → Swapped text from (elements_behind elements) part.edits (elements_behind now)
   pub blank : (blank : List ℕ) → IsArrayBlank blank elements → IsArrayBlank blank now
   pub valid : AreElements depth now
   pub reads : (at : ℕ) → IsDrawn images number part.paths (readings exact form number at now)
 
 -- what stands between brackets
-pub bracketed : (text : Edit → List ℕ) (start first last : ℕ) (blank old : List ℕ) (edits : List Edit) (new : List ℕ) → Swapped text (start + 1 + length blank) old edits new
+pub bracketed : (text : Edit → List ℕ) (start first last : ℕ) (blank old : List ℕ) (edits : List Edit) (new : List ℕ)
+    → Swapped text (start + 1 + length blank) old edits new
     → Swapped text start (first ∷ (blank ++ (old ++ last ∷ []))) edits (first ∷ (blank ++ (new ++ last ∷ [])))
 bracketed text start first last blank old edits new swap =
-    front_swapped text start (start + 1) (first ∷ []) (blank ++ (old ++ last ∷ [])) edits (blank ++ (new ++ last ∷ [])) (omega arith)
-    (front_swapped text (start + 1) (start + 1 + length blank) blank (old ++ last ∷ []) edits (new ++ last ∷ []) refl (behind_swapped text (start + 1 + length blank) old (last ∷ []) edits new swap))
+    front_swapped text start (start + 1) (first ∷ []) (blank ++ (old ++ last ∷ [])) edits (blank ++ (new ++ last ∷ []))
+    (omega arith)
+    (front_swapped text (start + 1) (start + 1 + length blank) blank (old ++ last ∷ []) edits (new ++ last ∷ []) refl
+    (behind_swapped text (start + 1 + length blank) old (last ∷ []) edits new swap))

@@ -19,7 +19,8 @@ abbrev pub members_at : ℕ → Members → List Member
 members_at place no_member = []
 members_at place (member before key behind ahead value after rest) =
     let start = member_start place before key behind ahead in
-    record { key_start = element_start place before; key = key; start = start; value = value } ∷ members_at (next_place start value after) rest
+    record { key_start = element_start place before; key = key; start = start; value = value }
+    ∷ members_at (next_place start value after) rest
 
 -- the key says this name
 abbrev pub is_named : List ℕ → Member → Bool

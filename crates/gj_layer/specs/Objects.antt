@@ -1,5 +1,6 @@
 -- Objects of GeoJSON: their types, and the members that are looked at (RFC 7946, sections 1.4, 3, 3.1, 5 and 7).
-use Rattle.std.specs.Prelude.{ℕ, ◌+◌, Bool, true, false, ◌&&◌, codes, List, [], ◌∷◌, length, flat_map, Option, Some, None, Result, Ok, Err, if◌then◌else◌}
+use Rattle.std.specs.Prelude.{ℕ, ◌+◌, Bool, true, false, ◌&&◌, codes, List, [], ◌∷◌, length, flat_map, Option, Some}
+use Rattle.std.specs.Prelude.{None, Result, Ok, Err, if◌then◌else◌}
 use Rattle.jtext.specs.Characters.{units_of}
 use Rattle.jtext.specs.Values.{Json, quoted, spelling}
 use Rattle.jtext.specs.Lookups.{are_same}
@@ -96,7 +97,8 @@ abbrev pub object_type : Holder → ℕ → List Member → Result GeoType Layer
 object_type holder start members =
     and_then (λ told. and_then (λ bbox. and_then (λ crs.
     and_then (λ type. and_then (with_content type start) (find_member (content_key type) members))
-    (type_in holder start told)) (find_crs holder members)) (find_member (codes "bbox") members)) (find_member (codes "type") members)
+    (type_in holder start told)) (find_crs holder members)) (find_member (codes "bbox") members))
+    (find_member (codes "type") members)
 
 -- the edit that puts this in place of the member's value
 abbrev pub value_edit : Member → What → Edit

@@ -1,5 +1,6 @@
 -- The arrays and objects that are open while a layer is read. Only private functions speak of them.
-use Rattle.std.specs.Prelude.{◌≡◌, ℕ, ◌+◌, ◌-◌, ◌<◌, ◌≤◌, Bool, true, nat_lt, codes, List, [], ◌∷◌, ◌++◌, length, slice_get, flat_map, Option, Some, None, Result, Ok, Err, if◌then◌else◌}
+use Rattle.std.specs.Prelude.{◌≡◌, ℕ, ◌+◌, ◌-◌, ◌<◌, ◌≤◌, Bool, true, nat_lt, codes, List, [], ◌∷◌, ◌++◌, length}
+use Rattle.std.specs.Prelude.{slice_get, flat_map, Option, Some, None, Result, Ok, Err, if◌then◌else◌}
 use Rattle.jtext.specs.Values.{Elements, no_element}
 use Rattle.jtext.specs.Nodes.{node_count}
 use Rattle.jtext.specs.Places.{Stands}
@@ -31,7 +32,8 @@ pub record Own : Type 0 where
   pub members : List Member
   pub bare : Bool
 
--- an array or object that is open: what its elements are, the numbers of its first path and of its next one, what is left, and what was read
+-- an array or object that is open: what its elements are, the numbers of its first path and of its next one, what is
+-- left, and what was read
 pub record Open : Type 0 where
   pub form : Form
   pub number : ℕ
@@ -59,7 +61,8 @@ with_more level here = record level { next = level.next + length here.paths; don
 -- what the outermost is read as, where this is read of the one inside these, the innermost first
 abbrev pub outcome : Bool → List Open → Result Part LayerFault → Result Part LayerFault
 outcome exact [] inside = inside
-outcome exact (level ∷ outer) inside = outcome exact outer (and_then (λ here. whole_of exact (with_more level here)) inside)
+outcome exact (level ∷ outer) inside = outcome exact outer
+    (and_then (λ here. whole_of exact (with_more level here)) inside)
 
 -- all that was read so far
 abbrev pub held_by : List Open → Part
@@ -80,7 +83,8 @@ value_edits (Some one) what = value_edit one what ∷ []
 abbrev pub IsContentAt : List Node → List ℕ → ℕ → ℕ → ℕ × ℕ × ℕ → Option Member → Type 0
 IsContentAt nodes bytes object past place None = place ≡ (0, 0, 0)
 IsContentAt nodes bytes object past place (Some one) =
-    Stands nodes bytes place.0 one.start one.value × (place.1 ≡ place.0 + node_count one.value) × (place.2 ≡ one.start) × (object < place.0) × (place.1 ≤ past)
+    Stands nodes bytes place.0 one.start one.value × (place.1 ≡ place.0 + node_count one.value) × (place.2 ≡ one.start)
+    × (object < place.0) × (place.1 ≤ past)
 
 -- the edit, where there is one
 abbrev pub listed : Option Edit → List Edit
@@ -107,13 +111,15 @@ own_edits ending bounds = in_order (edit_at ending.bbox bounds) (edit_at ending.
 
 -- those of its content between them
 abbrev pub laid : Ending → What → List Edit → List Edit
-laid ending bounds inner = fronts ending.content (own_edits ending bounds) ++ (inner ++ behinds ending.content (own_edits ending bounds))
+laid ending bounds inner = fronts ending.content (own_edits ending bounds)
+    ++ (inner ++ behinds ending.content (own_edits ending bounds))
 
 -- what is done at the end of the object
 pub record IsEndingOf (ending : Ending) (own : Own) (number : ℕ) (before : Part) : Type 0 where
   pub first : ending.first ≡ number
   pub edits : ending.edits ≡ length before.edits
-  pub laid_so : (bounds : What) (inner : List Edit) → (own.bare ≡ true → inner ≡ []) → flat_map (member_edits own.holder own.type bounds inner) own.members ≡ laid ending bounds inner
+  pub laid_so : (bounds : What) (inner : List Edit) → (own.bare ≡ true → inner ≡ [])
+      → flat_map (member_edits own.holder own.type bounds inner) own.members ≡ laid ending bounds inner
 
 abbrev pub IsEnding : Option Ending → Option Own → ℕ → Part → Type 0
 IsEnding None None number before = Unit {0}
@@ -136,28 +142,35 @@ pub record IsFrame (nodes : List Node) (bytes : List ℕ) (frame : Frame) (level
 -- the frames are these, of each of which a value inside is open
 abbrev pub AreOuter : List Node → List ℕ → List Frame → List Open → Type 0
 AreOuter nodes bytes [] [] = Unit {0}
-AreOuter nodes bytes (frame ∷ frames) (level ∷ outer) = IsFrame nodes bytes frame level (held_by outer) × (IsBare level.own → ⊥) × AreOuter nodes bytes frames outer
+AreOuter nodes bytes (frame ∷ frames) (level ∷ outer) =
+    IsFrame nodes bytes frame level (held_by outer) × (IsBare level.own → ⊥) × AreOuter nodes bytes frames outer
 AreOuter nodes bytes frames opens = ⊥
 
 -- the frames, the innermost first, with the sheet so far, lead to what is wanted
 abbrev pub Going : Bool → List Node → List ℕ → List Frame → Pass → Result Part LayerFault → Type 0
 Going exact nodes bytes [] pass wanted = (part : Part) × (wanted ≡ Ok part) × Holds pass part
-Going exact nodes bytes (frame ∷ frames) pass wanted = (level : Open) × (outer : List Open) × IsFrame nodes bytes frame level (held_by outer) × AreOuter nodes bytes frames outer
+Going exact nodes bytes (frame ∷ frames) pass wanted =
+    (level : Open) × (outer : List Open) × IsFrame nodes bytes frame level (held_by outer)
+    × AreOuter nodes bytes frames outer
     × Holds pass (held_by (level ∷ outer)) × (wanted ≡ outcome exact outer (whole_of exact level))
 
 -- the frame is what is wanted, of which nothing is read yet; or this is its fault
 abbrev pub Opens : List Node → List ℕ → Bool → Part → Result Frame LayerFault → Result Part LayerFault → Type 0
-Opens nodes bytes exact before (Ok frame) wanted = (level : Open) × IsFrame nodes bytes frame level before × (level.done ≡ nothing) × (wanted ≡ whole_of exact level)
+Opens nodes bytes exact before (Ok frame) wanted =
+    (level : Open) × IsFrame nodes bytes frame level before × (level.done ≡ nothing) × (wanted ≡ whole_of exact level)
 Opens nodes bytes exact before (Err fault) wanted = wanted ≡ Err fault
 
 -- a value was read behind the part, or opened; or this is its fault
-abbrev pub Takes : List Node → List ℕ → Bool → Part → Pass → Result (Option Frame) LayerFault → Result Part LayerFault → Type 0
+abbrev pub Takes : List Node → List ℕ → Bool → Part → Pass → Result (Option Frame) LayerFault → Result Part LayerFault
+    → Type 0
 Takes nodes bytes exact part new (Ok None) wanted = (more : Part) × (wanted ≡ Ok more) × Holds new (joined part more)
-Takes nodes bytes exact part new (Ok (Some frame)) wanted = Opens nodes bytes exact part (Ok frame) wanted × Holds new part
+Takes nodes bytes exact part new (Ok (Some frame)) wanted =
+    Opens nodes bytes exact part (Ok frame) wanted × Holds new part
 Takes nodes bytes exact part new (Err fault) wanted = (fault ≡ faults.NoMemory → ⊥) → wanted ≡ Err fault
 
 -- the members that are looked at, for an object of this type
-pub record AreLooked (nodes : List Node) (bytes : List ℕ) (holder : Holder) (object past : ℕ) (members : List Member) (looked : Looked) : Type 0 where
+pub record AreLooked (nodes : List Node) (bytes : List ℕ) (holder : Holder) (object past : ℕ) (members : List Member)
+    (looked : Looked) : Type 0 where
   pub bbox : Option Member
   pub crs : Option Member
   pub content : Option Member
@@ -169,8 +182,10 @@ pub record AreLooked (nodes : List Node) (bytes : List ℕ) (holder : Holder) (o
   pub content_found : AreFound nodes bytes object past looked.content content
 
 -- these are those members, or this is their first fault
-abbrev pub Looks : List Node → List ℕ → Holder → ℕ → ℕ → List Member → Result Looked LayerFault → Result GeoType LayerFault → Type 0
-Looks nodes bytes holder object past members (Ok looked) wanted = (wanted ≡ Ok looked.kind) × AreLooked nodes bytes holder object past members looked
+abbrev pub Looks : List Node → List ℕ → Holder → ℕ → ℕ → List Member → Result Looked LayerFault
+    → Result GeoType LayerFault → Type 0
+Looks nodes bytes holder object past members (Ok looked) wanted =
+    (wanted ≡ Ok looked.kind) × AreLooked nodes bytes holder object past members looked
 Looks nodes bytes holder object past members (Err fault) wanted = wanted ≡ Err fault
 
 -- so many nodes are left
@@ -181,7 +196,8 @@ left_in (frame ∷ frames) = (frame.end - frame.at) + left_in frames
 -- what is left of a value that was opened stands inside it
 abbrev pub IsFrameWithin : List Node → ℕ → Option Frame → Type 0
 IsFrameWithin nodes value None = Unit {0}
-IsFrameWithin nodes value (Some frame) = (node : Node) → slice_get nodes value ≡ Some node → (frame.end - frame.at) + value < node.next
+IsFrameWithin nodes value (Some frame) = (node : Node) → slice_get nodes value ≡ Some node
+    → (frame.end - frame.at) + value < node.next
 
 -- nothing was appended where a value was opened, and otherwise no more than stands in it
 abbrev pub GrowsBy : List Node → ℕ → Pass → Pass → Option Frame → Type 0
@@ -189,7 +205,8 @@ GrowsBy nodes value old new None = (node : Node) → slice_get nodes value ≡ S
 GrowsBy nodes value old new (Some frame) = Grows old new 0
 
 -- so the frames go on; or this is the fault of what is wanted
-abbrev pub Goes : Bool → List Node → List ℕ → List Frame → Pass → Result (Unit {0}) LayerFault → Result Part LayerFault → Type 0
+abbrev pub Goes : Bool → List Node → List ℕ → List Frame → Pass → Result (Unit {0}) LayerFault → Result Part LayerFault
+    → Type 0
 Goes exact nodes bytes frames pass (Ok done) wanted = Going exact nodes bytes frames pass wanted
 Goes exact nodes bytes frames pass (Err fault) wanted = (fault ≡ faults.NoMemory → ⊥) → wanted ≡ Err fault
 

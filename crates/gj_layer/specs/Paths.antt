@@ -1,5 +1,6 @@
 -- Paths of positions, and the sheet of a list of paths.
-use Rattle.std.specs.Prelude.{ℕ, ◌+◌, ◌-◌, Bool, List, [], ◌∷◌, ◌++◌, take, length, map, flat_map, sum_by, Result, Ok, Err, if◌then◌else◌}
+use Rattle.std.specs.Prelude.{ℕ, ◌+◌, ◌-◌, Bool, List, [], ◌∷◌, ◌++◌, take, length, map, flat_map, sum_by, Result, Ok}
+use Rattle.std.specs.Prelude.{Err, if◌then◌else◌}
 use Rattle.jtext.specs.Values.{Json, array, no_element}
 use Rattle.jtext.specs.Nodes.{inner_place}
 use Rattle.plane_base.specs.declared.shapes.Pt.{Pt}
@@ -35,7 +36,14 @@ end_of one (next ∷ more) = end_of next more
 -- the path of these points that stands in these positions; no position, no path
 abbrev pub path_of : PathKind → List Pt → List Position → List Path
 path_of kind points [] = []
-path_of kind points (one ∷ more) = record { kind = kind; points = points; lost = sum_by lost_of (one ∷ more); start = one.start; end = end_of one more } ∷ []
+path_of kind points (one ∷ more) = record {
+  kind = kind;
+  points = points;
+  lost = sum_by lost_of (one ∷ more);
+  start =
+      one.start;
+  end = end_of one more;
+} ∷ []
 
 abbrev pub dot_of : Position → Result (List Path) LayerFault
 dot_of one = Ok (path_of kinds.Dot (point_of one ∷ []) (one ∷ []))
@@ -54,8 +62,10 @@ abbrev pub traced : Bool → Trace → ℕ → Json → Result (List Path) Layer
 traced exact traces.Point start (array blank no_element) = Ok []
 traced exact traces.Point start value = and_then dot_of (position exact start value)
 traced exact traces.Position start value = and_then dot_of (position exact start value)
-traced exact traces.Line start (array blank elements) = and_then line_of (positions exact (inner_place start blank) elements)
-traced exact traces.Ring start (array blank elements) = and_then (ring_of start) (positions exact (inner_place start blank) elements)
+traced exact traces.Line start (array blank elements) =
+    and_then line_of (positions exact (inner_place start blank) elements)
+traced exact traces.Ring start (array blank elements) =
+    and_then (ring_of start) (positions exact (inner_place start blank) elements)
 traced exact trace start value = Err (Shape start)
 
 abbrev pub text_for : PathKind → ℕ → What
@@ -91,7 +101,8 @@ part_of number paths = Ok (record { paths = paths; edits = edits_from number pat
 abbrev pub rows_from : ℕ → List Path → List PathRow
 rows_from first [] = []
 rows_from first (path ∷ paths) =
-    record { kind = path.kind; first = first; past = first + length path.points } ∷ rows_from (first + length path.points) paths
+    record { kind = path.kind; first = first; past = first + length path.points }
+    ∷ rows_from (first + length path.points) paths
 
 abbrev pub points_in : Path → List Pt
 points_in path = path.points

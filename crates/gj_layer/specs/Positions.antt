@@ -30,13 +30,16 @@ position_from start end (Ok x) (Err fault) = Err fault
 abbrev pub pair : Bool → ℕ → ℕ → ℕ → Elements → Result Position LayerFault
 pair exact start end place (element before x behind (element ahead y after no_element)) =
     let x_start = element_start place before in
-    position_from start end (number exact x_start x) (number exact (element_start (next_place x_start x behind) ahead) y)
+    position_from start end (number exact x_start x)
+    (number exact (element_start (next_place x_start x behind) ahead) y)
 pair exact start end place (element before x behind (element ahead y after (element blank third more rest))) =
-    Err (Height (element_start (next_place (element_start (next_place (element_start place before) x behind) ahead) y after) blank))
+    Err (Height (element_start (next_place (element_start (next_place (element_start place before) x behind) ahead) y
+    after) blank))
 pair exact start end place elements = Err (Shape start)
 
 abbrev pub position : Bool → ℕ → Json → Result Position LayerFault
-position exact start (array blank elements) = pair exact start (start + length (spelling (array blank elements))) (inner_place start blank) elements
+position exact start (array blank elements) =
+    pair exact start (start + length (spelling (array blank elements))) (inner_place start blank) elements
 position exact start value = Err (Shape start)
 
 -- one more in front of the others
@@ -48,7 +51,8 @@ abbrev pub positions : Bool → ℕ → Elements → Result (List Position) Laye
 positions exact place no_element = Ok []
 positions exact place (element before value after rest) =
     let start = element_start place before in
-    and_then (λ one. and_then (in_front one) (positions exact (next_place start value after) rest)) (position exact start value)
+    and_then (λ one. and_then (in_front one) (positions exact (next_place start value after) rest))
+    (position exact start value)
 
 abbrev pub point_of : Position → Pt
 point_of position = record { x = position.x.mm; y = position.y.mm }

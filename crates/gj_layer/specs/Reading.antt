@@ -1,7 +1,8 @@
 -- A layer is read as the recursion over its value (RFC 7946, sections 3 and 3.1).
 use Rattle.std.specs.Prelude.{ℕ, ◌+◌, Bool, List, length, Option, Some, None, Result, Ok, Err, if◌then◌else◌}
 use Rattle.jtext.specs.Characters.{units_of}
-use Rattle.jtext.specs.Values.{Json, Elements, Members, null, truth, numeral, quoted, array, object, no_element, element, no_member, member}
+use Rattle.jtext.specs.Values.{Json, Elements, Members, null, truth, numeral, quoted, array, object, no_element}
+use Rattle.jtext.specs.Values.{element, no_member, member}
 use Rattle.jtext.specs.Nodes.{inner_place, element_start, member_start, next_place}
 use Rattle.jtext.specs.Lookups.{are_same}
 use Rattle.sheet_base.specs.declared.faults.LayerFault.{LayerFault}
@@ -46,14 +47,16 @@ null_part form start = Err (Shape start)
 -- an array, with what is read of its elements one by one
 abbrev pub array_part : Bool → Form → ℕ → ℕ → List ℕ → Elements → Result Part LayerFault → Result Part LayerFault
 array_part exact (forms.List all) number start blank elements each = each
-array_part exact (forms.Path trace) number start blank elements each = and_then (part_of number) (traced exact trace start (array blank elements))
+array_part exact (forms.Path trace) number start blank elements each =
+    and_then (part_of number) (traced exact trace start (array blank elements))
 array_part exact form number start blank elements each = Err (Shape start)
 
 -- an object, with what is read of its content for each type that it may have
 abbrev pub part_in : Option Holder → ℕ → ℕ → List Member → (GeoType → Result Part LayerFault) → Result Part LayerFault
 part_in None number start members content = Err (Shape start)
 part_in (Some holder) number start members content =
-    and_then (λ type. and_then (λ inside. Ok (object_part holder type number members inside)) (content type)) (object_type holder start members)
+    and_then (λ type. and_then (λ inside. Ok (object_part holder type number members inside)) (content type))
+    (object_type holder start members)
 
 -- What a value is read as that is wanted in this form and whose text begins at a place; the elements of an array one
 -- by one; and the content of an object of a type, which is the value of its member of that name, or nothing. The first
@@ -65,15 +68,19 @@ abbrev mutual
   reading exact form number start (numeral text) = Err (Shape start)
   reading exact form number start (quoted chars) = Err (Shape start)
   reading exact form number start (array blank elements) =
-      array_part exact form number start blank elements (readings exact (element_form form) number (inner_place start blank) elements)
+      array_part exact form number start blank elements
+      (readings exact (element_form form) number (inner_place start blank) elements)
   reading exact form number start (object blank members) =
-      part_in (holder_of form) number start (members_at (inner_place start blank) members) (content_reading exact number (inner_place start blank) members)
+      part_in (holder_of form) number start (members_at (inner_place start blank) members)
+      (content_reading exact number (inner_place start blank) members)
 
   pub readings : Bool → Form → ℕ → ℕ → Elements → Result Part LayerFault
   readings exact form number place no_element = Ok nothing
   readings exact form number place (element before value after rest) =
       let start = element_start place before in
-      and_then (λ one. and_then (λ others. Ok (joined one others)) (readings exact form (number + length one.paths) (next_place start value after) rest)) (reading exact form number start value)
+      and_then (λ one. and_then (λ others. Ok (joined one others))
+      (readings exact form (number + length one.paths) (next_place start value after) rest))
+      (reading exact form number start value)
 
   pub content_reading : Bool → ℕ → ℕ → Members → GeoType → Result Part LayerFault
   content_reading exact number place no_member type = Ok nothing

@@ -1,5 +1,6 @@
 -- What stands where in the document that is read, and what the code makes of it. Only private functions speak of it.
-use Rattle.std.specs.Prelude.{◌≡◌, ℕ, ◌+◌, ◌*◌, ◌<◌, ◌≤◌, ◌^◌, List, [], ◌∷◌, ◌++◌, length, map, flat_map, sum_by, Option, Some, None, Result, Ok, Err}
+use Rattle.std.specs.Prelude.{◌≡◌, ℕ, ◌+◌, ◌*◌, ◌<◌, ◌≤◌, ◌^◌, List, [], ◌∷◌, ◌++◌, length, map, flat_map, sum_by}
+use Rattle.std.specs.Prelude.{Option, Some, None, Result, Ok, Err}
 use Rattle.jtext.specs.Values.{Elements, no_element, element}
 use Rattle.jtext.specs.Nodes.{node_count, element_start, next_place}
 use Rattle.jtext.specs.Places.{Stands}
@@ -14,7 +15,7 @@ use Rattle.gj_layer.specs.Members.{Member}
 use Rattle.gj_layer.specs.Positions.{point_of, lost_of}
 use Rattle.gj_layer.specs.Paths.{end_of, Path, Part, joined, rows_from, edit_of, points_in, lost_in}
 
--- the answer is the value that is wanted, up to the relation, or its fault; want of memory may come always
+-- the answer is the value that is wanted, up to the relation, or its fault; memory may always run out
 abbrev pub Gives : {A B : Type 0} → (A → B → Type 0) → Result A LayerFault → Result B LayerFault → Type 0
 Gives {A} {B} R (Ok one) wanted = (other : B) × (wanted ≡ Ok other) × R one other
 Gives R (Err fault) wanted = (fault ≡ faults.NoMemory → ⊥) → wanted ≡ Err fault
@@ -32,15 +33,18 @@ AreFound nodes bytes object past (Some number) (Some one) = IsFound nodes bytes 
 AreFound nodes bytes object past found one = ⊥
 
 -- the one member was found, or none, or a second one
-abbrev pub Finds : List Node → List ℕ → ℕ → ℕ → Result (Option ℕ) LayerFault → Result (Option Member) LayerFault → Type 0
-Finds nodes bytes object past (Ok found) wanted = (one : Option Member) × (wanted ≡ Ok one) × AreFound nodes bytes object past found one
+abbrev pub Finds : List Node → List ℕ → ℕ → ℕ → Result (Option ℕ) LayerFault → Result (Option Member) LayerFault
+    → Type 0
+Finds nodes bytes object past (Ok found) wanted =
+    (one : Option Member) × (wanted ≡ Ok one) × AreFound nodes bytes object past found one
 Finds nodes bytes object past (Err fault) wanted = wanted ≡ Err fault
 
 -- these elements stand from the node of this number to before that one
 abbrev pub AreLeft : List Node → List ℕ → ℕ → ℕ → ℕ → Elements → Type 0
 AreLeft nodes bytes at end place no_element = at ≡ end
 AreLeft nodes bytes at end place (element before value after rest) =
-    Stands nodes bytes at (element_start place before) value × AreLeft nodes bytes (at + node_count value) end (next_place (element_start place before) value after) rest
+    Stands nodes bytes at (element_start place before) value
+    × AreLeft nodes bytes (at + node_count value) end (next_place (element_start place before) value after) rest
 
 -- from where the first position begins to where the last one ends
 abbrev pub AreFrom : List Position → ℕ → ℕ → Type 0

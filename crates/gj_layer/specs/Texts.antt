@@ -1,5 +1,6 @@
 -- The texts that take the place of edits in GeoJSON (RFC 7946, sections 3.1.1 and 5).
-use Rattle.std.specs.Prelude.{◌≡◌, ◌⊎◌, ℕ, ℤ, ◌-◌, ◌≤ℤ◌, codes, List, [], ◌∷◌, ◌++◌, take, drop, map, flat_map, fold, All, Contains}
+use Rattle.std.specs.Prelude.{◌≡◌, ◌⊎◌, ℕ, ℤ, ◌-◌, ◌≤ℤ◌, codes, List, [], ◌∷◌, ◌++◌, take, drop, map, flat_map, fold}
+use Rattle.std.specs.Prelude.{All, Contains}
 use Rattle.std.specs.Int.{int_min, int_max}
 use Rattle.mm_decimal.specs.Writing.{written}
 use Rattle.plane_base.specs.declared.shapes.Pt.{Pt}
@@ -58,10 +59,12 @@ bounds_text (image ∷ images) = box_text (box_of image images)
 
 -- the number is the first one or one of the others, and none of them is less; or none is greater
 abbrev pub IsLeastOf : ℤ → List ℤ → ℤ → Type 0
-IsLeastOf first others least = ((least ≡ first) ⊎ Contains others least) × ((least ≤ℤ first) × All (λ other. least ≤ℤ other) others)
+IsLeastOf first others least = ((least ≡ first) ⊎ Contains others least)
+    × ((least ≤ℤ first) × All (λ other. least ≤ℤ other) others)
 
 abbrev pub IsGreatestOf : ℤ → List ℤ → ℤ → Type 0
-IsGreatestOf first others greatest = ((greatest ≡ first) ⊎ Contains others greatest) × ((first ≤ℤ greatest) × All (λ other. other ≤ℤ greatest) others)
+IsGreatestOf first others greatest = ((greatest ≡ first) ⊎ Contains others greatest)
+    × ((first ≤ℤ greatest) × All (λ other. other ≤ℤ greatest) others)
 
 -- the sides of the box are the least and the greatest numbers of these images on each axis
 pub record IsLeastBox (image : Pt) (images : List Pt) (box : Rect) : Type 0 where
@@ -77,7 +80,8 @@ BoxesAreLeast = (image : Pt) (images : List Pt) → IsLeastBox image images (box
 abbrev pub what_text : List PathRow → Runs → What → List ℕ
 what_text paths images (GeoList number) = list_text (path_images paths images number)
 what_text paths images (GeoRing number) = ring_text (path_images paths images number)
-what_text paths images (Bounds first past) = bounds_text (flat_map (row_images images) (take (past - first) (drop first paths)))
+what_text paths images (Bounds first past) =
+    bounds_text (flat_map (row_images images) (take (past - first) (drop first paths)))
 what_text paths images Null = codes "null"
 what_text paths images what = []
 

@@ -1,6 +1,7 @@
 //! The arrays and objects that are open while a layer is read.
 
-ghost use Rattle.std.specs.Prelude.{◌≡◌, ◌+◌, ◌<◌, ◌≤◌, ◌^◌, [], ◌∷◌, ◌++◌, List, length, Some, IfOk, OnOk, OnErr, MatchOption, true};
+ghost use Rattle.std.specs.Prelude.{◌≡◌, ◌+◌, ◌<◌, ◌≤◌, ◌^◌, [], ◌∷◌, ◌++◌, List, length, Some, IfOk, OnOk, OnErr};
+ghost use Rattle.std.specs.Prelude.{MatchOption, true};
 ghost use Rattle.sheet_base.specs.declared.edits.Edit.{Edit};
 ghost use Rattle.gj_layer.specs.Paths.{Part, joined};
 ghost use Rattle.gj_layer.specs.Standing.{Holds};

@@ -1,11 +1,13 @@
 //! Positions, in whole millimetres.
 
-ghost use Rattle.std.specs.Prelude.{◌≡◌, ℕ, ◌+◌, ◌*◌, ◌<◌, ◌≤◌, ◌^◌, List, length, slice_get, Some, OnOk, IfOk, if◌then◌else◌};
+ghost use Rattle.std.specs.Prelude.{◌≡◌, ℕ, ◌+◌, ◌*◌, ◌<◌, ◌≤◌, ◌^◌, List, length, slice_get, Some, OnOk, IfOk};
+ghost use Rattle.std.specs.Prelude.{if◌then◌else◌};
 ghost use Rattle.jtext.specs.Values.{Json, Elements};
 ghost use Rattle.jtext.specs.Nodes.{inner_place};
 ghost use Rattle.jtext.specs.Places.{IsReadFrom, Stands, HasKind};
 ghost use Rattle.jtext.specs.declared.document.Node.{Node};
-ghost use Rattle.gj_layer.specs.Positions.{accepted, number, position_from, position, positions, point_of, lost, lost_of};
+ghost use Rattle.gj_layer.specs.Positions.{accepted, number, position_from, position, positions, point_of, lost};
+ghost use Rattle.gj_layer.specs.Positions.{lost_of};
 ghost use Rattle.gj_layer.specs.Standing.{Gives, IsRun};
 
 use crate::nodes::{is_kind, node_at, shape_at, text_of};

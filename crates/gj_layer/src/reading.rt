@@ -1,6 +1,7 @@
 //! Reading a layer, from the top value inwards.
 
-ghost use Rattle.std.specs.Prelude.{◌≡◌, ◌≢◌, ℕ, ◌+◌, ◌-◌, ◌*◌, ◌<◌, ◌≤◌, ◌^◌, Bool, List, [], ◌∷◌, Result, length, slice_get, Some, Ok, IfOk, OnOk, IsErrOf};
+ghost use Rattle.std.specs.Prelude.{◌≡◌, ◌≢◌, ℕ, ◌+◌, ◌-◌, ◌*◌, ◌<◌, ◌≤◌, ◌^◌, Bool, List, [], ◌∷◌, Result, length};
+ghost use Rattle.std.specs.Prelude.{slice_get, Some, Ok, IfOk, OnOk, IsErrOf};
 ghost use Rattle.jtext.specs.Values.{Json};
 ghost use Rattle.jtext.specs.Texts.{Whole};
 ghost use Rattle.jtext.specs.Places.{IsReadFrom, Stands, IsReading as IsDocOf};

@@ -1,5 +1,6 @@
 -- The first text that stands before it too.
-use Rattle.std.proofs.Common.{◌≡◌, ◌<◌, ◌+◌, ℕ, List, [], ◌∷◌, ◌++◌, Bool, true, false, Option, Some, take, drop, map, length, sym, ap, ap₂, ◌∙◌, add-one, drop-cons, get_or, option_map, Bor}
+use Rattle.std.proofs.Common.{◌≡◌, ◌<◌, ◌+◌, ℕ, List, [], ◌∷◌, ◌++◌, Bool, true, false, Option, Some, take, drop, map}
+use Rattle.std.proofs.Common.{length, sym, ap, ap₂, ◌∙◌, add-one, drop-cons, get_or, option_map, Bor}
 use Rattle.std.specs.Prelude.{if◌then◌else◌, find}
 use Rattle.std.specs.List.{enumerate_from, list_any}
 use Rattle.std.specs.Str.{bytes_eq}
@@ -17,17 +18,21 @@ pub record Scanned (seen texts : List (List ℕ)) (count : ℕ) : Type 0 where
   pub none : again_from texts count ≡ again_from texts 0
 
 again-step : (texts : List (List ℕ)) (start : ℕ) (text : List ℕ) → start < length texts → text ≡ get_or texts start text
-    → (b : Bool) → list_any (bytes_eq text) (take start texts) ≡ b → again_from texts start ≡ (if b then Some (start, text) else again_from texts (start + 1))
+    → (b : Bool) → list_any (bytes_eq text) (take start texts) ≡ b
+    → again_from texts start ≡ (if b then Some (start, text) else again_from texts (start + 1))
 again-step texts start text within is b e =
-    let rest : drop start texts ≡ text ∷ drop (start + 1) texts = drop-cons texts start text within ∙ ap₂ (λ t n. t ∷ drop n texts) (sym is) (sym (add-one start)) in
+    let rest : drop start texts ≡ text ∷ drop (start + 1) texts = drop-cons texts start text within
+    ∙ ap₂ (λ t n. t ∷ drop n texts) (sym is) (sym (add-one start)) in
     ap (λ xs. find (stands_before texts) (enumerate_from start xs)) rest
     ∙ ap (λ c. if c then Some (start, text) else again_from texts (start + 1)) e
 
-module _ (seen texts : List (List ℕ)) (count : ℕ) (text : List ℕ) (scanned : Scanned seen texts count) (within : count < length texts) (is : text ≡ get_or texts count text) where
+module _ (seen texts : List (List ℕ)) (count : ℕ) (text : List ℕ) (scanned : Scanned seen texts count)
+    (within : count < length texts) (is : text ≡ get_or texts count text) where
   -- a text that is not among those before it
   pub next-text : list_any (bytes_eq text) seen ≡ false → Scanned (seen ++ text ∷ []) texts (count + 1)
   next-text new =
-      let fresh : list_any (bytes_eq text) (take count texts) ≡ false = ap (list_any (bytes_eq text)) (sym scanned.front) ∙ new in
+      let fresh : list_any (bytes_eq text) (take count texts) ≡ false =
+      ap (list_any (bytes_eq text)) (sym scanned.front) ∙ new in
       record {
         front = ap₂ (λ xs t. xs ++ t ∷ []) scanned.front is ∙ sym (take_more texts count text within);
         none = sym (again-step texts count text within is false fresh) ∙ scanned.none;
@@ -36,15 +41,18 @@ module _ (seen texts : List (List ℕ)) (count : ℕ) (text : List ℕ) (scanned
   -- a text that is
   pub text-again : list_any (bytes_eq text) seen ≡ true → first_again texts ≡ Some count
   text-again old =
-      let known : list_any (bytes_eq text) (take count texts) ≡ true = ap (list_any (bytes_eq text)) (sym scanned.front) ∙ old in
-      ap (option_map (λ (found : ℕ × List ℕ). found.0)) (sym scanned.none ∙ again-step texts count text within is true known)
+      let known : list_any (bytes_eq text) (take count texts) ≡ true = ap (list_any (bytes_eq text)) (sym scanned.front)
+      ∙ old in
+      ap (option_map (λ (found : ℕ × List ℕ). found.0))
+      (sym scanned.none ∙ again-step texts count text within is true known)
 
 -- the texts behind references
 abbrev pub behind : List (Bor (List ℕ)) → List (List ℕ)
 behind = map (λ text. text.now)
 
 -- the last part of a layer's name, among those of all layers
-pub part-at : (layers : List (Bor (List ℕ))) (number : ℕ) (other : Bor (List ℕ)) (text : List ℕ) → number < length layers
+pub part-at : (layers : List (Bor (List ℕ))) (number : ℕ) (other : Bor (List ℕ)) (text : List ℕ)
+    → number < length layers
     → get_or (map last_part (behind layers)) number text ≡ last_part (get_or layers number other).now
 part-at layers number other text within =
     let among : number < length (behind layers) = rw (length-map layers (λ (layer : Bor (List ℕ)). layer.now)) within in
@@ -55,11 +63,14 @@ pub parts-length : (layers : List (Bor (List ℕ))) → length (map last_part (b
 parts-length layers = length-map (behind layers) last_part ∙ length-map layers (λ layer. layer.now)
 
 -- a text is among those behind references
-pub among-behind : (text : List ℕ) (known : List (Bor (List ℕ))) → list_any (λ other. bytes_eq text other.now) known ≡ list_any (bytes_eq text) (behind known)
+pub among-behind : (text : List ℕ) (known : List (Bor (List ℕ)))
+    → list_any (λ other. bytes_eq text other.now) known ≡ list_any (bytes_eq text) (behind known)
 among-behind text known = list_any-map (bytes_eq text) (λ other. other.now) known
 
 -- a text that is put behind those that it is not among
-pub put-behind : (known : List (Bor (List ℕ))) (text : Bor (List ℕ)) → list_any (λ other. bytes_eq text.now other.now) known ≡ false
-    → behind (if list_any (λ other. bytes_eq text.now other.now) known then known else known ++ text ∷ []) ≡ behind known ++ text.now ∷ []
+pub put-behind : (known : List (Bor (List ℕ))) (text : Bor (List ℕ))
+    → list_any (λ other. bytes_eq text.now other.now) known ≡ false
+    → behind (if list_any (λ other. bytes_eq text.now other.now) known then known else known ++ text ∷ [])
+    ≡ behind known ++ text.now ∷ []
 put-behind known text new =
     ap (λ b. behind (if b then known else known ++ text ∷ [])) new ∙ map-append (λ other. other.now) known (text ∷ [])

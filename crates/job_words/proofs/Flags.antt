@@ -8,7 +8,8 @@ use Rattle.clap.specs.Walk.{Text}
 use Rattle.job_words.proofs.Deciding.{texts-differ}
 
 -- a text that may be missing, read behind its reference
-pub text-or : (text : Option (Bor Text)) (other : Bor Text) → (unwrap_or text other).now ≡ unwrap_or (option_map (λ t. t.now) text) other.now
+pub text-or : (text : Option (Bor Text)) (other : Bor Text)
+    → (unwrap_or text other).now ≡ unwrap_or (option_map (λ t. t.now) text) other.now
 text-or None other = refl
 text-or (Some text) other = refl
 

@@ -1,5 +1,6 @@
 -- What a job of words keeps.
-use Rattle.std.proofs.Common.{◌≡◌, ◌≤◌, ◌&&◌, List, [], ◌∷◌, Bool, true, false, not, Option, Some, None, Result, Ok, Err, IfOk, cond, length, map, refl, sym, codes, subst, true≢false, inl, inr}
+use Rattle.std.proofs.Common.{◌≡◌, ◌≤◌, ◌&&◌, List, [], ◌∷◌, Bool, true, false, not, Option, Some, None, Result, Ok}
+use Rattle.std.proofs.Common.{Err, IfOk, cond, length, map, refl, sym, codes, subst, true≢false, inl, inr}
 use Rattle.std.specs.Prelude.{if◌then◌else◌, is_some, nat_le, nat_lt, find}
 use Rattle.std.specs.List.{AllByRecursion, list_all}
 use Rattle.std.specs.Option.{option_map_or}
@@ -20,7 +21,8 @@ use Rattle.job_words.specs.Names.{is_name, last_part}
 use Rattle.job_words.specs.Formats.{format_of}
 use Rattle.job_words.specs.Sizes.{is_plain, is_size, size_of}
 use Rattle.job_words.specs.Faults.{IsAnswer, first_fault}
-use Rattle.job_words.specs.Jobs.{how_in, job_in, layer_fault, many_fault, migration_fault, migration_in, out_fault, same_fault, suffix_fault, tin_fault, unless}
+use Rattle.job_words.specs.Jobs.{how_in, job_in, layer_fault, many_fault, migration_fault, migration_in, out_fault}
+use Rattle.job_words.specs.Jobs.{same_fault, suffix_fault, tin_fault, unless}
 use Rattle.job_words.specs.Kept.{HasFormat, IsKept, IsMigration, IsName}
 use Rattle.job_words.proofs.Distinct.{distinct-texts, nothing-made}
 use Rattle.job_words.proofs.Deciding.{no-more}
@@ -40,7 +42,8 @@ named (byte ∷ bytes) is = record {
 }
 
 -- no fault of those that are there
-none-first : (faults : List (Option WordsFault)) → first_fault faults ≡ None → AllByRecursion (λ fault. fault ≡ None) faults
+none-first : (faults : List (Option WordsFault)) → first_fault faults ≡ None
+    → AllByRecursion (λ fault. fault ≡ None) faults
 none-first [] none = tt
 none-first (Some fault ∷ rest) none = absurd (cc)
 none-first (None ∷ rest) none = (refl, none-first rest none)
@@ -61,14 +64,17 @@ each-passes {X} test P is (x ∷ xs) none =
     let parts = go (test x) none in
     (is x parts.0, each-passes test P is xs parts.1)
   where
-    go : (b : Bool) → cond (not b) (Some x) (find (λ y. not (test y)) xs) ≡ None → (b ≡ true) × (find (λ y. not (test y)) xs ≡ None)
+    go : (b : Bool) → cond (not b) (Some x) (find (λ y. not (test y)) xs) ≡ None
+        → (b ≡ true) × (find (λ y. not (test y)) xs ≡ None)
     go true e = (refl, e)
     go false e = absurd (cc)
 
-kept-migration : (tin out : Text) (layers : List Text) → migration_fault tin out layers ≡ None → IsMigration tin out layers
+kept-migration : (tin out : Text) (layers : List Text) → migration_fault tin out layers ≡ None
+    → IsMigration tin out layers
 kept-migration tin out layers none =
     let few = none-first (
-    many_fault layers ∷ tin_fault tin ∷ out_fault out ∷ layer_fault layers ∷ suffix_fault layers ∷ same_fault layers ∷ []) none in
+    many_fault layers ∷ tin_fault tin ∷ out_fault out ∷ layer_fault layers ∷ suffix_fault layers ∷ same_fault layers
+    ∷ []) none in
     let taken_tin = few.1 in
     let taken_out = taken_tin.1 in
     let taken_layers = taken_out.1 in
@@ -78,12 +84,15 @@ kept-migration tin out layers none =
       tin_named = named tin (no-fault-else (is_name tin) (Name Tin) taken_tin.0);
       out_named = named out (no-fault-else (is_name out) (Name Out) taken_out.0);
       few = ltb-false MOST_LAYERS (length layers) (no-fault-then (nat_lt MOST_LAYERS (length layers)) Many few.0);
-      layers_named = each-passes is_name IsName named layers (find-none (λ layer. not (is_name layer)) layers (nothing-made _ _ taken_layers.0));
-      formats = each-passes (λ layer. is_some (format_of layer)) HasFormat (λ layer has. has) layers (find-none (λ layer. not (is_some (format_of layer))) layers (nothing-made _ _ have_formats.0));
+      layers_named = each-passes is_name IsName named layers
+          (find-none (λ layer. not (is_name layer)) layers (nothing-made _ _ taken_layers.0));
+      formats = each-passes (λ layer. is_some (format_of layer)) HasFormat (λ layer has. has) layers
+          (find-none (λ layer. not (is_some (format_of layer))) layers (nothing-made _ _ have_formats.0));
       distinct = distinct-texts (map last_part layers) (nothing-made _ _ differ.0);
     }
 
-kept-unless : (fault : Option WordsFault) (wanted : Job) → (fault ≡ None → IsKept wanted) → IfOk (unless fault wanted) IsKept
+kept-unless : (fault : Option WordsFault) (wanted : Job) → (fault ≡ None → IsKept wanted)
+    → IfOk (unless fault wanted) IsKept
 kept-unless None wanted is = is refl
 kept-unless (Some fault) wanted is = tt
 
@@ -91,7 +100,8 @@ kept-make : (word : Text) → IfOk (option_map_or (λ size. Ok (job.Make size)) 
 kept-make word = go (is_plain word) (is_size (digits_value 10 word)) refl
   where
     go : (a b : Bool) → is_size (digits_value 10 word) ≡ b
-        → IfOk (option_map_or (λ size. Ok (job.Make size)) (if a && b then Some (digits_value 10 word) else None) (Err Size)) IsKept
+        → IfOk (option_map_or (λ size. Ok (job.Make size)) (if a && b then Some (digits_value 10 word) else None)
+        (Err Size)) IsKept
     go false b is = tt
     go true false is = tt
     go true true is = let parts = both _ _ is in
@@ -99,15 +109,18 @@ kept-make word = go (is_plain word) (is_size (digits_value 10 word)) refl
 
 kept-in : (mode : Mode) (rows : List Row) → IfOk (job_in mode rows) IsKept
 kept-in Migrate rows =
-    kept-unless (migration_fault (text_in (codes "tin") rows) (text_in (codes "out") rows) (texts_in (codes "layer") rows)) (migration_in rows)
+    kept-unless (migration_fault (text_in (codes "tin") rows) (text_in (codes "out") rows)
+    (texts_in (codes "layer") rows)) (migration_in rows)
     (kept-migration (text_in (codes "tin") rows) (text_in (codes "out") rows) (texts_in (codes "layer") rows))
 kept-in Check rows =
     let tin = text_in (codes "tin") rows in
-    kept-unless (tin_fault tin) (job.Check tin (how_in rows)) (λ none. named tin (no-fault-else (is_name tin) (Name Tin) none))
+    kept-unless (tin_fault tin) (job.Check tin (how_in rows))
+    (λ none. named tin (no-fault-else (is_name tin) (Name Tin) none))
 kept-in Make rows = kept-make (text_in (codes "n") rows)
 
 -- a job that is answered keeps what its mode's jobs keep
-pub kept-answer : (mode : Mode) (rows : List Row) (answer : Result Job WordsFault) → IsAnswer (job_in mode rows) answer → IfOk answer IsKept
+pub kept-answer : (mode : Mode) (rows : List Row) (answer : Result Job WordsFault) → IsAnswer (job_in mode rows) answer
+    → IfOk answer IsKept
 kept-answer mode rows answer is = elim is [
   | inl memory ↦ rw memory tt
   | inr wanted ↦ subst (λ (given : Result Job WordsFault). IfOk given IsKept) (sym wanted) (kept-in mode rows)

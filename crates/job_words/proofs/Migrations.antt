@@ -1,5 +1,6 @@
 -- What the matches of a migration ask for.
-use Rattle.std.proofs.Common.{◌≡◌, ◌⊎◌, inl, inr, List, [], Option, Some, None, Result, Ok, Err, Bor, Bool, refl, sym, ap, ◌∙◌, codes, option_map, unwrap_or}
+use Rattle.std.proofs.Common.{◌≡◌, ◌⊎◌, inl, inr, List, [], Option, Some, None, Result, Ok, Err, Bor, Bool, refl, sym}
+use Rattle.std.proofs.Common.{ap, ◌∙◌, codes, option_map, unwrap_or}
 use Rattle.clap.specs.Walk.{Row, Text}
 use Rattle.std.specs.Result.{IsErrAnd}
 use Rattle.sheet_base.specs.declared.flags.How.{How}
@@ -29,8 +30,9 @@ same-fault : (rows : List Row) (tin out : Text) (layers : List Text) → AreName
     → job_in Migrate rows ≡ unless (migration_fault tin out layers) (migration_in rows)
 same-fault rows tin out layers named = rw (named.tin, named.out, named.layers) refl
 
--- a fault of the names, or want of memory
-pub names-refused : (rows : List Row) (tin out : Text) (layers : List Text) (fault : WordsFault) → AreNamed rows tin out layers
+-- a fault of the names, or memory ran out
+pub names-refused : (rows : List Row) (tin out : Text) (layers : List Text) (fault : WordsFault)
+    → AreNamed rows tin out layers
     → (fault ≡ NoMemory) ⊎ (migration_fault tin out layers ≡ Some fault) → IsAnswer (job_in Migrate rows) (Err fault)
 names-refused rows tin out layers fault named is = elim is [
   | inl memory ↦ inl (ap (λ f. Err f) memory)
@@ -44,9 +46,12 @@ names-taken rows tin out layers wanted named none is =
     inr (ap (λ w. Ok w) is ∙ sym (same-fault rows tin out layers named ∙ ap (λ f. unless f (migration_in rows)) none))
 
 -- the migration of what is read of the matches
-pub same-migration : (rows : List Row) (tin out : Text) (how : How) (inverse : Bool) (layers : List Text) → AreNamed rows tin out layers
-    → how ≡ how_in rows → inverse ≡ is_set (codes "inverse") rows → job.Migrate tin out how inverse layers ≡ migration_in rows
-same-migration rows tin out how inverse layers named is turned = λ i. job.Migrate (named.tin i) (named.out i) (is i) (turned i) (named.layers i)
+pub same-migration : (rows : List Row) (tin out : Text) (how : How) (inverse : Bool) (layers : List Text)
+    → AreNamed rows tin out layers
+    → how ≡ how_in rows → inverse ≡ is_set (codes "inverse") rows
+    → job.Migrate tin out how inverse layers ≡ migration_in rows
+same-migration rows tin out how inverse layers named is turned =
+    λ i. job.Migrate (named.tin i) (named.out i) (is i) (turned i) (named.layers i)
 
 -- an error that is handed on
 pub handed-on : {T E : Type 0} (answer : Result T E) (error : E) → IsErrAnd answer (λ e. e ≡ error) → answer ≡ Err error

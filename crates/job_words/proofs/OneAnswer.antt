@@ -1,5 +1,6 @@
 -- Words have one job or one fault.
-use Rattle.std.proofs.Common.{◌≡◌, ◌≢◌, ◌⊎◌, inl, inr, ℕ, List, [], ◌∷◌, Bool, true, false, Option, Some, None, Result, Ok, Err, refl, sym, ◌∙◌, codes, map, option_map, ap}
+use Rattle.std.proofs.Common.{◌≡◌, ◌≢◌, ◌⊎◌, inl, inr, ℕ, List, [], ◌∷◌, Bool, true, false, Option, Some, None, Result}
+use Rattle.std.proofs.Common.{Ok, Err, refl, sym, ◌∙◌, codes, map, option_map, ap}
 use Rattle.std.specs.Prelude.{if◌then◌else◌, position, not, is_some, length, nat_lt}
 use Rattle.std.specs.List.{AllByRecursion}
 use Rattle.std.specs.Option.{option_map_or}
@@ -8,7 +9,8 @@ use Rattle.job_words.specs.declared.jobs.Job.{Job}
 use Rattle.job_words.specs.declared.modes.Mode.{Mode}
 use Rattle.job_words.specs.declared.modes.Mode.TheVariants.{Migrate, Check, Make}
 use Rattle.job_words.specs.declared.faults.WordsFault.{WordsFault}
-use Rattle.job_words.specs.declared.faults.WordsFault.TheVariants.{NoMemory, NoMode, Parse, Size, Many, Name, Suffix, SameName}
+use Rattle.job_words.specs.declared.faults.WordsFault.TheVariants.{NoMemory, NoMode, Parse, Size, Many, Name, Suffix}
+use Rattle.job_words.specs.declared.faults.WordsFault.TheVariants.{SameName}
 use Rattle.job_words.specs.Modes.{mode_of}
 use Rattle.job_words.specs.Readings.{reading_of, text_in, texts_in}
 use Rattle.job_words.specs.Faults.{first_fault}
@@ -18,7 +20,8 @@ use Rattle.job_words.specs.declared.faults.Which.TheVariants.{Tin, Out, Layer}
 use Rattle.job_words.specs.declared.limits.TheConstants.{MOST_LAYERS}
 use Rattle.job_words.specs.Names.{first_again, is_name, last_part}
 use Rattle.job_words.specs.Formats.{format_of}
-use Rattle.job_words.specs.Jobs.{IsJobOf, IsWordsFault, answer_in, answer_of, job_in, layer_fault, many_fault, migration_fault, out_fault, same_fault, suffix_fault, tin_fault, unless}
+use Rattle.job_words.specs.Jobs.{IsJobOf, IsWordsFault, answer_in, answer_of, job_in, layer_fault, many_fault}
+use Rattle.job_words.specs.Jobs.{migration_fault, out_fault, same_fault, suffix_fault, tin_fault, unless}
 use Rattle.job_words.specs.Laws.{HasOneAnswer}
 
 -- a fault of the words themselves, if any
@@ -40,7 +43,8 @@ own-then true fault own = own
 own-then false fault own = λ e. cc
 
 -- at a number that may be missing
-own-at : (number : Option ℕ) (make : ℕ → WordsFault) → ((n : ℕ) → IsOwn (Some (make n))) → IsOwn (option_map make number)
+own-at : (number : Option ℕ) (make : ℕ → WordsFault) → ((n : ℕ) → IsOwn (Some (make n)))
+    → IsOwn (option_map make number)
 own-at None make own = λ e. cc
 own-at (Some n) make own = own n
 
@@ -49,7 +53,8 @@ own-tin tin = own-else (is_name tin) (Name Tin) (λ e. cc)
 
 own-migration : (tin out : Text) (layers : List Text) → IsOwn (migration_fault tin out layers)
 own-migration tin out layers = own-first (
-    many_fault layers ∷ tin_fault tin ∷ out_fault out ∷ layer_fault layers ∷ suffix_fault layers ∷ same_fault layers ∷ []) (
+    many_fault layers ∷ tin_fault tin ∷ out_fault out ∷ layer_fault layers ∷ suffix_fault layers ∷ same_fault layers
+    ∷ []) (
       own-then (nat_lt MOST_LAYERS (length layers)) Many (λ e. cc),
       (
         own-tin tin,
@@ -70,11 +75,13 @@ own-unless : (fault : Option WordsFault) (wanted : Job) → IsOwn fault → unle
 own-unless None wanted own = λ e. cc
 own-unless (Some fault) wanted own = λ e. own (same fault e)
   where
-    same : (fault : WordsFault) → ◌≡◌ {A = Result Job WordsFault} (Err fault) (Err NoMemory) → Some fault ≡ Some NoMemory
+    same : (fault : WordsFault) → ◌≡◌ {A = Result Job WordsFault} (Err fault) (Err NoMemory)
+        → Some fault ≡ Some NoMemory
     same fault e = cc
 
 own-job : (mode : Mode) (rows : List Row) → job_in mode rows ≢ Err NoMemory
-own-job Migrate rows = own-unless _ _ (own-migration (text_in (codes "tin") rows) (text_in (codes "out") rows) (texts_in (codes "layer") rows))
+own-job Migrate rows = own-unless _ _ (own-migration (text_in (codes "tin") rows) (text_in (codes "out") rows)
+    (texts_in (codes "layer") rows))
 own-job Check rows = own-unless _ _ (own-tin (text_in (codes "tin") rows))
 own-job Make rows = go (size_of (text_in (codes "n") rows))
   where

@@ -10,7 +10,7 @@ use Rattle.job_words.specs.declared.faults.WordsFault.{WordsFault}
 use Rattle.job_words.specs.declared.faults.WordsFault.TheVariants.{NoMemory, Parse}
 use Rattle.job_words.specs.Faults.{fault_for}
 
--- want of memory, or a refusal of another kind
+-- memory ran out, or a refusal of another kind
 pub memory-or-parse : (k : ErrorKind) → ((k ≡ kind.OutOfMemory) × (fault_for k ≡ NoMemory)) ⊎ (fault_for k ≡ Parse)
 memory-or-parse kind.OutOfMemory = inl (refl, refl)
 memory-or-parse _ = inr refl
@@ -21,7 +21,8 @@ some-kind k [] among = absurd among
 some-kind k (first ∷ kinds) among = ne_eqb _ _ (λ e. omega arith)
 
 -- the fault of an error with one of these kinds
-pub refused : (kinds : Kinds) (error : Error) (fault : WordsFault) → HasKind kinds error → fault ≡ fault_for (kind_of error)
+pub refused : (kinds : Kinds) (error : Error) (fault : WordsFault) → HasKind kinds error
+    → fault ≡ fault_for (kind_of error)
     → (fault ≡ NoMemory) ⊎ ((fault ≡ Parse) × ((length kinds == 0) ≡ false))
 refused kinds error fault has is = elim (memory-or-parse (kind_of error)) [
   | inl memory ↦ inl (is ∙ memory.1)

@@ -29,11 +29,14 @@ twice : IsWordsFault (codes "check" ∷ codes "--tin" ∷ codes "t" ∷ codes "-
 unfolding clap_on_literals
 twice = refl
 
-a-check : IsJobOf (codes "check" ∷ codes "--tin" ∷ codes "s.json" ∷ []) (Check (codes "s.json") (record { exact = false; drop_other = false; inside_only = false }))
+a-check : IsJobOf (codes "check" ∷ codes "--tin" ∷ codes "s.json" ∷ [])
+    (Check (codes "s.json") (record { exact = false; drop_other = false; inside_only = false }))
 unfolding clap_on_literals
 a-check = refl
 
-options-between : IsJobOf (codes "migrate" ∷ codes "--tin=t.json" ∷ codes "a.WKT" ∷ codes "--exact" ∷ codes "b.json" ∷ codes "--out" ∷ codes "o" ∷ [])
-    (Migrate (codes "t.json") (codes "o") (record { exact = true; drop_other = false; inside_only = false }) false (codes "a.WKT" ∷ codes "b.json" ∷ []))
+options-between : IsJobOf (codes "migrate" ∷ codes "--tin=t.json" ∷ codes "a.WKT" ∷ codes "--exact" ∷ codes "b.json"
+    ∷ codes "--out" ∷ codes "o" ∷ [])
+    (Migrate (codes "t.json") (codes "o") (record { exact = true; drop_other = false; inside_only = false }) false
+    (codes "a.WKT" ∷ codes "b.json" ∷ []))
 unfolding clap_on_literals
 options-between = refl

@@ -30,7 +30,8 @@ words_rule id = record (new_rule id) {
 
 -- the options and words of a mode
 abbrev pub rules_for : Mode → List Rule
-rules_for Migrate = option_rule (codes "tin") ∷ option_rule (codes "out") ∷ flag_rule (codes "inverse") ∷ flag_rule (codes "exact")
+rules_for Migrate = option_rule (codes "tin") ∷ option_rule (codes "out") ∷ flag_rule (codes "inverse")
+    ∷ flag_rule (codes "exact")
     ∷ flag_rule (codes "inside-only") ∷ flag_rule (codes "drop-other") ∷ words_rule (codes "layer") ∷ []
 rules_for Check = option_rule (codes "tin") ∷ flag_rule (codes "exact") ∷ flag_rule (codes "inside-only") ∷ []
 rules_for Make = word_rule (codes "n") ∷ []

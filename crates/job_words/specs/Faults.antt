@@ -16,10 +16,10 @@ first_fault [] = None
 first_fault (Some fault ∷ rest) = Some fault
 first_fault (None ∷ rest) = first_fault rest
 
--- a check that passes where there is no fault, and else answers it or want of memory
+-- a check that passes where there is no fault, and else answers it, or that memory ran out
 abbrev pub Checks : {T : Type 0} → Option WordsFault → Result T WordsFault → Type 0
 Checks fault answer = MatchResult answer (λ _. fault ≡ None) (λ given. (given ≡ NoMemory) ⊎ (fault ≡ Some given))
 
--- an answer that is as wanted, or want of memory
+-- an answer that is as wanted, or memory ran out
 abbrev pub IsAnswer : {T : Type 0} → Result T WordsFault → Result T WordsFault → Type 0
 IsAnswer wanted answer = (answer ≡ Err NoMemory) ⊎ (answer ≡ wanted)

@@ -1,5 +1,6 @@
 -- The job of the words, or the first fault that they have.
-use Rattle.std.specs.Prelude.{◌≡◌, not, List, [], ◌∷◌, length, Option, Some, None, is_some, Result, Ok, Err, codes, nat_lt, map, position, if◌then◌else◌}
+use Rattle.std.specs.Prelude.{◌≡◌, not, List, [], ◌∷◌, length, Option, Some, None, is_some, Result, Ok, Err, codes}
+use Rattle.std.specs.Prelude.{nat_lt, map, position, if◌then◌else◌}
 use Rattle.std.specs.Option.{option_map, option_map_or}
 use Rattle.clap.specs.Walk.{Row, Text}
 use Rattle.sheet_base.specs.declared.flags.How.{How}
@@ -45,7 +46,8 @@ same_fault layers = option_map SameName (first_again (map last_part layers))
 -- the first fault of the names of a migration
 abbrev pub migration_fault : Text → Text → List Text → Option WordsFault
 migration_fault tin out layers = first_fault (
-    many_fault layers ∷ tin_fault tin ∷ out_fault out ∷ layer_fault layers ∷ suffix_fault layers ∷ same_fault layers ∷ [])
+    many_fault layers ∷ tin_fault tin ∷ out_fault out ∷ layer_fault layers ∷ suffix_fault layers ∷ same_fault layers
+    ∷ [])
 
 -- a job that has this fault, if any
 abbrev pub unless : Option WordsFault → Job → Result Job WordsFault
@@ -68,8 +70,10 @@ migration_in rows = job.Migrate (text_in (codes "tin") rows) (text_in (codes "ou
 -- what a mode's matches ask for
 abbrev pub job_in : Mode → List Row → Result Job WordsFault
 job_in Migrate rows =
-    unless (migration_fault (text_in (codes "tin") rows) (text_in (codes "out") rows) (texts_in (codes "layer") rows)) (migration_in rows)
-job_in Check rows = unless (tin_fault (text_in (codes "tin") rows)) (job.Check (text_in (codes "tin") rows) (how_in rows))
+    unless (migration_fault (text_in (codes "tin") rows) (text_in (codes "out") rows) (texts_in (codes "layer") rows))
+    (migration_in rows)
+job_in Check rows = unless (tin_fault (text_in (codes "tin") rows))
+    (job.Check (text_in (codes "tin") rows) (how_in rows))
 job_in Make rows = option_map_or (λ size. Ok (job.Make size)) (size_of (text_in (codes "n") rows)) (Err Size)
 
 -- what words of a mode ask for, the mode standing in the place of a program's name

@@ -8,7 +8,8 @@ use Rattle.job_words.specs.Jobs.{IsJobOf, IsWordsFault}
 
 -- words have a job or a fault of their own, not two jobs or faults, and not both
 pub record HasOneAnswer (words : List Text) : Type 0 where
-  pub some : ((wanted : Job) × IsJobOf words wanted) ⊎ ((fault : WordsFault) × IsWordsFault words fault × (fault ≢ NoMemory))
+  pub some : ((wanted : Job) × IsJobOf words wanted)
+      ⊎ ((fault : WordsFault) × IsWordsFault words fault × (fault ≢ NoMemory))
   pub one_job : (wanted other : Job) → IsJobOf words wanted → IsJobOf words other → wanted ≡ other
   pub one_fault : (fault other : WordsFault) → IsWordsFault words fault → IsWordsFault words other → fault ≡ other
   pub not_both : (wanted : Job) (fault : WordsFault) → IsJobOf words wanted → IsWordsFault words fault → ⊥

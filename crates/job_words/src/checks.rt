@@ -5,7 +5,8 @@ ghost use Rattle.job_words.specs.declared.limits.TheConstants.{MOST_LAYERS as mo
 ghost use Rattle.job_words.specs.Faults.{Checks};
 ghost use Rattle.job_words.specs.Names.{is_name};
 ghost use Rattle.job_words.specs.Formats.{format_of as format_by_name};
-ghost use Rattle.job_words.specs.Jobs.{layer_fault, many_fault, migration_fault, out_fault, same_fault, suffix_fault, tin_fault};
+ghost use Rattle.job_words.specs.Jobs.{layer_fault, many_fault, migration_fault, out_fault, same_fault, suffix_fault};
+ghost use Rattle.job_words.specs.Jobs.{tin_fault};
 
 use crate::faults::{Which, WordsFault};
 use crate::formats::format_of;

@@ -90,7 +90,7 @@ pub fn read_words(alloc: Global, words: &[String]) -> Result<Job, WordsFault>
     // Its names may be taken, no two layers are written into one file, and its size may be made.
     ensures kept { IfOk result IsKept }
 
-    // Every refusal but want of memory is the first fault of the words.
+    // Every refusal except `NoMemory` is the first fault of the words.
     ensures refused { (fault : Fault) → IsErrOf result fault → fault ≢ NoMemory → IsWordsFault (map string_bytes words.now) fault }
 {
     let Some(word) = words.first() else {

@@ -1,7 +1,8 @@
 -- What the sign of a byte says of the byte, and the other way round.
 use Rattle.std.proofs.Common.{◌≡◌, ℕ, ◌≤◌, ◌<◌, ◌⊎◌, inl, inr, true, refl, ap, ◌==◌, arith}
 use Rattle.std.specs.Prelude.{◌&&◌, ◌||◌, nat_le, if◌then◌else◌}
-use Rattle.std.proofs.lemmas.Bool.{leb-true, le-leb, lt-leb, eqb-true, eqb-false, ne_eqb, and_parts, or_cases, or_left, or_right, cond_both}
+use Rattle.std.proofs.lemmas.Bool.{leb-true, le-leb, lt-leb, eqb-true, eqb-false, ne_eqb, and_parts, or_cases, or_left}
+use Rattle.std.proofs.lemmas.Bool.{or_right, cond_both}
 use Rattle.jtext.specs.Numbers.{IsDigit, IsMark}
 use Rattle.jtext.specs.Characters.{IsOf, IsEscape, from_to, hexadecimal, Class}
 use Rattle.jtext.specs.Values.{IsBlank}
@@ -39,10 +40,15 @@ HasSign signs.First byte = byte ≡ 239
 HasSign signs.Other byte = Unit {0}
 
 in_range : (low high byte : ℕ) → (nat_le low byte && nat_le byte high) ≡ true → (low ≤ byte) × (byte ≤ high)
-in_range low high byte t = let h = and_parts (nat_le low byte) (nat_le byte high) t in (leb-true low byte h.0, leb-true byte high h.1)
+in_range low high byte t = let h = and_parts (nat_le low byte) (nat_le byte high)
+    t in (leb-true low byte h.0, leb-true byte high h.1)
 
 one_of_two : (a b byte : ℕ) → (byte == a || byte == b) ≡ true → (byte ≡ a) ⊎ (byte ≡ b)
-one_of_two a b byte t = elim (or_cases (byte == a) (byte == b) t) [ inl h ↦ inl (eqb-true byte a h) | inr h ↦ inr (eqb-true byte b h) ]
+one_of_two a b byte t = elim (or_cases (byte == a) (byte == b) t) [
+  | inl h ↦ inl (eqb-true byte a h)
+  | inr h ↦
+      inr (eqb-true byte b h)
+]
 
 blank_of : (byte : ℕ) → (byte == 32 || byte == 9 || byte == 10 || byte == 13) ≡ true → IsBlank byte
 blank_of byte t = elim (or_cases (byte == 32 || byte == 9 || byte == 10) (byte == 13) t) [
@@ -79,7 +85,11 @@ pub nonzero_sign : (byte : ℕ) → 49 ≤ byte → byte ≤ 57 → byte_sign by
 nonzero_sign byte a b = rw (le-leb 49 byte a, le-leb byte 57 b) refl
 
 pub digit_sign : (byte : ℕ) → IsDigit byte → (byte_sign byte ≡ signs.Zero) ⊎ (byte_sign byte ≡ signs.Digit)
-digit_sign byte (low, high) = elim (least byte low) [ inl same ↦ inl (ap byte_sign same) | inr above ↦ inr (nonzero_sign byte above high) ]
+digit_sign byte (low, high) = elim (least byte low) [
+  | inl same ↦ inl (ap byte_sign same)
+  | inr above ↦
+      inr (nonzero_sign byte above high)
+]
   where
     least : (n : ℕ) → 48 ≤ n → (n ≡ 48) ⊎ (49 ≤ n)
     least n h = grind arith
@@ -121,7 +131,8 @@ has_text_sign byte =
     let P : TextSign → Type 0 = λ s. HasTextSign s byte in
     cond_both _ _ _ P (eqb-true byte 34) (λ a.
     cond_both _ _ _ P (eqb-true byte 92) (λ b.
-    cond_both _ _ _ P (λ t. let h = in_range 0x20 0x7F byte t in (h.0, h.1, eqb-false byte 34 a, eqb-false byte 92 b)) (λ _.
+    cond_both _ _ _ P (λ t. let h = in_range 0x20 0x7F byte t in (h.0, h.1, eqb-false byte 34 a, eqb-false byte 92 b))
+    (λ _.
     cond_both _ _ _ P (in_range 0xC2 0xDF byte) (λ _.
     cond_both _ _ _ P (eqb-true byte 0xE0) (λ _.
     cond_both _ _ _ P (eqb-true byte 0xED) (λ d.
@@ -130,7 +141,8 @@ has_text_sign byte =
     cond_both _ _ _ P (in_range 0xF1 0xF3 byte) (λ _.
     cond_both _ _ _ P (eqb-true byte 0xF4) (λ _. tt))))))))))
 
-pub plain_sign : (byte : ℕ) → 0x20 ≤ byte → byte ≤ 0x7F → (byte ≡ 34 → ⊥) → (byte ≡ 92 → ⊥) → text_sign byte ≡ texts.Plain
+pub plain_sign : (byte : ℕ) → 0x20 ≤ byte → byte ≤ 0x7F → (byte ≡ 34 → ⊥) → (byte ≡ 92 → ⊥)
+    → text_sign byte ≡ texts.Plain
 plain_sign byte a b c d = rw (ne_eqb byte 34 c, ne_eqb byte 92 d, le-leb 0x20 byte a, le-leb byte 0x7F b) refl
 
 -- above the single bytes
@@ -143,7 +155,12 @@ text_sign_above : (byte : ℕ) → 0x7F < byte → text_sign byte ≡ (
     else if nat_le 0xF1 byte && nat_le byte 0xF3 then texts.Lead leads.Four
     else if byte == 0xF4 then texts.Lead leads.FourLast
     else texts.Refused)
-text_sign_above byte a = rw (ne_eqb byte 34 (λ h. absurd (omega arith)), ne_eqb byte 92 (λ h. absurd (omega arith)), le-leb 0x20 byte (omega arith), lt-leb byte 0x7F a) refl
+text_sign_above byte a = rw (
+  ne_eqb byte 34 (λ h. absurd (omega arith)),
+  ne_eqb byte 92 (λ h. absurd (omega arith)),
+  le-leb 0x20 byte (omega arith),
+  lt-leb byte 0x7F a,
+) refl
 
 pub two_sign : (byte : ℕ) → 0xC2 ≤ byte → byte ≤ 0xDF → text_sign byte ≡ texts.Lead leads.Two
 two_sign byte a b = rw (text_sign_above byte (omega arith), le-leb 0xC2 byte a, le-leb byte 0xDF b) refl
@@ -180,26 +197,30 @@ HasEscapeSign escapes.Short byte = IsEscape byte
 HasEscapeSign escapes.Unicode byte = byte ≡ 117
 HasEscapeSign escapes.Refused byte = Unit {0}
 
-escape_of : (byte : ℕ) → (byte == 34 || byte == 92 || byte == 47 || byte == 98 || byte == 102 || byte == 110 || byte == 114 || byte == 116) ≡ true → IsEscape byte
+escape_of : (byte : ℕ) → (byte == 34 || byte == 92 || byte == 47 || byte == 98 || byte == 102 || byte == 110 || byte ==
+    114 || byte == 116) ≡ true → IsEscape byte
 escape_of byte t =
-    elim (or_cases (byte == 34 || byte == 92 || byte == 47 || byte == 98 || byte == 102 || byte == 110 || byte == 114) (byte == 116) t) [
+    elim (or_cases (byte == 34 || byte == 92 || byte == 47 || byte == 98 || byte == 102 || byte == 110 || byte == 114)
+    (byte == 116) t) [
       | inr h ↦ inr (inr (inr (inr (inr (inr (inr (eqb-true byte 116 h)))))))
-      | inl s ↦ elim (or_cases (byte == 34 || byte == 92 || byte == 47 || byte == 98 || byte == 102 || byte == 110) (byte == 114) s) [
-        | inr h ↦ inr (inr (inr (inr (inr (inr (inl (eqb-true byte 114 h)))))))
-        | inl r ↦ elim (or_cases (byte == 34 || byte == 92 || byte == 47 || byte == 98 || byte == 102) (byte == 110) r) [
-          | inr h ↦ inr (inr (inr (inr (inr (inl (eqb-true byte 110 h))))))
-          | inl q ↦ elim (or_cases (byte == 34 || byte == 92 || byte == 47 || byte == 98) (byte == 102) q) [
-            | inr h ↦ inr (inr (inr (inr (inl (eqb-true byte 102 h)))))
-            | inl p ↦ elim (or_cases (byte == 34 || byte == 92 || byte == 47) (byte == 98) p) [
-              | inr h ↦ inr (inr (inr (inl (eqb-true byte 98 h))))
-              | inl o ↦ elim (or_cases (byte == 34 || byte == 92) (byte == 47) o) [
-                | inr h ↦ inr (inr (inl (eqb-true byte 47 h)))
-                | inl n ↦ elim (one_of_two 34 92 byte n) [ inl h ↦ inl h | inr h ↦ inr (inl h) ]
-              ]
-            ]
+      | inl s ↦ elim (or_cases (byte == 34 || byte == 92 || byte == 47 || byte == 98 || byte == 102 || byte == 110)
+          (byte == 114) s) [
+            | inr h ↦ inr (inr (inr (inr (inr (inr (inl (eqb-true byte 114 h)))))))
+            | inl r ↦ elim (or_cases (byte == 34 || byte == 92 || byte == 47 || byte == 98 || byte == 102) (byte == 110)
+                r) [
+                  | inr h ↦ inr (inr (inr (inr (inr (inl (eqb-true byte 110 h))))))
+                  | inl q ↦ elim (or_cases (byte == 34 || byte == 92 || byte == 47 || byte == 98) (byte == 102) q) [
+                    | inr h ↦ inr (inr (inr (inr (inl (eqb-true byte 102 h)))))
+                    | inl p ↦ elim (or_cases (byte == 34 || byte == 92 || byte == 47) (byte == 98) p) [
+                      | inr h ↦ inr (inr (inr (inl (eqb-true byte 98 h))))
+                      | inl o ↦ elim (or_cases (byte == 34 || byte == 92) (byte == 47) o) [
+                        | inr h ↦ inr (inr (inl (eqb-true byte 47 h)))
+                        | inl n ↦ elim (one_of_two 34 92 byte n) [ inl h ↦ inl h | inr h ↦ inr (inl h) ]
+                      ]
+                    ]
+                  ]
+                ]
           ]
-        ]
-      ]
     ]
 
 pub has_escape_sign : (byte : ℕ) → HasEscapeSign (escape_sign byte) byte
@@ -230,11 +251,14 @@ in_test : (low high byte : ℕ) → (low ≤ byte) × (byte ≤ high) → (nat_l
 in_test low high byte h = rw (le-leb low byte h.0, le-leb byte high h.1) refl
 
 hexadecimal_of : (byte : ℕ) → IsOf hexadecimal byte → takes needs.Hexadecimal byte ≡ true
-hexadecimal_of byte (inl h) = or_left (nat_le 48 byte && nat_le byte 57 || nat_le 65 byte && nat_le byte 70) (nat_le 97 byte && nat_le byte 102)
+hexadecimal_of byte (inl h) = or_left (nat_le 48 byte && nat_le byte 57 || nat_le 65 byte && nat_le byte 70)
+    (nat_le 97 byte && nat_le byte 102)
     (or_left (nat_le 48 byte && nat_le byte 57) (nat_le 65 byte && nat_le byte 70) (in_test 48 57 byte h))
-hexadecimal_of byte (inr (inl h)) = or_left (nat_le 48 byte && nat_le byte 57 || nat_le 65 byte && nat_le byte 70) (nat_le 97 byte && nat_le byte 102)
+hexadecimal_of byte (inr (inl h)) = or_left (nat_le 48 byte && nat_le byte 57 || nat_le 65 byte && nat_le byte 70)
+    (nat_le 97 byte && nat_le byte 102)
     (or_right (nat_le 48 byte && nat_le byte 57) (nat_le 65 byte && nat_le byte 70) (in_test 65 70 byte h))
-hexadecimal_of byte (inr (inr h)) = or_right (nat_le 48 byte && nat_le byte 57 || nat_le 65 byte && nat_le byte 70) (nat_le 97 byte && nat_le byte 102) (in_test 97 102 byte h)
+hexadecimal_of byte (inr (inr h)) = or_right (nat_le 48 byte && nat_le byte 57 || nat_le 65 byte && nat_le byte 70)
+    (nat_le 97 byte && nat_le byte 102) (in_test 97 102 byte h)
 
 pub taken : (first : Need) (byte : ℕ) → IsOf (class_of first) byte → takes first byte ≡ true
 taken needs.Tail byte h = rw (le-leb 0x80 byte h.0, le-leb byte 0xBF h.1) refl
@@ -251,7 +275,8 @@ is_of needs.TailTo9F byte t = in_range 0x80 0x9F byte t
 is_of needs.TailFrom90 byte t = in_range 0x90 0xBF byte t
 is_of needs.TailTo8F byte t = in_range 0x80 0x8F byte t
 is_of needs.Hexadecimal byte t =
-    elim (or_cases ((nat_le 48 byte && nat_le byte 57) || (nat_le 65 byte && nat_le byte 70)) (nat_le 97 byte && nat_le byte 102) t) [
+    elim (or_cases ((nat_le 48 byte && nat_le byte 57) || (nat_le 65 byte && nat_le byte 70))
+    (nat_le 97 byte && nat_le byte 102) t) [
       | inr h ↦ inr (inr (in_range 97 102 byte h))
       | inl s ↦ elim (or_cases (nat_le 48 byte && nat_le byte 57) (nat_le 65 byte && nat_le byte 70) s) [
         | inl h ↦ inl (in_range 48 57 byte h)

@@ -6,7 +6,8 @@ use Rattle.text_places.specs.Machine.{run}
 use Rattle.text_places.proofs.Runs.{run_on}
 use Rattle.jtext.specs.Signs.{closing}
 use Rattle.jtext.specs.Tokens.{Inner, inner_step, needing, takes, word_step}
-use Rattle.jtext.specs.States.{Token, in_word, in_number, in_text, token_step, is_whole, Role, Phase, begin, stand, within, State, state, same_bracket, ended, place_behind, pushed, step, IsEnd}
+use Rattle.jtext.specs.States.{Token, in_word, in_number, in_text, token_step, is_whole, Role, Phase, begin, stand}
+use Rattle.jtext.specs.States.{within, State, state, same_bracket, ended, place_behind, pushed, step, IsEnd}
 use Rattle.jtext.specs.declared.document.Kind.{Kind}
 use Rattle.jtext.specs.declared.document.Node.{Node}
 use Rattle.jtext.specs.declared.signs.Bracket.{Bracket}
@@ -57,8 +58,13 @@ TokenEnds token = (part : List ℕ) × (last : Token) × (run token_step token p
 text_ends : (inner : Inner) → TokenEnds (in_text inner)
 text_ends Inner.plain = (34 ∷ [], in_text Inner.closed, refl, refl)
 text_ends Inner.escape = (110 ∷ 34 ∷ [], in_text Inner.closed, refl, refl)
-text_ends (Inner.need first more) =
-    (examples (first ∷ more), in_text Inner.closed, text_token (Inner.need first more) Inner.closed (examples (first ∷ more)) (examples_read (first ∷ more)), refl)
+text_ends (Inner.need first more) = (
+  examples (first ∷ more),
+  in_text Inner.closed,
+  text_token (Inner.need first more) Inner.closed
+      (examples (first ∷ more)) (examples_read (first ∷ more)),
+  refl,
+)
 text_ends Inner.closed = ([], in_text Inner.closed, refl, refl)
 
 number_ends : (place : NumberPlace) → TokenEnds (in_number place)
@@ -88,44 +94,59 @@ module _ (room : ℕ → Bool) where
   same_self Square = refl
   same_self Curly = refl
 
-  behind_ends : (stack : List Open) (nodes : List Node) (at : ℕ) → (last : State) × (run (step room) (state (stand places.Behind) stack nodes at) (closers stack) ≡ Some last) × IsEnd last
+  behind_ends : (stack : List Open) (nodes : List Node) (at : ℕ)
+      → (last : State) × (run (step room) (state (stand places.Behind) stack nodes at) (closers stack) ≡ Some last)
+      × IsEnd last
   behind_ends [] nodes at = (state (stand places.Behind) [] nodes at, refl, record { last = tt; all_closed = refl })
   behind_ends (one ∷ outer) nodes at =
       let (last, was, ends) = behind_ends outer (ended one nodes at) (at + 1) in
       (last, rw (closing_sign one.bracket, same_self one.bracket) was, ends)
 
   value_ends : (stack : List Open) (nodes : List Node) (at : ℕ) → CanEnd (state (stand places.Value) stack nodes at)
-  value_ends stack nodes at = let (last, was, ends) = behind_ends stack _ _ in (48 ∷ 32 ∷ closers stack, last, was, ends)
+  value_ends stack nodes at = let (last, was, ends) =
+      behind_ends stack _ _ in (48 ∷ 32 ∷ closers stack, last, was, ends)
 
-  first_ends : (stack : List Open) (nodes : List Node) (at : ℕ) → CanEnd (state (stand places.FirstElement) stack nodes at)
-  first_ends stack nodes at = let (last, was, ends) = behind_ends stack _ _ in (48 ∷ 32 ∷ closers stack, last, was, ends)
+  first_ends : (stack : List Open) (nodes : List Node) (at : ℕ)
+      → CanEnd (state (stand places.FirstElement) stack nodes at)
+  first_ends stack nodes at = let (last, was, ends) =
+      behind_ends stack _ _ in (48 ∷ 32 ∷ closers stack, last, was, ends)
 
   begin_ends : (stack : List Open) (nodes : List Node) (at : ℕ) → CanEnd (state begin stack nodes at)
-  begin_ends stack nodes at = let (last, was, ends) = behind_ends stack _ _ in (48 ∷ 32 ∷ closers stack, last, was, ends)
+  begin_ends stack nodes at = let (last, was, ends) =
+      behind_ends stack _ _ in (48 ∷ 32 ∷ closers stack, last, was, ends)
 
   colon_ends : (stack : List Open) (nodes : List Node) (at : ℕ) → CanEnd (state (stand places.Colon) stack nodes at)
-  colon_ends stack nodes at = let (last, was, ends) = behind_ends stack _ _ in (58 ∷ 48 ∷ 32 ∷ closers stack, last, was, ends)
+  colon_ends stack nodes at = let (last, was, ends) =
+      behind_ends stack _ _ in (58 ∷ 48 ∷ 32 ∷ closers stack, last, was, ends)
 
   key_ends : (stack : List Open) (nodes : List Node) (at : ℕ) → CanEnd (state (stand places.Key) stack nodes at)
-  key_ends stack nodes at = let (last, was, ends) = behind_ends stack _ _ in (34 ∷ 34 ∷ 58 ∷ 48 ∷ 32 ∷ closers stack, last, was, ends)
+  key_ends stack nodes at = let (last, was, ends) =
+      behind_ends stack _ _ in (34 ∷ 34 ∷ 58 ∷ 48 ∷ 32 ∷ closers stack, last, was, ends)
 
-  first_key_ends : (stack : List Open) (nodes : List Node) (at : ℕ) → CanEnd (state (stand places.FirstKey) stack nodes at)
-  first_key_ends stack nodes at = let (last, was, ends) = behind_ends stack _ _ in (34 ∷ 34 ∷ 58 ∷ 48 ∷ 32 ∷ closers stack, last, was, ends)
+  first_key_ends : (stack : List Open) (nodes : List Node) (at : ℕ)
+      → CanEnd (state (stand places.FirstKey) stack nodes at)
+  first_key_ends stack nodes at = let (last, was, ends) =
+      behind_ends stack _ _ in (34 ∷ 34 ∷ 58 ∷ 48 ∷ 32 ∷ closers stack, last, was, ends)
 
-  stand_ends : (place : Place) (stack : List Open) (nodes : List Node) (at : ℕ) → CanEnd (state (stand place) stack nodes at)
+  stand_ends : (place : Place) (stack : List Open) (nodes : List Node) (at : ℕ)
+      → CanEnd (state (stand place) stack nodes at)
   stand_ends places.Value stack nodes at = value_ends stack nodes at
   stand_ends places.FirstElement stack nodes at = first_ends stack nodes at
   stand_ends places.FirstKey stack nodes at = first_key_ends stack nodes at
   stand_ends places.Key stack nodes at = key_ends stack nodes at
   stand_ends places.Colon stack nodes at = colon_ends stack nodes at
-  stand_ends places.Behind stack nodes at = let (last, was, ends) = behind_ends stack nodes at in (closers stack, last, was, ends)
+  stand_ends places.Behind stack nodes at = let (last, was, ends) =
+      behind_ends stack nodes at in (closers stack, last, was, ends)
 
   -- a space ends any token
-  space_read : (place : Place) (stack : List Open) (nodes : List Node) (at : ℕ) (s : State) (text : List ℕ) → Rests place stack nodes at s
+  space_read : (place : Place) (stack : List Open) (nodes : List Node) (at : ℕ) (s : State) (text : List ℕ)
+      → Rests place stack nodes at s
       → run (step room) s (32 ∷ text) ≡ run (step room) (state (stand place) stack nodes (at + 1)) text
-  space_read place stack nodes at s text rests = rw (rests_step room place stack nodes at s 32 rests tt) (by_place place)
+  space_read place stack nodes at s text rests =
+      rw (rests_step room place stack nodes at s 32 rests tt) (by_place place)
     where
-      by_place : (p : Place) → run (step room) (state (stand p) stack nodes at) (32 ∷ text) ≡ run (step room) (state (stand p) stack nodes (at + 1)) text
+      by_place : (p : Place) → run (step room) (state (stand p) stack nodes at) (32 ∷ text)
+          ≡ run (step room) (state (stand p) stack nodes (at + 1)) text
       by_place places.Value = refl
       by_place places.FirstElement = refl
       by_place places.FirstKey = refl
@@ -133,16 +154,20 @@ module _ (room : ℕ → Bool) where
       by_place places.Colon = refl
       by_place places.Behind = refl
 
-  within_ends : (role : Role) (kind : Kind) (from : ℕ) (token : Token) (stack : List Open) (nodes : List Node) (at : ℕ) → CanEnd (state (within role kind from token) stack nodes at)
+  within_ends : (role : Role) (kind : Kind) (from : ℕ) (token : Token) (stack : List Open) (nodes : List Node) (at : ℕ)
+      → CanEnd (state (within role kind from token) stack nodes at)
   within_ends role kind from token stack nodes at =
       let (part, whole, read, done) = token_ends token in
       let there : ℕ = at + length part in
-      let (rest, last, was, ends) = stand_ends (place_behind role) stack (pushed role kind from nodes (at + length part)) (at + length part + 1) in (
+      let (rest, last, was, ends) = stand_ends (place_behind role) stack
+      (pushed role kind from nodes (at + length part)) (at + length part + 1) in (
         part ++ 32 ∷ rest,
         last,
-        run_on (step room) (state (within role kind from token) stack nodes at) (state (within role kind from whole) stack nodes (at + length part)) part (32 ∷ rest)
+        run_on (step room) (state (within role kind from token) stack nodes at)
+            (state (within role kind from whole) stack nodes (at + length part)) part (32 ∷ rest)
             (token_read room role kind from stack nodes at (at + length part) token whole part read refl)
-            ∙ space_read (place_behind role) stack (pushed role kind from nodes (at + length part)) (at + length part) (state (within role kind from whole) stack nodes (at + length part)) rest
+            ∙ space_read (place_behind role) stack (pushed role kind from nodes (at + length part)) (at + length part)
+            (state (within role kind from whole) stack nodes (at + length part)) rest
             (token_rests room role kind from stack nodes (at + length part) whole done)
             ∙ was,
         ends,

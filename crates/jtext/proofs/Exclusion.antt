@@ -12,4 +12,9 @@ deep_once bytes at other a b = first_fault_unique (IsText DEEPEST) bytes at othe
 
 pub bad_or_deep : (bytes : List ℕ) (at other : ℕ) → IsBad bytes at → IsDeep bytes other → ⊥
 bad_or_deep bytes at other b d =
-    omega (arith, d.fault.longest at b.fault.within b.shallow, b.fault.longest (other + 1) (omega (arith, d.within)) d.deeper)
+    omega (
+      arith,
+      d.fault.longest at b.fault.within b.shallow,
+      b.fault.longest (other + 1) (omega (arith, d.within))
+          d.deeper,
+    )

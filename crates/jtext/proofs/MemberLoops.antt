@@ -1,16 +1,19 @@
 -- Going over the members of an object for those of one key.
-use Rattle.std.proofs.Common.{◌≡◌, ℕ, zero, suc, ◌+◌, ◌<◌, List, [], ◌∷◌, ◌++◌, length, get_or, Bool, true, false, refl, sym, ap, ◌∙◌, arith, subst}
+use Rattle.std.proofs.Common.{◌≡◌, ℕ, zero, suc, ◌+◌, ◌<◌, List, [], ◌∷◌, ◌++◌, length, get_or, Bool, true, false, refl}
+use Rattle.std.proofs.Common.{sym, ap, ◌∙◌, arith, subst}
 use Rattle.std.specs.Prelude.{Option, Some, None, Err, slice_get}
 use Rattle.std.proofs.lemmas.Option.{same_Some}
 use Rattle.jtext.specs.Characters.{units_of}
 use Rattle.jtext.specs.Values.{Json, Members, null, truth, numeral, quoted, array, object, no_member, member}
-use Rattle.jtext.specs.Nodes.{kind_of, node_count, member_count, first_node, element_start, member_start, next_place, inner_place}
+use Rattle.jtext.specs.Nodes.{kind_of, node_count, member_count, first_node, element_start, member_start, next_place}
+use Rattle.jtext.specs.Nodes.{inner_place}
 use Rattle.jtext.specs.Places.{IsReadFrom, Stands, Entry, entries_at, HasKind}
 use Rattle.jtext.specs.Lookups.{are_same, named, only_one}
 use Rattle.jtext.specs.declared.document.Kind.TheVariants as kinds
 use Rattle.jtext.specs.declared.document.Node.{Node}
 use Rattle.jtext.specs.declared.document.Doc.{Doc}
-use Rattle.jtext.proofs.Standing.{MembersStand, object_stands, key_stands, member_stands, members_rest_stand, ends_within, first_there, node_stands, node_count_positive}
+use Rattle.jtext.proofs.Standing.{MembersStand, object_stands, key_stands, member_stands, members_rest_stand}
+use Rattle.jtext.proofs.Standing.{ends_within, first_there, node_stands, node_count_positive}
 use Rattle.jtext.proofs.TextNodes.{found_node, no_node}
 use Rattle.jtext.proofs.SameTexts.{same_is, is_same}
 
@@ -30,7 +33,8 @@ FoundIs None before = before ≡ []
 FoundIs (Some number) before = (entry : Entry) × (before ≡ entry ∷ []) × (number ≡ entry.number)
 
 -- The members from this node on are still to be looked at.
-pub record Going (nodes : List Node) (bytes key : List ℕ) (end at : ℕ) (found : Option ℕ) (entries : List Entry) : Type 0 where
+pub record Going (nodes : List Node) (bytes key : List ℕ) (end at : ℕ) (found : Option ℕ) (entries : List Entry) : Type
+    0 where
   pub place : ℕ
   pub rest : Members
   pub stand : MembersStand nodes bytes at place rest
@@ -40,22 +44,26 @@ pub record Going (nodes : List Node) (bytes key : List ℕ) (end at : ℕ) (foun
   pub found_is : FoundIs found before
 
 -- One of them is next.
-pub record Next (nodes : List Node) (bytes key : List ℕ) (end at : ℕ) (found : Option ℕ) (entries : List Entry) : Type 0 where
-  pub entry : Entry
-  pub number_is : entry.number ≡ at + 1
-  pub key_there : Stands nodes bytes at entry.key_start (quoted entry.key)
-  pub value_there : Stands nodes bytes (at + 1) entry.start entry.value
-  pub place : ℕ
-  pub rest : Members
-  pub stand : MembersStand nodes bytes (at + 1 + node_count entry.value) place rest
-  pub counted : at + 1 + node_count entry.value + member_count rest ≡ end
-  pub before : List Entry
-  pub split : named key entries ≡ before ++ named key (entry ∷ entries_at (at + 1 + node_count entry.value) place rest)
-  pub found_is : FoundIs found before
+pub record Next (nodes : List Node) (bytes key : List ℕ) (end at : ℕ) (found : Option ℕ) (entries : List Entry) : Type 0
+  where
+    pub entry : Entry
+    pub number_is : entry.number ≡ at + 1
+    pub key_there : Stands nodes bytes at entry.key_start (quoted entry.key)
+    pub value_there : Stands nodes bytes (at + 1) entry.start entry.value
+    pub place : ℕ
+    pub rest : Members
+    pub stand : MembersStand nodes bytes (at + 1 + node_count entry.value) place rest
+    pub counted : at + 1 + node_count entry.value + member_count rest ≡ end
+    pub before : List Entry
+    pub split : named key entries ≡ before ++ named key
+        (entry ∷ entries_at (at + 1 + node_count entry.value) place rest)
+    pub found_is : FoundIs found before
 
 module _ (nodes : List Node) (bytes key : List ℕ) (end at : ℕ) (found : Option ℕ) (entries : List Entry) where
-  next_of : (place : ℕ) (rest : Members) → MembersStand nodes bytes at place rest → at + member_count rest ≡ end → (before : List Entry)
-      → named key entries ≡ before ++ named key (entries_at at place rest) → FoundIs found before → at < end → Next nodes bytes key end at found entries
+  next_of : (place : ℕ) (rest : Members) → MembersStand nodes bytes at place rest → at + member_count rest ≡ end
+      → (before : List Entry)
+      → named key entries ≡ before ++ named key (entries_at at place rest) → FoundIs found before → at < end
+      → Next nodes bytes key end at found entries
   next_of place no_member stand counted before split found_is within = absurd (omega arith)
   next_of place (member blank chars behind ahead value after rest) stand counted before split found_is within = record {
     entry = record {
@@ -87,18 +95,23 @@ module _ (nodes : List Node) (bytes key : List ℕ) (end at : ℕ) (found : Opti
       let inside = ends_within nodes bytes (at + 1) n.entry.start n.entry.value n.value_there in
       omega (arith, inside.1, node_count_positive n.entry.value)
 
-  pub next_number : (n : Next nodes bytes key end at found entries) → (next : ℕ) → ((node : Node) → slice_get nodes (at + 1) ≡ Some node → next ≡ node.next)
+  pub next_number : (n : Next nodes bytes key end at found entries) → (next : ℕ)
+      → ((node : Node) → slice_get nodes (at + 1) ≡ Some node → next ≡ node.next)
       → next ≡ at + 1 + node_count n.entry.value
-  next_number n next read = read (first_node (at + 1) n.entry.start n.entry.value) (first_there nodes bytes (at + 1) n.entry.start n.entry.value n.value_there)
+  next_number n next read = read (first_node (at + 1) n.entry.start n.entry.value)
+      (first_there nodes bytes (at + 1) n.entry.start n.entry.value n.value_there)
 
   pub key_place : (n : Next nodes bytes key end at found entries) → (get_or nodes at no_node).start ≡ n.entry.key_start
-  key_place n = ap (λ (x : Node). x.start) (found_node nodes bytes at n.entry.key_start (quoted n.entry.key) no_node (omega (arith, next_bounds n)) n.key_there)
+  key_place n = ap (λ (x : Node). x.start) (found_node nodes bytes at n.entry.key_start (quoted n.entry.key) no_node
+      (omega (arith, next_bounds n)) n.key_there)
 
   -- its key is another one
-  pub going_other : (n : Next nodes bytes key end at found entries) → (units_of n.entry.key ≡ key → ⊥) → (next : ℕ) → next ≡ at + 1 + node_count n.entry.value
+  pub going_other : (n : Next nodes bytes key end at found entries) → (units_of n.entry.key ≡ key → ⊥) → (next : ℕ)
+      → next ≡ at + 1 + node_count n.entry.value
       → Going nodes bytes key end next found entries
   going_other n other next is =
-      let passed : named key (n.entry ∷ entries_at (at + 1 + node_count n.entry.value) n.place n.rest) ≡ named key (entries_at (at + 1 + node_count n.entry.value) n.place n.rest) =
+      let passed : named key (n.entry ∷ entries_at (at + 1 + node_count n.entry.value) n.place n.rest)
+      ≡ named key (entries_at (at + 1 + node_count n.entry.value) n.place n.rest) =
       rw (are_not_same (units_of n.entry.key) key other) refl in
       subst (λ (k : ℕ). Going nodes bytes key end k found entries) (sym is) (record {
         place = n.place;
@@ -111,11 +124,13 @@ module _ (nodes : List Node) (bytes key : List ℕ) (end at : ℕ) (found : Opti
       })
 
   taken : (n : Next nodes bytes key end at found entries) → units_of n.entry.key ≡ key
-      → named key (n.entry ∷ entries_at (at + 1 + node_count n.entry.value) n.place n.rest) ≡ n.entry ∷ named key (entries_at (at + 1 + node_count n.entry.value) n.place n.rest)
+      → named key (n.entry ∷ entries_at (at + 1 + node_count n.entry.value) n.place n.rest) ≡ n.entry
+      ∷ named key (entries_at (at + 1 + node_count n.entry.value) n.place n.rest)
   taken n same = rw (are_same_so (units_of n.entry.key) key same) refl
 
   -- it is the first one
-  pub going_first : (n : Next nodes bytes key end at found entries) → units_of n.entry.key ≡ key → found ≡ None → (next : ℕ) → next ≡ at + 1 + node_count n.entry.value
+  pub going_first : (n : Next nodes bytes key end at found entries) → units_of n.entry.key ≡ key → found ≡ None
+      → (next : ℕ) → next ≡ at + 1 + node_count n.entry.value
       → Going nodes bytes key end next (Some (at + 1)) entries
   going_first n same none next is =
       let empty : n.before ≡ [] = subst (λ (f : Option ℕ). FoundIs f n.before) none n.found_is in
@@ -125,19 +140,24 @@ module _ (nodes : List Node) (bytes key : List ℕ) (end at : ℕ) (found : Opti
         stand = n.stand;
         counted = n.counted;
         before = n.entry ∷ [];
-        split = n.split ∙ ap (λ (es : List Entry). n.before ++ es) (taken n same) ∙ ap (λ (es : List Entry). es ++ n.entry ∷ named key (entries_at (at + 1 + node_count n.entry.value) n.place n.rest)) empty;
+        split = n.split ∙ ap (λ (es : List Entry). n.before ++ es) (taken n same)
+            ∙ ap (λ (es : List Entry). es ++ n.entry
+            ∷ named key (entries_at (at + 1 + node_count n.entry.value) n.place n.rest)) empty;
         found_is = (n.entry, refl, sym n.number_is);
       })
 
   -- it is the second one
-  pub second_found : (n : Next nodes bytes key end at found entries) → units_of n.entry.key ≡ key → (number : ℕ) → found ≡ Some number
+  pub second_found : (n : Next nodes bytes key end at found entries) → units_of n.entry.key ≡ key → (number : ℕ)
+      → found ≡ Some number
       → only_one (named key entries) ≡ Err (record { at = n.entry.key_start })
   second_found n same number some =
       let one = subst (λ (f : Option ℕ). FoundIs f n.before) some n.found_is in
       ap only_one (n.split ∙ ap (λ (es : List Entry). n.before ++ es) (taken n same)
-      ∙ ap (λ (es : List Entry). es ++ n.entry ∷ named key (entries_at (at + 1 + node_count n.entry.value) n.place n.rest)) one.1)
+      ∙ ap (λ (es : List Entry). es ++ n.entry
+      ∷ named key (entries_at (at + 1 + node_count n.entry.value) n.place n.rest)) one.1)
 
-pub object_of : (value : Json) → kind_of value ≡ kinds.Object → (blank : List ℕ) × (members : Members) × (value ≡ object blank members)
+pub object_of : (value : Json) → kind_of value ≡ kinds.Object
+    → (blank : List ℕ) × (members : Members) × (value ≡ object blank members)
 object_of (object blank members) is = (blank, members, refl)
 object_of null is = cc
 object_of (truth true) is = cc
@@ -146,28 +166,37 @@ object_of (numeral text) is = cc
 object_of (quoted chars) is = cc
 object_of (array blank elements) is = cc
 
-within_nodes : (nodes : List Node) (number : ℕ) (node : Node) → slice_get nodes number ≡ Some node → number < length nodes
+within_nodes : (nodes : List Node) (number : ℕ) (node : Node) → slice_get nodes number ≡ Some node
+    → number < length nodes
 within_nodes [] number node h = cc
 within_nodes (x ∷ nodes) zero node h = omega arith
 within_nodes (x ∷ nodes) (suc number) node h = let below = within_nodes nodes number node h in omega arith
 
 -- an object's node is that of an object that stands there
-pub object_there : (doc : Doc) (bytes : List ℕ) (number : ℕ) → IsReadFrom doc bytes → HasKind doc.nodes number kinds.Object
-    → (number < length doc.nodes) × ((start : ℕ) × (blank : List ℕ) × (members : Members) × Stands doc.nodes bytes number start (object blank members))
+pub object_there : (doc : Doc) (bytes : List ℕ) (number : ℕ) → IsReadFrom doc bytes
+    → HasKind doc.nodes number kinds.Object
+    → (number < length doc.nodes) × ((start : ℕ) × (blank : List ℕ) × (members : Members)
+    × Stands doc.nodes bytes number start (object blank members))
 object_there doc bytes number (whole, r) (node, there, kind) =
     let below = within_nodes doc.nodes number node there in
     let (start, value, s) = node_stands whole doc bytes r number below in
-    let same : node ≡ first_node number start value = same_Some node (first_node number start value) (sym there ∙ first_there doc.nodes bytes number start value s) in
+    let same : node ≡ first_node number start value =
+    same_Some node (first_node number start value) (sym there ∙ first_there doc.nodes bytes number start value s) in
     let (blank, members, is) = object_of value (sym (ap (λ (n : Node). n.kind) same) ∙ kind) in
     (below, (start, blank, members, subst (Stands doc.nodes bytes number start) is s))
 
-pub object_next : (nodes : List Node) (bytes : List ℕ) (number start : ℕ) (blank : List ℕ) (members : Members) (end : ℕ) → ((node : Node) → slice_get nodes number ≡ Some node → end ≡ node.next)
+pub object_next : (nodes : List Node) (bytes : List ℕ) (number start : ℕ) (blank : List ℕ) (members : Members) (end : ℕ)
+    → ((node : Node) → slice_get nodes number ≡ Some node → end ≡ node.next)
     → Stands nodes bytes number start (object blank members) → end ≡ number + (1 + member_count members)
-object_next nodes bytes number start blank members end read s = read (first_node number start (object blank members)) (first_there nodes bytes number start (object blank members) s)
+object_next nodes bytes number start blank members end read s =
+    read (first_node number start (object blank members))
+    (first_there nodes bytes number start (object blank members) s)
 
 -- the first member, or the end
-pub going_in : (nodes : List Node) (bytes key : List ℕ) (number start : ℕ) (blank : List ℕ) (members : Members) (end : ℕ) → ((node : Node) → slice_get nodes number ≡ Some node → end ≡ node.next)
-    → Stands nodes bytes number start (object blank members) → Going nodes bytes key end (number + 1) None (entries_at (number + 1) (inner_place start blank) members)
+pub going_in : (nodes : List Node) (bytes key : List ℕ) (number start : ℕ) (blank : List ℕ) (members : Members)
+    (end : ℕ) → ((node : Node) → slice_get nodes number ≡ Some node → end ≡ node.next)
+    → Stands nodes bytes number start (object blank members)
+    → Going nodes bytes key end (number + 1) None (entries_at (number + 1) (inner_place start blank) members)
 going_in nodes bytes key number start blank members end read s = record {
   place = inner_place start blank;
   rest = members;
@@ -179,7 +208,8 @@ going_in nodes bytes key number start blank members end read s = record {
 }
 
 -- one tree for which the next member is there
-pub some_next : (doc : Doc) (bytes key : List ℕ) (number end at : ℕ) (found : Option ℕ) → IsReadFrom doc bytes → HasKind doc.nodes number kinds.Object
+pub some_next : (doc : Doc) (bytes key : List ℕ) (number end at : ℕ) (found : Option ℕ) → IsReadFrom doc bytes
+    → HasKind doc.nodes number kinds.Object
     → ((start : ℕ) (blank : List ℕ) (members : Members) → Stands doc.nodes bytes number start (object blank members)
     → Going doc.nodes bytes key end at found (entries_at (number + 1) (inner_place start blank) members))
     → at < end → (entries : List Entry) × Next doc.nodes bytes key end at found entries
@@ -187,5 +217,6 @@ some_next doc bytes key number end at found read kind going within =
     let there = object_there doc bytes number read kind in
     let start = there.1.0 in (
       entries_at (number + 1) (inner_place there.1.0 there.1.1) there.1.2,
-      next_member doc.nodes bytes key end at found (entries_at (number + 1) (inner_place there.1.0 there.1.1) there.1.2) (going there.1.0 there.1.1 there.1.2 there.1.3) within,
+      next_member doc.nodes bytes key end at found (entries_at (number + 1) (inner_place there.1.0 there.1.1) there.1.2)
+          (going there.1.0 there.1.1 there.1.2 there.1.3) within,
     )

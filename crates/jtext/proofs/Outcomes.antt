@@ -1,5 +1,6 @@
 -- Any bytes are a text of the allowed depth, or have one of the faults.
-use Rattle.std.proofs.Common.{◌≡◌, ◌≢◌, ℕ, zero, suc, ◌+◌, ◌<◌, ◌≤◌, ◌⊎◌, inl, inr, List, [], ◌∷◌, length, take, Bool, true, false, refl, sym, ap, ◌∙◌, arith, subst}
+use Rattle.std.proofs.Common.{◌≡◌, ◌≢◌, ℕ, zero, suc, ◌+◌, ◌<◌, ◌≤◌, ◌⊎◌, inl, inr, List, [], ◌∷◌, length, take, Bool}
+use Rattle.std.proofs.Common.{true, false, refl, sym, ap, ◌∙◌, arith, subst}
 use Rattle.std.specs.Prelude.{Option, Some, None, if◌then◌else◌, nat_lt, slice_index}
 use Rattle.std.proofs.lemmas.Bool.{ltb-true, lt-ltb}
 use Rattle.std.proofs.lemmas.Option.{none-some, same_Some}
@@ -7,7 +8,9 @@ use Rattle.std.proofs.lemmas.List.{take_all}
 use Rattle.text_places.specs.Machine.{run}
 use Rattle.jtext.specs.Texts.{HasOutcome}
 use Rattle.jtext.specs.Signs.{byte_sign}
-use Rattle.jtext.specs.States.{Token, token_step, is_whole, Role, Phase, begin, stand, within, State, start, opened, closed_one, separated, same_bracket, value_step, stand_step, begin_step, place_behind, pushed, token_or, phase_step, step, up_to, anywhere, IsLast, IsEnd}
+use Rattle.jtext.specs.States.{Token, token_step, is_whole, Role, Phase, begin, stand, within, State, start, opened}
+use Rattle.jtext.specs.States.{closed_one, separated, same_bracket, value_step, stand_step, begin_step, place_behind}
+use Rattle.jtext.specs.States.{pushed, token_or, phase_step, step, up_to, anywhere, IsLast, IsEnd}
 use Rattle.jtext.specs.declared.document.Kind.{Kind}
 use Rattle.jtext.specs.declared.document.Node.{Node}
 use Rattle.jtext.specs.declared.signs.Bracket.{Bracket}
@@ -82,9 +85,12 @@ begin_kept : (sign : Sign) (stack : List Open) (nodes : List Node) (at : ℕ) (n
 begin_kept signs.First stack nodes at next small h = kept _ next small h
 begin_kept sign stack nodes at next small h = stand_kept places.Value sign stack nodes at next small h
 
-within_kept : (role : Role) (kind : Kind) (from : ℕ) (stack : List Open) (nodes ended : List Node) (at : ℕ) (sign : Sign) (next : State) (token : Option Token) (whole : Bool)
+within_kept : (role : Role) (kind : Kind) (from : ℕ) (stack : List Open) (nodes ended : List Node) (at : ℕ)
+    (sign : Sign) (next : State) (token : Option Token) (whole : Bool)
     → length stack ≤ DEEPEST
-    → token_or token role kind from stack nodes at (if whole then stand_step (up_to DEEPEST) (place_behind role) stack ended at sign else None) ≡ Some next → length next.stack ≤ DEEPEST
+    → token_or token role kind from stack nodes at
+    (if whole then stand_step (up_to DEEPEST) (place_behind role) stack ended at sign else None) ≡ Some next
+    → length next.stack ≤ DEEPEST
 within_kept role kind from stack nodes ended at sign next (Some token) whole small h = kept _ next small h
 within_kept role kind from stack nodes ended at sign next None true small h =
     stand_kept (place_behind role) sign stack ended at next small h
@@ -99,7 +105,8 @@ step_kept s byte next = by s.phase s.stack s.nodes s.at
     by begin stack nodes at small h = begin_kept (byte_sign byte) stack nodes at next small h
     by (stand place) stack nodes at small h = stand_kept place (byte_sign byte) stack nodes at next small h
     by (within role kind from token) stack nodes at small h =
-        within_kept role kind from stack nodes (pushed role kind from nodes at) at (byte_sign byte) next (token_step token byte) (is_whole token) small h
+        within_kept role kind from stack nodes (pushed role kind from nodes at) at (byte_sign byte) next
+        (token_step token byte) (is_whole token) small h
 
 -- ---- a step that is refused is refused at any depth, or one level more allows it
 abbrev IsRefused : Option State → Option State → Type 0
@@ -111,11 +118,16 @@ chosen_goes test made holds = rw holds refl
 opened_refused : (bracket : Bracket) (stack : List Open) (nodes : List Node) (at : ℕ) → length stack ≤ DEEPEST
     → IsRefused (opened anywhere bracket stack nodes at) (opened (up_to (DEEPEST + 1)) bracket stack nodes at)
 opened_refused bracket stack nodes at small =
-    inr (_, chosen_goes (nat_lt (length stack) (DEEPEST + 1)) _ (lt-ltb (length stack) (DEEPEST + 1) (omega (arith, small))))
+    inr (
+      _,
+      chosen_goes (nat_lt (length stack) (DEEPEST + 1)) _
+          (lt-ltb (length stack) (DEEPEST + 1) (omega (arith, small))),
+    )
 
 stand_refused : (place : Place) (sign : Sign) (stack : List Open) (nodes : List Node) (at : ℕ) → length stack ≤ DEEPEST
     → stand_step (up_to DEEPEST) place stack nodes at sign ≡ None
-    → IsRefused (stand_step anywhere place stack nodes at sign) (stand_step (up_to (DEEPEST + 1)) place stack nodes at sign)
+    → IsRefused (stand_step anywhere place stack nodes at sign)
+    (stand_step (up_to (DEEPEST + 1)) place stack nodes at sign)
 stand_refused places.Value (signs.Opening bracket) stack nodes at small h = opened_refused bracket stack nodes at small
 stand_refused places.FirstElement (signs.Opening bracket) stack nodes at small h =
     opened_refused bracket stack nodes at small
@@ -127,11 +139,15 @@ begin_refused : (sign : Sign) (stack : List Open) (nodes : List Node) (at : ℕ)
 begin_refused (signs.Opening bracket) stack nodes at small h = opened_refused bracket stack nodes at small
 begin_refused sign stack nodes at small h = inl h
 
-within_refused : (role : Role) (kind : Kind) (from : ℕ) (stack : List Open) (nodes ended : List Node) (at : ℕ) (sign : Sign) (token : Option Token) (whole : Bool)
+within_refused : (role : Role) (kind : Kind) (from : ℕ) (stack : List Open) (nodes ended : List Node) (at : ℕ)
+    (sign : Sign) (token : Option Token) (whole : Bool)
     → length stack ≤ DEEPEST
-    → token_or token role kind from stack nodes at (if whole then stand_step (up_to DEEPEST) (place_behind role) stack ended at sign else None) ≡ None
-    → IsRefused (token_or token role kind from stack nodes at (if whole then stand_step anywhere (place_behind role) stack ended at sign else None))
-    (token_or token role kind from stack nodes at (if whole then stand_step (up_to (DEEPEST + 1)) (place_behind role) stack ended at sign else None))
+    → token_or token role kind from stack nodes at
+    (if whole then stand_step (up_to DEEPEST) (place_behind role) stack ended at sign else None) ≡ None
+    → IsRefused (token_or token role kind from stack nodes at
+    (if whole then stand_step anywhere (place_behind role) stack ended at sign else None))
+    (token_or token role kind from stack nodes at
+    (if whole then stand_step (up_to (DEEPEST + 1)) (place_behind role) stack ended at sign else None))
 within_refused role kind from stack nodes ended at sign (Some token) whole small h = inl h
 within_refused role kind from stack nodes ended at sign None true small h =
     stand_refused (place_behind role) sign stack ended at small h
@@ -143,11 +159,13 @@ step_refused s byte = by s.phase s.stack s.nodes s.at
   where
     by : (phase : Phase) (stack : List Open) (nodes : List Node) (at : ℕ) → length stack ≤ DEEPEST
         → phase_step (up_to DEEPEST) phase stack nodes at byte ≡ None
-        → IsRefused (phase_step anywhere phase stack nodes at byte) (phase_step (up_to (DEEPEST + 1)) phase stack nodes at byte)
+        → IsRefused (phase_step anywhere phase stack nodes at byte)
+        (phase_step (up_to (DEEPEST + 1)) phase stack nodes at byte)
     by begin stack nodes at small h = begin_refused (byte_sign byte) stack nodes at small h
     by (stand place) stack nodes at small h = stand_refused place (byte_sign byte) stack nodes at small h
     by (within role kind from token) stack nodes at small h =
-        within_refused role kind from stack nodes (pushed role kind from nodes at) at (byte_sign byte) (token_step token byte) (is_whole token) small h
+        within_refused role kind from stack nodes (pushed role kind from nodes at) at (byte_sign byte)
+        (token_step token byte) (is_whole token) small h
 
 -- ---- whether a text may end in a state
 last_or : (phase : Phase) → IsLast phase ⊎ (IsLast phase → ⊥)
@@ -185,7 +203,8 @@ at_end text s was = by (end_or s)
   where
     by : IsEnd s ⊎ (IsEnd s → ⊥) → HasOutcome text
     by (inl ends) =
-        let (whole, is, same) = read_whole text s (ap (run (step (up_to DEEPEST)) start) (sym (take_all (length text) text (omega arith))) ∙ was) ends in
+        let (whole, is, same) = read_whole text s
+        (ap (run (step (up_to DEEPEST)) start) (sym (take_all (length text) text (omega arith))) ∙ was) ends in
         inl (whole, is)
     by (inr other) = inr (inl (length text, bad_at_end text (length text) s was (omega arith) other))
 
@@ -195,12 +214,14 @@ goes_on text zero place s size small was =
     let all : place ≡ length text = omega (arith, size) in
     at_end text s (subst (λ (n : ℕ). run (step (up_to DEEPEST)) start (take n text) ≡ Some s) all was)
 goes_on text (suc left) place s size small was =
-    by (λ next below read. goes_on text left (place + 1) next (omega (arith, size)) below read) (step (up_to DEEPEST) s (slice_index text place)) refl
+    by (λ next below read. goes_on text left (place + 1) next (omega (arith, size)) below read)
+    (step (up_to DEEPEST) s (slice_index text place)) refl
   where
     inside : place < length text
     inside = omega (arith, size)
 
-    by : ((next : State) → length next.stack ≤ DEEPEST → run (step (up_to DEEPEST)) start (take (place + 1) text) ≡ Some next → HasOutcome text)
+    by : ((next : State) → length next.stack ≤ DEEPEST
+        → run (step (up_to DEEPEST)) start (take (place + 1) text) ≡ Some next → HasOutcome text)
         → (next : Option State) → step (up_to DEEPEST) s (slice_index text place) ≡ next → HasOutcome text
     by on None refused = elim (step_refused s (slice_index text place) small refused) [
       | inl never ↦ inr (inl (place, bad_at text place s was inside never))

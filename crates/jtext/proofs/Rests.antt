@@ -6,7 +6,8 @@ use Rattle.text_places.specs.Machine.{run}
 use Rattle.jtext.specs.Values.{AreBlank}
 use Rattle.jtext.specs.Signs.{byte_sign}
 use Rattle.jtext.specs.Tokens.{number_after, number_step, Inner, inner_step, word_step}
-use Rattle.jtext.specs.States.{Token, in_word, in_number, in_text, token_step, is_whole, Role, Phase, begin, stand, within, State, state, stand_step, place_behind, pushed, phase_step, step, seen, seen_in}
+use Rattle.jtext.specs.States.{Token, in_word, in_number, in_text, token_step, is_whole, Role, Phase, begin, stand}
+use Rattle.jtext.specs.States.{within, State, state, stand_step, place_behind, pushed, phase_step, step, seen, seen_in}
 use Rattle.jtext.specs.declared.document.Kind.{Kind}
 use Rattle.jtext.specs.declared.document.Node.{Node}
 use Rattle.jtext.specs.declared.signs.Sign.{Sign}
@@ -31,10 +32,13 @@ pub record Rests (place : Place) (stack : List Open) (nodes : List Node) (at : �
   pub seen_is : seen s ≡ nodes
   pub at_is : s.at ≡ at
 
-pub rests_so : (place : Place) (stack : List Open) (nodes more : List Node) (at to : ℕ) (s : State) → nodes ≡ more → at ≡ to → Rests place stack nodes at s → Rests place stack more to s
-rests_so place stack nodes more at to s n a h = record { phase_is = h.phase_is; stack_is = h.stack_is; seen_is = h.seen_is ∙ n; at_is = h.at_is ∙ a }
+pub rests_so : (place : Place) (stack : List Open) (nodes more : List Node) (at to : ℕ) (s : State) → nodes ≡ more
+    → at ≡ to → Rests place stack nodes at s → Rests place stack more to s
+rests_so place stack nodes more at to s n a h =
+    record { phase_is = h.phase_is; stack_is = h.stack_is; seen_is = h.seen_is ∙ n; at_is = h.at_is ∙ a }
 
-pub rests_standing : (place : Place) (stack : List Open) (nodes : List Node) (at : ℕ) → Rests place stack nodes at (state (stand place) stack nodes at)
+pub rests_standing : (place : Place) (stack : List Open) (nodes : List Node) (at : ℕ)
+    → Rests place stack nodes at (state (stand place) stack nodes at)
 rests_standing place stack nodes at = record { phase_is = refl; stack_is = refl; seen_is = refl; at_is = refl }
 
 -- signs that end any token
@@ -91,20 +95,26 @@ token_stop (in_text (Inner.need first more)) byte whole stop = cc
 
 module _ (room : ℕ → Bool) where
   -- what ends a token acts as between tokens
-  pub within_step : (role : Role) (kind : Kind) (from : ℕ) (token : Token) (stack : List Open) (nodes : List Node) (at byte : ℕ) → is_whole token ≡ true
+  pub within_step : (role : Role) (kind : Kind) (from : ℕ) (token : Token) (stack : List Open) (nodes : List Node)
+      (at byte : ℕ) → is_whole token ≡ true
       → token_step token byte ≡ None
-      → phase_step room (within role kind from token) stack nodes at byte ≡ stand_step room (place_behind role) stack (pushed role kind from nodes at) at (byte_sign byte)
+      → phase_step room (within role kind from token) stack nodes at byte
+      ≡ stand_step room (place_behind role) stack (pushed role kind from nodes at) at (byte_sign byte)
   within_step role kind from token stack nodes at byte whole ends = rw (ends, whole) refl
 
-  phase_stops : (place : Place) (phase : Phase) (stack : List Open) (nodes : List Node) (at byte : ℕ) → RestsIn place phase → IsStop (byte_sign byte)
-      → phase_step room phase stack nodes at byte ≡ stand_step room place stack (seen_in phase nodes at) at (byte_sign byte)
+  phase_stops : (place : Place) (phase : Phase) (stack : List Open) (nodes : List Node) (at byte : ℕ)
+      → RestsIn place phase → IsStop (byte_sign byte)
+      → phase_step room phase stack nodes at byte
+      ≡ stand_step room place stack (seen_in phase nodes at) at (byte_sign byte)
   phase_stops place begin stack nodes at byte rests stop = absurd rests
-  phase_stops place (stand other) stack nodes at byte rests stop = ap (λ (p : Place). stand_step room p stack nodes at (byte_sign byte)) rests
+  phase_stops place (stand other) stack nodes at byte rests stop =
+      ap (λ (p : Place). stand_step room p stack nodes at (byte_sign byte)) rests
   phase_stops place (within role kind from token) stack nodes at byte rests stop =
       within_step role kind from token stack nodes at byte rests.1 (token_stop token byte rests.1 stop)
       ∙ ap (λ (p : Place). stand_step room p stack (pushed role kind from nodes at) at (byte_sign byte)) rests.0
 
-  pub rests_step : (place : Place) (stack : List Open) (nodes : List Node) (at : ℕ) (s : State) (byte : ℕ) → Rests place stack nodes at s → IsStop (byte_sign byte)
+  pub rests_step : (place : Place) (stack : List Open) (nodes : List Node) (at : ℕ) (s : State) (byte : ℕ)
+      → Rests place stack nodes at s → IsStop (byte_sign byte)
       → step room s byte ≡ stand_step room place stack nodes at (byte_sign byte)
   rests_step place stack nodes at s byte h stop =
       phase_stops place s.phase s.stack s.nodes s.at byte h.phase_is stop
@@ -113,7 +123,8 @@ module _ (room : ℕ → Bool) where
       ∙ ap (λ (x : ℕ). stand_step room place stack nodes x (byte_sign byte)) h.at_is
 
   -- white space between tokens
-  stand_blank : (place : Place) (stack : List Open) (nodes : List Node) (at : ℕ) → stand_step room place stack nodes at signs.Blank ≡ Some (state (stand place) stack nodes (at + 1))
+  stand_blank : (place : Place) (stack : List Open) (nodes : List Node) (at : ℕ)
+      → stand_step room place stack nodes at signs.Blank ≡ Some (state (stand place) stack nodes (at + 1))
   stand_blank places.Value stack nodes at = refl
   stand_blank places.FirstElement stack nodes at = refl
   stand_blank places.FirstKey stack nodes at = refl
@@ -121,26 +132,38 @@ module _ (room : ℕ → Bool) where
   stand_blank places.Colon stack nodes at = refl
   stand_blank places.Behind stack nodes at = refl
 
-  pub blanks_read : (place : Place) (stack : List Open) (nodes : List Node) (at to : ℕ) (text : List ℕ) → AreBlank text → to ≡ at + length text
+  pub blanks_read : (place : Place) (stack : List Open) (nodes : List Node) (at to : ℕ) (text : List ℕ) → AreBlank text
+      → to ≡ at + length text
       → run (step room) (state (stand place) stack nodes at) text ≡ Some (state (stand place) stack nodes to)
-  blanks_read place stack nodes at to [] all end = ap (λ (n : ℕ). Some (state (stand place) stack nodes n)) (omega arith)
+  blanks_read place stack nodes at to [] all end =
+      ap (λ (n : ℕ). Some (state (stand place) stack nodes n)) (omega arith)
   blanks_read place stack nodes at to (byte ∷ text) all end =
-      rw (blank_sign byte all.0, stand_blank place stack nodes at) (blanks_read place stack nodes (at + 1) to text all.1 (omega arith))
+      rw (blank_sign byte all.0, stand_blank place stack nodes at)
+      (blanks_read place stack nodes (at + 1) to text all.1 (omega arith))
 
-  pub blanks_rest : (place : Place) (stack : List Open) (nodes : List Node) (at to : ℕ) (s : State) (text : List ℕ) → AreBlank text → to ≡ at + length text
+  pub blanks_rest : (place : Place) (stack : List Open) (nodes : List Node) (at to : ℕ) (s : State) (text : List ℕ)
+      → AreBlank text → to ≡ at + length text
       → Rests place stack nodes at s → (t : State) × (run (step room) s text ≡ Some t) × Rests place stack nodes to t
-  blanks_rest place stack nodes at to s [] all end h = (s, refl, rests_so place stack nodes nodes at to s refl (omega arith) h)
+  blanks_rest place stack nodes at to s [] all end h =
+      (s, refl, rests_so place stack nodes nodes at to s refl (omega arith) h)
   blanks_rest place stack nodes at to s (byte ∷ text) all end h = (
     state (stand place) stack nodes to,
-    rw (rests_step place stack nodes at s byte h (rw (blank_sign byte all.0) tt), blank_sign byte all.0, stand_blank place stack nodes at)
+    rw (
+      rests_step place stack nodes at s byte h (rw (blank_sign byte all.0) tt),
+      blank_sign byte all.0,
+      stand_blank
+          place stack nodes at,
+    )
         (blanks_read place stack nodes (at + 1) to text all.1 (omega arith)),
     rests_standing place stack nodes to,
   )
 
   -- the rest of a token
-  pub token_read : (role : Role) (kind : Kind) (from : ℕ) (stack : List Open) (nodes : List Node) (at to : ℕ) (token last : Token) (part : List ℕ)
+  pub token_read : (role : Role) (kind : Kind) (from : ℕ) (stack : List Open) (nodes : List Node) (at to : ℕ)
+      (token last : Token) (part : List ℕ)
       → run token_step token part ≡ Some last → to ≡ at + length part
-      → run (step room) (state (within role kind from token) stack nodes at) part ≡ Some (state (within role kind from last) stack nodes to)
+      → run (step room) (state (within role kind from token) stack nodes at) part
+      ≡ Some (state (within role kind from last) stack nodes to)
   token_read role kind from stack nodes at to token last [] was end =
       ap (λ (n : ℕ). Some (state (within role kind from token) stack nodes n)) (omega arith)
       ∙ ap (λ (t : Token). Some (state (within role kind from t) stack nodes to)) (same_Some token last was)
@@ -148,22 +171,31 @@ module _ (room : ℕ → Bool) where
       option_and_then_some (λ next. run token_step next part) (token_step token byte) last was
       (λ next here on. rw here (token_read role kind from stack nodes (at + 1) to next last part on (omega arith)))
 
-  pub token_rests : (role : Role) (kind : Kind) (from : ℕ) (stack : List Open) (nodes : List Node) (at : ℕ) (token : Token) → is_whole token ≡ true
-      → Rests (place_behind role) stack (pushed role kind from nodes at) at (state (within role kind from token) stack nodes at)
-  token_rests role kind from stack nodes at token whole = record { phase_is = (refl, whole); stack_is = refl; seen_is = refl; at_is = refl }
+  pub token_rests : (role : Role) (kind : Kind) (from : ℕ) (stack : List Open) (nodes : List Node) (at : ℕ)
+      (token : Token) → is_whole token ≡ true
+      → Rests (place_behind role) stack (pushed role kind from nodes at) at
+      (state (within role kind from token) stack nodes at)
+  token_rests role kind from stack nodes at token whole =
+      record { phase_is = (refl, whole); stack_is = refl; seen_is = refl; at_is = refl }
 
 -- the passes over words, numbers and texts as tokens
-pub word_token : (word last bytes : List ℕ) → run word_step word bytes ≡ Some last → run token_step (in_word word) bytes ≡ Some (in_word last)
+pub word_token : (word last bytes : List ℕ) → run word_step word bytes ≡ Some last
+    → run token_step (in_word word) bytes ≡ Some (in_word last)
 word_token word last [] was = ap (λ (w : List ℕ). Some (in_word w)) (same_Some word last was)
 word_token word last (byte ∷ bytes) was =
-    option_and_then_some (λ next. run word_step next bytes) (word_step word byte) last was (λ next here on. rw here (word_token next last bytes on))
+    option_and_then_some (λ next. run word_step next bytes) (word_step word byte) last was
+    (λ next here on. rw here (word_token next last bytes on))
 
-pub number_token : (place last : NumberPlace) (bytes : List ℕ) → run number_step place bytes ≡ Some last → run token_step (in_number place) bytes ≡ Some (in_number last)
+pub number_token : (place last : NumberPlace) (bytes : List ℕ) → run number_step place bytes ≡ Some last
+    → run token_step (in_number place) bytes ≡ Some (in_number last)
 number_token place last [] was = ap (λ (p : NumberPlace). Some (in_number p)) (same_Some place last was)
 number_token place last (byte ∷ bytes) was =
-    option_and_then_some (λ next. run number_step next bytes) (number_step place byte) last was (λ next here on. rw here (number_token next last bytes on))
+    option_and_then_some (λ next. run number_step next bytes) (number_step place byte) last was
+    (λ next here on. rw here (number_token next last bytes on))
 
-pub text_token : (inner last : Inner) (bytes : List ℕ) → run inner_step inner bytes ≡ Some last → run token_step (in_text inner) bytes ≡ Some (in_text last)
+pub text_token : (inner last : Inner) (bytes : List ℕ) → run inner_step inner bytes ≡ Some last
+    → run token_step (in_text inner) bytes ≡ Some (in_text last)
 text_token inner last [] was = ap (λ (i : Inner). Some (in_text i)) (same_Some inner last was)
 text_token inner last (byte ∷ bytes) was =
-    option_and_then_some (λ next. run inner_step next bytes) (inner_step inner byte) last was (λ next here on. rw here (text_token next last bytes on))
+    option_and_then_some (λ next. run inner_step next bytes) (inner_step inner byte) last was
+    (λ next here on. rw here (text_token next last bytes on))

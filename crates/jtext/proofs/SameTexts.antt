@@ -26,7 +26,8 @@ true_or_false true false f g = sym (f refl)
 true_or_false false true f g = g refl
 
 -- a test whether a text says this
-pub says_quoted : (chars : List Char) (text : List ℕ) (test : Bool) → (IsTrue test ↔ Says (quoted chars) text) → test ≡ are_same (units_of chars) text
+pub says_quoted : (chars : List Char) (text : List ℕ) (test : Bool) → (IsTrue test ↔ Says (quoted chars) text)
+    → test ≡ are_same (units_of chars) text
 says_quoted chars text test h =
     true_or_false test (are_same (units_of chars) text)
     (λ t. subst (λ u. are_same (units_of chars) u ≡ true) (h.0 t) (is_same (units_of chars)))

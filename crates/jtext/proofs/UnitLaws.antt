@@ -1,10 +1,13 @@
 -- The units of a character by its first bytes.
-use Rattle.std.proofs.Common.{◌≡◌, ℕ, ◌+◌, ◌*◌, ◌<◌, ◌≤◌, ◌⊎◌, inl, inr, List, [], ◌∷◌, ◌++◌, length, drop, get_or, refl, sym, ap, ◌∙◌, arith, subst}
+use Rattle.std.proofs.Common.{◌≡◌, ℕ, ◌+◌, ◌*◌, ◌<◌, ◌≤◌, ◌⊎◌, inl, inr, List, [], ◌∷◌, ◌++◌, length, drop, get_or}
+use Rattle.std.proofs.Common.{refl, sym, ap, ◌∙◌, arith, subst}
 use Rattle.std.specs.Prelude.{nat_lt}
 use Rattle.std.proofs.lemmas.Bool.{cond_both}
 use Rattle.std.proofs.lemmas.List.{drop_more, length-drop}
 use Rattle.plain_laws.proofs.Lists.{same_first, same_rest}
-use Rattle.jtext.specs.Characters.{Class, from_to, hexadecimal, IsOf, Fits, Form, classes, IsUnescaped, Char, unescaped, escaped, coded, IsEscape, IsChar, IsHexadecimal, char_text, code_point, units_of_point, digit_value, hexadecimal_value, units_of_char}
+use Rattle.jtext.specs.Characters.{Class, from_to, hexadecimal, IsOf, Fits, Form, classes, IsUnescaped, Char, unescaped}
+use Rattle.jtext.specs.Characters.{escaped, coded, IsEscape, IsChar, IsHexadecimal, char_text, code_point}
+use Rattle.jtext.specs.Characters.{units_of_point, digit_value, hexadecimal_value, units_of_char}
 use Rattle.jtext.specs.Units.{IsOutside}
 
 pub one_byte : (c : Class) (bytes : List ℕ) → Fits (c ∷ []) bytes → (a : ℕ) × (bytes ≡ a ∷ []) × IsOf c a
@@ -12,17 +15,23 @@ one_byte c [] fits = absurd fits
 one_byte c (a ∷ []) fits = (a, refl, fits.0)
 one_byte c (a ∷ b ∷ bytes) fits = absurd fits.1
 
-pub two_bytes : (c d : Class) (bytes : List ℕ) → Fits (c ∷ d ∷ []) bytes → (a b : ℕ) × (bytes ≡ a ∷ b ∷ []) × IsOf c a × IsOf d b
+pub two_bytes : (c d : Class) (bytes : List ℕ) → Fits (c ∷ d ∷ []) bytes
+    → (a b : ℕ) × (bytes ≡ a ∷ b ∷ []) × IsOf c a × IsOf d b
 two_bytes c d [] fits = absurd fits
-two_bytes c d (a ∷ bytes) fits = let (b, rest, is) = one_byte d bytes fits.1 in (a, b, ap (λ (t : List ℕ). a ∷ t) rest, fits.0, is)
+two_bytes c d (a ∷ bytes) fits = let (b, rest, is) =
+    one_byte d bytes fits.1 in (a, b, ap (λ (t : List ℕ). a ∷ t) rest, fits.0, is)
 
-pub three_bytes : (c d e : Class) (bytes : List ℕ) → Fits (c ∷ d ∷ e ∷ []) bytes → (x y z : ℕ) × (bytes ≡ x ∷ y ∷ z ∷ []) × IsOf c x × IsOf d y × IsOf e z
+pub three_bytes : (c d e : Class) (bytes : List ℕ) → Fits (c ∷ d ∷ e ∷ []) bytes
+    → (x y z : ℕ) × (bytes ≡ x ∷ y ∷ z ∷ []) × IsOf c x × IsOf d y × IsOf e z
 three_bytes c d e [] fits = absurd fits
-three_bytes c d e (x ∷ bytes) fits = let (y, z, rest, is, also) = two_bytes d e bytes fits.1 in (x, y, z, ap (λ (t : List ℕ). x ∷ t) rest, fits.0, is, also)
+three_bytes c d e (x ∷ bytes) fits = let (y, z, rest, is, also) =
+    two_bytes d e bytes fits.1 in (x, y, z, ap (λ (t : List ℕ). x ∷ t) rest, fits.0, is, also)
 
-pub four_bytes : (c d e f : Class) (bytes : List ℕ) → Fits (c ∷ d ∷ e ∷ f ∷ []) bytes → (w x y z : ℕ) × (bytes ≡ w ∷ x ∷ y ∷ z ∷ []) × IsOf c w × IsOf d x × IsOf e y × IsOf f z
+pub four_bytes : (c d e f : Class) (bytes : List ℕ) → Fits (c ∷ d ∷ e ∷ f ∷ []) bytes
+    → (w x y z : ℕ) × (bytes ≡ w ∷ x ∷ y ∷ z ∷ []) × IsOf c w × IsOf d x × IsOf e y × IsOf f z
 four_bytes c d e f [] fits = absurd fits
-four_bytes c d e f (w ∷ bytes) fits = let (x, y, z, rest, is, also, last) = three_bytes d e f bytes fits.1 in (w, x, y, z, ap (λ (t : List ℕ). w ∷ t) rest, fits.0, is, also, last)
+four_bytes c d e f (w ∷ bytes) fits = let (x, y, z, rest, is, also, last) =
+    three_bytes d e f bytes fits.1 in (w, x, y, z, ap (λ (t : List ℕ). w ∷ t) rest, fits.0, is, also, last)
 
 -- one byte of ASCII that is no reverse solidus
 abbrev IsAlone : List ℕ → Type 0
@@ -32,20 +41,42 @@ IsAlone bytes = (byte : ℕ) × (bytes ≡ byte ∷ []) × (byte < 128) × (byte
 abbrev IsWide : List ℕ → Type 0
 IsWide bytes = (byte : ℕ) × (more : List ℕ) × (bytes ≡ byte ∷ more) × (128 ≤ byte) × (128 ≤ code_point bytes)
 
-alone : (low high : ℕ) (bytes : List ℕ) → Fits (from_to low high ∷ []) bytes → high < 128 → (high < 92) ⊎ (92 < low) → IsAlone bytes
+alone : (low high : ℕ) (bytes : List ℕ) → Fits (from_to low high ∷ []) bytes → high < 128 → (high < 92) ⊎ (92 < low)
+    → IsAlone bytes
 alone low high bytes fits small apart =
-    let (byte, is, range) = one_byte (from_to low high) bytes fits in
-    (byte, is, omega (arith, range.1), λ same. elim apart [ inl below ↦ absurd (omega (arith, range.1)) | inr above ↦ absurd (omega (arith, range.0)) ])
+    let (byte, is, range) = one_byte (from_to low high) bytes fits in (
+      byte,
+      is,
+      omega (arith, range.1),
+      λ same.
+          elim apart [ inl below ↦ absurd (omega (arith, range.1)) | inr above ↦ absurd (omega (arith, range.0)) ],
+    )
 
-wide_two : (low high : ℕ) (bytes : List ℕ) → Fits (from_to low high ∷ from_to 0x80 0xBF ∷ []) bytes → 0xC2 ≤ low → IsWide bytes
+wide_two : (low high : ℕ) (bytes : List ℕ) → Fits (from_to low high ∷ from_to 0x80 0xBF ∷ []) bytes → 0xC2 ≤ low
+    → IsWide bytes
 wide_two low high bytes fits above =
-    let (a, b, is, first, second) = two_bytes (from_to low high) (from_to 0x80 0xBF) bytes fits in
-    (a, b ∷ [], is, omega (arith, first.0), subst (λ (t : List ℕ). 128 ≤ code_point t) (sym is) (omega (arith, first.0)))
+    let (a, b, is, first, second) = two_bytes (from_to low high) (from_to 0x80 0xBF) bytes fits in (
+      a,
+      b ∷ [],
+      is,
+      omega (arith, first.0),
+      subst (λ (t : List ℕ). 128 ≤ code_point t) (sym is)
+          (omega (arith, first.0)),
+    )
 
-wide_three : (low high next last : ℕ) (bytes : List ℕ) → Fits (from_to low high ∷ from_to next last ∷ from_to 0x80 0xBF ∷ []) bytes → 0xE0 ≤ low → (0xE1 ≤ low) ⊎ (0xA0 ≤ next) → 0x80 ≤ next → IsWide bytes
+wide_three : (low high next last : ℕ) (bytes : List ℕ)
+    → Fits (from_to low high ∷ from_to next last ∷ from_to 0x80 0xBF ∷ []) bytes → 0xE0 ≤ low
+    → (0xE1 ≤ low) ⊎ (0xA0 ≤ next) → 0x80 ≤ next → IsWide bytes
 wide_three low high next last bytes fits above apart tail =
-    let (a, b, c, is, first, second, third) = three_bytes (from_to low high) (from_to next last) (from_to 0x80 0xBF) bytes fits in
-    (a, b ∷ c ∷ [], is, omega (arith, first.0), subst (λ (t : List ℕ). 128 ≤ code_point t) (sym is) (large a b c (omega (arith, first.0)) (both apart a b first.0 second.0)))
+    let (a, b, c, is, first, second, third) =
+    three_bytes (from_to low high) (from_to next last) (from_to 0x80 0xBF) bytes fits in (
+      a,
+      b ∷ c ∷ [],
+      is,
+      omega (arith, first.0),
+      subst (λ (t : List ℕ). 128 ≤ code_point t) (sym is)
+          (large a b c (omega (arith, first.0)) (both apart a b first.0 second.0)),
+    )
   where
     both : (0xE1 ≤ low) ⊎ (0xA0 ≤ next) → (a b : ℕ) → low ≤ a → next ≤ b → (0xE1 ≤ a) ⊎ (0xA0 ≤ b)
     both (inl h) a b first second = inl (omega arith)
@@ -55,10 +86,19 @@ wide_three low high next last bytes fits above apart tail =
     large a b c low_a (inl h) = omega arith
     large a b c low_a (inr h) = omega arith
 
-wide_four : (low high next last : ℕ) (bytes : List ℕ) → Fits (from_to low high ∷ from_to next last ∷ from_to 0x80 0xBF ∷ from_to 0x80 0xBF ∷ []) bytes → 0xF0 ≤ low → (0xF1 ≤ low) ⊎ (0x90 ≤ next) → IsWide bytes
+wide_four : (low high next last : ℕ) (bytes : List ℕ)
+    → Fits (from_to low high ∷ from_to next last ∷ from_to 0x80 0xBF ∷ from_to 0x80 0xBF ∷ []) bytes → 0xF0 ≤ low
+    → (0xF1 ≤ low) ⊎ (0x90 ≤ next) → IsWide bytes
 wide_four low high next last bytes fits above apart =
-    let (a, b, c, d, is, first, second, third, fourth) = four_bytes (from_to low high) (from_to next last) (from_to 0x80 0xBF) (from_to 0x80 0xBF) bytes fits in
-    (a, b ∷ c ∷ d ∷ [], is, omega (arith, first.0), subst (λ (t : List ℕ). 128 ≤ code_point t) (sym is) (large a b c d (both apart a b first.0 second.0)))
+    let (a, b, c, d, is, first, second, third, fourth) =
+    four_bytes (from_to low high) (from_to next last) (from_to 0x80 0xBF) (from_to 0x80 0xBF) bytes fits in (
+      a,
+      b ∷ c ∷ d ∷ [],
+      is,
+      omega (arith, first.0),
+      subst (λ (t : List ℕ). 128 ≤ code_point t) (sym is)
+          (large a b c d (both apart a b first.0 second.0)),
+    )
   where
     both : (0xF1 ≤ low) ⊎ (0x90 ≤ next) → (a b : ℕ) → low ≤ a → next ≤ b → (0xF1 ≤ a) ⊎ (0x90 ≤ b)
     both (inl h) a b first second = inl (omega arith)
@@ -73,33 +113,46 @@ alone_or_wide Form.low bytes fits = inl (alone 0x20 0x21 bytes fits (omega arith
 alone_or_wide Form.middle bytes fits = inl (alone 0x23 0x5B bytes fits (omega arith) (inl (omega arith)))
 alone_or_wide Form.high bytes fits = inl (alone 0x5D 0x7F bytes fits (omega arith) (inr (omega arith)))
 alone_or_wide Form.two bytes fits = inr (wide_two 0xC2 0xDF bytes fits (omega arith))
-alone_or_wide Form.three_first bytes fits = inr (wide_three 0xE0 0xE0 0xA0 0xBF bytes fits (omega arith) (inr (omega arith)) (omega arith))
-alone_or_wide Form.three_lower bytes fits = inr (wide_three 0xE1 0xEC 0x80 0xBF bytes fits (omega arith) (inl (omega arith)) (omega arith))
-alone_or_wide Form.three_before bytes fits = inr (wide_three 0xED 0xED 0x80 0x9F bytes fits (omega arith) (inl (omega arith)) (omega arith))
-alone_or_wide Form.three_upper bytes fits = inr (wide_three 0xEE 0xEF 0x80 0xBF bytes fits (omega arith) (inl (omega arith)) (omega arith))
-alone_or_wide Form.four_first bytes fits = inr (wide_four 0xF0 0xF0 0x90 0xBF bytes fits (omega arith) (inr (omega arith)))
+alone_or_wide Form.three_first bytes fits =
+    inr (wide_three 0xE0 0xE0 0xA0 0xBF bytes fits (omega arith) (inr (omega arith)) (omega arith))
+alone_or_wide Form.three_lower bytes fits =
+    inr (wide_three 0xE1 0xEC 0x80 0xBF bytes fits (omega arith) (inl (omega arith)) (omega arith))
+alone_or_wide Form.three_before bytes fits =
+    inr (wide_three 0xED 0xED 0x80 0x9F bytes fits (omega arith) (inl (omega arith)) (omega arith))
+alone_or_wide Form.three_upper bytes fits =
+    inr (wide_three 0xEE 0xEF 0x80 0xBF bytes fits (omega arith) (inl (omega arith)) (omega arith))
+alone_or_wide Form.four_first bytes fits =
+    inr (wide_four 0xF0 0xF0 0x90 0xBF bytes fits (omega arith) (inr (omega arith)))
 alone_or_wide Form.four bytes fits = inr (wide_four 0xF1 0xF3 0x80 0xBF bytes fits (omega arith) (inl (omega arith)))
-alone_or_wide Form.four_last bytes fits = inr (wide_four 0xF4 0xF4 0x80 0x8F bytes fits (omega arith) (inl (omega arith)))
+alone_or_wide Form.four_last bytes fits = inr
+    (wide_four 0xF4 0xF4 0x80 0x8F bytes fits (omega arith) (inl (omega arith)))
 
-outside_point : (point : ℕ) → 128 ≤ point → (unit : ℕ) × (more : List ℕ) × (units_of_point point ≡ unit ∷ more) × (128 ≤ unit)
+outside_point : (point : ℕ) → 128 ≤ point → (unit : ℕ) × (more : List ℕ) × (units_of_point point ≡ unit ∷ more)
+    × (128 ≤ unit)
 outside_point point above =
-    cond_both (nat_lt point 0x10000) _ _ (λ (units : List ℕ). (unit : ℕ) × (more : List ℕ) × (units ≡ unit ∷ more) × (128 ≤ unit))
+    cond_both (nat_lt point 0x10000) _ _ (λ (units : List ℕ). (unit : ℕ) × (more : List ℕ) × (units ≡ unit ∷ more)
+    × (128 ≤ unit))
     (λ _. (point, [], refl, above)) (λ _. (_, _, refl, omega arith))
 
 -- a first byte outside of ASCII
-pub wide_unit : (first : ℕ) (tail : List ℕ) (char : Char) (rest : List ℕ) → IsChar char → first ∷ tail ≡ char_text char ++ rest → 128 ≤ first → IsOutside char
+pub wide_unit : (first : ℕ) (tail : List ℕ) (char : Char) (rest : List ℕ) → IsChar char
+    → first ∷ tail ≡ char_text char ++ rest → 128 ≤ first → IsOutside char
 wide_unit first tail (unescaped bytes) rest (form, fits) text above = elim (alone_or_wide form bytes fits) [
-  | inl (byte, is, small, other) ↦ absurd (omega (arith, same_first first byte tail rest (text ∙ ap (λ (t : List ℕ). t ++ rest) is)))
+  | inl (byte, is, small, other) ↦ absurd (omega
+      (arith, same_first first byte tail rest (text ∙ ap (λ (t : List ℕ). t ++ rest) is)))
   | inr (byte, more, is, large, point) ↦ outside_point (code_point bytes) point
 ]
-wide_unit first tail (escaped byte) rest is text above = absurd (omega (arith, same_first first 92 tail (byte ∷ rest) text))
-wide_unit first tail (coded digits) rest is text above = absurd (omega (arith, same_first first 92 tail (117 ∷ (digits ++ rest)) text))
+wide_unit first tail (escaped byte) rest is text above =
+    absurd (omega (arith, same_first first 92 tail (byte ∷ rest) text))
+wide_unit first tail (coded digits) rest is text above =
+    absurd (omega (arith, same_first first 92 tail (117 ∷ (digits ++ rest)) text))
 
 -- no character that stands by itself begins with a reverse solidus
 not_solidus : (tail bytes rest : List ℕ) → IsUnescaped bytes → 92 ∷ tail ≡ bytes ++ rest → ⊥
 not_solidus tail bytes rest (form, fits) text = elim (alone_or_wide form bytes fits) [
   | inl (byte, is, small, other) ↦ other (sym (same_first 92 byte tail rest (text ∙ ap (λ (t : List ℕ). t ++ rest) is)))
-  | inr (byte, more, is, large, point) ↦ absurd (omega (arith, same_first 92 byte tail (more ++ rest) (text ∙ ap (λ (t : List ℕ). t ++ rest) is)))
+  | inr (byte, more, is, large, point) ↦ absurd
+      (omega (arith, same_first 92 byte tail (more ++ rest) (text ∙ ap (λ (t : List ℕ). t ++ rest) is)))
 ]
 
 no_escape : IsEscape 117 → ⊥
@@ -114,11 +167,13 @@ no_escape (inr (inr (inr (inr (inr (inr (inr h))))))) = absurd (omega arith)
 
 -- an escape of four hexadecimal digits
 pub coded_unit : (tail : List ℕ) (char : Char) (rest : List ℕ) → IsChar char → 92 ∷ 117 ∷ tail ≡ char_text char ++ rest
-    → (a b c d : ℕ) × IsHexadecimal a × IsHexadecimal b × IsHexadecimal c × IsHexadecimal d × (tail ≡ a ∷ b ∷ c ∷ d ∷ rest)
+    → (a b c d : ℕ) × IsHexadecimal a × IsHexadecimal b × IsHexadecimal c × IsHexadecimal d
+    × (tail ≡ a ∷ b ∷ c ∷ d ∷ rest)
     × (units_of_char char ≡ hexadecimal_value 0 (a ∷ b ∷ c ∷ d ∷ []) ∷ [])
 coded_unit tail (unescaped bytes) rest is text = absurd (not_solidus (117 ∷ tail) bytes rest is text)
 coded_unit tail (escaped byte) rest is text =
-    absurd (no_escape (subst IsEscape (sym (same_first 117 byte tail rest (same_rest 92 92 (117 ∷ tail) (byte ∷ rest) text))) is))
+    absurd (no_escape (subst IsEscape (sym (same_first 117 byte tail rest
+    (same_rest 92 92 (117 ∷ tail) (byte ∷ rest) text))) is))
 coded_unit tail (coded digits) rest is text =
     let (a, b, c, d, all, ia, ib, ic, id) = four_bytes hexadecimal hexadecimal hexadecimal hexadecimal digits is in (
       a,
@@ -129,44 +184,58 @@ coded_unit tail (coded digits) rest is text =
       ib,
       ic,
       id,
-      same_rest 117 117 tail (digits ++ rest) (same_rest 92 92 (117 ∷ tail) (117 ∷ (digits ++ rest)) text) ∙ ap (λ (t : List ℕ). t ++ rest) all,
+      same_rest 117 117 tail (digits ++ rest) (same_rest 92 92 (117 ∷ tail) (117 ∷ (digits ++ rest)) text)
+          ∙ ap (λ (t : List ℕ). t ++ rest) all,
       ap (λ (t : List ℕ). hexadecimal_value 0 t ∷ []) all,
     )
 
 -- four bytes from a place on
-pub four_more : (xs : List ℕ) (at : ℕ) → at + 4 ≤ length xs → drop at xs ≡ get_or xs at 0 ∷ get_or xs (at + 1) 0 ∷ get_or xs (at + 2) 0 ∷ get_or xs (at + 3) 0 ∷ drop (at + 4) xs
+pub four_more : (xs : List ℕ) (at : ℕ) → at + 4 ≤ length xs
+    → drop at xs ≡ get_or xs at 0 ∷ get_or xs (at + 1) 0 ∷ get_or xs (at + 2) 0 ∷ get_or xs (at + 3) 0
+    ∷ drop (at + 4) xs
 four_more xs at within =
     drop_more xs at 0 (omega arith)
-    ∙ ap (λ (t : List ℕ). get_or xs at 0 ∷ t) (drop_more xs (at + 1) 0 (omega arith) ∙ next (at + 1 + 1) (at + 2) (omega arith)
+    ∙ ap (λ (t : List ℕ). get_or xs at 0 ∷ t)
+    (drop_more xs (at + 1) 0 (omega arith) ∙ next (at + 1 + 1) (at + 2) (omega arith)
     (drop_more xs (at + 2) 0 (omega arith) ∙ next (at + 2 + 1) (at + 3) (omega arith)
     (drop_more xs (at + 3) 0 (omega arith) ∙ next (at + 3 + 1) (at + 4) (omega arith) refl)))
   where
     next : {x : ℕ} (a b : ℕ) → a ≡ b → {ys : List ℕ} → drop b xs ≡ ys → x ∷ drop a xs ≡ x ∷ ys
     next {x} a b same {ys} h = ap (λ (t : List ℕ). x ∷ t) (ap (λ (n : ℕ). drop n xs) same ∙ h)
 
-same_four : (a b c d a' b' c' d' : ℕ) (xs ys : List ℕ) → a ∷ b ∷ c ∷ d ∷ xs ≡ a' ∷ b' ∷ c' ∷ d' ∷ ys → (a ≡ a') × (b ≡ b') × (c ≡ c') × (d ≡ d') × (xs ≡ ys)
+same_four : (a b c d a' b' c' d' : ℕ) (xs ys : List ℕ) → a ∷ b ∷ c ∷ d ∷ xs ≡ a' ∷ b' ∷ c' ∷ d' ∷ ys
+    → (a ≡ a') × (b ≡ b') × (c ≡ c') × (d ≡ d') × (xs ≡ ys)
 same_four a b c d a' b' c' d' xs ys h = (cc, cc, cc, cc, cc)
 
 -- what the code makes of the four bytes at a place
-pub coded_value : (raw : List ℕ) (at : ℕ) (char : Char) (rest : List ℕ) → at + 4 ≤ length raw → IsChar char → 92 ∷ 117 ∷ drop at raw ≡ char_text char ++ rest → (v w x y : ℕ)
-    → (IsHexadecimal (get_or raw at 0) → v ≡ digit_value (get_or raw at 0)) → (IsHexadecimal (get_or raw (at + 1) 0) → w ≡ digit_value (get_or raw (at + 1) 0))
-    → (IsHexadecimal (get_or raw (at + 2) 0) → x ≡ digit_value (get_or raw (at + 2) 0)) → (IsHexadecimal (get_or raw (at + 3) 0) → y ≡ digit_value (get_or raw (at + 3) 0))
+pub coded_value : (raw : List ℕ) (at : ℕ) (char : Char) (rest : List ℕ) → at + 4 ≤ length raw → IsChar char
+    → 92 ∷ 117 ∷ drop at raw ≡ char_text char ++ rest → (v w x y : ℕ)
+    → (IsHexadecimal (get_or raw at 0) → v ≡ digit_value (get_or raw at 0))
+    → (IsHexadecimal (get_or raw (at + 1) 0) → w ≡ digit_value (get_or raw (at + 1) 0))
+    → (IsHexadecimal (get_or raw (at + 2) 0) → x ≡ digit_value (get_or raw (at + 2) 0))
+    → (IsHexadecimal (get_or raw (at + 3) 0) → y ≡ digit_value (get_or raw (at + 3) 0))
     → (units_of_char char ≡ (256 * (16 * v + w) + (16 * x + y)) ∷ []) × (drop (at + 4) raw ≡ rest)
 coded_value raw at char rest within is text v w x y hv hw hx hy =
     let (a, b, c, d, ia, ib, ic, id, all, units) = coded_unit (drop at raw) char rest is text in
-    let (sa, sb, sc, sd, left) = same_four (get_or raw at 0) (get_or raw (at + 1) 0) (get_or raw (at + 2) 0) (get_or raw (at + 3) 0) a b c d (drop (at + 4) raw) rest
+    let (sa, sb, sc, sd, left) = same_four (get_or raw at 0) (get_or raw (at + 1) 0) (get_or raw (at + 2) 0)
+    (get_or raw (at + 3) 0) a b c d (drop (at + 4) raw) rest
     (sym (four_more raw at within) ∙ all) in
     let va : v ≡ digit_value a = hv (subst IsHexadecimal (sym sa) ia) ∙ ap digit_value sa in
     let wb : w ≡ digit_value b = hw (subst IsHexadecimal (sym sb) ib) ∙ ap digit_value sb in
     let xc : x ≡ digit_value c = hx (subst IsHexadecimal (sym sc) ic) ∙ ap digit_value sc in
-    let yd : y ≡ digit_value d = hy (subst IsHexadecimal (sym sd) id) ∙ ap digit_value sd in
-    (units ∙ ap (λ (n : ℕ). n ∷ []) (sum v w x y (digit_value a) (digit_value b) (digit_value c) (digit_value d) va wb xc yd), left)
+    let yd : y ≡ digit_value d = hy (subst IsHexadecimal (sym sd) id) ∙ ap digit_value sd in (
+      units ∙ ap (λ (n : ℕ). n ∷ []) (sum v w x y (digit_value a) (digit_value b) (digit_value c) (digit_value d) va wb
+          xc yd),
+      left,
+    )
   where
-    sum : (v w x y a b c d : ℕ) → v ≡ a → w ≡ b → x ≡ c → y ≡ d → 16 * (16 * (16 * (16 * 0 + a) + b) + c) + d ≡ 256 * (16 * v + w) + (16 * x + y)
+    sum : (v w x y a b c d : ℕ) → v ≡ a → w ≡ b → x ≡ c → y ≡ d
+        → 16 * (16 * (16 * (16 * 0 + a) + b) + c) + d ≡ 256 * (16 * v + w) + (16 * x + y)
     sum v w x y a b c d p q r s = omega arith
 
 -- there are four
-pub coded_long : (raw : List ℕ) (at : ℕ) (char : Char) (rest : List ℕ) → at ≤ length raw → IsChar char → 92 ∷ 117 ∷ drop at raw ≡ char_text char ++ rest → at + 4 ≤ length raw
+pub coded_long : (raw : List ℕ) (at : ℕ) (char : Char) (rest : List ℕ) → at ≤ length raw → IsChar char
+    → 92 ∷ 117 ∷ drop at raw ≡ char_text char ++ rest → at + 4 ≤ length raw
 coded_long raw at char rest within is text =
     let (a, b, c, d, ia, ib, ic, id, all, units) = coded_unit (drop at raw) char rest is text in
     omega (arith, ap length all, length-drop at raw)

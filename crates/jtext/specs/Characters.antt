@@ -1,5 +1,6 @@
 -- Characters between quotation marks (RFC 8259, sections 7 and 8; UTF-8 by RFC 3629, section 4).
-use Rattle.std.specs.Prelude.{◌≡◌, ℕ, ◌+◌, ◌-◌, ◌*◌, ◌/◌, ◌%◌, ◌≤◌, ◌⊎◌, nat_lt, nat_le, ◌==◌, if◌then◌else◌, List, [], ◌∷◌, ◌++◌}
+use Rattle.std.specs.Prelude.{◌≡◌, ℕ, ◌+◌, ◌-◌, ◌*◌, ◌/◌, ◌%◌, ◌≤◌, ◌⊎◌, nat_lt, nat_le, ◌==◌, if◌then◌else◌, List, []}
+use Rattle.std.specs.Prelude.{◌∷◌, ◌++◌}
 use Rattle.std.specs.List.{AllByRecursion}
 
 -- which bytes may stand in one place
@@ -67,7 +68,8 @@ pub data Char : Type 0 where
 
 -- the byte behind a reverse solidus: one of " \ / b f n r t
 abbrev pub IsEscape : ℕ → Type 0
-IsEscape byte = (byte ≡ 34) ⊎ (byte ≡ 92) ⊎ (byte ≡ 47) ⊎ (byte ≡ 98) ⊎ (byte ≡ 102) ⊎ (byte ≡ 110) ⊎ (byte ≡ 114) ⊎ (byte ≡ 116)
+IsEscape byte = (byte ≡ 34) ⊎ (byte ≡ 92) ⊎ (byte ≡ 47) ⊎ (byte ≡ 98) ⊎ (byte ≡ 102) ⊎ (byte ≡ 110) ⊎ (byte ≡ 114)
+    ⊎ (byte ≡ 116)
 
 abbrev pub IsChar : Char → Type 0
 IsChar (unescaped bytes) = IsUnescaped bytes

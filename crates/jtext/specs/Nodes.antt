@@ -1,7 +1,8 @@
 -- The nodes of a value: what stands where, in order of the text.
 use Rattle.std.specs.Prelude.{ℕ, ◌+◌, Bool, true, false, List, [], ◌∷◌, ◌++◌, length}
 use Rattle.jtext.specs.Characters.{Char}
-use Rattle.jtext.specs.Values.{Json, Elements, Members, null, truth, numeral, quoted, array, object, no_element, element, no_member, member, quoted_text, spelling}
+use Rattle.jtext.specs.Values.{Json, Elements, Members, null, truth, numeral, quoted, array, object, no_element}
+use Rattle.jtext.specs.Values.{element, no_member, member, quoted_text, spelling}
 use Rattle.jtext.specs.declared.document.Kind.{Kind}
 use Rattle.jtext.specs.declared.document.Kind.TheVariants as kinds
 use Rattle.jtext.specs.declared.document.Node.{Node}
@@ -52,7 +53,8 @@ abbrev pub element_start : ℕ → List ℕ → ℕ
 element_start place before = place + length before
 
 abbrev pub member_start : ℕ → List ℕ → List Char → List ℕ → List ℕ → ℕ
-member_start place before key behind ahead = place + length before + length (quoted_text key) + length behind + 1 + length ahead
+member_start place before key behind ahead =
+    place + length before + length (quoted_text key) + length behind + 1 + length ahead
 
 -- where the next element or member begins: behind the value, what follows it, and a comma
 abbrev pub next_place : ℕ → Json → List ℕ → ℕ
@@ -85,4 +87,5 @@ abbrev mutual
   member_nodes number place (member before key behind ahead value after rest) =
       key_node number (element_start place before) key
       ∷ (nodes_of (number + 1) (member_start place before key behind ahead) value
-      ++ member_nodes (number + 1 + node_count value) (next_place (member_start place before key behind ahead) value after) rest)
+      ++ member_nodes (number + 1 + node_count value)
+      (next_place (member_start place before key behind ahead) value after) rest)

@@ -33,7 +33,8 @@ IsSign text = (text ≡ []) ⊎ (text ≡ 43 ∷ []) ⊎ (text ≡ 45 ∷ [])
 
 -- nothing, or e with an optional sign and digits
 abbrev pub IsExponent : List ℕ → Type 0
-IsExponent text = (text ≡ []) ⊎ ((mark : ℕ) × (sign : List ℕ) × (digits : List ℕ) × IsMark mark × IsSign sign × AreDigits digits × (text ≡ mark ∷ (sign ++ digits)))
+IsExponent text = (text ≡ []) ⊎ ((mark : ℕ) × (sign : List ℕ) × (digits : List ℕ) × IsMark mark × IsSign sign
+    × AreDigits digits × (text ≡ mark ∷ (sign ++ digits)))
 
 -- an optional minus sign, a whole number, and optionally a fraction and an exponent
 pub record IsNumber (text : List ℕ) : Type 0 where

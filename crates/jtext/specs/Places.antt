@@ -58,7 +58,8 @@ entries_at number place (member before key behind ahead value after rest) =
       start = member_start place before key behind ahead;
       value = value;
     }
-    ∷ entries_at (number + 1 + node_count value) (next_place (member_start place before key behind ahead) value after) rest
+    ∷ entries_at (number + 1 + node_count value) (next_place (member_start place before key behind ahead) value after)
+    rest
 
 -- a node of this kind has this number
 abbrev pub HasKind : List Node → ℕ → Kind → Type 0

@@ -1,5 +1,6 @@
 -- The pass over a text, byte by byte, with the nodes that it makes. Only private functions speak of it.
-use Rattle.std.specs.Prelude.{◌≡◌, ℕ, ◌+◌, ◌<◌, ◌≤◌, ◌↔◌, Bool, true, false, nat_lt, if◌then◌else◌, List, [], ◌∷◌, ◌++◌, length, take, slice_set, slice_index, Option, Some, None, Result, Ok, Err}
+use Rattle.std.specs.Prelude.{◌≡◌, ℕ, ◌+◌, ◌<◌, ◌≤◌, ◌↔◌, Bool, true, false, nat_lt, if◌then◌else◌, List, [], ◌∷◌, ◌++◌}
+use Rattle.std.specs.Prelude.{length, take, slice_set, slice_index, Option, Some, None, Result, Ok, Err}
 use Rattle.std.specs.List.{AllByRecursion}
 use Rattle.text_places.specs.Machine.{run}
 use Rattle.jtext.specs.Nodes.{node}
@@ -87,7 +88,8 @@ first_place Curly = places.FirstKey
 abbrev pub opened : (ℕ → Bool) → Bracket → List Open → List Node → ℕ → Option State
 opened room bracket stack nodes at =
     if room (length stack)
-    then Some (state (stand (first_place bracket)) (opened_one bracket (length nodes) at ∷ stack) (nodes ++ node (bracket_kind bracket) at 0 0 ∷ []) (at + 1))
+    then Some (state (stand (first_place bracket)) (opened_one bracket (length nodes) at ∷ stack)
+    (nodes ++ node (bracket_kind bracket) at 0 0 ∷ []) (at + 1))
     else None
 
 abbrev pub same_bracket : Bracket → Bracket → Bool
@@ -103,7 +105,8 @@ ended one nodes at = slice_set nodes one.node (node (bracket_kind one.bracket) o
 abbrev pub closed_one : Bracket → List Open → List Node → ℕ → Option State
 closed_one bracket [] nodes at = None
 closed_one bracket (one ∷ outer) nodes at =
-    if same_bracket bracket one.bracket then Some (state (stand places.Behind) outer (ended one nodes at) (at + 1)) else None
+    if same_bracket bracket one.bracket then Some (state (stand places.Behind) outer (ended one nodes at) (at + 1)) else
+    None
 
 abbrev pub next_wanted : Bracket → Place
 next_wanted Square = places.Value
@@ -123,7 +126,8 @@ value_step room stack nodes at (signs.Opening bracket) = opened room bracket sta
 value_step room stack nodes at signs.Minus = begun value kinds.Number (in_number numbers.Minus) stack nodes at
 value_step room stack nodes at signs.Zero = begun value kinds.Number (in_number numbers.Zero) stack nodes at
 value_step room stack nodes at signs.Digit = begun value kinds.Number (in_number numbers.Whole) stack nodes at
-value_step room stack nodes at (signs.Letter word) = begun value (word_kind word) (in_word (word_rest word)) stack nodes at
+value_step room stack nodes at (signs.Letter word) =
+    begun value (word_kind word) (in_word (word_rest word)) stack nodes at
 value_step room stack nodes at sign = None
 
 abbrev pub key_step : List Open → List Node → ℕ → Option State
@@ -174,7 +178,8 @@ pushed value kind from nodes at = nodes ++ node kind from at (length nodes + 1) 
 
 -- the token goes on, or ends before this byte
 abbrev pub token_or : Option Token → Role → Kind → ℕ → List Open → List Node → ℕ → Option State → Option State
-token_or (Some token) role kind from stack nodes at behind = Some (state (within role kind from token) stack nodes (at + 1))
+token_or (Some token) role kind from stack nodes at behind =
+    Some (state (within role kind from token) stack nodes (at + 1))
 token_or None role kind from stack nodes at behind = behind
 
 abbrev pub phase_step : (ℕ → Bool) → Phase → List Open → List Node → ℕ → ℕ → Option State
@@ -182,7 +187,8 @@ phase_step room begin stack nodes at byte = begin_step room stack nodes at (byte
 phase_step room (stand place) stack nodes at byte = stand_step room place stack nodes at (byte_sign byte)
 phase_step room (within role kind from token) stack nodes at byte =
     token_or (token_step token byte) role kind from stack nodes at
-    (if is_whole token then stand_step room (place_behind role) stack (pushed role kind from nodes at) at (byte_sign byte) else None)
+    (if is_whole token then stand_step room (place_behind role) stack (pushed role kind from nodes at) at
+    (byte_sign byte) else None)
 
 abbrev pub step : (ℕ → Bool) → State → ℕ → Option State
 step room s byte = phase_step room s.phase s.stack s.nodes s.at byte
@@ -219,11 +225,13 @@ IsBehind places.Behind = Unit {0}
 IsBehind place = ⊥
 
 -- To the next byte, or at the end, the state is as between tokens at this place.
-pub record Shows (bytes : List ℕ) (s : State) (place : Place) (stack : List Open) (nodes : List Node) (at : ℕ) : Type 0 where
-  pub acts : at < length bytes → (room : ℕ → Bool) → step room s (slice_index bytes at) ≡ stand_step room place stack nodes at (byte_sign (slice_index bytes at))
-  pub last : IsLast s.phase ↔ IsBehind place
-  pub stack_is : s.stack ≡ stack
-  pub seen_is : seen s ≡ nodes
+pub record Shows (bytes : List ℕ) (s : State) (place : Place) (stack : List Open) (nodes : List Node) (at : ℕ) : Type 0
+  where
+    pub acts : at < length bytes → (room : ℕ → Bool)
+        → step room s (slice_index bytes at) ≡ stand_step room place stack nodes at (byte_sign (slice_index bytes at))
+    pub last : IsLast s.phase ↔ IsBehind place
+    pub stack_is : s.stack ≡ stack
+    pub seen_is : seen s ≡ nodes
 
 -- The pass over the bytes before this place leads here, with room for DEEPEST brackets.
 pub record Reached (bytes : List ℕ) (place : Place) (stack : List Open) (nodes : List Node) (at : ℕ) : Type 0 where
@@ -236,7 +244,8 @@ pub record Reached (bytes : List ℕ) (place : Place) (stack : List Open) (nodes
   pub theirs : AllByRecursion (λ (one : Open). one.node < length nodes) stack
 
 -- The byte at this place is taken from what was reached, or refused, as next says for any room.
-pub record Takes (bytes : List ℕ) (stack : List Open) (nodes : List Node) (at : ℕ) (next : (ℕ → Bool) → Option State) : Type 0 where
+pub record Takes (bytes : List ℕ) (stack : List Open) (nodes : List Node) (at : ℕ)
+    (next : (ℕ → Bool) → Option State) : Type 0 where
   pub now : State
   pub was : run (step (up_to DEEPEST)) start (take at bytes) ≡ Some now
   pub takes : (room : ℕ → Bool) → step room now (slice_index bytes at) ≡ next room

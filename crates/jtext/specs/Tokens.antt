@@ -1,5 +1,6 @@
 -- The passes over one number, one text and one word. Only private functions speak of them.
-use Rattle.std.specs.Prelude.{◌≡◌, ℕ, ◌≤◌, ◌<◌, Bool, true, false, ◌&&◌, ◌||◌, ◌==◌, nat_le, if◌then◌else◌, List, [], ◌∷◌, length, slice_range, slice_index, Option, Some, None, Result, Ok, Err}
+use Rattle.std.specs.Prelude.{◌≡◌, ℕ, ◌≤◌, ◌<◌, Bool, true, false, ◌&&◌, ◌||◌, ◌==◌, nat_le, if◌then◌else◌, List, []}
+use Rattle.std.specs.Prelude.{◌∷◌, length, slice_range, slice_index, Option, Some, None, Result, Ok, Err}
 use Rattle.text_places.specs.Machine.{run}
 use Rattle.jtext.specs.Signs.{byte_sign}
 use Rattle.jtext.specs.declared.signs.Sign.{Sign}
@@ -76,7 +77,8 @@ text_sign byte =
 
 abbrev pub escape_sign : ℕ → EscapeSign
 escape_sign byte =
-    if byte == 34 || byte == 92 || byte == 47 || byte == 98 || byte == 102 || byte == 110 || byte == 114 || byte == 116 then escapes.Short
+    if byte == 34 || byte == 92 || byte == 47 || byte == 98 || byte == 102 || byte == 110 || byte == 114 || byte == 116
+    then escapes.Short
     else if byte == 117 then escapes.Unicode
     else escapes.Refused
 
@@ -86,7 +88,8 @@ takes needs.TailFromA0 byte = nat_le 0xA0 byte && nat_le byte 0xBF
 takes needs.TailTo9F byte = nat_le 0x80 byte && nat_le byte 0x9F
 takes needs.TailFrom90 byte = nat_le 0x90 byte && nat_le byte 0xBF
 takes needs.TailTo8F byte = nat_le 0x80 byte && nat_le byte 0x8F
-takes needs.Hexadecimal byte = (nat_le 48 byte && nat_le byte 57) || (nat_le 65 byte && nat_le byte 70) || (nat_le 97 byte && nat_le byte 102)
+takes needs.Hexadecimal byte = (nat_le 48 byte && nat_le byte 57) || (nat_le 65 byte && nat_le byte 70) ||
+    (nat_le 97 byte && nat_le byte 102)
 
 abbrev pub lead_needs : Lead → List Need
 lead_needs leads.Two = needs.Tail ∷ []
@@ -136,11 +139,13 @@ is_closed inner = false
 
 -- From this place on the pass leads to a place; or it goes wrong at one, before the end of the text.
 abbrev pub GoesWrong : Inner → List ℕ → ℕ → ℕ → Type 0
-GoesWrong first bytes from at = (from ≤ at) × (at ≤ length bytes) × (inner : Inner) × (run inner_step first (slice_range bytes from at) ≡ Some inner)
+GoesWrong first bytes from at = (from ≤ at) × (at ≤ length bytes) × (inner : Inner)
+    × (run inner_step first (slice_range bytes from at) ≡ Some inner)
     × (is_closed inner ≡ false) × (at < length bytes → inner_step inner (slice_index bytes at) ≡ None)
 
 abbrev pub GoesOn : Inner → Inner → List ℕ → ℕ → ℕ → Type 0
-GoesOn first last bytes from at = (from ≤ at) × (at ≤ length bytes) × (run inner_step first (slice_range bytes from at) ≡ Some last)
+GoesOn first last bytes from at = (from ≤ at) × (at ≤ length bytes)
+    × (run inner_step first (slice_range bytes from at) ≡ Some last)
 
 abbrev pub TextEnds : Inner → Inner → List ℕ → ℕ → Result ℕ ℕ → Type 0
 TextEnds first last bytes from (Ok at) = GoesOn first last bytes from at
@@ -161,6 +166,8 @@ is_done (first ∷ more) = false
 
 -- Where the word ends, or the first place that is not as the word wants.
 abbrev pub WordEnds : List ℕ → List ℕ → ℕ → Result ℕ ℕ → Type 0
-WordEnds word bytes from (Ok at) = (from ≤ at) × (at ≤ length bytes) × (run word_step word (slice_range bytes from at) ≡ Some [])
-WordEnds word bytes from (Err at) = (from ≤ at) × (at ≤ length bytes) × (rest : List ℕ) × (run word_step word (slice_range bytes from at) ≡ Some rest)
+WordEnds word bytes from (Ok at) = (from ≤ at) × (at ≤ length bytes)
+    × (run word_step word (slice_range bytes from at) ≡ Some [])
+WordEnds word bytes from (Err at) = (from ≤ at) × (at ≤ length bytes) × (rest : List ℕ)
+    × (run word_step word (slice_range bytes from at) ≡ Some rest)
     × (is_done rest ≡ false) × (at < length bytes → word_step rest (slice_index bytes at) ≡ None)

@@ -15,4 +15,5 @@ UnitOf raw char rest (Some found) = (units_of_char char ≡ found.0 ∷ []) × (
 -- text of this length.
 abbrev pub IsLeft : List ℕ → List ℕ → ℕ → ℕ → Type 0
 IsLeft raw text at count = (chars : List Char) → AreChars chars → raw ≡ chars_text chars
-    → (rest : List Char) × AreChars rest × (drop at raw ≡ chars_text rest) × (units_of chars ≡ take count text ++ units_of rest)
+    → (rest : List Char) × AreChars rest × (drop at raw ≡ chars_text rest)
+    × (units_of chars ≡ take count text ++ units_of rest)

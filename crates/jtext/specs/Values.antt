@@ -48,7 +48,8 @@ abbrev mutual
 
   pub elements_behind : Elements → List ℕ
   elements_behind no_element = []
-  elements_behind (element before value after rest) = 44 ∷ (before ++ (spelling value ++ (after ++ elements_behind rest)))
+  elements_behind (element before value after rest) =
+      44 ∷ (before ++ (spelling value ++ (after ++ elements_behind rest)))
 
   pub members_text : Members → List ℕ
   members_text no_member = []
@@ -58,7 +59,8 @@ abbrev mutual
   pub members_behind : Members → List ℕ
   members_behind no_member = []
   members_behind (member before key behind ahead value after rest) =
-      44 ∷ (before ++ (quoted_text key ++ (behind ++ 58 ∷ (ahead ++ (spelling value ++ (after ++ members_behind rest))))))
+      44 ∷ (before ++ (quoted_text key ++ (behind ++ 58
+      ∷ (ahead ++ (spelling value ++ (after ++ members_behind rest))))))
 
 -- space, tab, line feed and carriage return
 abbrev pub IsBlank : ℕ → Type 0
@@ -90,9 +92,11 @@ abbrev mutual
 
   pub AreElements : ℕ → Elements → Type 0
   AreElements depth no_element = Unit {0}
-  AreElements depth (element before value after rest) = AreBlank before × IsValue depth value × AreBlank after × AreElements depth rest
+  AreElements depth (element before value after rest) =
+      AreBlank before × IsValue depth value × AreBlank after × AreElements depth rest
 
   pub AreMembers : ℕ → Members → Type 0
   AreMembers depth no_member = Unit {0}
   AreMembers depth (member before key behind ahead value after rest) =
-      AreBlank before × AreChars key × AreBlank behind × AreBlank ahead × IsValue depth value × AreBlank after × AreMembers depth rest
+      AreBlank before × AreChars key × AreBlank behind × AreBlank ahead × IsValue depth value × AreBlank after
+      × AreMembers depth rest

@@ -1,6 +1,7 @@
 //! Members of an object by key, and texts, with escapes resolved.
 
-ghost use Rattle.std.specs.Prelude.{◌≡◌, ℕ, ◌+◌, ◌-◌, ◌<◌, ◌≤◌, ◌↔◌, List, length, slice_get, slice_range, Some, IsTrue};
+ghost use Rattle.std.specs.Prelude.{◌≡◌, ℕ, ◌+◌, ◌-◌, ◌<◌, ◌≤◌, ◌↔◌, List, length, slice_get, slice_range, Some};
+ghost use Rattle.std.specs.Prelude.{IsTrue};
 ghost use Rattle.jtext.specs.Values.{Json, Members};
 ghost use Rattle.jtext.specs.Nodes.{inner_place};
 ghost use Rattle.jtext.specs.Places.{IsReadFrom, Stands, HasKind, entries_at};

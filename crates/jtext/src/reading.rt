@@ -90,7 +90,7 @@ fn mark_end(bytes: &[u8]) -> Result<usize, JsonFault>
     }
 }
 
-/// No bytes have two of the answers, so each comes exactly where its cause stands, but for want of
+/// No bytes have two of the answers, so each comes exactly where its cause stands, except for lack of
 /// memory.
 pub fn answers_exclude_each_other()
     ensures bad_once { (bytes : List ℕ) → (at other : ℕ) → IsBad bytes at → IsBad bytes other → at ≡ other }

@@ -1,7 +1,8 @@
 //! Texts with their escapes resolved.
 
 ghost use Rattle.std.specs.Prelude.{◌≡◌, ℕ, ◌+◌, ◌*◌, ◌<◌, ◌≤◌, ◌↔◌, List, ◌∷◌, ◌++◌, length, drop, IsTrue, IfSome};
-ghost use Rattle.jtext.specs.Characters.{Char, IsChar, AreChars, IsHexadecimal, char_text, chars_text, meaning, digit_value, units_of};
+ghost use Rattle.jtext.specs.Characters.{Char, IsChar, AreChars, IsHexadecimal, char_text, chars_text, meaning};
+ghost use Rattle.jtext.specs.Characters.{digit_value, units_of};
 ghost use Rattle.jtext.specs.Lookups.{IsAscii};
 ghost use Rattle.jtext.specs.Units.{UnitOf};
 

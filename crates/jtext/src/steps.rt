@@ -1,10 +1,13 @@
 //! One token of a text, or the white space before it.
 
-ghost use Rattle.std.specs.Prelude.{◌≡◌, ◌+◌, ◌-◌, ◌^◌, ◌≤◌, ◌<◌, ◌↔◌, ◌++◌, [], ◌∷◌, length, slice_range, IsTrue, OnOk};
+ghost use Rattle.std.specs.Prelude.{◌≡◌, ◌+◌, ◌-◌, ◌^◌, ◌≤◌, ◌<◌, ◌↔◌, ◌++◌, [], ◌∷◌, length, slice_range, IsTrue};
+ghost use Rattle.std.specs.Prelude.{OnOk};
 ghost use Rattle.std.specs.List.{AllByRecursion};
 ghost use Rattle.jtext.specs.Nodes.{node};
 ghost use Rattle.jtext.specs.Signs.{byte_sign, word_rest, word_kind, bracket_kind};
-ghost use Rattle.jtext.specs.States.{Role, Token, Reached, Takes, Goes, IsBlack, IsBehind, same_bracket, first_place, next_wanted, begun, key_step, value_step, stand_step, opened, closed_one, separated};
+ghost use Rattle.jtext.specs.States.{Role, Token, Reached, Takes, Goes, IsBlack, IsBehind, same_bracket, first_place};
+ghost use Rattle.jtext.specs.States.{next_wanted, begun, key_step, value_step, stand_step, opened, closed_one};
+ghost use Rattle.jtext.specs.States.{separated};
 ghost use Rattle.jtext.specs.Values.{IsBlank};
 
 use crate::document::{Kind, Node};

@@ -13,10 +13,12 @@ pub record AreAlike (p q e f p' q' e' f' : Point) : Type 0 where
   pub end_forth : (r : Point) → IsAnEnd p q e f r → IsAnEnd p' q' e' f' r
   pub end_back : (r : Point) → IsAnEnd p' q' e' f' r → IsAnEnd p q e f r
 
-only_alike : (p q e f p' q' e' f' r : Point) → AreAlike p q e f p' q' e' f' → IsOnlyCommonPoint p q e f r → IsOnlyCommonPoint p' q' e' f' r
+only_alike : (p q e f p' q' e' f' r : Point) → AreAlike p q e f p' q' e' f' → IsOnlyCommonPoint p q e f r
+    → IsOnlyCommonPoint p' q' e' f' r
 only_alike p q e f p' q' e' f' r a only = (a.forth r only.0, λ s h. only.1 s (a.back s h))
 
-pub alike : (p q e f p' q' e' f' : Point) → AreAlike p q e f p' q' e' f' → (relation : Rel) → HaveRelation relation p q e f → HaveRelation relation p' q' e' f'
+pub alike : (p q e f p' q' e' f' : Point) → AreAlike p q e f p' q' e' f' → (relation : Rel)
+    → HaveRelation relation p q e f → HaveRelation relation p' q' e' f'
 alike p q e f p' q' e' f' a Apart h = λ r c. h r (a.back r c)
 alike p q e f p' q' e' f' a Touching h = (h.0, only_alike p q e f p' q' e' f' h.0 a h.1, a.end_forth h.0 h.2)
 alike p q e f p' q' e' f' a Crossing h = (h.0, only_alike p q e f p' q' e' f' h.0 a h.1, λ k. h.2 (a.end_back h.0 k))
@@ -42,8 +44,20 @@ second_end p q e f r (inr (inr (inr k))) = inr (inr (inl k))
 
 pub first_turned : (p q e f : Point) (relation : Rel) → HaveRelation relation p q e f → HaveRelation relation q p e f
 first_turned p q e f =
-    alike p q e f q p e f (record { forth = λ r. first_common p q e f r; back = λ r. first_common q p e f r; end_forth = λ r. first_end p q e f r; end_back = λ r. first_end q p e f r })
+    alike p q e f q p e f (record {
+      forth = λ r. first_common p q e f r;
+      back = λ r. first_common q p e f r;
+      end_forth =
+          λ r. first_end p q e f r;
+      end_back = λ r. first_end q p e f r;
+    })
 
 pub second_turned : (p q e f : Point) (relation : Rel) → HaveRelation relation p q e f → HaveRelation relation p q f e
 second_turned p q e f =
-    alike p q e f p q f e (record { forth = λ r. second_common p q e f r; back = λ r. second_common p q f e r; end_forth = λ r. second_end p q e f r; end_back = λ r. second_end p q f e r })
+    alike p q e f p q f e (record {
+      forth = λ r. second_common p q e f r;
+      back =
+          λ r. second_common p q f e r;
+      end_forth = λ r. second_end p q e f r;
+      end_back = λ r. second_end p q f e r;
+    })

@@ -15,7 +15,8 @@ use Rattle.tin_base.specs.Relations.{IsCommonPoint, IsAnEnd, HaveRelation}
 use Rattle.meet_rel.specs.declared.clips.Clip.{Clip}
 use Rattle.meet_rel.specs.Clips.{AreEnds, at, IsCut, IsRelOf}
 use Rattle.meet_rel.specs.Signs.{AreOnOneSide}
-use Rattle.meet_rel.proofs.Scale.{level_of, level_up, level_down, same_level, level_same, between_line, between_of, after_first, before_last, mix_first}
+use Rattle.meet_rel.proofs.Scale.{level_of, level_up, level_down, same_level, level_same, between_line, between_of}
+use Rattle.meet_rel.proofs.Scale.{after_first, before_last, mix_first}
 use Rattle.meet_rel.proofs.Spans.{AreSpans, apart, touching, overlapping}
 use Rattle.meet_rel.proofs.Ways.{AreDifferent, way, on_at, line_on, at-w, up_at, at_up, before_at}
 use Rattle.meet_rel.proofs.Replacing.{HaveSamePoints, same_ends, replaced}
@@ -27,7 +28,8 @@ one : pos 0 <ℤ pos 1
 one = lt_z_yes tt
 
 -- ---- from the parameters to the ends
-same_points : (clip : Clip) (u v : Pt) (lo hi : Frac) (f l : Point) → IsCut clip u v lo hi → AreEnds clip f l → HaveSamePoints f l (at u v lo) (at u v hi)
+same_points : (clip : Clip) (u v : Pt) (lo hi : Frac) (f l : Point) → IsCut clip u v lo hi → AreEnds clip f l
+    → HaveSamePoints f l (at u v lo) (at u v hi)
 same_points clip u v lo hi f l cut ends =
     record {
       f_positive = ends.first_positive;
@@ -38,17 +40,22 @@ same_points clip u v lo hi f l cut ends =
       back = λ r hr m. ends.back r hr (cut.forth r hr m);
     }
 
-by_cuts : (p q : Clip) (u v x y : Pt) (lo hi lo' hi' : Frac) → AreDifferent u v → AreDifferent x y → IsCut p u v lo hi → IsCut q x y lo' hi' → (relation : Rel) → HaveRelation relation (at u v lo) (at u v hi) (at x y lo') (at x y hi')
+by_cuts : (p q : Clip) (u v x y : Pt) (lo hi lo' hi' : Frac) → AreDifferent u v → AreDifferent x y → IsCut p u v lo hi
+    → IsCut q x y lo' hi' → (relation : Rel) → HaveRelation relation (at u v lo) (at u v hi) (at x y lo') (at x y hi')
     → (f l g h : Point) → AreEnds p f l → AreEnds q g h → HaveRelation relation f l g h
 by_cuts p q u v x y lo hi lo' hi' d e cut cut' relation have f l g h ends ends' =
     let first = same_points p u v lo hi f l cut ends in let second = same_points q x y lo' hi' g h cut' ends' in
     replaced (at u v lo) (at u v hi) (at x y lo') (at x y hi') f l g h
-    first (same_ends (way u v d) f l (at u v lo) (at u v hi) (on_at u v d lo) (on_at u v d hi) (up_at u v d lo hi cut.order) first)
-    second (same_ends (way x y e) g h (at x y lo') (at x y hi') (on_at x y e lo') (on_at x y e hi') (up_at x y e lo' hi' cut'.order) second)
+    first (same_ends (way u v d) f l (at u v lo) (at u v hi) (on_at u v d lo) (on_at u v d hi)
+    (up_at u v d lo hi cut.order) first)
+    second (same_ends (way x y e) g h (at x y lo') (at x y hi') (on_at x y e lo') (on_at x y e hi')
+    (up_at x y e lo' hi' cut'.order) second)
     relation have
 
 -- ---- on one way
-pub along_told : (p q : Clip) (u v : Pt) (lo hi lo' hi' first last : Frac) → AreDifferent u v → IsCut p u v lo hi → IsCut q u v lo' hi' → IsGreater lo lo' first → IsLesser hi hi' last → (relation : Rel) → IsRelOf relation first last
+pub along_told : (p q : Clip) (u v : Pt) (lo hi lo' hi' first last : Frac) → AreDifferent u v → IsCut p u v lo hi
+    → IsCut q u v lo' hi' → IsGreater lo lo' first → IsLesser hi hi' last → (relation : Rel)
+    → IsRelOf relation first last
     → (f l g h : Point) → AreEnds p f l → AreEnds q g h → HaveRelation relation f l g h
 along_told p q u v lo hi lo' hi' first last d cut cut' is_first is_last relation told =
     by_cuts p q u v u v lo hi lo' hi' d d cut cut' relation (go relation told)
@@ -73,13 +80,18 @@ along_told p q u v lo hi lo' hi' first last d cut cut' is_first is_last relation
       to_f = up_at u v d last hi' is_last.of_second;
     }
 
-    go : (relation : Rel) → IsRelOf relation first last → HaveRelation relation (at u v lo) (at u v hi) (at u v lo') (at u v hi')
-    go Apart h = apart (way u v d) (at u v lo) (at u v hi) (at u v lo') (at u v hi') (at u v first) (at u v last) spans (before_at u v d last first h)
+    go : (relation : Rel) → IsRelOf relation first last
+        → HaveRelation relation (at u v lo) (at u v hi) (at u v lo') (at u v hi')
+    go Apart h = apart (way u v d) (at u v lo) (at u v hi) (at u v lo') (at u v hi') (at u v first) (at u v last) spans
+        (before_at u v d last first h)
     go Touching h =
         touching (way u v d) (at u v lo) (at u v hi) (at u v lo') (at u v hi') (at u v first) (at u v last) spans
-        (level_of (way u v d) (at u v first) (at u v last) (up_at u v d first last (≤_of_≡ (first.num *ℤ last.den) (last.num *ℤ first.den) h)) (up_at u v d last first (≤_of_≡ (last.num *ℤ first.den) (first.num *ℤ last.den) (sym h))))
+        (level_of (way u v d) (at u v first) (at u v last)
+        (up_at u v d first last (≤_of_≡ (first.num *ℤ last.den) (last.num *ℤ first.den) h))
+        (up_at u v d last first (≤_of_≡ (last.num *ℤ first.den) (first.num *ℤ last.den) (sym h))))
     go Crossing h = absurd h
-    go Overlapping h = overlapping (way u v d) (at u v lo) (at u v hi) (at u v lo') (at u v hi') (at u v first) (at u v last) spans (before_at u v d first last h)
+    go Overlapping h = overlapping (way u v d) (at u v lo) (at u v hi) (at u v lo') (at u v hi') (at u v first)
+        (at u v last) spans (before_at u v d first last h)
 
 -- ---- on lines that meet in one point
 pub record AreMeeting (p q : Clip) (lo hi t lo' hi' t' : Frac) : Type 0 where
@@ -120,33 +132,49 @@ at_most_of : (m n : ℤ) → (m <ℤ n → ⊥) → n ≤ℤ m
 at_most_of m n h = grind (arith, ints)
 
 -- the point at t is between lo and hi exactly where t is
-in_span : (u v : Pt) (d : AreDifferent u v) (lo hi t : Frac) → (IsOutside t lo hi → ⊥) → IsMix (at u v t) (at u v lo ∷ at u v hi ∷ [])
+in_span : (u v : Pt) (d : AreDifferent u v) (lo hi t : Frac) → (IsOutside t lo hi → ⊥)
+    → IsMix (at u v t) (at u v lo ∷ at u v hi ∷ [])
 in_span u v d lo hi t inside =
     between_of (way u v d) (at u v lo) (at u v hi) (at u v t) (on_at u v d lo) (on_at u v d hi) (on_at u v d t)
-    (up_at u v d lo t (at_most_of (t.num *ℤ lo.den) (lo.num *ℤ t.den) (λ h. inside (inl h)))) (up_at u v d t hi (at_most_of (hi.num *ℤ t.den) (t.num *ℤ hi.den) (λ h. inside (inr h))))
+    (up_at u v d lo t (at_most_of (t.num *ℤ lo.den) (lo.num *ℤ t.den) (λ h. inside (inl h))))
+    (up_at u v d t hi (at_most_of (hi.num *ℤ t.den) (t.num *ℤ hi.den) (λ h. inside (inr h))))
 
-not_in_span : (u v : Pt) (d : AreDifferent u v) (lo hi t : Frac) → IsAtMost lo hi → IsOutside t lo hi → IsMix (at u v t) (at u v lo ∷ at u v hi ∷ []) → ⊥
-not_in_span u v d lo hi t order (inl h) m = not_below (t.num *ℤ lo.den) (lo.num *ℤ t.den) h (at_up u v d lo t (after_first (way u v d) (at u v lo) (at u v hi) (at u v t) (on_at u v d lo) (on_at u v d hi) (at-w u v t) (up_at u v d lo hi order) m))
-not_in_span u v d lo hi t order (inr h) m = not_below (hi.num *ℤ t.den) (t.num *ℤ hi.den) h (at_up u v d t hi (before_last (way u v d) (at u v lo) (at u v hi) (at u v t) (on_at u v d lo) (on_at u v d hi) (at-w u v t) (up_at u v d lo hi order) m))
+not_in_span : (u v : Pt) (d : AreDifferent u v) (lo hi t : Frac) → IsAtMost lo hi → IsOutside t lo hi
+    → IsMix (at u v t) (at u v lo ∷ at u v hi ∷ []) → ⊥
+not_in_span u v d lo hi t order (inl h) m =
+    not_below (t.num *ℤ lo.den) (lo.num *ℤ t.den) h
+    (at_up u v d lo t (after_first (way u v d) (at u v lo) (at u v hi) (at u v t) (on_at u v d lo) (on_at u v d hi)
+    (at-w u v t) (up_at u v d lo hi order) m))
+not_in_span u v d lo hi t order (inr h) m =
+    not_below (hi.num *ℤ t.den) (t.num *ℤ hi.den) h
+    (at_up u v d t hi (before_last (way u v d) (at u v lo) (at u v hi) (at u v t) (on_at u v d lo) (on_at u v d hi)
+    (at-w u v t) (up_at u v d lo hi order) m))
 
 same_at : (u v : Pt) (d : AreDifferent u v) (f g : Frac) → IsSameValue f g → Same (at u v f) (at u v g)
 same_at u v d f g e =
     level_same (way u v d) (at u v f) (at u v g) (on_at u v d f) (on_at u v d g)
-    (level_of (way u v d) (at u v f) (at u v g) (up_at u v d f g (≤_of_≡ (f.num *ℤ g.den) (g.num *ℤ f.den) e)) (up_at u v d g f (≤_of_≡ (g.num *ℤ f.den) (f.num *ℤ g.den) (sym e))))
+    (level_of (way u v d) (at u v f) (at u v g) (up_at u v d f g (≤_of_≡ (f.num *ℤ g.den) (g.num *ℤ f.den) e))
+    (up_at u v d g f (≤_of_≡ (g.num *ℤ f.den) (f.num *ℤ g.den) (sym e))))
 
 at_same : (u v : Pt) (d : AreDifferent u v) (f g : Frac) → Same (at u v f) (at u v g) → IsSameValue f g
 at_same u v d f g s =
     let l = same_level (way u v d) (at u v f) (at u v g) s in
-    ≤_antisymm (f.num *ℤ g.den) (g.num *ℤ f.den) (at_up u v d f g (level_up (way u v d) (at u v f) (at u v g) l)) (at_up u v d g f (level_down (way u v d) (at u v f) (at u v g) l))
+    ≤_antisymm (f.num *ℤ g.den) (g.num *ℤ f.den) (at_up u v d f g (level_up (way u v d) (at u v f) (at u v g) l))
+    (at_up u v d g f (level_down (way u v d) (at u v f) (at u v g) l))
 
 pub across_told : (p q : Clip) (lo hi t lo' hi' t' : Frac) → AreMeeting p q lo hi t lo' hi' t' →
-    ((IsOutside t lo hi ⊎ IsOutside t' lo' hi') → (f l g h : Point) → AreEnds p f l → AreEnds q g h → HaveRelation Apart f l g h)
-    × ((IsOutside t lo hi → ⊥) → (IsOutside t' lo' hi' → ⊥) → (IsEnd t lo hi ⊎ IsEnd t' lo' hi') → (f l g h : Point) → AreEnds p f l → AreEnds q g h → HaveRelation Touching f l g h)
-    × ((IsOutside t lo hi → ⊥) → (IsOutside t' lo' hi' → ⊥) → ((IsEnd t lo hi ⊎ IsEnd t' lo' hi') → ⊥) → (f l g h : Point) → AreEnds p f l → AreEnds q g h → HaveRelation Crossing f l g h)
+    ((IsOutside t lo hi ⊎ IsOutside t' lo' hi') → (f l g h : Point) → AreEnds p f l → AreEnds q g h
+    → HaveRelation Apart f l g h)
+    × ((IsOutside t lo hi → ⊥) → (IsOutside t' lo' hi' → ⊥) → (IsEnd t lo hi ⊎ IsEnd t' lo' hi') → (f l g h : Point)
+    → AreEnds p f l → AreEnds q g h → HaveRelation Touching f l g h)
+    × ((IsOutside t lo hi → ⊥) → (IsOutside t' lo' hi' → ⊥) → ((IsEnd t lo hi ⊎ IsEnd t' lo' hi') → ⊥)
+    → (f l g h : Point) → AreEnds p f l → AreEnds q g h → HaveRelation Crossing f l g h)
 across_told p q lo hi t lo' hi' t' m = (
   λ out. by_cuts p q p.a p.b q.a q.b lo hi lo' hi' d e m.cut_p m.cut_q Apart (none out),
-  λ in_p in_q end. by_cuts p q p.a p.b q.a q.b lo hi lo' hi' d e m.cut_p m.cut_q Touching (r, (common in_p in_q, only), is_end end),
-  λ in_p in_q no_end. by_cuts p q p.a p.b q.a q.b lo hi lo' hi' d e m.cut_p m.cut_q Crossing (r, (common in_p in_q, only), λ k. no_end (end_is k)),
+  λ in_p in_q end. by_cuts p q p.a p.b q.a q.b lo hi lo' hi' d e m.cut_p m.cut_q Touching
+      (r, (common in_p in_q, only), is_end end),
+  λ in_p in_q no_end. by_cuts p q p.a p.b q.a q.b lo hi lo' hi' d e m.cut_p m.cut_q Crossing
+      (r, (common in_p in_q, only), λ k. no_end (end_is k)),
 )
   where
     d : AreDifferent p.a p.b
@@ -159,69 +187,105 @@ across_told p q lo hi t lo' hi' t' m = (
     r = at p.a p.b t
 
     r_on : IsOnBoth p.a p.b q.a q.b (at p.a p.b t)
-    r_on = record { first = line_on p.a p.b d (at p.a p.b t) (on_at p.a p.b d t); second = m.meets_p; positive = at-w p.a p.b t }
+    r_on = record {
+      first = line_on p.a p.b d (at p.a p.b t) (on_at p.a p.b d t);
+      second = m.meets_p;
+      positive =
+          at-w p.a p.b t;
+    }
 
     s_on : IsOnBoth p.a p.b q.a q.b (at q.a q.b t')
-    s_on = record { first = m.meets_q; second = line_on q.a q.b e (at q.a q.b t') (on_at q.a q.b e t'); positive = at-w q.a q.b t' }
+    s_on = record {
+      first = m.meets_q;
+      second = line_on q.a q.b e (at q.a q.b t') (on_at q.a q.b e t');
+      positive =
+          at-w q.a q.b t';
+    }
 
     same : Same (at p.a p.b t) (at q.a q.b t')
     same = meet_once p.a p.b q.a q.b (at p.a p.b t) (at q.a q.b t') m.across r_on s_on
 
-    common_on : (x : Point) → IsCommonPoint (at p.a p.b lo) (at p.a p.b hi) (at q.a q.b lo') (at q.a q.b hi') x → IsOnBoth p.a p.b q.a q.b x
+    common_on : (x : Point) → IsCommonPoint (at p.a p.b lo) (at p.a p.b hi) (at q.a q.b lo') (at q.a q.b hi') x
+        → IsOnBoth p.a p.b q.a q.b x
     common_on x c = record {
-      first = between_line (whole p.a) (whole p.b) (at p.a p.b lo) (at p.a p.b hi) x (at-w p.a p.b lo) (at-w p.a p.b hi) (line_on p.a p.b d (at p.a p.b lo) (on_at p.a p.b d lo)) (line_on p.a p.b d (at p.a p.b hi) (on_at p.a p.b d hi)) c.first;
-      second = between_line (whole q.a) (whole q.b) (at q.a q.b lo') (at q.a q.b hi') x (at-w q.a q.b lo') (at-w q.a q.b hi') (line_on q.a q.b e (at q.a q.b lo') (on_at q.a q.b e lo')) (line_on q.a q.b e (at q.a q.b hi') (on_at q.a q.b e hi')) c.second;
+      first = between_line (whole p.a) (whole p.b) (at p.a p.b lo) (at p.a p.b hi) x (at-w p.a p.b lo) (at-w p.a p.b hi)
+          (line_on p.a p.b d (at p.a p.b lo) (on_at p.a p.b d lo))
+          (line_on p.a p.b d (at p.a p.b hi) (on_at p.a p.b d hi)) c.first;
+      second = between_line (whole q.a) (whole q.b) (at q.a q.b lo') (at q.a q.b hi') x (at-w q.a q.b lo')
+          (at-w q.a q.b hi') (line_on q.a q.b e (at q.a q.b lo') (on_at q.a q.b e lo'))
+          (line_on q.a q.b e (at q.a q.b hi') (on_at q.a q.b e hi')) c.second;
       positive = c.positive;
     }
 
-    only : (x : Point) → IsCommonPoint (at p.a p.b lo) (at p.a p.b hi) (at q.a q.b lo') (at q.a q.b hi') x → Same x (at p.a p.b t)
+    only : (x : Point) → IsCommonPoint (at p.a p.b lo) (at p.a p.b hi) (at q.a q.b lo') (at q.a q.b hi') x
+        → Same x (at p.a p.b t)
     only x c = meet_once p.a p.b q.a q.b x (at p.a p.b t) m.across (common_on x c) r_on
 
-    common : (IsOutside t lo hi → ⊥) → (IsOutside t' lo' hi' → ⊥) → IsCommonPoint (at p.a p.b lo) (at p.a p.b hi) (at q.a q.b lo') (at q.a q.b hi') (at p.a p.b t)
+    common : (IsOutside t lo hi → ⊥) → (IsOutside t' lo' hi' → ⊥)
+        → IsCommonPoint (at p.a p.b lo) (at p.a p.b hi) (at q.a q.b lo') (at q.a q.b hi') (at p.a p.b t)
     common in_p in_q = record {
       positive = at-w p.a p.b t;
       first = in_span p.a p.b d lo hi t in_p;
-      second = mix_moved (at q.a q.b t') (at p.a p.b t) (at q.a q.b lo' ∷ at q.a q.b hi' ∷ []) (at-w q.a q.b t') same (in_span q.a q.b e lo' hi' t' in_q);
+      second = mix_moved (at q.a q.b t') (at p.a p.b t) (at q.a q.b lo' ∷ at q.a q.b hi' ∷ []) (at-w q.a q.b t') same
+          (in_span q.a q.b e lo' hi' t' in_q);
     }
 
-    none : (IsOutside t lo hi ⊎ IsOutside t' lo' hi') → HaveRelation Apart (at p.a p.b lo) (at p.a p.b hi) (at q.a q.b lo') (at q.a q.b hi')
+    none : (IsOutside t lo hi ⊎ IsOutside t' lo' hi')
+        → HaveRelation Apart (at p.a p.b lo) (at p.a p.b hi) (at q.a q.b lo') (at q.a q.b hi')
     none (inl out) = λ x c.
         let o = m.cut_p in
-        not_in_span p.a p.b d lo hi t o.order out (mix_moved x (at p.a p.b t) (at p.a p.b lo ∷ at p.a p.b hi ∷ []) c.positive (same_sym x (at p.a p.b t) (only x c)) c.first)
+        not_in_span p.a p.b d lo hi t o.order out
+        (mix_moved x (at p.a p.b t) (at p.a p.b lo ∷ at p.a p.b hi ∷ []) c.positive
+        (same_sym x (at p.a p.b t) (only x c)) c.first)
     none (inr out) = λ x c.
         let o = m.cut_q in
-        not_in_span q.a q.b e lo' hi' t' o.order out (mix_moved x (at q.a q.b t') (at q.a q.b lo' ∷ at q.a q.b hi' ∷ []) c.positive (same_sym x (at q.a q.b t') (same_trans x (at p.a p.b t) (at q.a q.b t') (at-w p.a p.b t) (only x c) same)) c.second)
+        not_in_span q.a q.b e lo' hi' t' o.order out
+        (mix_moved x (at q.a q.b t') (at q.a q.b lo' ∷ at q.a q.b hi' ∷ []) c.positive
+        (same_sym x (at q.a q.b t') (same_trans x (at p.a p.b t) (at q.a q.b t') (at-w p.a p.b t) (only x c) same))
+        c.second)
 
-    is_end : (IsEnd t lo hi ⊎ IsEnd t' lo' hi') → IsAnEnd (at p.a p.b lo) (at p.a p.b hi) (at q.a q.b lo') (at q.a q.b hi') (at p.a p.b t)
+    is_end : (IsEnd t lo hi ⊎ IsEnd t' lo' hi')
+        → IsAnEnd (at p.a p.b lo) (at p.a p.b hi) (at q.a q.b lo') (at q.a q.b hi') (at p.a p.b t)
     is_end (inl (inl k)) = inl (same_at p.a p.b d t lo k)
     is_end (inl (inr k)) = inr (inl (same_at p.a p.b d t hi k))
-    is_end (inr (inl k)) = inr (inr (inl (same_trans (at p.a p.b t) (at q.a q.b t') (at q.a q.b lo') (at-w q.a q.b t') same (same_at q.a q.b e t' lo' k))))
-    is_end (inr (inr k)) = inr (inr (inr (same_trans (at p.a p.b t) (at q.a q.b t') (at q.a q.b hi') (at-w q.a q.b t') same (same_at q.a q.b e t' hi' k))))
+    is_end (inr (inl k)) = inr (inr (inl (same_trans (at p.a p.b t) (at q.a q.b t') (at q.a q.b lo') (at-w q.a q.b t')
+        same (same_at q.a q.b e t' lo' k))))
+    is_end (inr (inr k)) = inr (inr (inr (same_trans (at p.a p.b t) (at q.a q.b t') (at q.a q.b hi') (at-w q.a q.b t')
+        same (same_at q.a q.b e t' hi' k))))
 
-    end_is : IsAnEnd (at p.a p.b lo) (at p.a p.b hi) (at q.a q.b lo') (at q.a q.b hi') (at p.a p.b t) → (IsEnd t lo hi ⊎ IsEnd t' lo' hi')
+    end_is : IsAnEnd (at p.a p.b lo) (at p.a p.b hi) (at q.a q.b lo') (at q.a q.b hi') (at p.a p.b t)
+        → (IsEnd t lo hi ⊎ IsEnd t' lo' hi')
     end_is (inl k) = inl (inl (at_same p.a p.b d t lo k))
     end_is (inr (inl k)) = inl (inr (at_same p.a p.b d t hi k))
-    end_is (inr (inr (inl k))) = inr (inl (at_same q.a q.b e t' lo' (same_trans (at q.a q.b t') (at p.a p.b t) (at q.a q.b lo') (at-w p.a p.b t) (same_sym (at p.a p.b t) (at q.a q.b t') same) k)))
-    end_is (inr (inr (inr k))) = inr (inr (at_same q.a q.b e t' hi' (same_trans (at q.a q.b t') (at p.a p.b t) (at q.a q.b hi') (at-w p.a p.b t) (same_sym (at p.a p.b t) (at q.a q.b t') same) k)))
+    end_is (inr (inr (inl k))) = inr (inl (at_same q.a q.b e t' lo'
+        (same_trans (at q.a q.b t') (at p.a p.b t) (at q.a q.b lo') (at-w p.a p.b t)
+        (same_sym (at p.a p.b t) (at q.a q.b t') same) k)))
+    end_is (inr (inr (inr k))) = inr (inr (at_same q.a q.b e t' hi'
+        (same_trans (at q.a q.b t') (at p.a p.b t) (at q.a q.b hi') (at-w p.a p.b t)
+        (same_sym (at p.a p.b t) (at q.a q.b t') same) k)))
 
 -- ---- on parallel lines that are not the same
-between_both : (p q : Clip) (f l g h r : Point) → AreEnds p f l → AreEnds q g h → IsCommonPoint f l g h r → IsCommonPoint (whole p.a) (whole p.b) (whole q.a) (whole q.b) r
+between_both : (p q : Clip) (f l g h r : Point) → AreEnds p f l → AreEnds q g h → IsCommonPoint f l g h r
+    → IsCommonPoint (whole p.a) (whole p.b) (whole q.a) (whole q.b) r
 between_both p q f l g h r ends ends' c =
     let a = ends.forth r c.positive c.first in let b = ends'.forth r c.positive c.second in
     record { positive = c.positive; first = a.between; second = b.between }
 
-pub apart_told : (p q : Clip) → HaveRelation Apart (whole p.a) (whole p.b) (whole q.a) (whole q.b) → (f l g h : Point) → AreEnds p f l → AreEnds q g h → HaveRelation Apart f l g h
+pub apart_told : (p q : Clip) → HaveRelation Apart (whole p.a) (whole p.b) (whole q.a) (whole q.b) → (f l g h : Point)
+    → AreEnds p f l → AreEnds q g h → HaveRelation Apart f l g h
 apart_told p q none f l g h ends ends' = λ r c. none r (between_both p q f l g h r ends ends' c)
 
 -- ---- all at one point
-pub point_told : (p q : Clip) → p.a ≡ p.b → q.a ≡ q.b → p.a ≡ q.a → (f l g h : Point) → AreEnds p f l → AreEnds q g h → HaveRelation Touching f l g h
+pub point_told : (p q : Clip) → p.a ≡ p.b → q.a ≡ q.b → p.a ≡ q.a → (f l g h : Point) → AreEnds p f l → AreEnds q g h
+    → HaveRelation Touching f l g h
 point_told p q ep eq e f l g h ends ends' = (
   f,
   (
     record {
       positive = ends.first_positive;
       first = mix_first f l;
-      second = mix_moved g f (g ∷ h ∷ []) ends'.first_positive (same_trans f (whole p.a) g one f_same (same_sym g (whole p.a) g_same)) (mix_first g h);
+      second = mix_moved g f (g ∷ h ∷ []) ends'.first_positive
+          (same_trans f (whole p.a) g one f_same (same_sym g (whole p.a) g_same)) (mix_first g h);
     },
     λ r c.
         let a = ends.forth r c.positive c.first in
@@ -234,7 +298,8 @@ point_told p q ep eq e f l g h ends ends' = (
     f_same = let a = ends.forth f ends.first_positive (mix_first f l) in one_point p.a p.b f ep a.between
 
     g_same : Same g (whole p.a)
-    g_same = let a = ends'.forth g ends'.first_positive (mix_first g h) in subst (λ (x : Pt). Same g (whole x)) (sym e) (one_point q.a q.b g eq a.between)
+    g_same = let a = ends'.forth g ends'.first_positive (mix_first g h) in subst (λ (x : Pt). Same g (whole x)) (sym e)
+        (one_point q.a q.b g eq a.between)
 
 pub no_either : {A B : Type 0} → (A → ⊥) → (B → ⊥) → A ⊎ B → ⊥
 no_either f g (inl a) = f a

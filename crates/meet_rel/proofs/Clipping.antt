@@ -18,14 +18,23 @@ use Rattle.meet_rel.proofs.Scale.{mix_first}
 use Rattle.meet_rel.proofs.Ending.{IsClipOf, piece_ends, has_ends}
 
 -- each corner is in the triangle
-first_z : (x y z : ℤ) → x *ℤ (pos 1 *ℤ pos 1 +ℤ (pos 0 *ℤ pos 1 +ℤ (pos 0 *ℤ pos 1 +ℤ pos 0))) ≡ (pos 1 *ℤ x +ℤ (pos 0 *ℤ y +ℤ (pos 0 *ℤ z +ℤ pos 0))) *ℤ pos 1
-first_z = solve 3 (λ x y z. x ⊗ (num (pos 1) ⊗ num (pos 1) ⊕ (num (pos 0) ⊗ num (pos 1) ⊕ (num (pos 0) ⊗ num (pos 1) ⊕ num (pos 0)))) ≐ (num (pos 1) ⊗ x ⊕ (num (pos 0) ⊗ y ⊕ (num (pos 0) ⊗ z ⊕ num (pos 0)))) ⊗ num (pos 1)) tt
+first_z : (x y z : ℤ) → x *ℤ (pos 1 *ℤ pos 1 +ℤ (pos 0 *ℤ pos 1 +ℤ (pos 0 *ℤ pos 1 +ℤ pos 0)))
+    ≡ (pos 1 *ℤ x +ℤ (pos 0 *ℤ y +ℤ (pos 0 *ℤ z +ℤ pos 0))) *ℤ pos 1
+first_z = solve 3 (λ x y z. x ⊗ (num (pos 1) ⊗ num (pos 1)
+    ⊕ (num (pos 0) ⊗ num (pos 1) ⊕ (num (pos 0) ⊗ num (pos 1) ⊕ num (pos 0))))
+    ≐ (num (pos 1) ⊗ x ⊕ (num (pos 0) ⊗ y ⊕ (num (pos 0) ⊗ z ⊕ num (pos 0)))) ⊗ num (pos 1)) tt
 
-second_z : (x y z : ℤ) → y *ℤ (pos 0 *ℤ pos 1 +ℤ (pos 1 *ℤ pos 1 +ℤ (pos 0 *ℤ pos 1 +ℤ pos 0))) ≡ (pos 0 *ℤ x +ℤ (pos 1 *ℤ y +ℤ (pos 0 *ℤ z +ℤ pos 0))) *ℤ pos 1
-second_z = solve 3 (λ x y z. y ⊗ (num (pos 0) ⊗ num (pos 1) ⊕ (num (pos 1) ⊗ num (pos 1) ⊕ (num (pos 0) ⊗ num (pos 1) ⊕ num (pos 0)))) ≐ (num (pos 0) ⊗ x ⊕ (num (pos 1) ⊗ y ⊕ (num (pos 0) ⊗ z ⊕ num (pos 0)))) ⊗ num (pos 1)) tt
+second_z : (x y z : ℤ) → y *ℤ (pos 0 *ℤ pos 1 +ℤ (pos 1 *ℤ pos 1 +ℤ (pos 0 *ℤ pos 1 +ℤ pos 0)))
+    ≡ (pos 0 *ℤ x +ℤ (pos 1 *ℤ y +ℤ (pos 0 *ℤ z +ℤ pos 0))) *ℤ pos 1
+second_z = solve 3 (λ x y z. y ⊗ (num (pos 0) ⊗ num (pos 1)
+    ⊕ (num (pos 1) ⊗ num (pos 1) ⊕ (num (pos 0) ⊗ num (pos 1) ⊕ num (pos 0))))
+    ≐ (num (pos 0) ⊗ x ⊕ (num (pos 1) ⊗ y ⊕ (num (pos 0) ⊗ z ⊕ num (pos 0)))) ⊗ num (pos 1)) tt
 
-third_z : (x y z : ℤ) → z *ℤ (pos 0 *ℤ pos 1 +ℤ (pos 0 *ℤ pos 1 +ℤ (pos 1 *ℤ pos 1 +ℤ pos 0))) ≡ (pos 0 *ℤ x +ℤ (pos 0 *ℤ y +ℤ (pos 1 *ℤ z +ℤ pos 0))) *ℤ pos 1
-third_z = solve 3 (λ x y z. z ⊗ (num (pos 0) ⊗ num (pos 1) ⊕ (num (pos 0) ⊗ num (pos 1) ⊕ (num (pos 1) ⊗ num (pos 1) ⊕ num (pos 0)))) ≐ (num (pos 0) ⊗ x ⊕ (num (pos 0) ⊗ y ⊕ (num (pos 1) ⊗ z ⊕ num (pos 0)))) ⊗ num (pos 1)) tt
+third_z : (x y z : ℤ) → z *ℤ (pos 0 *ℤ pos 1 +ℤ (pos 0 *ℤ pos 1 +ℤ (pos 1 *ℤ pos 1 +ℤ pos 0)))
+    ≡ (pos 0 *ℤ x +ℤ (pos 0 *ℤ y +ℤ (pos 1 *ℤ z +ℤ pos 0))) *ℤ pos 1
+third_z = solve 3 (λ x y z. z ⊗ (num (pos 0) ⊗ num (pos 1)
+    ⊕ (num (pos 0) ⊗ num (pos 1) ⊕ (num (pos 1) ⊗ num (pos 1) ⊕ num (pos 0))))
+    ≐ (num (pos 0) ⊗ x ⊕ (num (pos 0) ⊗ y ⊕ (num (pos 1) ⊗ z ⊕ num (pos 0)))) ⊗ num (pos 1)) tt
 
 at_a : (t : Tri) → IsMix (whole t.a) (corners t)
 at_a t = (1 ∷ 0 ∷ 0 ∷ [], refl, omega arith, (first_z t.a.x t.b.x t.c.x, first_z t.a.y t.b.y t.c.y))
@@ -40,19 +49,30 @@ pub range_of : (tin : Triangulation) (piece : Piece) → IsPieceInside tin piece
 range_of tin piece h = let k = h.is_piece in let e = has_ends tin piece k.0 k.1 in e.in_range
 
 -- a whole point inside is near the corners of any triangle
-near_tri : (tin : Triangulation) (piece : Piece) (clip : Clip) (p : Pt) → IsWithinLimits tin → IsPieceInside tin piece → IsClipOf tin piece clip → IsInSome tin Source (whole p) → IsNearTri clip.tri p
-near_tri tin piece clip p limits h is in_p = (near clip.tri.a (at_a clip.tri), near clip.tri.b (at_b clip.tri), near clip.tri.c (at_c clip.tri))
+near_tri : (tin : Triangulation) (piece : Piece) (clip : Clip) (p : Pt) → IsWithinLimits tin → IsPieceInside tin piece
+    → IsClipOf tin piece clip → IsInSome tin Source (whole p) → IsNearTri clip.tri p
+near_tri tin piece clip p limits h is in_p =
+    (near clip.tri.a (at_a clip.tri), near clip.tri.b (at_b clip.tri), near clip.tri.c (at_c clip.tri))
   where
     near : (q : Pt) → IsMix (whole q) (corners clip.tri) → IsNear q p
-    near q m = near_inside tin q p limits (piece.tri, range_of tin piece h, subst (λ (ps : List Point). IsMix (whole q) ps) is.tri_is m) in_p
+    near q m = near_inside tin q p limits (
+      piece.tri,
+      range_of tin piece h,
+      subst
+          (λ (ps : List Point). IsMix (whole q) ps) is.tri_is m,
+    ) in_p
 
-in_a : (tin : Triangulation) (piece : Piece) (clip : Clip) → IsPieceInside tin piece → IsClipOf tin piece clip → IsInSome tin Source (whole clip.a)
+in_a : (tin : Triangulation) (piece : Piece) (clip : Clip) → IsPieceInside tin piece → IsClipOf tin piece clip
+    → IsInSome tin Source (whole clip.a)
 in_a tin piece clip h is = subst (λ (p : Pt). IsInSome tin Source (whole p)) (sym is.a_is) h.begins
 
-in_b : (tin : Triangulation) (piece : Piece) (clip : Clip) → IsPieceInside tin piece → IsClipOf tin piece clip → IsInSome tin Source (whole clip.b)
+in_b : (tin : Triangulation) (piece : Piece) (clip : Clip) → IsPieceInside tin piece → IsClipOf tin piece clip
+    → IsInSome tin Source (whole clip.b)
 in_b tin piece clip h is = subst (λ (p : Pt). IsInSome tin Source (whole p)) (sym is.b_is) h.ends
 
-pub proper_of : (tin : Triangulation) (piece : Piece) (clip : Clip) → IsWithinLimits tin → IsPieceInside tin piece → IsClipOf tin piece clip → IsNearAll clip.tri.a clip.tri.b clip.tri.c → pos 0 <ℤ turn_of (whole clip.tri.a) (whole clip.tri.b) (whole clip.tri.c) → IsProper clip
+pub proper_of : (tin : Triangulation) (piece : Piece) (clip : Clip) → IsWithinLimits tin → IsPieceInside tin piece
+    → IsClipOf tin piece clip → IsNearAll clip.tri.a clip.tri.b clip.tri.c
+    → pos 0 <ℤ turn_of (whole clip.tri.a) (whole clip.tri.b) (whole clip.tri.c) → IsProper clip
 proper_of tin piece clip limits h is near positive =
     let k = h.is_piece in
     let ends = piece_ends tin piece clip k.0 is k.1 in
@@ -69,12 +89,19 @@ proper_of tin piece clip limits h is near positive =
       has_point = ends.forth f ends.first_positive (mix_first f (last_point piece k.0));
     }
 
-pub close_of : (tin : Triangulation) (p q : Piece) (c d : Clip) → IsWithinLimits tin → IsPieceInside tin p → IsPieceInside tin q → IsClipOf tin p c → IsClipOf tin q d → AreClose c d
+pub close_of : (tin : Triangulation) (p q : Piece) (c d : Clip) → IsWithinLimits tin → IsPieceInside tin p
+    → IsPieceInside tin q → IsClipOf tin p c → IsClipOf tin q d → AreClose c d
 close_of tin p q c d limits hp hq ic id =
-    let ca = in_a tin p c hp ic in let cb = in_b tin p c hp ic in let da = in_a tin q d hq id in let db = in_b tin q d hq id in
-    let near = λ (x y : Pt). λ (hx : IsInSome tin Source (whole x)). λ (hy : IsInSome tin Source (whole y)). near_inside tin x y limits hx hy in
+    let ca = in_a tin p c hp ic in let cb = in_b tin p c hp ic in let da = in_a tin q d hq id in let db =
+    in_b tin q d hq id in
+    let near = λ (x y : Pt). λ (hx : IsInSome tin Source (whole x)). λ (hy : IsInSome tin Source (whole y)). near_inside
+    tin x y limits hx hy in
     record {
-      ends = ((near c.a c.b ca cb, near c.a d.a ca da, near c.b d.a cb da), (near c.a c.b ca cb, near c.a d.b ca db, near c.b d.b cb db), near d.a d.b da db);
+      ends = (
+        (near c.a c.b ca cb, near c.a d.a ca da, near c.b d.a cb da),
+        (near c.a c.b ca cb, near c.a d.b ca db, near c.b d.b cb db),
+        near d.a d.b da db,
+      );
       p_c = near_tri tin p c d.a limits hp ic da;
       p_d = near_tri tin p c d.b limits hp ic db;
       q_a = near_tri tin q d c.a limits hq id ca;

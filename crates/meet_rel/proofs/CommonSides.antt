@@ -1,5 +1,7 @@
--- Two triangles on different sides of a common side have of a segment parts that touch where the segment meets the side.
-use Rattle.std.proofs.Common.{◌≡◌, ◌⊎◌, inl, inr, ℕ, ◌+◌, ◌<◌, ℤ, pos, neg_ℤ, ◌+ℤ◌, ◌*ℤ◌, ◌≤ℤ◌, ◌<ℤ◌, [], ◌∷◌, refl, sym, subst, ◌∙◌, arith}
+-- Two triangles on different sides of a common side have of a segment parts that touch where the segment meets the
+-- side.
+use Rattle.std.proofs.Common.{◌≡◌, ◌⊎◌, inl, inr, ℕ, ◌+◌, ◌<◌, ℤ, pos, neg_ℤ, ◌+ℤ◌, ◌*ℤ◌, ◌≤ℤ◌, ◌<ℤ◌, [], ◌∷◌, refl}
+use Rattle.std.proofs.Common.{sym, subst, ◌∙◌, arith}
 use Rattle.std.proofs.lemmas.Int.{ints}
 use lib.Signed.{lt_z_yes}
 use Rattle.integer_ring.proofs.Ring.{num, ◌⊕◌, ◌⊗◌}
@@ -39,7 +41,9 @@ first_in a b c r m =
       i.k ∷ i.l ∷ 0 ∷ [],
       refl,
       (let h : 0 < i.k + i.l = i.some in omega arith),
-      same_moved r (mixed i.k i.l a b) (weighed (i.k ∷ i.l ∷ 0 ∷ []) (a ∷ b ∷ c ∷ [])) (no_third (pos i.k) (pos i.l) a.x b.x c.x) (no_third (pos i.k) (pos i.l) a.y b.y c.y) (no_third (pos i.k) (pos i.l) a.w b.w c.w) i.same,
+      same_moved r (mixed i.k i.l a b) (weighed (i.k ∷ i.l ∷ 0 ∷ []) (a ∷ b ∷ c ∷ []))
+          (no_third (pos i.k) (pos i.l) a.x b.x c.x) (no_third (pos i.k) (pos i.l) a.y b.y c.y)
+          (no_third (pos i.k) (pos i.l) a.w b.w c.w) i.same,
     )
 
 second_in : (a b c r : Point) → IsMix r (b ∷ c ∷ []) → IsMix r (a ∷ b ∷ c ∷ [])
@@ -48,7 +52,9 @@ second_in a b c r m =
       0 ∷ i.k ∷ i.l ∷ [],
       refl,
       (let h : 0 < i.k + i.l = i.some in omega arith),
-      same_moved r (mixed i.k i.l b c) (weighed (0 ∷ i.k ∷ i.l ∷ []) (a ∷ b ∷ c ∷ [])) (no_first (pos i.k) (pos i.l) a.x b.x c.x) (no_first (pos i.k) (pos i.l) a.y b.y c.y) (no_first (pos i.k) (pos i.l) a.w b.w c.w) i.same,
+      same_moved r (mixed i.k i.l b c) (weighed (0 ∷ i.k ∷ i.l ∷ []) (a ∷ b ∷ c ∷ []))
+          (no_first (pos i.k) (pos i.l) a.x b.x c.x) (no_first (pos i.k) (pos i.l) a.y b.y c.y)
+          (no_first (pos i.k) (pos i.l) a.w b.w c.w) i.same,
     )
 
 third_in : (a b c r : Point) → IsMix r (c ∷ a ∷ []) → IsMix r (a ∷ b ∷ c ∷ [])
@@ -57,24 +63,36 @@ third_in a b c r m =
       i.l ∷ 0 ∷ i.k ∷ [],
       refl,
       (let h : 0 < i.k + i.l = i.some in omega arith),
-      same_moved r (mixed i.k i.l c a) (weighed (i.l ∷ 0 ∷ i.k ∷ []) (a ∷ b ∷ c ∷ [])) (no_second (pos i.k) (pos i.l) a.x b.x c.x) (no_second (pos i.k) (pos i.l) a.y b.y c.y) (no_second (pos i.k) (pos i.l) a.w b.w c.w) i.same,
+      same_moved r (mixed i.k i.l c a) (weighed (i.l ∷ 0 ∷ i.k ∷ []) (a ∷ b ∷ c ∷ []))
+          (no_second (pos i.k) (pos i.l) a.x b.x c.x) (no_second (pos i.k) (pos i.l) a.y b.y c.y)
+          (no_second (pos i.k) (pos i.l) a.w b.w c.w) i.same,
     )
 
 -- ---- a side, and the corner on its left
 record IsPlaced (t : Tri) (c d : Pt) : Type 0 where
   e : Pt
   positive : pos 0 <ℤ turn_of (whole c) (whole d) (whole e)
-  turns : (r : Point) → pos 0 <ℤ r.w → IsMix r (corners t) → (pos 0 ≤ℤ turn_of (whole c) (whole d) r) × (pos 0 ≤ℤ turn_of (whole d) (whole e) r) × (pos 0 ≤ℤ turn_of (whole e) (whole c) r)
+  turns : (r : Point) → pos 0 <ℤ r.w → IsMix r (corners t)
+      → (pos 0 ≤ℤ turn_of (whole c) (whole d) r) × (pos 0 ≤ℤ turn_of (whole d) (whole e) r)
+      × (pos 0 ≤ℤ turn_of (whole e) (whole c) r)
   back : (r : Point) → IsMix r (whole c ∷ whole d ∷ []) → IsMix r (corners t)
 
 placed : (t : Tri) (c d : Pt) → pos 0 <ℤ turn_of (whole t.a) (whole t.b) (whole t.c) → IsSideFrom t c d → IsPlaced t c d
 placed t c d h side = go side
   where
-    turns_at : (r : Point) → pos 0 <ℤ r.w → IsMix r (corners t) → (pos 0 ≤ℤ turn_of (whole t.a) (whole t.b) r) × (pos 0 ≤ℤ turn_of (whole t.b) (whole t.c) r) × (pos 0 ≤ℤ turn_of (whole t.c) (whole t.a) r)
+    turns_at : (r : Point) → pos 0 <ℤ r.w → IsMix r (corners t)
+        → (pos 0 ≤ℤ turn_of (whole t.a) (whole t.b) r) × (pos 0 ≤ℤ turn_of (whole t.b) (whole t.c) r)
+        × (pos 0 ≤ℤ turn_of (whole t.c) (whole t.a) r)
     turns_at r hr m = turns_of_mix (whole t.a) (whole t.b) (whole t.c) r one one one hr h m
 
     first : IsPlaced t t.a t.b
-    first = record { e = t.c; positive = h; turns = turns_at; back = λ r m. first_in (whole t.a) (whole t.b) (whole t.c) r m }
+    first = record {
+      e = t.c;
+      positive = h;
+      turns = turns_at;
+      back =
+          λ r m. first_in (whole t.a) (whole t.b) (whole t.c) r m;
+    }
 
     second : IsPlaced t t.b t.c
     second = record {
@@ -87,7 +105,8 @@ placed t c d h side = go side
     third : IsPlaced t t.c t.a
     third = record {
       e = t.b;
-      positive = subst (λ (z : ℤ). pos 0 <ℤ z) (turn_cycle (whole t.a) (whole t.b) (whole t.c) ∙ turn_cycle (whole t.b) (whole t.c) (whole t.a)) h;
+      positive = subst (λ (z : ℤ). pos 0 <ℤ z)
+          (turn_cycle (whole t.a) (whole t.b) (whole t.c) ∙ turn_cycle (whole t.b) (whole t.c) (whole t.a)) h;
       turns = λ r hr m. let k = turns_at r hr m in (k.2, k.0, k.1);
       back = λ r m. third_in (whole t.a) (whole t.b) (whole t.c) r m;
     }
@@ -101,33 +120,47 @@ placed t c d h side = go side
     go (inr (inr s)) = moved t.c t.a s.0 s.1 third
 
 -- a point of the triangle that is on the line of the side is one of the side
-on_side : (t : Tri) (c d : Pt) (r : Point) → IsPlaced t c d → pos 0 <ℤ r.w → IsMix r (corners t) → turn_of (whole c) (whole d) r ≡ pos 0 → IsMix r (whole c ∷ whole d ∷ [])
-on_side t c d r p hr m z = let k = p.turns r hr m in mix_of_side (whole c) (whole d) (whole p.e) r one one hr p.positive z k.1 k.2
+on_side : (t : Tri) (c d : Pt) (r : Point) → IsPlaced t c d → pos 0 <ℤ r.w → IsMix r (corners t)
+    → turn_of (whole c) (whole d) r ≡ pos 0 → IsMix r (whole c ∷ whole d ∷ [])
+on_side t c d r p hr m z = let k = p.turns r hr m in mix_of_side (whole c) (whole d) (whole p.e) r one one hr p.positive
+    z k.1 k.2
 
 -- ---- of two weights of a sum of 0
-ends_zero : (k l u v : ℤ) → pos 0 ≤ℤ k → pos 0 ≤ℤ l → pos 0 ≤ℤ u → pos 0 ≤ℤ v → k *ℤ u +ℤ l *ℤ v ≡ pos 0 → (k *ℤ u ≡ pos 0) × (l *ℤ v ≡ pos 0)
-ends_zero k l u v hk hl hu hv e = (≤_antisymm (k *ℤ u) (pos 0) (low k l u v hl hv e) (up k u hk hu), ≤_antisymm (l *ℤ v) (pos 0) (low' k l u v hk hu e) (up l v hl hv))
+ends_zero : (k l u v : ℤ) → pos 0 ≤ℤ k → pos 0 ≤ℤ l → pos 0 ≤ℤ u → pos 0 ≤ℤ v → k *ℤ u +ℤ l *ℤ v ≡ pos 0
+    → (k *ℤ u ≡ pos 0) × (l *ℤ v ≡ pos 0)
+ends_zero k l u v hk hl hu hv e = (
+  ≤_antisymm (k *ℤ u) (pos 0) (low k l u v hl hv e) (up k u hk hu),
+  ≤_antisymm (l *ℤ v)
+      (pos 0) (low' k l u v hk hu e) (up l v hl hv),
+)
   where
     up : (k u : ℤ) → pos 0 ≤ℤ k → pos 0 ≤ℤ u → pos 0 ≤ℤ (k *ℤ u)
     up = follows 2 (λ k u. num (pos 0) ≼ k ⇒ num (pos 0) ≼ u ⇒ num (pos 0) ≼ k ⊗ u because gap 0 ⊠ gap 1) tt
 
     low : (k l u v : ℤ) → pos 0 ≤ℤ l → pos 0 ≤ℤ v → k *ℤ u +ℤ l *ℤ v ≡ pos 0 → (k *ℤ u) ≤ℤ pos 0
-    low = follows 4 (λ k l u v. num (pos 0) ≼ l ⇒ num (pos 0) ≼ v ⇒ k ⊗ u ⊕ l ⊗ v ≐ num (pos 0) ⇒ k ⊗ u ≼ num (pos 0) because gap 0 ⊠ gap 1 ⊞ gap 2) tt
+    low = follows 4 (λ k l u v. num (pos 0) ≼ l ⇒ num (pos 0) ≼ v ⇒ k ⊗ u ⊕ l ⊗ v ≐ num (pos 0) ⇒ k
+        ⊗ u ≼ num (pos 0) because gap 0 ⊠ gap 1 ⊞ gap 2) tt
 
     low' : (k l u v : ℤ) → pos 0 ≤ℤ k → pos 0 ≤ℤ u → k *ℤ u +ℤ l *ℤ v ≡ pos 0 → (l *ℤ v) ≤ℤ pos 0
-    low' = follows 4 (λ k l u v. num (pos 0) ≼ k ⇒ num (pos 0) ≼ u ⇒ k ⊗ u ⊕ l ⊗ v ≐ num (pos 0) ⇒ l ⊗ v ≼ num (pos 0) because gap 0 ⊠ gap 1 ⊞ gap 2) tt
+    low' = follows 4 (λ k l u v. num (pos 0) ≼ k ⇒ num (pos 0) ≼ u ⇒ k ⊗ u ⊕ l ⊗ v ≐ num (pos 0) ⇒ l
+        ⊗ v ≼ num (pos 0) because gap 0 ⊠ gap 1 ⊞ gap 2) tt
 
 -- ---- the parts touch
 record HaveOnePoint (a b c d : Pt) : Type 0 where
   x : Point
   only : IsOnlyCommonPoint (whole a) (whole b) (whole c) (whole d) x
 
-one_point : (a b c d : Pt) (relation : Rel) → (relation ≡ Touching) ⊎ (relation ≡ Crossing) → HaveRelation relation (whole a) (whole b) (whole c) (whole d) → HaveOnePoint a b c d
-one_point a b c d relation (inl e) have = let h = subst (λ (r : Rel). HaveRelation r (whole a) (whole b) (whole c) (whole d)) e have in record { x = h.0; only = h.1 }
-one_point a b c d relation (inr e) have = let h = subst (λ (r : Rel). HaveRelation r (whole a) (whole b) (whole c) (whole d)) e have in record { x = h.0; only = h.1 }
+one_point : (a b c d : Pt) (relation : Rel) → (relation ≡ Touching) ⊎ (relation ≡ Crossing)
+    → HaveRelation relation (whole a) (whole b) (whole c) (whole d) → HaveOnePoint a b c d
+one_point a b c d relation (inl e) have = let h =
+    subst (λ (r : Rel). HaveRelation r (whole a) (whole b) (whole c) (whole d)) e have in record { x = h.0; only = h.1 }
+one_point a b c d relation (inr e) have = let h =
+    subst (λ (r : Rel). HaveRelation r (whole a) (whole b) (whole c) (whole d)) e have in record { x = h.0; only = h.1 }
 
-touch : (p q : Clip) (c d : Pt) → IsPlaced p.tri c d → IsPlaced q.tri d c → p.a ≡ q.a → p.b ≡ q.b → HaveOnePoint p.a p.b c d → (f l g h : Point) → AreEnds p f l → AreEnds q g h → HaveRelation Touching f l g h
-touch p q c d s t ea eb o f l g h ends ends' = (x, (record { positive = hx; first = on_p; second = ends'.back x hx of_q }, each), end)
+touch : (p q : Clip) (c d : Pt) → IsPlaced p.tri c d → IsPlaced q.tri d c → p.a ≡ q.a → p.b ≡ q.b
+    → HaveOnePoint p.a p.b c d → (f l g h : Point) → AreEnds p f l → AreEnds q g h → HaveRelation Touching f l g h
+touch p q c d s t ea eb o f l g h ends ends' =
+    (x, (record { positive = hx; first = on_p; second = ends'.back x hx of_q }, each), end)
   where
     x : Point
     x = o.x
@@ -143,7 +176,8 @@ touch p q c d s t ea eb o f l g h ends ends' = (x, (record { positive = hx; firs
 
     of_q : IsOf q x
     of_q = record {
-      between = subst (λ (b : Pt). IsMix x (whole q.a ∷ whole b ∷ [])) eb (subst (λ (a : Pt). IsMix x (whole a ∷ whole p.b ∷ [])) ea both.first);
+      between = subst (λ (b : Pt). IsMix x (whole q.a ∷ whole b ∷ [])) eb
+          (subst (λ (a : Pt). IsMix x (whole a ∷ whole p.b ∷ [])) ea both.first);
       inside = t.back x (mix_swapped x (whole c) (whole d) both.second);
     }
 
@@ -152,7 +186,12 @@ touch p q c d s t ea eb o f l g h ends ends' = (x, (record { positive = hx; firs
 
     -- a point of the first part on the line of the side is the point
     here : (r : Point) → pos 0 <ℤ r.w → IsOf p r → turn_of (whole c) (whole d) r ≡ pos 0 → Same r x
-    here r hr of z = o.only.1 r (record { positive = hr; first = of.between; second = on_side p.tri c d r s hr of.inside z })
+    here r hr of z = o.only.1 r (record {
+      positive = hr;
+      first = of.between;
+      second =
+          on_side p.tri c d r s hr of.inside z;
+    })
 
     level : (u v : ℤ) → u ≡ neg_ℤ v → pos 0 ≤ℤ u → pos 0 ≤ℤ v → u ≡ pos 0
     level u v e hu hv = omega (arith, ints)
@@ -160,7 +199,8 @@ touch p q c d s t ea eb o f l g h ends ends' = (x, (record { positive = hx; firs
     each : (r : Point) → IsCommonPoint f l g h r → Same r x
     each r k =
         let hr = k.positive in let first = ends.forth r hr k.first in let second = ends'.forth r hr k.second in
-        here r hr first (level (turn_of (whole c) (whole d) r) (turn_of (whole d) (whole c) r) (turn_swap (whole c) (whole d) r) (s.turns r hr first.inside).0 (t.turns r hr second.inside).0)
+        here r hr first (level (turn_of (whole c) (whole d) r) (turn_of (whole d) (whole c) r)
+        (turn_swap (whole c) (whole d) r) (s.turns r hr first.inside).0 (t.turns r hr second.inside).0)
 
     first_of : IsOf p f
     first_of = ends.forth f ends.first_positive (mix_first f l)
@@ -172,27 +212,34 @@ touch p q c d s t ea eb o f l g h ends ends' = (x, (record { positive = hx; firs
     i = between_weights f l x on_p
 
     zero_x : turn_of (whole c) (whole d) x ≡ pos 0
-    zero_x = level (turn_of (whole c) (whole d) x) (turn_of (whole d) (whole c) x) (turn_swap (whole c) (whole d) x) (s.turns x hx of_p.inside).0 (t.turns x hx of_q.inside).0
+    zero_x = level (turn_of (whole c) (whole d) x) (turn_of (whole d) (whole c) x) (turn_swap (whole c) (whole d) x)
+        (s.turns x hx of_p.inside).0 (t.turns x hx of_q.inside).0
 
     zeros : (pos i.k *ℤ turn_of (whole c) (whole d) f ≡ pos 0) × (pos i.l *ℤ turn_of (whole c) (whole d) l ≡ pos 0)
     zeros =
-        ends_zero (pos i.k) (pos i.l) (turn_of (whole c) (whole d) f) (turn_of (whole c) (whole d) l) (nonneg_pos i.k) (nonneg_pos i.l)
+        ends_zero (pos i.k) (pos i.l) (turn_of (whole c) (whole d) f) (turn_of (whole c) (whole d) l) (nonneg_pos i.k)
+        (nonneg_pos i.l)
         (s.turns f ends.first_positive first_of.inside).0 (s.turns l ends.last_positive last_of.inside).0
-        (sym (turn_between (whole c) (whole d) f l i.k i.l) ∙ line_moved (whole c) (whole d) (mixed i.k i.l f l) x hx (same_sym x (mixed i.k i.l f l) i.same) zero_x)
+        (sym (turn_between (whole c) (whole d) f l i.k i.l)
+        ∙ line_moved (whole c) (whole d) (mixed i.k i.l f l) x hx (same_sym x (mixed i.k i.l f l) i.same) zero_x)
 
     no_weight : (k l : ℕ) → 0 < k + l → pos k ≡ pos 0 → pos l ≡ pos 0 → ⊥
     no_weight k l some e e' = absurd (omega (arith, ints))
 
     end : IsAnEnd f l g h x
-    end = by (zero_cases (pos i.k) (turn_of (whole c) (whole d) f) zeros.0) (zero_cases (pos i.l) (turn_of (whole c) (whole d) l) zeros.1)
+    end = by (zero_cases (pos i.k) (turn_of (whole c) (whole d) f) zeros.0)
+        (zero_cases (pos i.l) (turn_of (whole c) (whole d) l) zeros.1)
       where
-        by : (pos i.k ≡ pos 0) ⊎ (turn_of (whole c) (whole d) f ≡ pos 0) → (pos i.l ≡ pos 0) ⊎ (turn_of (whole c) (whole d) l ≡ pos 0) → IsAnEnd f l g h x
+        by : (pos i.k ≡ pos 0) ⊎ (turn_of (whole c) (whole d) f ≡ pos 0)
+            → (pos i.l ≡ pos 0) ⊎ (turn_of (whole c) (whole d) l ≡ pos 0) → IsAnEnd f l g h x
         by (inr z) k = inl (same_sym f x (here f ends.first_positive first_of z))
         by (inl e) (inr z) = inr (inl (same_sym l x (here l ends.last_positive last_of z)))
         by (inl e) (inl e') = absurd (no_weight i.k i.l i.some e e')
 
-pub touch_by : (p q : Clip) (c d : Pt) (relation : Rel) → IsProper p → IsProper q → p.a ≡ q.a → p.b ≡ q.b → IsSideFrom p.tri c d → IsSideFrom q.tri d c
+pub touch_by : (p q : Clip) (c d : Pt) (relation : Rel) → IsProper p → IsProper q → p.a ≡ q.a → p.b ≡ q.b
+    → IsSideFrom p.tri c d → IsSideFrom q.tri d c
     → HaveRelation relation (whole p.a) (whole p.b) (whole c) (whole d) → (relation ≡ Touching) ⊎ (relation ≡ Crossing)
     → (f l g h : Point) → AreEnds p f l → AreEnds q g h → HaveRelation Touching f l g h
 touch_by p q c d relation hp hq ea eb side side' have is =
-    touch p q c d (placed p.tri c d hp.positive side) (placed q.tri d c hq.positive side') ea eb (one_point p.a p.b c d relation is have)
+    touch p q c d (placed p.tri c d hp.positive side) (placed q.tri d c hq.positive side') ea eb
+    (one_point p.a p.b c d relation is have)

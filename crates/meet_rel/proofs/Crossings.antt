@@ -1,5 +1,6 @@
 -- Two lines that are not parallel meet in one point, and two segments of them in that point or nowhere.
-use Rattle.std.proofs.Common.{◌≡◌, ◌≢◌, ◌⊎◌, inl, inr, ℕ, ◌+◌, ◌<◌, ℤ, pos, neg_ℤ, ◌+ℤ◌, ◌-ℤ◌, ◌*ℤ◌, ◌≤ℤ◌, ◌<ℤ◌, [], ◌∷◌, sym, ◌∙◌, arith}
+use Rattle.std.proofs.Common.{◌≡◌, ◌≢◌, ◌⊎◌, inl, inr, ℕ, ◌+◌, ◌<◌, ℤ, pos, neg_ℤ, ◌+ℤ◌, ◌-ℤ◌, ◌*ℤ◌, ◌≤ℤ◌, ◌<ℤ◌, []}
+use Rattle.std.proofs.Common.{◌∷◌, sym, ◌∙◌, arith}
 use Rattle.std.proofs.lemmas.Int.{ints}
 use Rattle.integer_ring.proofs.Ring.{num, neg, ◌⊕◌, ◌⊖◌, ◌⊗◌}
 use Rattle.integer_ring.proofs.Order.{≤_or_>, to_nat, nonneg_pos}
@@ -9,7 +10,8 @@ use lib.Signed.{lt_z_yes}
 use Rattle.plane_base.specs.Plane.{Point, Same, turn_of, IsMix, whole}
 use Rattle.plane_base.specs.declared.shapes.Pt.{Pt}
 use Rattle.plane_base.proofs.Points.{turn, solve_at}
-use Rattle.plane_base.proofs.Mixes.{same_refl, same_sym, mixed, Between, between_weights, weights_between, between-w, mix_moved, turn_on_side}
+use Rattle.plane_base.proofs.Mixes.{same_refl, same_sym, mixed, Between, between_weights, weights_between, between-w}
+use Rattle.plane_base.proofs.Mixes.{mix_moved, turn_on_side}
 use Rattle.tin_base.specs.declared.relations.Rel.TheVariants.{Apart, Touching, Crossing}
 use Rattle.tin_base.specs.Relations.{IsCommonPoint, IsAnEnd, HaveRelation}
 use Rattle.meet_rel.specs.Signs.{AreOnOneSide, IsSomeZero}
@@ -24,42 +26,74 @@ pub record IsOnBoth (a b c d : Pt) (p : Point) : Type 0 where
   pub second : turn_of (whole c) (whole d) p ≡ pos 0
   pub positive : pos 0 <ℤ p.w
 
-common_on_both : (a b c d : Pt) (r : Point) → IsCommonPoint (whole a) (whole b) (whole c) (whole d) r → IsOnBoth a b c d r
-common_on_both a b c d r k = record { first = turn_on_side (whole a) (whole b) r one one k.first; second = turn_on_side (whole c) (whole d) r one one k.second; positive = k.positive }
+common_on_both : (a b c d : Pt) (r : Point) → IsCommonPoint (whole a) (whole b) (whole c) (whole d) r
+    → IsOnBoth a b c d r
+common_on_both a b c d r k = record {
+  first = turn_on_side (whole a) (whole b) r one one k.first;
+  second =
+      turn_on_side (whole c) (whole d) r one one k.second;
+  positive = k.positive;
+}
 
 x_once : (ax ay bx by cx cy ex ey px py pw qx qy qw : ℤ)
-    → turn_of (record { x = ax; y = ay; w = pos 1 }) (record { x = bx; y = by; w = pos 1 }) (record { x = px; y = py; w = pw }) ≡ pos 0
-    → turn_of (record { x = ax; y = ay; w = pos 1 }) (record { x = bx; y = by; w = pos 1 }) (record { x = qx; y = qy; w = qw }) ≡ pos 0
-    → turn_of (record { x = cx; y = cy; w = pos 1 }) (record { x = ex; y = ey; w = pos 1 }) (record { x = px; y = py; w = pw }) ≡ pos 0
-    → turn_of (record { x = cx; y = cy; w = pos 1 }) (record { x = ex; y = ey; w = pos 1 }) (record { x = qx; y = qy; w = qw }) ≡ pos 0
-    → (turn_of (record { x = ax; y = ay; w = pos 1 }) (record { x = bx; y = by; w = pos 1 }) (record { x = ex; y = ey; w = pos 1 })
-    -ℤ turn_of (record { x = ax; y = ay; w = pos 1 }) (record { x = bx; y = by; w = pos 1 }) (record { x = cx; y = cy; w = pos 1 })) *ℤ (px *ℤ qw -ℤ qx *ℤ pw) ≡ pos 0
+    → turn_of (record { x = ax; y = ay; w = pos 1 }) (record { x = bx; y = by; w = pos 1 })
+    (record { x = px; y = py; w = pw }) ≡ pos 0
+    → turn_of (record { x = ax; y = ay; w = pos 1 }) (record { x = bx; y = by; w = pos 1 })
+    (record { x = qx; y = qy; w = qw }) ≡ pos 0
+    → turn_of (record { x = cx; y = cy; w = pos 1 }) (record { x = ex; y = ey; w = pos 1 })
+    (record { x = px; y = py; w = pw }) ≡ pos 0
+    → turn_of (record { x = cx; y = cy; w = pos 1 }) (record { x = ex; y = ey; w = pos 1 })
+    (record { x = qx; y = qy; w = qw }) ≡ pos 0
+    → (turn_of (record { x = ax; y = ay; w = pos 1 }) (record { x = bx; y = by; w = pos 1 })
+    (record { x = ex; y = ey; w = pos 1 })
+    -ℤ turn_of (record { x = ax; y = ay; w = pos 1 }) (record { x = bx; y = by; w = pos 1 })
+    (record { x = cx; y = cy; w = pos 1 })) *ℤ (px *ℤ qw -ℤ qx *ℤ pw) ≡ pos 0
 x_once =
     follows 14 (λ ax ay bx by cx cy ex ey px py pw qx qy qw.
-    turn (record { x = ax; y = ay; w = num (pos 1) }) (record { x = bx; y = by; w = num (pos 1) }) (record { x = px; y = py; w = pw }) ≐ num (pos 0)
-    ⇒ turn (record { x = ax; y = ay; w = num (pos 1) }) (record { x = bx; y = by; w = num (pos 1) }) (record { x = qx; y = qy; w = qw }) ≐ num (pos 0)
-    ⇒ turn (record { x = cx; y = cy; w = num (pos 1) }) (record { x = ex; y = ey; w = num (pos 1) }) (record { x = px; y = py; w = pw }) ≐ num (pos 0)
-    ⇒ turn (record { x = cx; y = cy; w = num (pos 1) }) (record { x = ex; y = ey; w = num (pos 1) }) (record { x = qx; y = qy; w = qw }) ≐ num (pos 0)
-    ⇒ (turn (record { x = ax; y = ay; w = num (pos 1) }) (record { x = bx; y = by; w = num (pos 1) }) (record { x = ex; y = ey; w = num (pos 1) })
-    ⊖ turn (record { x = ax; y = ay; w = num (pos 1) }) (record { x = bx; y = by; w = num (pos 1) }) (record { x = cx; y = cy; w = num (pos 1) })) ⊗ (px ⊗ qw ⊖ qx ⊗ pw) ≐ num (pos 0)
-    because eqn 0 ((ex ⊖ cx) ⊗ qw) ⊞ eqn 1 (neg (ex ⊖ cx) ⊗ pw) ⊞ eqn 2 (neg (bx ⊖ ax) ⊗ qw) ⊞ eqn 3 ((bx ⊖ ax) ⊗ pw)) tt
+    turn (record { x = ax; y = ay; w = num (pos 1) }) (record { x = bx; y = by; w = num (pos 1) })
+    (record { x = px; y = py; w = pw }) ≐ num (pos 0)
+    ⇒ turn (record { x = ax; y = ay; w = num (pos 1) }) (record { x = bx; y = by; w = num (pos 1) })
+    (record { x = qx; y = qy; w = qw }) ≐ num (pos 0)
+    ⇒ turn (record { x = cx; y = cy; w = num (pos 1) }) (record { x = ex; y = ey; w = num (pos 1) })
+    (record { x = px; y = py; w = pw }) ≐ num (pos 0)
+    ⇒ turn (record { x = cx; y = cy; w = num (pos 1) }) (record { x = ex; y = ey; w = num (pos 1) })
+    (record { x = qx; y = qy; w = qw }) ≐ num (pos 0)
+    ⇒ (turn (record { x = ax; y = ay; w = num (pos 1) }) (record { x = bx; y = by; w = num (pos 1) })
+    (record { x = ex; y = ey; w = num (pos 1) })
+    ⊖ turn (record { x = ax; y = ay; w = num (pos 1) }) (record { x = bx; y = by; w = num (pos 1) })
+    (record { x = cx; y = cy; w = num (pos 1) })) ⊗ (px ⊗ qw ⊖ qx ⊗ pw) ≐ num (pos 0)
+    because eqn 0 ((ex ⊖ cx) ⊗ qw) ⊞ eqn 1 (neg (ex ⊖ cx) ⊗ pw) ⊞ eqn 2 (neg (bx ⊖ ax) ⊗ qw) ⊞ eqn 3 ((bx ⊖ ax) ⊗ pw))
+    tt
 
 y_once : (ax ay bx by cx cy ex ey px py pw qx qy qw : ℤ)
-    → turn_of (record { x = ax; y = ay; w = pos 1 }) (record { x = bx; y = by; w = pos 1 }) (record { x = px; y = py; w = pw }) ≡ pos 0
-    → turn_of (record { x = ax; y = ay; w = pos 1 }) (record { x = bx; y = by; w = pos 1 }) (record { x = qx; y = qy; w = qw }) ≡ pos 0
-    → turn_of (record { x = cx; y = cy; w = pos 1 }) (record { x = ex; y = ey; w = pos 1 }) (record { x = px; y = py; w = pw }) ≡ pos 0
-    → turn_of (record { x = cx; y = cy; w = pos 1 }) (record { x = ex; y = ey; w = pos 1 }) (record { x = qx; y = qy; w = qw }) ≡ pos 0
-    → (turn_of (record { x = ax; y = ay; w = pos 1 }) (record { x = bx; y = by; w = pos 1 }) (record { x = ex; y = ey; w = pos 1 })
-    -ℤ turn_of (record { x = ax; y = ay; w = pos 1 }) (record { x = bx; y = by; w = pos 1 }) (record { x = cx; y = cy; w = pos 1 })) *ℤ (py *ℤ qw -ℤ qy *ℤ pw) ≡ pos 0
+    → turn_of (record { x = ax; y = ay; w = pos 1 }) (record { x = bx; y = by; w = pos 1 })
+    (record { x = px; y = py; w = pw }) ≡ pos 0
+    → turn_of (record { x = ax; y = ay; w = pos 1 }) (record { x = bx; y = by; w = pos 1 })
+    (record { x = qx; y = qy; w = qw }) ≡ pos 0
+    → turn_of (record { x = cx; y = cy; w = pos 1 }) (record { x = ex; y = ey; w = pos 1 })
+    (record { x = px; y = py; w = pw }) ≡ pos 0
+    → turn_of (record { x = cx; y = cy; w = pos 1 }) (record { x = ex; y = ey; w = pos 1 })
+    (record { x = qx; y = qy; w = qw }) ≡ pos 0
+    → (turn_of (record { x = ax; y = ay; w = pos 1 }) (record { x = bx; y = by; w = pos 1 })
+    (record { x = ex; y = ey; w = pos 1 })
+    -ℤ turn_of (record { x = ax; y = ay; w = pos 1 }) (record { x = bx; y = by; w = pos 1 })
+    (record { x = cx; y = cy; w = pos 1 })) *ℤ (py *ℤ qw -ℤ qy *ℤ pw) ≡ pos 0
 y_once =
     follows 14 (λ ax ay bx by cx cy ex ey px py pw qx qy qw.
-    turn (record { x = ax; y = ay; w = num (pos 1) }) (record { x = bx; y = by; w = num (pos 1) }) (record { x = px; y = py; w = pw }) ≐ num (pos 0)
-    ⇒ turn (record { x = ax; y = ay; w = num (pos 1) }) (record { x = bx; y = by; w = num (pos 1) }) (record { x = qx; y = qy; w = qw }) ≐ num (pos 0)
-    ⇒ turn (record { x = cx; y = cy; w = num (pos 1) }) (record { x = ex; y = ey; w = num (pos 1) }) (record { x = px; y = py; w = pw }) ≐ num (pos 0)
-    ⇒ turn (record { x = cx; y = cy; w = num (pos 1) }) (record { x = ex; y = ey; w = num (pos 1) }) (record { x = qx; y = qy; w = qw }) ≐ num (pos 0)
-    ⇒ (turn (record { x = ax; y = ay; w = num (pos 1) }) (record { x = bx; y = by; w = num (pos 1) }) (record { x = ex; y = ey; w = num (pos 1) })
-    ⊖ turn (record { x = ax; y = ay; w = num (pos 1) }) (record { x = bx; y = by; w = num (pos 1) }) (record { x = cx; y = cy; w = num (pos 1) })) ⊗ (py ⊗ qw ⊖ qy ⊗ pw) ≐ num (pos 0)
-    because eqn 2 ((ay ⊖ by) ⊗ qw) ⊞ eqn 3 (neg (ay ⊖ by) ⊗ pw) ⊞ eqn 0 (neg (cy ⊖ ey) ⊗ qw) ⊞ eqn 1 ((cy ⊖ ey) ⊗ pw)) tt
+    turn (record { x = ax; y = ay; w = num (pos 1) }) (record { x = bx; y = by; w = num (pos 1) })
+    (record { x = px; y = py; w = pw }) ≐ num (pos 0)
+    ⇒ turn (record { x = ax; y = ay; w = num (pos 1) }) (record { x = bx; y = by; w = num (pos 1) })
+    (record { x = qx; y = qy; w = qw }) ≐ num (pos 0)
+    ⇒ turn (record { x = cx; y = cy; w = num (pos 1) }) (record { x = ex; y = ey; w = num (pos 1) })
+    (record { x = px; y = py; w = pw }) ≐ num (pos 0)
+    ⇒ turn (record { x = cx; y = cy; w = num (pos 1) }) (record { x = ex; y = ey; w = num (pos 1) })
+    (record { x = qx; y = qy; w = qw }) ≐ num (pos 0)
+    ⇒ (turn (record { x = ax; y = ay; w = num (pos 1) }) (record { x = bx; y = by; w = num (pos 1) })
+    (record { x = ex; y = ey; w = num (pos 1) })
+    ⊖ turn (record { x = ax; y = ay; w = num (pos 1) }) (record { x = bx; y = by; w = num (pos 1) })
+    (record { x = cx; y = cy; w = num (pos 1) })) ⊗ (py ⊗ qw ⊖ qy ⊗ pw) ≐ num (pos 0)
+    because eqn 2 ((ay ⊖ by) ⊗ qw) ⊞ eqn 3 (neg (ay ⊖ by) ⊗ pw) ⊞ eqn 0 (neg (cy ⊖ ey) ⊗ qw) ⊞ eqn 1 ((cy ⊖ ey) ⊗ pw))
+    tt
 
 even : (a b : ℤ) → a -ℤ b ≡ pos 0 → a ≡ b
 even a b h = omega (arith, ints)
@@ -70,29 +104,39 @@ AreAcross a b c d = turn_of (whole a) (whole b) (whole c) ≢ turn_of (whole a) 
 
 pub meet_once : (a b c d : Pt) (p q : Point) → AreAcross a b c d → IsOnBoth a b c d p → IsOnBoth a b c d q → Same p q
 meet_once a b c d p q across hp hq = (
-  of (p.x *ℤ q.w) (q.x *ℤ p.w) (zero_cases e (p.x *ℤ q.w -ℤ q.x *ℤ p.w) (x_once a.x a.y b.x b.y c.x c.y d.x d.y p.x p.y p.w q.x q.y q.w hp.first hq.first hp.second hq.second)),
-  of (p.y *ℤ q.w) (q.y *ℤ p.w) (zero_cases e (p.y *ℤ q.w -ℤ q.y *ℤ p.w) (y_once a.x a.y b.x b.y c.x c.y d.x d.y p.x p.y p.w q.x q.y q.w hp.first hq.first hp.second hq.second)),
+  of (p.x *ℤ q.w) (q.x *ℤ p.w) (zero_cases e (p.x *ℤ q.w -ℤ q.x *ℤ p.w)
+      (x_once a.x a.y b.x b.y c.x c.y d.x d.y p.x p.y p.w q.x q.y q.w hp.first hq.first hp.second hq.second)),
+  of (p.y *ℤ q.w) (q.y *ℤ p.w) (zero_cases e (p.y *ℤ q.w -ℤ q.y *ℤ p.w)
+      (y_once a.x a.y b.x b.y c.x c.y d.x d.y p.x p.y p.w q.x q.y q.w hp.first hq.first hp.second hq.second)),
 )
   where
     e : ℤ
     e = turn_of (whole a) (whole b) (whole d) -ℤ turn_of (whole a) (whole b) (whole c)
 
     of : (s t : ℤ) → (e ≡ pos 0) ⊎ (s -ℤ t ≡ pos 0) → s ≡ t
-    of s t (inl z) = absurd (across (sym (even (turn_of (whole a) (whole b) (whole d)) (turn_of (whole a) (whole b) (whole c)) z)))
+    of s t (inl z) = absurd (across (sym (even (turn_of (whole a) (whole b) (whole d))
+        (turn_of (whole a) (whole b) (whole c)) z)))
     of s t (inr z) = even s t z
 
 -- what the one line is to the other, the other is to the one
-pub same_fall : (a b c d : Pt) → turn_of (whole c) (whole d) (whole a) -ℤ turn_of (whole c) (whole d) (whole b) ≡ turn_of (whole a) (whole b) (whole d) -ℤ turn_of (whole a) (whole b) (whole c)
+pub same_fall : (a b c d : Pt) → turn_of (whole c) (whole d) (whole a) -ℤ turn_of (whole c) (whole d) (whole b)
+    ≡ turn_of (whole a) (whole b) (whole d) -ℤ turn_of (whole a) (whole b) (whole c)
 same_fall a b c d =
     solve 8 (λ ax ay bx by cx cy ex ey.
-    turn (record { x = cx; y = cy; w = num (pos 1) }) (record { x = ex; y = ey; w = num (pos 1) }) (record { x = ax; y = ay; w = num (pos 1) })
-    ⊖ turn (record { x = cx; y = cy; w = num (pos 1) }) (record { x = ex; y = ey; w = num (pos 1) }) (record { x = bx; y = by; w = num (pos 1) })
-    ≐ turn (record { x = ax; y = ay; w = num (pos 1) }) (record { x = bx; y = by; w = num (pos 1) }) (record { x = ex; y = ey; w = num (pos 1) })
-    ⊖ turn (record { x = ax; y = ay; w = num (pos 1) }) (record { x = bx; y = by; w = num (pos 1) }) (record { x = cx; y = cy; w = num (pos 1) })) tt
+    turn (record { x = cx; y = cy; w = num (pos 1) }) (record { x = ex; y = ey; w = num (pos 1) })
+    (record { x = ax; y = ay; w = num (pos 1) })
+    ⊖ turn (record { x = cx; y = cy; w = num (pos 1) }) (record { x = ex; y = ey; w = num (pos 1) })
+    (record { x = bx; y = by; w = num (pos 1) })
+    ≐ turn (record { x = ax; y = ay; w = num (pos 1) }) (record { x = bx; y = by; w = num (pos 1) })
+    (record { x = ex; y = ey; w = num (pos 1) })
+    ⊖ turn (record { x = ax; y = ay; w = num (pos 1) }) (record { x = bx; y = by; w = num (pos 1) })
+    (record { x = cx; y = cy; w = num (pos 1) })) tt
     a.x a.y b.x b.y c.x c.y d.x d.y
 
 pub also_across : (a b c d : Pt) → AreAcross a b c d → AreAcross c d a b
-also_across a b c d across e = across (sym (other (turn_of (whole c) (whole d) (whole a)) (turn_of (whole c) (whole d) (whole b)) (turn_of (whole a) (whole b) (whole d)) (turn_of (whole a) (whole b) (whole c)) (same_fall a b c d) e))
+also_across a b c d across e = across (sym
+    (other (turn_of (whole c) (whole d) (whole a)) (turn_of (whole c) (whole d) (whole b))
+    (turn_of (whole a) (whole b) (whole d)) (turn_of (whole a) (whole b) (whole c)) (same_fall a b c d) e))
   where
     other : (s t u v : ℤ) → s -ℤ t ≡ u -ℤ v → s ≡ t → u ≡ v
     other s t u v h e = omega (arith, ints)
@@ -103,65 +147,132 @@ pub record IsMeeting (a b c d : Pt) (p : Point) : Type 0 where
   pub first : IsMix p (whole a ∷ whole b ∷ [])
   pub second : IsMix p (whole c ∷ whole d ∷ [])
 
-common_meeting : (a b c d : Pt) (p : Point) → IsMeeting a b c d p → IsCommonPoint (whole a) (whole b) (whole c) (whole d) p
+common_meeting : (a b c d : Pt) (p : Point) → IsMeeting a b c d p
+    → IsCommonPoint (whole a) (whole b) (whole c) (whole d) p
 common_meeting a b c d p m = let o = m.on in record { positive = o.positive; first = m.first; second = m.second }
 
 -- an end of the one that is on the other line
-end_on : (a b c d : Pt) (p : Point) → AreAcross a b c d → IsMeeting a b c d p → IsSomeZero (turn_of (whole c) (whole d) (whole a)) (turn_of (whole c) (whole d) (whole b)) (turn_of (whole a) (whole b) (whole c)) (turn_of (whole a) (whole b) (whole d))
+end_on : (a b c d : Pt) (p : Point) → AreAcross a b c d → IsMeeting a b c d p
+    → IsSomeZero (turn_of (whole c) (whole d) (whole a)) (turn_of (whole c) (whole d) (whole b))
+    (turn_of (whole a) (whole b) (whole c)) (turn_of (whole a) (whole b) (whole d))
     → IsAnEnd (whole a) (whole b) (whole c) (whole d) p
-end_on a b c d p across m (inl z) = inl (meet_once a b c d p (whole a) across m.on (record { first = solve_at 2 0 (λ a b. turn a b a ≐ num (pos 0)) tt (whole a) (whole b); second = z; positive = one }))
-end_on a b c d p across m (inr (inl z)) = inr (inl (meet_once a b c d p (whole b) across m.on (record { first = solve_at 2 0 (λ a b. turn a b b ≐ num (pos 0)) tt (whole a) (whole b); second = z; positive = one })))
-end_on a b c d p across m (inr (inr (inl z))) = inr (inr (inl (meet_once a b c d p (whole c) across m.on (record { first = z; second = solve_at 2 0 (λ a b. turn a b a ≐ num (pos 0)) tt (whole c) (whole d); positive = one }))))
-end_on a b c d p across m (inr (inr (inr z))) = inr (inr (inr (meet_once a b c d p (whole d) across m.on (record { first = z; second = solve_at 2 0 (λ a b. turn a b b ≐ num (pos 0)) tt (whole c) (whole d); positive = one }))))
+end_on a b c d p across m (inl z) = inl (meet_once a b c d p (whole a) across m.on
+    (record {
+      first = solve_at 2 0 (λ a b. turn a b a ≐ num (pos 0)) tt (whole a) (whole b);
+      second = z;
+      positive =
+          one;
+    }))
+end_on a b c d p across m (inr (inl z)) = inr
+    (inl (meet_once a b c d p (whole b) across m.on
+    (record {
+      first = solve_at 2 0 (λ a b. turn a b b ≐ num (pos 0)) tt (whole a) (whole b);
+      second = z;
+      positive =
+          one;
+    })))
+end_on a b c d p across m (inr (inr (inl z))) =
+    inr (inr (inl (meet_once a b c d p (whole c) across m.on
+    (record {
+      first = z;
+      second = solve_at 2 0 (λ a b. turn a b a ≐ num (pos 0)) tt (whole c) (whole d);
+      positive =
+          one;
+    }))))
+end_on a b c d p across m (inr (inr (inr z))) =
+    inr (inr (inr (meet_once a b c d p (whole d) across m.on
+    (record {
+      first = z;
+      second = solve_at 2 0 (λ a b. turn a b b ≐ num (pos 0)) tt (whole c) (whole d);
+      positive =
+          one;
+    }))))
 
 zero_at : (a b c d : Pt) (p : Point) → IsOnBoth a b c d p → IsAnEnd (whole a) (whole b) (whole c) (whole d) p
-    → IsSomeZero (turn_of (whole c) (whole d) (whole a)) (turn_of (whole c) (whole d) (whole b)) (turn_of (whole a) (whole b) (whole c)) (turn_of (whole a) (whole b) (whole d))
-zero_at a b c d p o (inl s) = inl (line_moved (whole c) (whole d) (whole a) p o.positive (same_sym p (whole a) s) o.second)
-zero_at a b c d p o (inr (inl s)) = inr (inl (line_moved (whole c) (whole d) (whole b) p o.positive (same_sym p (whole b) s) o.second))
-zero_at a b c d p o (inr (inr (inl s))) = inr (inr (inl (line_moved (whole a) (whole b) (whole c) p o.positive (same_sym p (whole c) s) o.first)))
-zero_at a b c d p o (inr (inr (inr s))) = inr (inr (inr (line_moved (whole a) (whole b) (whole d) p o.positive (same_sym p (whole d) s) o.first)))
+    → IsSomeZero (turn_of (whole c) (whole d) (whole a)) (turn_of (whole c) (whole d) (whole b))
+    (turn_of (whole a) (whole b) (whole c)) (turn_of (whole a) (whole b) (whole d))
+zero_at a b c d p o (inl s) = inl (line_moved (whole c) (whole d) (whole a) p o.positive (same_sym p (whole a) s)
+    o.second)
+zero_at a b c d p o (inr (inl s)) = inr (inl
+    (line_moved (whole c) (whole d) (whole b) p o.positive (same_sym p (whole b) s) o.second))
+zero_at a b c d p o (inr (inr (inl s))) = inr
+    (inr (inl (line_moved (whole a) (whole b) (whole c) p o.positive (same_sym p (whole c) s) o.first)))
+zero_at a b c d p o (inr (inr (inr s))) = inr
+    (inr (inr (line_moved (whole a) (whole b) (whole d) p o.positive (same_sym p (whole d) s) o.first)))
 
 touching_at : (a b c d : Pt) (p : Point) → AreAcross a b c d → IsMeeting a b c d p
-    → IsSomeZero (turn_of (whole c) (whole d) (whole a)) (turn_of (whole c) (whole d) (whole b)) (turn_of (whole a) (whole b) (whole c)) (turn_of (whole a) (whole b) (whole d)) → HaveRelation Touching (whole a) (whole b) (whole c) (whole d)
-touching_at a b c d p across m z = (p, (common_meeting a b c d p m, λ r k. meet_once a b c d r p across (common_on_both a b c d r k) m.on), end_on a b c d p across m z)
+    → IsSomeZero (turn_of (whole c) (whole d) (whole a)) (turn_of (whole c) (whole d) (whole b))
+    (turn_of (whole a) (whole b) (whole c)) (turn_of (whole a) (whole b) (whole d))
+    → HaveRelation Touching (whole a) (whole b) (whole c) (whole d)
+touching_at a b c d p across m z = (
+  p,
+  (
+    common_meeting a b c d p m,
+    λ r k. meet_once a b c d r p across
+        (common_on_both a b c d r k) m.on,
+  ),
+  end_on a b c d p across m z,
+)
 
 crossing_at : (a b c d : Pt) (p : Point) → AreAcross a b c d → IsMeeting a b c d p
-    → (IsSomeZero (turn_of (whole c) (whole d) (whole a)) (turn_of (whole c) (whole d) (whole b)) (turn_of (whole a) (whole b) (whole c)) (turn_of (whole a) (whole b) (whole d)) → ⊥) → HaveRelation Crossing (whole a) (whole b) (whole c) (whole d)
-crossing_at a b c d p across m none = (p, (common_meeting a b c d p m, λ r k. meet_once a b c d r p across (common_on_both a b c d r k) m.on), λ end. none (zero_at a b c d p m.on end))
+    → (IsSomeZero (turn_of (whole c) (whole d) (whole a)) (turn_of (whole c) (whole d) (whole b))
+    (turn_of (whole a) (whole b) (whole c)) (turn_of (whole a) (whole b) (whole d)) → ⊥)
+    → HaveRelation Crossing (whole a) (whole b) (whole c) (whole d)
+crossing_at a b c d p across m none = (
+  p,
+  (
+    common_meeting a b c d p m,
+    λ r k. meet_once a b c d r p across
+        (common_on_both a b c d r k) m.on,
+  ),
+  λ end. none (zero_at a b c d p m.on end),
+)
 
 -- ---- on one side
-not_zero : (k l u v : ℤ) → pos 0 ≤ℤ k → pos 0 ≤ℤ l → pos 0 <ℤ (k +ℤ l) → pos 0 <ℤ u → pos 0 <ℤ v → k *ℤ u +ℤ l *ℤ v ≡ pos 0 → ⊥
+not_zero : (k l u v : ℤ) → pos 0 ≤ℤ k → pos 0 ≤ℤ l → pos 0 <ℤ (k +ℤ l) → pos 0 <ℤ u → pos 0 <ℤ v
+    → k *ℤ u +ℤ l *ℤ v ≡ pos 0 → ⊥
 not_zero =
-    follows 4 (λ k l u v. num (pos 0) ≼ k ⇒ num (pos 0) ≼ l ⇒ num (pos 0) ≺ k ⊕ l ⇒ num (pos 0) ≺ u ⇒ num (pos 0) ≺ v ⇒ k ⊗ u ⊕ l ⊗ v ≐ num (pos 0) ⇒ never
+    follows 4 (λ k l u v. num (pos 0) ≼ k ⇒ num (pos 0) ≼ l ⇒ num (pos 0) ≺ k
+    ⊕ l ⇒ num (pos 0) ≺ u ⇒ num (pos 0) ≺ v ⇒ k ⊗ u ⊕ l ⊗ v ≐ num (pos 0) ⇒ never
     because gap 5 ⊞ gap 0 ⊠ over 3 ⊞ gap 1 ⊠ over 4 ⊞ over 2) tt
 
-not_zero' : (k l u v : ℤ) → pos 0 ≤ℤ k → pos 0 ≤ℤ l → pos 0 <ℤ (k +ℤ l) → u <ℤ pos 0 → v <ℤ pos 0 → k *ℤ u +ℤ l *ℤ v ≡ pos 0 → ⊥
+not_zero' : (k l u v : ℤ) → pos 0 ≤ℤ k → pos 0 ≤ℤ l → pos 0 <ℤ (k +ℤ l) → u <ℤ pos 0 → v <ℤ pos 0
+    → k *ℤ u +ℤ l *ℤ v ≡ pos 0 → ⊥
 not_zero' =
-    follows 4 (λ k l u v. num (pos 0) ≼ k ⇒ num (pos 0) ≼ l ⇒ num (pos 0) ≺ k ⊕ l ⇒ u ≺ num (pos 0) ⇒ v ≺ num (pos 0) ⇒ k ⊗ u ⊕ l ⊗ v ≐ num (pos 0) ⇒ never
+    follows 4 (λ k l u v. num (pos 0) ≼ k ⇒ num (pos 0) ≼ l ⇒ num (pos 0) ≺ k
+    ⊕ l ⇒ u ≺ num (pos 0) ⇒ v ≺ num (pos 0) ⇒ k ⊗ u ⊕ l ⊗ v ≐ num (pos 0) ⇒ never
     because eqn 5 (neg (num (pos 1))) ⊞ gap 0 ⊠ over 3 ⊞ gap 1 ⊠ over 4 ⊞ over 2) tt
 
 some_z : (k l : ℕ) → 0 < k + l → pos 0 <ℤ (pos k +ℤ pos l)
 some_z k l h = omega (arith, ints)
 
 -- no point of a segment on one side of a line is on the line
-no_point : (a b p q r : Point) → pos 0 <ℤ p.w → pos 0 <ℤ q.w → pos 0 <ℤ r.w → AreOnOneSide (turn_of a b p) (turn_of a b q) → turn_of a b r ≡ pos 0 → IsMix r (p ∷ q ∷ []) → ⊥
+no_point : (a b p q r : Point) → pos 0 <ℤ p.w → pos 0 <ℤ q.w → pos 0 <ℤ r.w
+    → AreOnOneSide (turn_of a b p) (turn_of a b q) → turn_of a b r ≡ pos 0 → IsMix r (p ∷ q ∷ []) → ⊥
 no_point a b p q r hp hq hr side z m = go side
   where
     i : Between p q r
     i = between_weights p q r m
 
     zero : pos i.k *ℤ turn_of a b p +ℤ pos i.l *ℤ turn_of a b q ≡ pos 0
-    zero = sym (turn_between a b p q i.k i.l) ∙ line_moved a b (mixed i.k i.l p q) r hr (same_sym r (mixed i.k i.l p q) i.same) z
+    zero = sym (turn_between a b p q i.k i.l)
+        ∙ line_moved a b (mixed i.k i.l p q) r hr (same_sym r (mixed i.k i.l p q) i.same) z
 
     go : AreOnOneSide (turn_of a b p) (turn_of a b q) → ⊥
-    go (inl h) = not_zero (pos i.k) (pos i.l) (turn_of a b p) (turn_of a b q) (nonneg_pos i.k) (nonneg_pos i.l) (some_z i.k i.l i.some) h.0 h.1 zero
-    go (inr h) = not_zero' (pos i.k) (pos i.l) (turn_of a b p) (turn_of a b q) (nonneg_pos i.k) (nonneg_pos i.l) (some_z i.k i.l i.some) h.0 h.1 zero
+    go (inl h) = not_zero (pos i.k) (pos i.l) (turn_of a b p) (turn_of a b q) (nonneg_pos i.k) (nonneg_pos i.l)
+        (some_z i.k i.l i.some) h.0 h.1 zero
+    go (inr h) = not_zero' (pos i.k) (pos i.l) (turn_of a b p) (turn_of a b q) (nonneg_pos i.k) (nonneg_pos i.l)
+        (some_z i.k i.l i.some) h.0 h.1 zero
 
-pub apart_by_second : (a b c d : Pt) → AreOnOneSide (turn_of (whole a) (whole b) (whole c)) (turn_of (whole a) (whole b) (whole d)) → HaveRelation Apart (whole a) (whole b) (whole c) (whole d)
-apart_by_second a b c d side = λ r k. no_point (whole a) (whole b) (whole c) (whole d) r one one k.positive side (turn_on_side (whole a) (whole b) r one one k.first) k.second
+pub apart_by_second : (a b c d : Pt) → AreOnOneSide (turn_of (whole a) (whole b) (whole c))
+    (turn_of (whole a) (whole b) (whole d)) → HaveRelation Apart (whole a) (whole b) (whole c) (whole d)
+apart_by_second a b c d side = λ r k. no_point (whole a) (whole b) (whole c) (whole d) r one one k.positive side
+    (turn_on_side (whole a) (whole b) r one one k.first) k.second
 
-pub apart_by_first : (a b c d : Pt) → AreOnOneSide (turn_of (whole c) (whole d) (whole a)) (turn_of (whole c) (whole d) (whole b)) → HaveRelation Apart (whole a) (whole b) (whole c) (whole d)
-apart_by_first a b c d side = λ r k. no_point (whole c) (whole d) (whole a) (whole b) r one one k.positive side (turn_on_side (whole c) (whole d) r one one k.second) k.first
+pub apart_by_first : (a b c d : Pt) → AreOnOneSide (turn_of (whole c) (whole d) (whole a))
+    (turn_of (whole c) (whole d) (whole b)) → HaveRelation Apart (whole a) (whole b) (whole c) (whole d)
+apart_by_first a b c d side = λ r k. no_point (whole c) (whole d) (whole a) (whole b) r one one k.positive side
+    (turn_on_side (whole c) (whole d) r one one k.second) k.first
 
 -- ---- on no side alone: some point is on the line
 record Weights (u v : ℤ) : Type 0 where
@@ -193,19 +304,33 @@ weights u v none differ = go (≤_or_> u (pos 0)) (≤_or_> v (pos 0))
         more k l h = grind arith
 
     zero : (u v k l : ℤ) → v ≡ k → neg_ℤ u ≡ l → k *ℤ u +ℤ l *ℤ v ≡ pos 0
-    zero = follows 4 (λ u v k l. v ≐ k ⇒ neg u ≐ l ⇒ k ⊗ u ⊕ l ⊗ v ≐ num (pos 0) because eqn 0 (neg u) ⊞ eqn 1 (neg v)) tt
+    zero = follows 4 (λ u v k l. v ≐ k ⇒ neg u ≐ l ⇒ k ⊗ u ⊕ l ⊗ v ≐ num (pos 0) because eqn 0 (neg u) ⊞ eqn 1 (neg v))
+        tt
 
     zero' : (u v k l : ℤ) → u ≡ l → neg_ℤ v ≡ k → k *ℤ u +ℤ l *ℤ v ≡ pos 0
-    zero' = follows 4 (λ u v k l. u ≐ l ⇒ neg v ≐ k ⇒ k ⊗ u ⊕ l ⊗ v ≐ num (pos 0) because eqn 0 (neg v) ⊞ eqn 1 (neg u)) tt
+    zero' = follows 4 (λ u v k l. u ≐ l ⇒ neg v ≐ k ⇒ k ⊗ u ⊕ l ⊗ v ≐ num (pos 0) because eqn 0 (neg v) ⊞ eqn 1 (neg u))
+        tt
 
     swapped : (k l : ℕ) → 0 < l + k → 0 < k + l
     swapped k l h = omega arith
 
     rising : (k : ℕ) × (v ≡ pos k) → (l : ℕ) × (neg_ℤ u ≡ pos l) → Weights u v
-    rising k l = record { k = k.0; l = l.0; some = some u v k.0 l.0 k.1 l.1 differ; zero = zero u v (pos k.0) (pos l.0) k.1 l.1 }
+    rising k l = record {
+      k = k.0;
+      l = l.0;
+      some = some u v k.0 l.0 k.1 l.1 differ;
+      zero =
+          zero u v (pos k.0) (pos l.0) k.1 l.1;
+    }
 
     falling : (l : ℕ) × (u ≡ pos l) → (k : ℕ) × (neg_ℤ v ≡ pos k) → Weights u v
-    falling l k = record { k = k.0; l = l.0; some = swapped k.0 l.0 (some v u l.0 k.0 l.1 k.1 (λ e. differ (sym e))); zero = zero' u v (pos k.0) (pos l.0) l.1 k.1 }
+    falling l k = record {
+      k = k.0;
+      l = l.0;
+      some =
+          swapped k.0 l.0 (some v u l.0 k.0 l.1 k.1 (λ e. differ (sym e)));
+      zero = zero' u v (pos k.0) (pos l.0) l.1 k.1;
+    }
 
     level : (u v : ℤ) → u ≤ℤ pos 0 → v ≤ℤ pos 0 → ¬ ((u <ℤ pos 0) × (v <ℤ pos 0)) → (pos 0 ≤ℤ u) ⊎ (pos 0 ≤ℤ v)
     level u v h k n = by (≤_or_> (pos 0) u) (≤_or_> (pos 0) v)
@@ -231,7 +356,9 @@ record Point_on (a b c d : Pt) : Type 0 where
   on : IsOnBoth a b c d point
   between : IsMix point (whole c ∷ whole d ∷ [])
 
-point_on : (a b c d : Pt) → AreAcross a b c d → (AreOnOneSide (turn_of (whole a) (whole b) (whole c)) (turn_of (whole a) (whole b) (whole d)) → ⊥) → Point_on a b c d
+point_on : (a b c d : Pt) → AreAcross a b c d
+    → (AreOnOneSide (turn_of (whole a) (whole b) (whole c)) (turn_of (whole a) (whole b) (whole d)) → ⊥)
+    → Point_on a b c d
 point_on a b c d across none =
     let w = weights (turn_of (whole a) (whole b) (whole c)) (turn_of (whole a) (whole b) (whole d)) none across in
     let m = mixed w.k w.l (whole c) (whole d) in
@@ -239,21 +366,36 @@ point_on a b c d across none =
     let between : IsMix m (whole c ∷ whole d ∷ []) = weights_between (whole c) (whole d) m i in
     record {
       point = m;
-      on = record { first = turn_between (whole a) (whole b) (whole c) (whole d) w.k w.l ∙ w.zero; second = turn_on_side (whole c) (whole d) m one one between; positive = between-w (whole c) (whole d) m i one one };
+      on = record {
+        first = turn_between (whole a) (whole b) (whole c) (whole d) w.k w.l
+            ∙ w.zero;
+        second = turn_on_side (whole c) (whole d) m one one between;
+        positive =
+            between-w (whole c) (whole d) m i one one;
+      };
       between = between;
     }
 
 turned_on : (a b c d : Pt) (p : Point) → IsOnBoth c d a b p → IsOnBoth a b c d p
 turned_on a b c d p o = record { first = o.second; second = o.first; positive = o.positive }
 
-meeting : (a b c d : Pt) → AreAcross a b c d → (AreOnOneSide (turn_of (whole a) (whole b) (whole c)) (turn_of (whole a) (whole b) (whole d)) → ⊥) → (AreOnOneSide (turn_of (whole c) (whole d) (whole a)) (turn_of (whole c) (whole d) (whole b)) → ⊥)
+meeting : (a b c d : Pt) → AreAcross a b c d
+    → (AreOnOneSide (turn_of (whole a) (whole b) (whole c)) (turn_of (whole a) (whole b) (whole d)) → ⊥)
+    → (AreOnOneSide (turn_of (whole c) (whole d) (whole a)) (turn_of (whole c) (whole d) (whole b)) → ⊥)
     → (p : Point) × IsMeeting a b c d p
 meeting a b c d across none none' =
     let m = point_on a b c d across none in
     let n = point_on c d a b (also_across a b c d across) none' in
     let n_on : IsOnBoth a b c d n.point = turned_on a b c d n.point n.on in
-    let o = n.on in
-    (m.point, record { on = m.on; first = mix_moved n.point m.point (whole a ∷ whole b ∷ []) o.positive (meet_once a b c d m.point n.point across m.on n_on) n.between; second = m.between })
+    let o = n.on in (
+      m.point,
+      record {
+        on = m.on;
+        first = mix_moved n.point m.point (whole a ∷ whole b ∷ []) o.positive
+            (meet_once a b c d m.point n.point across m.on n_on) n.between;
+        second = m.between;
+      },
+    )
 
 -- the signs of the four turns
 pub record AreSigns (a b c d : Pt) : Type 0 where
@@ -261,8 +403,15 @@ pub record AreSigns (a b c d : Pt) : Type 0 where
   pub second : AreOnOneSide (turn_of (whole a) (whole b) (whole c)) (turn_of (whole a) (whole b) (whole d)) → ⊥
   pub first : AreOnOneSide (turn_of (whole c) (whole d) (whole a)) (turn_of (whole c) (whole d) (whole b)) → ⊥
 
-pub touching_by : (a b c d : Pt) → AreSigns a b c d → IsSomeZero (turn_of (whole c) (whole d) (whole a)) (turn_of (whole c) (whole d) (whole b)) (turn_of (whole a) (whole b) (whole c)) (turn_of (whole a) (whole b) (whole d)) → HaveRelation Touching (whole a) (whole b) (whole c) (whole d)
+pub touching_by : (a b c d : Pt) → AreSigns a b c d
+    → IsSomeZero (turn_of (whole c) (whole d) (whole a)) (turn_of (whole c) (whole d) (whole b))
+    (turn_of (whole a) (whole b) (whole c)) (turn_of (whole a) (whole b) (whole d))
+    → HaveRelation Touching (whole a) (whole b) (whole c) (whole d)
 touching_by a b c d s z = let m = meeting a b c d s.across s.second s.first in touching_at a b c d m.0 s.across m.1 z
 
-pub crossing_by : (a b c d : Pt) → AreSigns a b c d → (IsSomeZero (turn_of (whole c) (whole d) (whole a)) (turn_of (whole c) (whole d) (whole b)) (turn_of (whole a) (whole b) (whole c)) (turn_of (whole a) (whole b) (whole d)) → ⊥) → HaveRelation Crossing (whole a) (whole b) (whole c) (whole d)
-crossing_by a b c d s none = let m = meeting a b c d s.across s.second s.first in crossing_at a b c d m.0 s.across m.1 none
+pub crossing_by : (a b c d : Pt) → AreSigns a b c d
+    → (IsSomeZero (turn_of (whole c) (whole d) (whole a)) (turn_of (whole c) (whole d) (whole b))
+    (turn_of (whole a) (whole b) (whole c)) (turn_of (whole a) (whole b) (whole d)) → ⊥)
+    → HaveRelation Crossing (whole a) (whole b) (whole c) (whole d)
+crossing_by a b c d s none = let m = meeting a b c d s.across s.second s.first in crossing_at a b c d m.0 s.across m.1
+    none

@@ -1,10 +1,12 @@
 -- A piece is its clip: its exact ends are the ends of what its triangle has of its segment.
-use Rattle.std.proofs.Common.{◌≡◌, ◌≢◌, ◌⊎◌, inl, inr, ℕ, ◌+◌, ◌<◌, ℤ, pos, ◌*ℤ◌, ◌+ℤ◌, ◌-ℤ◌, ◌<ℤ◌, List, [], ◌∷◌, length, sym, ap₂, subst, arith}
+use Rattle.std.proofs.Common.{◌≡◌, ◌≢◌, ◌⊎◌, inl, inr, ℕ, ◌+◌, ◌<◌, ℤ, pos, ◌*ℤ◌, ◌+ℤ◌, ◌-ℤ◌, ◌<ℤ◌, List, [], ◌∷◌}
+use Rattle.std.proofs.Common.{length, sym, ap₂, subst, arith}
 use Rattle.integer_ring.proofs.Ring.{num, ◌⊕◌, ◌⊖◌, ◌⊗◌}
 use Rattle.integer_ring.proofs.Claims.{◌≐◌, ◌≺◌, never, over, ◌because◌, ◌⇒◌, follows, solve}
 use Rattle.plane_base.specs.Plane.{Point, Same, IsMix, whole, corners}
 use Rattle.plane_base.specs.declared.shapes.Pt.{Pt}
-use Rattle.plane_base.proofs.Mixes.{same_refl, same_sym, same_trans, Between, between_weights, weights_between, mix_moved, mixes_mix, turn_on_side}
+use Rattle.plane_base.proofs.Mixes.{same_refl, same_sym, same_trans, Between, between_weights, weights_between}
+use Rattle.plane_base.proofs.Mixes.{mix_moved, mixes_mix, turn_on_side}
 use Rattle.tin_base.specs.declared.frames.Frame.TheVariants.{Source}
 use Rattle.tin_base.specs.declared.pieces.Piece.{Piece}
 use Rattle.tin_base.specs.Triangulation.{Triangulation, numbers_of, places, IsInTriangle}
@@ -54,14 +56,20 @@ spot_mix : (a b : Pt) (s : Spot) → 0 < s.of_a + s.of_b → IsMix (spot_at a b 
 spot_mix a b s some = weights_between (whole a) (whole b) (spot_at a b s) (spot_between a b s some)
 
 -- ---- the part of a segment
-part_ends : (tin : Triangulation) (a b : Pt) (t : ℕ) (clip : Clip) (first last : Spot) → clip.a ≡ a → clip.b ≡ b → corners clip.tri ≡ places tin Source (numbers_of tin t) → AreDifferent a b → IsPart tin a b t first last → AreEnds clip (spot_at a b first) (spot_at a b last)
+part_ends : (tin : Triangulation) (a b : Pt) (t : ℕ) (clip : Clip) (first last : Spot) → clip.a ≡ a → clip.b ≡ b
+    → corners clip.tri ≡ places tin Source (numbers_of tin t) → AreDifferent a b → IsPart tin a b t first last
+    → AreEnds clip (spot_at a b first) (spot_at a b last)
 part_ends tin a b t clip first last ea eb et d part =
     record {
       first_positive = spot-w a b first some_first;
       last_positive = spot-w a b last some_last;
       forth = λ r hr m. to_clip r
-          (mixes_mix r (f ∷ l ∷ []) (whole a ∷ whole b ∷ []) (spot-w a b first some_first, (spot-w a b last some_last, tt)) (one, (one, tt)) (spot_mix a b first some_first, (spot_mix a b last some_last, tt)) m)
-          (mixes_mix r (f ∷ l ∷ []) (places tin Source (numbers_of tin t)) (spot-w a b first some_first, (spot-w a b last some_last, tt)) (places_stand tin Source (numbers_of tin t)) (has_f.inside, (has_l.inside, tt)) m);
+          (mixes_mix r (f ∷ l ∷ []) (whole a ∷ whole b ∷ [])
+          (spot-w a b first some_first, (spot-w a b last some_last, tt)) (one, (one, tt))
+          (spot_mix a b first some_first, (spot_mix a b last some_last, tt)) m)
+          (mixes_mix r (f ∷ l ∷ []) (places tin Source (numbers_of tin t))
+          (spot-w a b first some_first, (spot-w a b last some_last, tt))
+          (places_stand tin Source (numbers_of tin t)) (has_f.inside, (has_l.inside, tt)) m);
       back = λ r hr of. of_clip r hr (of_between r of) (subst (λ (ps : List Point). IsMix r ps) et of.inside);
     }
   where
@@ -83,25 +91,39 @@ part_ends tin a b t clip first last ea eb et d part =
     some_last : 0 < last.of_a + last.of_b
     some_last = has_l.some
 
-    to_clip : (r : Point) → IsMix r (whole a ∷ whole b ∷ []) → IsMix r (places tin Source (numbers_of tin t)) → IsOf clip r
-    to_clip r m i = record { between = subst (λ (p : Pt). IsMix r (whole p ∷ whole clip.b ∷ [])) (sym ea) (subst (λ (p : Pt). IsMix r (whole a ∷ whole p ∷ [])) (sym eb) m); inside = subst (λ (ps : List Point). IsMix r ps) (sym et) i }
+    to_clip : (r : Point) → IsMix r (whole a ∷ whole b ∷ []) → IsMix r (places tin Source (numbers_of tin t))
+        → IsOf clip r
+    to_clip r m i = record {
+      between = subst (λ (p : Pt). IsMix r (whole p ∷ whole clip.b ∷ [])) (sym ea)
+          (subst (λ (p : Pt). IsMix r (whole a ∷ whole p ∷ [])) (sym eb) m);
+      inside =
+          subst (λ (ps : List Point). IsMix r ps) (sym et) i;
+    }
 
     of_between : (r : Point) → IsOf clip r → IsMix r (whole a ∷ whole b ∷ [])
-    of_between r of = subst (λ (p : Pt). IsMix r (whole a ∷ whole p ∷ [])) eb (subst (λ (p : Pt). IsMix r (whole p ∷ whole clip.b ∷ [])) ea of.between)
+    of_between r of = subst (λ (p : Pt). IsMix r (whole a ∷ whole p ∷ [])) eb
+        (subst (λ (p : Pt). IsMix r (whole p ∷ whole clip.b ∷ [])) ea of.between)
 
-    of_clip : (r : Point) → pos 0 <ℤ r.w → IsMix r (whole a ∷ whole b ∷ []) → IsMix r (places tin Source (numbers_of tin t)) → IsMix r (spot_at a b first ∷ spot_at a b last ∷ [])
+    of_clip : (r : Point) → pos 0 <ℤ r.w → IsMix r (whole a ∷ whole b ∷ [])
+        → IsMix r (places tin Source (numbers_of tin t)) → IsMix r (spot_at a b first ∷ spot_at a b last ∷ [])
     of_clip r hr m i =
         let w = between_weights (whole a) (whole b) r m in
         let s : Spot = record { of_a = w.k; of_b = w.l } in
         let q = spot_at a b s in
         let hq = spot-w a b s w.some in
-        let shared : IsShared tin a b t s = record { some = w.some; inside = mix_moved r q (places tin Source (numbers_of tin t)) hr (same_sym r q w.same) i } in
+        let shared : IsShared tin a b t s = record {
+          some = w.some;
+          inside =
+              mix_moved r q (places tin Source (numbers_of tin t)) hr (same_sym r q w.same) i;
+        } in
         mix_moved q r (spot_at a b first ∷ spot_at a b last ∷ []) hq w.same
-        (between_of (way a b d) (spot_at a b first) (spot_at a b last) q (on_spot first some_first) (on_spot last some_last) (on_spot s w.some)
+        (between_of (way a b d) (spot_at a b first) (spot_at a b last) q (on_spot first some_first)
+        (on_spot last some_last) (on_spot s w.some)
         (up_spot a b d first s (part.none_before s shared)) (up_spot a b d s last (part.none_after s shared)))
       where
         on_spot : (s : Spot) → 0 < s.of_a + s.of_b → IsOn (way a b d) (spot_at a b s)
-        on_spot s some = on_line a b d (spot_at a b s) (spot-w a b s some) (turn_on_side (whole a) (whole b) (spot_at a b s) one one (spot_mix a b s some))
+        on_spot s some = on_line a b d (spot_at a b s) (spot-w a b s some)
+            (turn_on_side (whole a) (whole b) (spot_at a b s) one one (spot_mix a b s some))
 
 -- ---- the point of a segment from a point to itself
 pub some_a : 0 < at_a.of_a + at_a.of_b
@@ -110,20 +132,26 @@ some_a = omega arith
 pub spot_whole : (a b : Pt) → Same (spot_at a b at_a) (whole a)
 spot_whole a b = (at_one a.x b.x, at_one a.y b.y)
   where
-    at_one : (x y : ℤ) → (pos 1 *ℤ x +ℤ (pos 0 *ℤ y +ℤ pos 0)) *ℤ pos 1 ≡ x *ℤ (pos 1 *ℤ pos 1 +ℤ (pos 0 *ℤ pos 1 +ℤ pos 0))
-    at_one = solve 2 (λ x y. (num (pos 1) ⊗ x ⊕ (num (pos 0) ⊗ y ⊕ num (pos 0))) ⊗ num (pos 1) ≐ x ⊗ (num (pos 1) ⊗ num (pos 1) ⊕ (num (pos 0) ⊗ num (pos 1) ⊕ num (pos 0)))) tt
+    at_one : (x y : ℤ) → (pos 1 *ℤ x +ℤ (pos 0 *ℤ y +ℤ pos 0)) *ℤ pos 1 ≡ x
+        *ℤ (pos 1 *ℤ pos 1 +ℤ (pos 0 *ℤ pos 1 +ℤ pos 0))
+    at_one = solve 2 (λ x y. (num (pos 1) ⊗ x ⊕ (num (pos 0) ⊗ y ⊕ num (pos 0))) ⊗ num (pos 1) ≐ x
+        ⊗ (num (pos 1) ⊗ num (pos 1) ⊕ (num (pos 0) ⊗ num (pos 1) ⊕ num (pos 0)))) tt
 
 -- a segment from a point to itself has this point alone
 pub one_point : (a b : Pt) (r : Point) → a ≡ b → IsMix r (whole a ∷ whole b ∷ []) → Same r (whole a)
 one_point a b r e m = at_twice r (whole a) one (subst (λ (p : Pt). IsMix r (whole a ∷ whole p ∷ [])) (sym e) m)
 
-point_ends : (tin : Triangulation) (a b : Pt) (t : ℕ) (clip : Clip) → clip.a ≡ a → clip.b ≡ b → corners clip.tri ≡ places tin Source (numbers_of tin t) → a ≡ b → IsInTriangle tin Source t (whole a) → AreEnds clip (spot_at a b at_a) (spot_at a b at_a)
+point_ends : (tin : Triangulation) (a b : Pt) (t : ℕ) (clip : Clip) → clip.a ≡ a → clip.b ≡ b
+    → corners clip.tri ≡ places tin Source (numbers_of tin t) → a ≡ b → IsInTriangle tin Source t (whole a)
+    → AreEnds clip (spot_at a b at_a) (spot_at a b at_a)
 point_ends tin a b t clip ea eb et e inside =
     record {
       first_positive = hf;
       last_positive = hf;
       forth = λ r hr m. there r hr (same_trans r f (whole a) hf (at_twice r f hf m) (spot_whole a b));
-      back = λ r hr of. mix_moved f r (f ∷ f ∷ []) hf (same_trans r (whole a) f one (one_point a b r e (of_between r of)) (same_sym f (whole a) (spot_whole a b))) (mix_first f f);
+      back = λ r hr of. mix_moved f r (f ∷ f ∷ []) hf
+          (same_trans r (whole a) f one (one_point a b r e (of_between r of)) (same_sym f (whole a) (spot_whole a b)))
+          (mix_first f f);
     }
   where
     f : Point
@@ -133,24 +161,32 @@ point_ends tin a b t clip ea eb et e inside =
     hf = spot-w a b at_a some_a
 
     of_between : (r : Point) → IsOf clip r → IsMix r (whole a ∷ whole b ∷ [])
-    of_between r of = subst (λ (p : Pt). IsMix r (whole a ∷ whole p ∷ [])) eb (subst (λ (p : Pt). IsMix r (whole p ∷ whole clip.b ∷ [])) ea of.between)
+    of_between r of = subst (λ (p : Pt). IsMix r (whole a ∷ whole p ∷ [])) eb
+        (subst (λ (p : Pt). IsMix r (whole p ∷ whole clip.b ∷ [])) ea of.between)
 
     there : (r : Point) → pos 0 <ℤ r.w → Same r (whole a) → IsOf clip r
     there r hr s = record {
-      between = mix_moved (whole a) r (whole clip.a ∷ whole clip.b ∷ []) one s (subst (λ (p : Pt). IsMix (whole a) (whole p ∷ whole clip.b ∷ [])) (sym ea) (mix_first (whole a) (whole clip.b)));
-      inside = mix_moved (whole a) r (corners clip.tri) one s (subst (λ (ps : List Point). IsMix (whole a) ps) (sym et) inside);
+      between = mix_moved (whole a) r (whole clip.a ∷ whole clip.b ∷ []) one s
+          (subst (λ (p : Pt). IsMix (whole a) (whole p ∷ whole clip.b ∷ [])) (sym ea)
+          (mix_first (whole a) (whole clip.b)));
+      inside = mix_moved (whole a) r (corners clip.tri) one s
+          (subst (λ (ps : List Point). IsMix (whole a) ps) (sym et) inside);
     }
 
-pub piece_ends : (tin : Triangulation) (piece : Piece) (clip : Clip) (part : Part) → IsClipOf tin piece clip → IsPieceOf tin piece part → AreEnds clip (first_point piece part) (last_point piece part)
+pub piece_ends : (tin : Triangulation) (piece : Piece) (clip : Clip) (part : Part) → IsClipOf tin piece clip
+    → IsPieceOf tin piece part → AreEnds clip (first_point piece part) (last_point piece part)
 piece_ends tin piece clip part is h = go (same_or_different piece.a piece.b)
   where
-    go : (piece.a ≡ piece.b) ⊎ AreDifferent piece.a piece.b → AreEnds clip (first_point piece part) (last_point piece part)
+    go : (piece.a ≡ piece.b) ⊎ AreDifferent piece.a piece.b
+        → AreEnds clip (first_point piece part) (last_point piece part)
     go (inl e) =
         let p = h.of_point e in
-        subst (λ (s : Spot). AreEnds clip (spot_at piece.a piece.b s) (spot_at piece.a piece.b part.last)) (sym p.begins)
+        subst (λ (s : Spot). AreEnds clip (spot_at piece.a piece.b s) (spot_at piece.a piece.b part.last))
+        (sym p.begins)
         (subst (λ (s : Spot). AreEnds clip (spot_at piece.a piece.b at_a) (spot_at piece.a piece.b s)) (sym p.ends)
         (point_ends tin piece.a piece.b piece.tri clip is.a_is is.b_is is.tri_is e p.has_point))
-    go (inr d) = part_ends tin piece.a piece.b piece.tri clip part.first part.last is.a_is is.b_is is.tri_is d (h.of_segment (different_not piece.a piece.b d))
+    go (inr d) = part_ends tin piece.a piece.b piece.tri clip part.first part.last is.a_is is.b_is is.tri_is d
+        (h.of_segment (different_not piece.a piece.b d))
 
 -- ---- the triangle of a piece has its exact ends
 pub record HasEnds (tin : Triangulation) (piece : Piece) (part : Part) : Type 0 where
@@ -163,18 +199,24 @@ pub record HasEnds (tin : Triangulation) (piece : Piece) (part : Part) : Type 0 
 pub has_ends : (tin : Triangulation) (piece : Piece) (part : Part) → IsPieceOf tin piece part → HasEnds tin piece part
 has_ends tin piece part h = go (same_or_different piece.a piece.b)
   where
-    at_point : IsInTriangle tin Source piece.tri (whole piece.a) → IsInTriangle tin Source piece.tri (spot_at piece.a piece.b at_a)
-    at_point m = mix_moved (whole piece.a) (spot_at piece.a piece.b at_a) (places tin Source (numbers_of tin piece.tri)) one (spot_whole piece.a piece.b) m
+    at_point : IsInTriangle tin Source piece.tri (whole piece.a)
+        → IsInTriangle tin Source piece.tri (spot_at piece.a piece.b at_a)
+    at_point m = mix_moved (whole piece.a) (spot_at piece.a piece.b at_a) (places tin Source (numbers_of tin piece.tri))
+        one (spot_whole piece.a piece.b) m
 
     go : (piece.a ≡ piece.b) ⊎ AreDifferent piece.a piece.b → HasEnds tin piece part
     go (inl e) =
         let p = h.of_point e in
         record {
           in_range = p.in_range;
-          first = subst (λ (s : Spot). IsInTriangle tin Source piece.tri (spot_at piece.a piece.b s)) (sym p.begins) (at_point p.has_point);
-          last = subst (λ (s : Spot). IsInTriangle tin Source piece.tri (spot_at piece.a piece.b s)) (sym p.ends) (at_point p.has_point);
-          first_positive = subst (λ (s : Spot). pos 0 <ℤ (spot_at piece.a piece.b s).w) (sym p.begins) (spot-w piece.a piece.b at_a some_a);
-          last_positive = subst (λ (s : Spot). pos 0 <ℤ (spot_at piece.a piece.b s).w) (sym p.ends) (spot-w piece.a piece.b at_a some_a);
+          first = subst (λ (s : Spot). IsInTriangle tin Source piece.tri (spot_at piece.a piece.b s)) (sym p.begins)
+              (at_point p.has_point);
+          last = subst (λ (s : Spot). IsInTriangle tin Source piece.tri (spot_at piece.a piece.b s)) (sym p.ends)
+              (at_point p.has_point);
+          first_positive = subst (λ (s : Spot). pos 0 <ℤ (spot_at piece.a piece.b s).w) (sym p.begins)
+              (spot-w piece.a piece.b at_a some_a);
+          last_positive = subst (λ (s : Spot). pos 0 <ℤ (spot_at piece.a piece.b s).w) (sym p.ends)
+              (spot-w piece.a piece.b at_a some_a);
         }
     go (inr d) =
         let p = h.of_segment (different_not piece.a piece.b d) in

@@ -14,14 +14,17 @@ end_moved p q e f r s h same (inr (inr (inl k))) = inr (inr (inl (same_trans s r
 end_moved p q e f r s h same (inr (inr (inr k))) = inr (inr (inr (same_trans s r f h same k)))
 
 -- one common point alone, and two that differ
-not_both : (p q e f r s t : Point) → IsOnlyCommonPoint p q e f r → IsCommonPoint p q e f s → IsCommonPoint p q e f t → (Same s t → ⊥) → ⊥
+not_both : (p q e f r s t : Point) → IsOnlyCommonPoint p q e f r → IsCommonPoint p q e f s → IsCommonPoint p q e f t
+    → (Same s t → ⊥) → ⊥
 not_both p q e f r s t only first second differ =
     let c = only.0 in
     differ (same_trans s r t c.positive (only.1 s first) (same_sym t r (only.1 t second)))
 
 -- one that is an end, and one that is none
-not_an_end : (p q e f r s : Point) → IsOnlyCommonPoint p q e f r → IsAnEnd p q e f r → IsOnlyCommonPoint p q e f s → (IsAnEnd p q e f s → ⊥) → ⊥
-not_an_end p q e f r s only end other no_end = let c = only.0 in no_end (end_moved p q e f r s c.positive (only.1 s other.0) end)
+not_an_end : (p q e f r s : Point) → IsOnlyCommonPoint p q e f r → IsAnEnd p q e f r → IsOnlyCommonPoint p q e f s
+    → (IsAnEnd p q e f s → ⊥) → ⊥
+not_an_end p q e f r s only end other no_end = let c =
+    only.0 in no_end (end_moved p q e f r s c.positive (only.1 s other.0) end)
 
 pub relations_are_exclusive : RelationsAreExclusive
 relations_are_exclusive p q e f Apart Apart h k = refl

@@ -1,5 +1,6 @@
 -- The first and the last of four points of one line: the way between them holds all four.
-use Rattle.std.proofs.Common.{◌≡◌, ◌⊎◌, inl, inr, ℤ, pos, ◌+ℤ◌, ◌-ℤ◌, ◌*ℤ◌, ◌≤ℤ◌, ◌<ℤ◌, sym, ◌∙◌, ap₂, subst, refl, arith}
+use Rattle.std.proofs.Common.{◌≡◌, ◌⊎◌, inl, inr, ℤ, pos, ◌+ℤ◌, ◌-ℤ◌, ◌*ℤ◌, ◌≤ℤ◌, ◌<ℤ◌, sym, ◌∙◌, ap₂, subst, refl}
+use Rattle.std.proofs.Common.{arith}
 use Rattle.std.proofs.lemmas.Int.{ints}
 use Rattle.integer_ring.proofs.Ring.{num, neg, ◌⊕◌, ◌⊖◌, ◌⊗◌}
 use Rattle.integer_ring.proofs.Order.{≤_or_>}
@@ -92,18 +93,28 @@ not_before_itself p q e b = no q (subst (λ (r : Pt). IsBefore r q) e b)
 
 -- ---- points of one line
 three_z : (sx sy tx ty ux uy vx vy px py : ℤ)
-    → turn_of (record { x = sx; y = sy; w = pos 1 }) (record { x = tx; y = ty; w = pos 1 }) (record { x = ux; y = uy; w = pos 1 }) ≡ pos 0
-    → turn_of (record { x = sx; y = sy; w = pos 1 }) (record { x = tx; y = ty; w = pos 1 }) (record { x = vx; y = vy; w = pos 1 }) ≡ pos 0
-    → turn_of (record { x = sx; y = sy; w = pos 1 }) (record { x = tx; y = ty; w = pos 1 }) (record { x = px; y = py; w = pos 1 }) ≡ pos 0
-    → turn_of (record { x = ux; y = uy; w = pos 1 }) (record { x = vx; y = vy; w = pos 1 }) (record { x = px; y = py; w = pos 1 }) *ℤ ((tx -ℤ sx) *ℤ (tx -ℤ sx) +ℤ (ty -ℤ sy) *ℤ (ty -ℤ sy)) ≡ pos 0 *ℤ ((tx -ℤ sx) *ℤ (tx -ℤ sx) +ℤ (ty -ℤ sy) *ℤ (ty -ℤ sy))
+    → turn_of (record { x = sx; y = sy; w = pos 1 }) (record { x = tx; y = ty; w = pos 1 })
+    (record { x = ux; y = uy; w = pos 1 }) ≡ pos 0
+    → turn_of (record { x = sx; y = sy; w = pos 1 }) (record { x = tx; y = ty; w = pos 1 })
+    (record { x = vx; y = vy; w = pos 1 }) ≡ pos 0
+    → turn_of (record { x = sx; y = sy; w = pos 1 }) (record { x = tx; y = ty; w = pos 1 })
+    (record { x = px; y = py; w = pos 1 }) ≡ pos 0
+    → turn_of (record { x = ux; y = uy; w = pos 1 }) (record { x = vx; y = vy; w = pos 1 })
+    (record { x = px; y = py; w = pos 1 }) *ℤ ((tx -ℤ sx) *ℤ (tx -ℤ sx) +ℤ (ty -ℤ sy) *ℤ (ty -ℤ sy)) ≡ pos 0
+    *ℤ ((tx -ℤ sx) *ℤ (tx -ℤ sx) +ℤ (ty -ℤ sy) *ℤ (ty -ℤ sy))
 three_z =
     follows 10 (λ sx sy tx ty ux uy vx vy px py.
-    turn (record { x = sx; y = sy; w = num (pos 1) }) (record { x = tx; y = ty; w = num (pos 1) }) (record { x = ux; y = uy; w = num (pos 1) }) ≐ num (pos 0)
-    ⇒ turn (record { x = sx; y = sy; w = num (pos 1) }) (record { x = tx; y = ty; w = num (pos 1) }) (record { x = vx; y = vy; w = num (pos 1) }) ≐ num (pos 0)
-    ⇒ turn (record { x = sx; y = sy; w = num (pos 1) }) (record { x = tx; y = ty; w = num (pos 1) }) (record { x = px; y = py; w = num (pos 1) }) ≐ num (pos 0)
-    ⇒ turn (record { x = ux; y = uy; w = num (pos 1) }) (record { x = vx; y = vy; w = num (pos 1) }) (record { x = px; y = py; w = num (pos 1) }) ⊗ ((tx ⊖ sx) ⊗ (tx ⊖ sx) ⊕ (ty ⊖ sy) ⊗ (ty ⊖ sy))
+    turn (record { x = sx; y = sy; w = num (pos 1) }) (record { x = tx; y = ty; w = num (pos 1) })
+    (record { x = ux; y = uy; w = num (pos 1) }) ≐ num (pos 0)
+    ⇒ turn (record { x = sx; y = sy; w = num (pos 1) }) (record { x = tx; y = ty; w = num (pos 1) })
+    (record { x = vx; y = vy; w = num (pos 1) }) ≐ num (pos 0)
+    ⇒ turn (record { x = sx; y = sy; w = num (pos 1) }) (record { x = tx; y = ty; w = num (pos 1) })
+    (record { x = px; y = py; w = num (pos 1) }) ≐ num (pos 0)
+    ⇒ turn (record { x = ux; y = uy; w = num (pos 1) }) (record { x = vx; y = vy; w = num (pos 1) })
+    (record { x = px; y = py; w = num (pos 1) }) ⊗ ((tx ⊖ sx) ⊗ (tx ⊖ sx) ⊕ (ty ⊖ sy) ⊗ (ty ⊖ sy))
     ≐ num (pos 0) ⊗ ((tx ⊖ sx) ⊗ (tx ⊖ sx) ⊕ (ty ⊖ sy) ⊗ (ty ⊖ sy))
-    because eqn 0 ((sy ⊖ ty) ⊗ (vy ⊖ py) ⊕ (tx ⊖ sx) ⊗ (px ⊖ vx)) ⊞ eqn 1 ((sy ⊖ ty) ⊗ (py ⊖ uy) ⊕ (tx ⊖ sx) ⊗ (ux ⊖ px)) ⊞ eqn 2 ((sy ⊖ ty) ⊗ (uy ⊖ vy) ⊕ (tx ⊖ sx) ⊗ (vx ⊖ ux))) tt
+    because eqn 0 ((sy ⊖ ty) ⊗ (vy ⊖ py) ⊕ (tx ⊖ sx) ⊗ (px ⊖ vx)) ⊞ eqn 1
+    ((sy ⊖ ty) ⊗ (py ⊖ uy) ⊕ (tx ⊖ sx) ⊗ (ux ⊖ px)) ⊞ eqn 2 ((sy ⊖ ty) ⊗ (uy ⊖ vy) ⊕ (tx ⊖ sx) ⊗ (vx ⊖ ux))) tt
 
 -- a line of two different points with all four on it
 pub record IsLineOf (a b c d : Pt) : Type 0 where
@@ -115,7 +126,8 @@ pub record IsLineOf (a b c d : Pt) : Type 0 where
   pub of_c : turn_of (whole s) (whole t) (whole c) ≡ pos 0
   pub of_d : turn_of (whole s) (whole t) (whole d) ≡ pos 0
 
-pub three_on : (a b c d u v x : Pt) → IsLineOf a b c d → IsOneOf u a b c d → IsOneOf v a b c d → IsOneOf x a b c d → turn_of (whole u) (whole v) (whole x) ≡ pos 0
+pub three_on : (a b c d u v x : Pt) → IsLineOf a b c d → IsOneOf u a b c d → IsOneOf v a b c d → IsOneOf x a b c d
+    → turn_of (whole u) (whole v) (whole x) ≡ pos 0
 three_on a b c d u v x l hu hv hx =
     let s = l.s in let t = l.t in let w = l.different in
     ≡_of_mul (turn_of (whole u) (whole v) (whole x)) (pos 0) (far s t) w.far_positive
@@ -134,8 +146,26 @@ pub line_of : (a b c d : Pt) → AreOnOneLine a b c d → (a ≡ b → c ≡ d �
 line_of a b c d l some = go (same_or_different a b) (same_or_different c d) (same_or_different a c)
   where
     go : (a ≡ b) ⊎ AreDifferent a b → (c ≡ d) ⊎ AreDifferent c d → (a ≡ c) ⊎ AreDifferent a c → IsLineOf a b c d
-    go (inr h) k m = record { s = a; t = b; different = h; of_a = turn_first a b; of_b = turn_last a b; of_c = l.of_c; of_d = l.of_d }
-    go (inl e) (inr k) m = record { s = c; t = d; different = k; of_a = l.of_a; of_b = l.of_b; of_c = turn_first c d; of_d = turn_last c d }
+    go (inr h) k m = record {
+      s = a;
+      t = b;
+      different = h;
+      of_a = turn_first a b;
+      of_b = turn_last a b;
+      of_c =
+          l.of_c;
+      of_d = l.of_d;
+    }
+    go (inl e) (inr k) m = record {
+      s = c;
+      t = d;
+      different = k;
+      of_a = l.of_a;
+      of_b = l.of_b;
+      of_c =
+          turn_first c d;
+      of_d = turn_last c d;
+    }
     go (inl e) (inl f) (inr m) = record {
       s = a;
       t = c;
@@ -185,17 +215,24 @@ two_near a b c d u v n hu hv = picked (λ x. IsNear x v) a b c d u (to_a hv) (to
     to_c h = picked (λ x. IsNear c x) a b c d v (near_turned a c ac) (near_turned b c bc) (near_itself c) cd h
 
     to_d : IsOneOf v a b c d → IsNear d v
-    to_d h = picked (λ x. IsNear d x) a b c d v (near_turned a d ad) (near_turned b d bd) (near_turned c d cd) (near_itself d) h
+    to_d h = picked (λ x. IsNear d x) a b c d v (near_turned a d ad) (near_turned b d bd) (near_turned c d cd)
+        (near_itself d) h
 
 pub outer_line : (a b c d u v : Pt) → AreOuter a b c d u v → IsBefore u v → IsLineOf a b c d
-outer_line a b c d u v o before = line_of a b c d o.line (λ e f g. not_before_itself u v (all e f g u o.u_one ∙ sym (all e f g v o.v_one)) before)
+outer_line a b c d u v o before = line_of a b c d o.line
+    (λ e f g. not_before_itself u v (all e f g u o.u_one ∙ sym (all e f g v o.v_one)) before)
   where
     all : a ≡ b → c ≡ d → a ≡ c → (r : Pt) → IsOneOf r a b c d → r ≡ a
     all e f g r h = picked (λ x. x ≡ a) a b c d r refl (sym e) (sym g) (sym f ∙ sym g) h
 
 -- the four are one point where u is not before v
 pub outer_same : (a b c d u v : Pt) → AreOuter a b c d u v → (IsBefore u v → ⊥) → (a ≡ b) × (c ≡ d) × (a ≡ c)
-outer_same a b c d u v o n = (sym (same a o.u_a o.a_v) ∙ same b o.u_b o.b_v, sym (same c o.u_c o.c_v) ∙ same d o.u_d o.d_v, sym (same a o.u_a o.a_v) ∙ same c o.u_c o.c_v)
+outer_same a b c d u v o n = (
+  sym (same a o.u_a o.a_v) ∙ same b o.u_b o.b_v,
+  sym (same c o.u_c o.c_v)
+      ∙ same d o.u_d o.d_v,
+  sym (same a o.u_a o.a_v) ∙ same c o.u_c o.c_v,
+)
   where
     back : IsNotAfter v u
     back = not_after_of v u n
@@ -204,7 +241,9 @@ outer_same a b c d u v o n = (sym (same a o.u_a o.a_v) ∙ same b o.u_b o.b_v, s
     same r h k = same_by_order u r h (not_after_trans r v u k back)
 
 -- so the way from u to v is one for a segment between two of the four
-pub way_for : (a b c d u v : Pt) (clip : Clip) → AreOuter a b c d u v → IsBefore u v → IsOneOf clip.a a b c d → IsOneOf clip.b a b c d → IsNearTri clip.tri a → IsNearTri clip.tri b → IsNearTri clip.tri c → IsNearTri clip.tri d → IsWayFor u v clip
+pub way_for : (a b c d u v : Pt) (clip : Clip) → AreOuter a b c d u v → IsBefore u v → IsOneOf clip.a a b c d
+    → IsOneOf clip.b a b c d → IsNearTri clip.tri a → IsNearTri clip.tri b → IsNearTri clip.tri c → IsNearTri clip.tri d
+    → IsWayFor u v clip
 way_for a b c d u v clip o before one_a one_b na nb nc nd =
     let l = outer_line a b c d u v o before in
     record {
@@ -220,20 +259,26 @@ way_for a b c d u v clip o before one_a one_b na nb nc nd =
     }
 
 -- ---- where a point stands
-x_z : (n d px ux vx : ℤ) → n ≡ px -ℤ ux → d ≡ vx -ℤ ux → px *ℤ ((d -ℤ n) *ℤ pos 1 +ℤ n *ℤ pos 1) ≡ ((d -ℤ n) *ℤ ux +ℤ n *ℤ vx) *ℤ pos 1
-x_z = follows 5 (λ n d px ux vx. n ≐ px ⊖ ux ⇒ d ≐ vx ⊖ ux ⇒ px ⊗ ((d ⊖ n) ⊗ num (pos 1) ⊕ n ⊗ num (pos 1)) ≐ ((d ⊖ n) ⊗ ux ⊕ n ⊗ vx) ⊗ num (pos 1) because eqn 1 n ⊞ eqn 0 (neg d)) tt
+x_z : (n d px ux vx : ℤ) → n ≡ px -ℤ ux → d ≡ vx -ℤ ux
+    → px *ℤ ((d -ℤ n) *ℤ pos 1 +ℤ n *ℤ pos 1) ≡ ((d -ℤ n) *ℤ ux +ℤ n *ℤ vx) *ℤ pos 1
+x_z = follows 5 (λ n d px ux vx. n ≐ px ⊖ ux ⇒ d ≐ vx ⊖ ux ⇒ px ⊗ ((d ⊖ n) ⊗ num (pos 1) ⊕ n ⊗ num (pos 1))
+    ≐ ((d ⊖ n) ⊗ ux ⊕ n ⊗ vx) ⊗ num (pos 1) because eqn 1 n ⊞ eqn 0 (neg d)) tt
 
 y_z : (n d px py ux uy vx vy : ℤ) → n ≡ px -ℤ ux → d ≡ vx -ℤ ux
-    → turn_of (record { x = ux; y = uy; w = pos 1 }) (record { x = vx; y = vy; w = pos 1 }) (record { x = px; y = py; w = pos 1 }) ≡ pos 0
+    → turn_of (record { x = ux; y = uy; w = pos 1 }) (record { x = vx; y = vy; w = pos 1 })
+    (record { x = px; y = py; w = pos 1 }) ≡ pos 0
     → py *ℤ ((d -ℤ n) *ℤ pos 1 +ℤ n *ℤ pos 1) ≡ ((d -ℤ n) *ℤ uy +ℤ n *ℤ vy) *ℤ pos 1
 y_z =
     follows 8 (λ n d px py ux uy vx vy. n ≐ px ⊖ ux ⇒ d ≐ vx ⊖ ux
-    ⇒ turn (record { x = ux; y = uy; w = num (pos 1) }) (record { x = vx; y = vy; w = num (pos 1) }) (record { x = px; y = py; w = num (pos 1) }) ≐ num (pos 0)
+    ⇒ turn (record { x = ux; y = uy; w = num (pos 1) }) (record { x = vx; y = vy; w = num (pos 1) })
+    (record { x = px; y = py; w = num (pos 1) }) ≐ num (pos 0)
     ⇒ py ⊗ ((d ⊖ n) ⊗ num (pos 1) ⊕ n ⊗ num (pos 1)) ≐ ((d ⊖ n) ⊗ uy ⊕ n ⊗ vy) ⊗ num (pos 1)
     because eqn 2 (num (pos 1)) ⊞ eqn 1 (py ⊖ uy) ⊞ eqn 0 (neg (vy ⊖ uy))) tt
 
-level_z : (n d px ux vx : ℤ) → ux ≡ px → ux ≡ vx → px *ℤ ((d -ℤ n) *ℤ pos 1 +ℤ n *ℤ pos 1) ≡ ((d -ℤ n) *ℤ ux +ℤ n *ℤ vx) *ℤ pos 1
-level_z = follows 5 (λ n d px ux vx. ux ≐ px ⇒ ux ≐ vx ⇒ px ⊗ ((d ⊖ n) ⊗ num (pos 1) ⊕ n ⊗ num (pos 1)) ≐ ((d ⊖ n) ⊗ ux ⊕ n ⊗ vx) ⊗ num (pos 1) because eqn 0 (neg d) ⊞ eqn 1 n) tt
+level_z : (n d px ux vx : ℤ) → ux ≡ px → ux ≡ vx
+    → px *ℤ ((d -ℤ n) *ℤ pos 1 +ℤ n *ℤ pos 1) ≡ ((d -ℤ n) *ℤ ux +ℤ n *ℤ vx) *ℤ pos 1
+level_z = follows 5 (λ n d px ux vx. ux ≐ px ⇒ ux ≐ vx ⇒ px ⊗ ((d ⊖ n) ⊗ num (pos 1) ⊕ n ⊗ num (pos 1))
+    ≐ ((d ⊖ n) ⊗ ux ⊕ n ⊗ vx) ⊗ num (pos 1) because eqn 0 (neg d) ⊞ eqn 1 n) tt
 
 -- by the first numbers, where these differ
 pub first_up : (p q : Pt) → IsNotAfter p q → p.x ≤ℤ q.x
@@ -250,7 +295,8 @@ second_up p q (inr h) e = h.1
 params : (n d a b c : ℤ) → n ≡ b -ℤ a → d ≡ c -ℤ a → a <ℤ c → a ≤ℤ b → b ≤ℤ c → (pos 0 <ℤ d) × (pos 0 ≤ℤ n) × (n ≤ℤ d)
 params n d a b c e f h k l = (omega (arith, ints), omega (arith, ints), omega (arith, ints))
 
-pub stands_first : (u v p : Pt) (f : Frac) → u.x <ℤ v.x → IsNotAfter u p → IsNotAfter p v → turn_of (whole u) (whole v) (whole p) ≡ pos 0 → f.num ≡ p.x -ℤ u.x → f.den ≡ v.x -ℤ u.x → StandsAt u v p f
+pub stands_first : (u v p : Pt) (f : Frac) → u.x <ℤ v.x → IsNotAfter u p → IsNotAfter p v
+    → turn_of (whole u) (whole v) (whole p) ≡ pos 0 → f.num ≡ p.x -ℤ u.x → f.den ≡ v.x -ℤ u.x → StandsAt u v p f
 stands_first u v p f h from to on n d =
     record {
       param = params f.num f.den u.x p.x v.x n d h (first_up u p from) (first_up p v to);
@@ -258,14 +304,16 @@ stands_first u v p f h from to on n d =
     }
 
 -- and by the second numbers, where all first numbers are the same
-pub upright_of : (u v p : Pt) → IsBefore u v → (u.x <ℤ v.x → ⊥) → IsNotAfter u p → IsNotAfter p v → (u.x ≡ v.x) × (u.y <ℤ v.y) × (u.x ≡ p.x) × (p.x ≡ v.x)
+pub upright_of : (u v p : Pt) → IsBefore u v → (u.x <ℤ v.x → ⊥) → IsNotAfter u p → IsNotAfter p v
+    → (u.x ≡ v.x) × (u.y <ℤ v.y) × (u.x ≡ p.x) × (p.x ≡ v.x)
 upright_of u v p (inl h) no_first from to = absurd (no_first h)
 upright_of u v p (inr h) no_first from to =
     let up = first_up u p from in let down : p.x ≤ℤ u.x = subst (λ (z : ℤ). p.x ≤ℤ z) (sym h.0) (first_up p v to) in
     let e : u.x ≡ p.x = antisymm u.x p.x up down in
     (h.0, h.1, e, sym e ∙ h.0)
 
-pub stands_second : (u v p : Pt) (f : Frac) → IsBefore u v → (u.x <ℤ v.x → ⊥) → IsNotAfter u p → IsNotAfter p v → f.num ≡ p.y -ℤ u.y → f.den ≡ v.y -ℤ u.y → StandsAt u v p f
+pub stands_second : (u v p : Pt) (f : Frac) → IsBefore u v → (u.x <ℤ v.x → ⊥) → IsNotAfter u p → IsNotAfter p v
+    → f.num ≡ p.y -ℤ u.y → f.den ≡ v.y -ℤ u.y → StandsAt u v p f
 stands_second u v p f before no_first from to n d =
     let k = upright_of u v p before no_first from to in
     record {

@@ -14,7 +14,8 @@ use Rattle.meet_rel.specs.Small.{IsSmall, IsSmallClip}
 use Rattle.meet_rel.proofs.Ways.{at-w}
 use Rattle.meet_rel.proofs.Cutting.{param_between}
 
-near_numbers : (px py qx qy : ℤ) → unsigned_abs px ≤ 32768 → unsigned_abs py ≤ 32768 → unsigned_abs qx ≤ 32768 → unsigned_abs qy ≤ 32768 → IsNear (record { x = px; y = py }) (record { x = qx; y = qy })
+near_numbers : (px py qx qy : ℤ) → unsigned_abs px ≤ 32768 → unsigned_abs py ≤ 32768 → unsigned_abs qx ≤ 32768
+    → unsigned_abs qy ≤ 32768 → IsNear (record { x = px; y = py }) (record { x = qx; y = qy })
 near_numbers px py qx qy a b c d = (omega (arith, ints), omega (arith, ints), omega (arith, ints), omega (arith, ints))
 
 pub near : (p q : Pt) → IsSmall p → IsSmall q → IsNear p q
@@ -39,7 +40,9 @@ close p q h k =
       q_b = near_tri q p.b k h.b;
     }
 
-pub proper : (clip : Clip) (r : Option Stretch) → IsSmallClip clip → pos 0 <ℤ turn_of (whole clip.tri.a) (whole clip.tri.b) (whole clip.tri.c) → slice_of clip.a clip.b clip.tri r → IsSome r → IsProper clip
+pub proper : (clip : Clip) (r : Option Stretch) → IsSmallClip clip
+    → pos 0 <ℤ turn_of (whole clip.tri.a) (whole clip.tri.b) (whole clip.tri.c) → slice_of clip.a clip.b clip.tri r
+    → IsSome r → IsProper clip
 proper clip None h positive none some = absurd (false≢true some)
 proper clip (Some s) h positive common some =
     record {

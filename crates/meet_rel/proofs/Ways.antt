@@ -43,11 +43,17 @@ even a b h = omega (arith, ints)
 
 pub different_x : (u v : Pt) → (u.x ≡ v.x → ⊥) → AreDifferent u v
 different_x u v n =
-    record { far_positive = sum_first ((v.x -ℤ u.x) *ℤ (v.x -ℤ u.x)) ((v.y -ℤ u.y) *ℤ (v.y -ℤ u.y)) (square_positive (v.x -ℤ u.x) (λ z. n (even u.x v.x z))) (nonneg_square (v.y -ℤ u.y)) }
+    record {
+      far_positive = sum_first ((v.x -ℤ u.x) *ℤ (v.x -ℤ u.x)) ((v.y -ℤ u.y) *ℤ (v.y -ℤ u.y))
+          (square_positive (v.x -ℤ u.x) (λ z. n (even u.x v.x z))) (nonneg_square (v.y -ℤ u.y));
+    }
 
 pub different_y : (u v : Pt) → (u.y ≡ v.y → ⊥) → AreDifferent u v
 different_y u v n =
-    record { far_positive = sum_second ((v.x -ℤ u.x) *ℤ (v.x -ℤ u.x)) ((v.y -ℤ u.y) *ℤ (v.y -ℤ u.y)) (nonneg_square (v.x -ℤ u.x)) (square_positive (v.y -ℤ u.y) (λ z. n (even u.y v.y z))) }
+    record {
+      far_positive = sum_second ((v.x -ℤ u.x) *ℤ (v.x -ℤ u.x)) ((v.y -ℤ u.y) *ℤ (v.y -ℤ u.y))
+          (nonneg_square (v.x -ℤ u.x)) (square_positive (v.y -ℤ u.y) (λ z. n (even u.y v.y z)));
+    }
 
 -- ---- the scale of the way
 pub way : (u v : Pt) → AreDifferent u v → Scale
@@ -59,14 +65,20 @@ way u v d = record { u = u; v = v; dx = v.x -ℤ u.x; dy = v.y -ℤ u.y; tells =
 pub at-w : (u v : Pt) (f : Frac) → pos 0 <ℤ (at u v f).w
 at-w u v f = along-w f.num f.den f.positive
 
-pub on_along : (u v : Pt) (d : AreDifferent u v) (n m : ℤ) → pos 0 <ℤ m → IsOn (way u v d) (along (whole u) (whole v) n m)
+pub on_along : (u v : Pt) (d : AreDifferent u v) (n m : ℤ) → pos 0 <ℤ m
+    → IsOn (way u v d) (along (whole u) (whole v) n m)
 unfolding way
-on_along u v d n m h = record { line = solve_at 2 2 (λ u v n m. turn u v (along_e u v n m) ≐ num (pos 0)) tt (whole u) (whole v) n m; positive = along-w n m h }
+on_along u v d n m h = record {
+  line = solve_at 2 2 (λ u v n m. turn u v (along_e u v n m) ≐ num (pos 0)) tt (whole u)
+      (whole v) n m;
+  positive = along-w n m h;
+}
 
 pub on_at : (u v : Pt) (d : AreDifferent u v) (f : Frac) → IsOn (way u v d) (at u v f)
 on_at u v d f = on_along u v d f.num f.den f.positive
 
-pub on_line : (u v : Pt) (d : AreDifferent u v) (r : Point) → pos 0 <ℤ r.w → turn_of (whole u) (whole v) r ≡ pos 0 → IsOn (way u v d) r
+pub on_line : (u v : Pt) (d : AreDifferent u v) (r : Point) → pos 0 <ℤ r.w → turn_of (whole u) (whole v) r ≡ pos 0
+    → IsOn (way u v d) r
 unfolding way
 on_line u v d r h z = record { line = z; positive = h }
 
@@ -75,39 +87,55 @@ unfolding way
 line_on u v d r o = o.line
 
 -- ---- order on the way is the order of parameters
-up_z : (ux uy vx vy n d m e : ℤ) → pos 0 <ℤ ((vx -ℤ ux) *ℤ (vx -ℤ ux) +ℤ (vy -ℤ uy) *ℤ (vy -ℤ uy)) → (n *ℤ e) ≤ℤ (m *ℤ d)
-    → (((vx -ℤ ux) *ℤ ((d -ℤ n) *ℤ ux +ℤ n *ℤ vx) +ℤ (vy -ℤ uy) *ℤ ((d -ℤ n) *ℤ uy +ℤ n *ℤ vy)) *ℤ ((e -ℤ m) *ℤ pos 1 +ℤ m *ℤ pos 1))
-    ≤ℤ (((vx -ℤ ux) *ℤ ((e -ℤ m) *ℤ ux +ℤ m *ℤ vx) +ℤ (vy -ℤ uy) *ℤ ((e -ℤ m) *ℤ uy +ℤ m *ℤ vy)) *ℤ ((d -ℤ n) *ℤ pos 1 +ℤ n *ℤ pos 1))
+up_z : (ux uy vx vy n d m e : ℤ) → pos 0 <ℤ ((vx -ℤ ux) *ℤ (vx -ℤ ux) +ℤ (vy -ℤ uy) *ℤ (vy -ℤ uy))
+    → (n *ℤ e) ≤ℤ (m *ℤ d)
+    → (((vx -ℤ ux) *ℤ ((d -ℤ n) *ℤ ux +ℤ n *ℤ vx) +ℤ (vy -ℤ uy) *ℤ ((d -ℤ n) *ℤ uy +ℤ n *ℤ vy))
+    *ℤ ((e -ℤ m) *ℤ pos 1 +ℤ m *ℤ pos 1))
+    ≤ℤ (((vx -ℤ ux) *ℤ ((e -ℤ m) *ℤ ux +ℤ m *ℤ vx) +ℤ (vy -ℤ uy) *ℤ ((e -ℤ m) *ℤ uy +ℤ m *ℤ vy))
+    *ℤ ((d -ℤ n) *ℤ pos 1 +ℤ n *ℤ pos 1))
 up_z =
     follows 8 (λ ux uy vx vy n d m e. num (pos 0) ≺ (vx ⊖ ux) ⊗ (vx ⊖ ux) ⊕ (vy ⊖ uy) ⊗ (vy ⊖ uy) ⇒ n ⊗ e ≼ m ⊗ d
-    ⇒ ((vx ⊖ ux) ⊗ ((d ⊖ n) ⊗ ux ⊕ n ⊗ vx) ⊕ (vy ⊖ uy) ⊗ ((d ⊖ n) ⊗ uy ⊕ n ⊗ vy)) ⊗ ((e ⊖ m) ⊗ num (pos 1) ⊕ m ⊗ num (pos 1))
-    ≼ ((vx ⊖ ux) ⊗ ((e ⊖ m) ⊗ ux ⊕ m ⊗ vx) ⊕ (vy ⊖ uy) ⊗ ((e ⊖ m) ⊗ uy ⊕ m ⊗ vy)) ⊗ ((d ⊖ n) ⊗ num (pos 1) ⊕ n ⊗ num (pos 1))
+    ⇒ ((vx ⊖ ux) ⊗ ((d ⊖ n) ⊗ ux ⊕ n ⊗ vx) ⊕ (vy ⊖ uy) ⊗ ((d ⊖ n) ⊗ uy ⊕ n ⊗ vy))
+    ⊗ ((e ⊖ m) ⊗ num (pos 1) ⊕ m ⊗ num (pos 1))
+    ≼ ((vx ⊖ ux) ⊗ ((e ⊖ m) ⊗ ux ⊕ m ⊗ vx) ⊕ (vy ⊖ uy) ⊗ ((e ⊖ m) ⊗ uy ⊕ m ⊗ vy))
+    ⊗ ((d ⊖ n) ⊗ num (pos 1) ⊕ n ⊗ num (pos 1))
     because gap 0 ⊠ gap 1) tt
 
-less_z : (ux uy vx vy n d m e : ℤ) → pos 0 <ℤ ((vx -ℤ ux) *ℤ (vx -ℤ ux) +ℤ (vy -ℤ uy) *ℤ (vy -ℤ uy)) → (n *ℤ e) <ℤ (m *ℤ d)
-    → (((vx -ℤ ux) *ℤ ((d -ℤ n) *ℤ ux +ℤ n *ℤ vx) +ℤ (vy -ℤ uy) *ℤ ((d -ℤ n) *ℤ uy +ℤ n *ℤ vy)) *ℤ ((e -ℤ m) *ℤ pos 1 +ℤ m *ℤ pos 1))
-    <ℤ (((vx -ℤ ux) *ℤ ((e -ℤ m) *ℤ ux +ℤ m *ℤ vx) +ℤ (vy -ℤ uy) *ℤ ((e -ℤ m) *ℤ uy +ℤ m *ℤ vy)) *ℤ ((d -ℤ n) *ℤ pos 1 +ℤ n *ℤ pos 1))
+less_z : (ux uy vx vy n d m e : ℤ) → pos 0 <ℤ ((vx -ℤ ux) *ℤ (vx -ℤ ux) +ℤ (vy -ℤ uy) *ℤ (vy -ℤ uy))
+    → (n *ℤ e) <ℤ (m *ℤ d)
+    → (((vx -ℤ ux) *ℤ ((d -ℤ n) *ℤ ux +ℤ n *ℤ vx) +ℤ (vy -ℤ uy) *ℤ ((d -ℤ n) *ℤ uy +ℤ n *ℤ vy))
+    *ℤ ((e -ℤ m) *ℤ pos 1 +ℤ m *ℤ pos 1))
+    <ℤ (((vx -ℤ ux) *ℤ ((e -ℤ m) *ℤ ux +ℤ m *ℤ vx) +ℤ (vy -ℤ uy) *ℤ ((e -ℤ m) *ℤ uy +ℤ m *ℤ vy))
+    *ℤ ((d -ℤ n) *ℤ pos 1 +ℤ n *ℤ pos 1))
 less_z =
     follows 8 (λ ux uy vx vy n d m e. num (pos 0) ≺ (vx ⊖ ux) ⊗ (vx ⊖ ux) ⊕ (vy ⊖ uy) ⊗ (vy ⊖ uy) ⇒ n ⊗ e ≺ m ⊗ d
-    ⇒ ((vx ⊖ ux) ⊗ ((d ⊖ n) ⊗ ux ⊕ n ⊗ vx) ⊕ (vy ⊖ uy) ⊗ ((d ⊖ n) ⊗ uy ⊕ n ⊗ vy)) ⊗ ((e ⊖ m) ⊗ num (pos 1) ⊕ m ⊗ num (pos 1))
-    ≺ ((vx ⊖ ux) ⊗ ((e ⊖ m) ⊗ ux ⊕ m ⊗ vx) ⊕ (vy ⊖ uy) ⊗ ((e ⊖ m) ⊗ uy ⊕ m ⊗ vy)) ⊗ ((d ⊖ n) ⊗ num (pos 1) ⊕ n ⊗ num (pos 1))
+    ⇒ ((vx ⊖ ux) ⊗ ((d ⊖ n) ⊗ ux ⊕ n ⊗ vx) ⊕ (vy ⊖ uy) ⊗ ((d ⊖ n) ⊗ uy ⊕ n ⊗ vy))
+    ⊗ ((e ⊖ m) ⊗ num (pos 1) ⊕ m ⊗ num (pos 1))
+    ≺ ((vx ⊖ ux) ⊗ ((e ⊖ m) ⊗ ux ⊕ m ⊗ vx) ⊕ (vy ⊖ uy) ⊗ ((e ⊖ m) ⊗ uy ⊕ m ⊗ vy))
+    ⊗ ((d ⊖ n) ⊗ num (pos 1) ⊕ n ⊗ num (pos 1))
     because gap 0 ⊠ over 1 ⊞ over 0) tt
 
 down_z : (ux uy vx vy n d m e : ℤ) → pos 0 <ℤ ((vx -ℤ ux) *ℤ (vx -ℤ ux) +ℤ (vy -ℤ uy) *ℤ (vy -ℤ uy))
-    → (((vx -ℤ ux) *ℤ ((d -ℤ n) *ℤ ux +ℤ n *ℤ vx) +ℤ (vy -ℤ uy) *ℤ ((d -ℤ n) *ℤ uy +ℤ n *ℤ vy)) *ℤ ((e -ℤ m) *ℤ pos 1 +ℤ m *ℤ pos 1))
-    ≤ℤ (((vx -ℤ ux) *ℤ ((e -ℤ m) *ℤ ux +ℤ m *ℤ vx) +ℤ (vy -ℤ uy) *ℤ ((e -ℤ m) *ℤ uy +ℤ m *ℤ vy)) *ℤ ((d -ℤ n) *ℤ pos 1 +ℤ n *ℤ pos 1))
+    → (((vx -ℤ ux) *ℤ ((d -ℤ n) *ℤ ux +ℤ n *ℤ vx) +ℤ (vy -ℤ uy) *ℤ ((d -ℤ n) *ℤ uy +ℤ n *ℤ vy))
+    *ℤ ((e -ℤ m) *ℤ pos 1 +ℤ m *ℤ pos 1))
+    ≤ℤ (((vx -ℤ ux) *ℤ ((e -ℤ m) *ℤ ux +ℤ m *ℤ vx) +ℤ (vy -ℤ uy) *ℤ ((e -ℤ m) *ℤ uy +ℤ m *ℤ vy))
+    *ℤ ((d -ℤ n) *ℤ pos 1 +ℤ n *ℤ pos 1))
     → (n *ℤ e) ≤ℤ (m *ℤ d)
 down_z =
     follows 8 (λ ux uy vx vy n d m e. num (pos 0) ≺ (vx ⊖ ux) ⊗ (vx ⊖ ux) ⊕ (vy ⊖ uy) ⊗ (vy ⊖ uy)
-    ⇒ ((vx ⊖ ux) ⊗ ((d ⊖ n) ⊗ ux ⊕ n ⊗ vx) ⊕ (vy ⊖ uy) ⊗ ((d ⊖ n) ⊗ uy ⊕ n ⊗ vy)) ⊗ ((e ⊖ m) ⊗ num (pos 1) ⊕ m ⊗ num (pos 1))
-    ≼ ((vx ⊖ ux) ⊗ ((e ⊖ m) ⊗ ux ⊕ m ⊗ vx) ⊕ (vy ⊖ uy) ⊗ ((e ⊖ m) ⊗ uy ⊕ m ⊗ vy)) ⊗ ((d ⊖ n) ⊗ num (pos 1) ⊕ n ⊗ num (pos 1))
+    ⇒ ((vx ⊖ ux) ⊗ ((d ⊖ n) ⊗ ux ⊕ n ⊗ vx) ⊕ (vy ⊖ uy) ⊗ ((d ⊖ n) ⊗ uy ⊕ n ⊗ vy))
+    ⊗ ((e ⊖ m) ⊗ num (pos 1) ⊕ m ⊗ num (pos 1))
+    ≼ ((vx ⊖ ux) ⊗ ((e ⊖ m) ⊗ ux ⊕ m ⊗ vx) ⊕ (vy ⊖ uy) ⊗ ((e ⊖ m) ⊗ uy ⊕ m ⊗ vy))
+    ⊗ ((d ⊖ n) ⊗ num (pos 1) ⊕ n ⊗ num (pos 1))
     ⇒ n ⊗ e ≼ m ⊗ d otherwise gap 1 ⊞ over 2 ⊠ gap 0 ⊞ over 0) tt
 
-pub up_along : (u v : Pt) (w : AreDifferent u v) (n d m e : ℤ) → (n *ℤ e) ≤ℤ (m *ℤ d) → IsUpTo (way u v w) (along (whole u) (whole v) n d) (along (whole u) (whole v) m e)
+pub up_along : (u v : Pt) (w : AreDifferent u v) (n d m e : ℤ) → (n *ℤ e) ≤ℤ (m *ℤ d)
+    → IsUpTo (way u v w) (along (whole u) (whole v) n d) (along (whole u) (whole v) m e)
 unfolding way
 up_along u v w n d m e h = record { order = up_z u.x u.y v.x v.y n d m e w.far_positive h }
 
-pub along_up : (u v : Pt) (w : AreDifferent u v) (n d m e : ℤ) → IsUpTo (way u v w) (along (whole u) (whole v) n d) (along (whole u) (whole v) m e) → (n *ℤ e) ≤ℤ (m *ℤ d)
+pub along_up : (u v : Pt) (w : AreDifferent u v) (n d m e : ℤ)
+    → IsUpTo (way u v w) (along (whole u) (whole v) n d) (along (whole u) (whole v) m e) → (n *ℤ e) ≤ℤ (m *ℤ d)
 unfolding way
 along_up u v w n d m e o = down_z u.x u.y v.x v.y n d m e w.far_positive o.order
 
@@ -117,23 +145,33 @@ up_at u v w f g h = up_along u v w f.num f.den g.num g.den h
 pub at_up : (u v : Pt) (w : AreDifferent u v) (f g : Frac) → IsUpTo (way u v w) (at u v f) (at u v g) → IsAtMost f g
 at_up u v w f g o = along_up u v w f.num f.den g.num g.den o
 
-pub before_at : (u v : Pt) (w : AreDifferent u v) (f g : Frac) → IsBelow f g → IsBefore (way u v w) (at u v f) (at u v g)
+pub before_at : (u v : Pt) (w : AreDifferent u v) (f g : Frac) → IsBelow f g
+    → IsBefore (way u v w) (at u v f) (at u v g)
 unfolding way
 before_at u v w f g h = record { order = less_z u.x u.y v.x v.y f.num f.den g.num g.den w.far_positive h }
 
 -- ---- and of spots
-spot_z : (ux uy vx vy k l s t : ℤ) → pos 0 <ℤ ((vx -ℤ ux) *ℤ (vx -ℤ ux) +ℤ (vy -ℤ uy) *ℤ (vy -ℤ uy)) → (l *ℤ s) ≤ℤ (t *ℤ k)
-    → (((vx -ℤ ux) *ℤ (k *ℤ ux +ℤ (l *ℤ vx +ℤ pos 0)) +ℤ (vy -ℤ uy) *ℤ (k *ℤ uy +ℤ (l *ℤ vy +ℤ pos 0))) *ℤ (s *ℤ pos 1 +ℤ (t *ℤ pos 1 +ℤ pos 0)))
-    ≤ℤ (((vx -ℤ ux) *ℤ (s *ℤ ux +ℤ (t *ℤ vx +ℤ pos 0)) +ℤ (vy -ℤ uy) *ℤ (s *ℤ uy +ℤ (t *ℤ vy +ℤ pos 0))) *ℤ (k *ℤ pos 1 +ℤ (l *ℤ pos 1 +ℤ pos 0)))
+spot_z : (ux uy vx vy k l s t : ℤ) → pos 0 <ℤ ((vx -ℤ ux) *ℤ (vx -ℤ ux) +ℤ (vy -ℤ uy) *ℤ (vy -ℤ uy))
+    → (l *ℤ s) ≤ℤ (t *ℤ k)
+    → (((vx -ℤ ux) *ℤ (k *ℤ ux +ℤ (l *ℤ vx +ℤ pos 0)) +ℤ (vy -ℤ uy) *ℤ (k *ℤ uy +ℤ (l *ℤ vy +ℤ pos 0)))
+    *ℤ (s *ℤ pos 1 +ℤ (t *ℤ pos 1 +ℤ pos 0)))
+    ≤ℤ (((vx -ℤ ux) *ℤ (s *ℤ ux +ℤ (t *ℤ vx +ℤ pos 0)) +ℤ (vy -ℤ uy) *ℤ (s *ℤ uy +ℤ (t *ℤ vy +ℤ pos 0)))
+    *ℤ (k *ℤ pos 1 +ℤ (l *ℤ pos 1 +ℤ pos 0)))
 spot_z =
     follows 8 (λ ux uy vx vy k l s t. num (pos 0) ≺ (vx ⊖ ux) ⊗ (vx ⊖ ux) ⊕ (vy ⊖ uy) ⊗ (vy ⊖ uy) ⇒ l ⊗ s ≼ t ⊗ k
-    ⇒ ((vx ⊖ ux) ⊗ (k ⊗ ux ⊕ (l ⊗ vx ⊕ num (pos 0))) ⊕ (vy ⊖ uy) ⊗ (k ⊗ uy ⊕ (l ⊗ vy ⊕ num (pos 0)))) ⊗ (s ⊗ num (pos 1) ⊕ (t ⊗ num (pos 1) ⊕ num (pos 0)))
-    ≼ ((vx ⊖ ux) ⊗ (s ⊗ ux ⊕ (t ⊗ vx ⊕ num (pos 0))) ⊕ (vy ⊖ uy) ⊗ (s ⊗ uy ⊕ (t ⊗ vy ⊕ num (pos 0)))) ⊗ (k ⊗ num (pos 1) ⊕ (l ⊗ num (pos 1) ⊕ num (pos 0)))
+    ⇒ ((vx ⊖ ux) ⊗ (k ⊗ ux ⊕ (l ⊗ vx ⊕ num (pos 0))) ⊕ (vy ⊖ uy) ⊗ (k ⊗ uy ⊕ (l ⊗ vy ⊕ num (pos 0))))
+    ⊗ (s ⊗ num (pos 1) ⊕ (t ⊗ num (pos 1) ⊕ num (pos 0)))
+    ≼ ((vx ⊖ ux) ⊗ (s ⊗ ux ⊕ (t ⊗ vx ⊕ num (pos 0))) ⊕ (vy ⊖ uy) ⊗ (s ⊗ uy ⊕ (t ⊗ vy ⊕ num (pos 0))))
+    ⊗ (k ⊗ num (pos 1) ⊕ (l ⊗ num (pos 1) ⊕ num (pos 0)))
     because gap 0 ⊠ gap 1) tt
 
 in_z : (a b c d : ℕ) → a * b ≤ c * d → (pos a *ℤ pos b) ≤ℤ (pos c *ℤ pos d)
 in_z a b c d h = let m : pos (a * b) ≤ℤ pos (c * d) = omega (arith, ints) in m
 
-pub up_spot : (u v : Pt) (w : AreDifferent u v) (s t : Spot) → s.of_b * t.of_a ≤ t.of_b * s.of_a → IsUpTo (way u v w) (spot_at u v s) (spot_at u v t)
+pub up_spot : (u v : Pt) (w : AreDifferent u v) (s t : Spot) → s.of_b * t.of_a ≤ t.of_b * s.of_a
+    → IsUpTo (way u v w) (spot_at u v s) (spot_at u v t)
 unfolding way
-up_spot u v w s t h = record { order = spot_z u.x u.y v.x v.y (pos s.of_a) (pos s.of_b) (pos t.of_a) (pos t.of_b) w.far_positive (in_z s.of_b t.of_a t.of_b s.of_a h) }
+up_spot u v w s t h = record {
+  order = spot_z u.x u.y v.x v.y (pos s.of_a) (pos s.of_b) (pos t.of_a) (pos t.of_b)
+      w.far_positive (in_z s.of_b t.of_a t.of_b s.of_a h);
+}

@@ -12,7 +12,8 @@ use Rattle.tin_base.specs.Relations.{HaveRelation}
 
 -- two segments, of points with denominators, have one relation
 abbrev pub RelationsAreExclusive : Type 0
-RelationsAreExclusive = (p q e f : Point) (first second : Rel) → HaveRelation first p q e f → HaveRelation second p q e f → first ≡ second
+RelationsAreExclusive = (p q e f : Point) (first second : Rel) → HaveRelation first p q e f
+    → HaveRelation second p q e f → first ≡ second
 
 -- exact images of the first and of the last point of a piece
 pub record AreImages (tin : Triangulation) (piece : Piece) (part : Part) (first last : Point) : Type 0 where
@@ -23,9 +24,11 @@ pub record AreImages (tin : Triangulation) (piece : Piece) (part : Part) (first 
 
 -- the exact pieces have the relation that the segments between the exact images of their ends have
 pub record HaveRelationOfImages (p q : Piece) (s t : Part) (a b c d : Point) : Type 0 where
-  pub kept : (relation : Rel) → HaveRelation relation (first_point p s) (last_point p s) (first_point q t) (last_point q t) ↔ HaveRelation relation a b c d
+  pub kept : (relation : Rel) → HaveRelation relation (first_point p s) (last_point p s) (first_point q t)
+      (last_point q t) ↔ HaveRelation relation a b c d
 
 -- Of each sound triangulation: two pieces, in one triangle or in two, have the relation that their exact images have
 abbrev pub PiecesKeepRelations : Type 0
 PiecesKeepRelations =
-    (tin : Triangulation) → IsSound tin → (p q : Piece) (s t : Part) → IsPieceOf tin p s → IsPieceOf tin q t → (a b c d : Point) → AreImages tin p s a b → AreImages tin q t c d → HaveRelationOfImages p q s t a b c d
+    (tin : Triangulation) → IsSound tin → (p q : Piece) (s t : Part) → IsPieceOf tin p s → IsPieceOf tin q t
+    → (a b c d : Point) → AreImages tin p s a b → AreImages tin q t c d → HaveRelationOfImages p q s t a b c d

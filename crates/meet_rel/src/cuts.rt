@@ -7,7 +7,8 @@ ghost use Rattle.plane_base.specs.declared.shapes.TheConstants.{SPAN};
 ghost use Rattle.tin_base.specs.Relations.{HaveRelation};
 ghost use Rattle.meet_rel.specs.Near.{AreNear};
 ghost use Rattle.meet_rel.specs.Signs.{AreOnOneLine};
-ghost use Rattle.meet_rel.specs.Clips.{AreEnds, IsRelOf, IsProper, AreClose, IsCut, IsBefore, IsNotAfter, AreOuter, IsWayFor, StandsAt};
+ghost use Rattle.meet_rel.specs.Clips.{AreEnds, IsRelOf, IsProper, AreClose, IsCut, IsBefore, IsNotAfter, AreOuter};
+ghost use Rattle.meet_rel.specs.Clips.{IsWayFor, StandsAt};
 
 use crate::clips::Clip;
 use crate::sides::touch_at_side;
@@ -101,7 +102,8 @@ fn rel_of_spans(first: Frac, last: Frac) -> Rel
     }
 }
 
-// The part of the clip's segment that its triangle has, by parameters of the way from `u` to `v`, which holds the segment.
+// The part of the clip's segment that its triangle has, by parameters of the way from `u` to `v`, which holds the
+// segment.
 fn span_on(u: Pt, v: Pt, clip: &Clip) -> Span
     requires proper { IsProper clip.now }
     requires before { IsBefore u v }

@@ -7,8 +7,8 @@ pub fn relations_are_exclusive()
     ensures { RelationsAreExclusive }
 {}
 
-/// A law: two pieces, in one triangle of a sound triangulation or in two, have the relation that their exact images have.
-/// So the relation of two pieces in the source frame is also that of their images before rounding.
+/// A law: two pieces, in one triangle of a sound triangulation or in two, have the relation that their exact images
+/// have. So the relation of two pieces in the source frame is also that of their images before rounding.
 pub fn pieces_keep_relations()
     ensures { PiecesKeepRelations }
 {}

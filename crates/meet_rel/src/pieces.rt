@@ -23,7 +23,8 @@ pub fn piece_rel(p: &Piece, q: &Piece, tin: &SoundTin) -> Rel
     clip_rel(&clip_of(p, tin), &clip_of(q, tin))
 }
 
-/// Where the exact first and last point of a piece lie on its segment, whose ends differ: by parameters that are 0 at `a` and 1 at `b`.
+/// Where the exact first and last point of a piece lie on its segment, whose ends differ: by parameters that are 0 at
+/// `a` and 1 at `b`.
 pub fn piece_span(piece: &Piece, tin: &SoundTin) -> Span
     requires inside { IsPieceInside tin.now piece.now }
     requires differ { piece.now.a ≢ piece.now.b }

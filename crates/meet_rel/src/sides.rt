@@ -18,7 +18,8 @@ struct Side {
     to: Pt,
 }
 
-/// Whether the parts of one segment touch where it meets a common side of their triangles. Where this says no they can still touch.
+/// Whether the parts of one segment touch where it meets a common side of their triangles. Where this says no they can
+/// still touch.
 pub(crate) fn touch_at_side(p: &Clip, q: &Clip) -> bool
     requires p { IsProper p.now }
     requires q { IsProper q.now }

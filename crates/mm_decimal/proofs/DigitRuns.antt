@@ -48,7 +48,8 @@ run_view phases.Fraction h scan kept next count digit bytes read cut dropped vie
 }
 run_view phase h scan kept next count digit bytes read cut dropped view = absurd h
 
-pub run_taken : (front : List ℕ) (byte : ℕ) (scan : Scan) (kept next : Kept) (count : ℕ) → IsRun scan.phase → IsDigit byte
+pub run_taken : (front : List ℕ) (byte : ℕ) (scan : Scan) (kept next : Kept) (count : ℕ) → IsRun scan.phase
+    → IsDigit byte
     → ((number : ℕ) → IsCut kept number → IsCut next (10 * number + (byte - 48))) → next.dropped ≤ kept.dropped + 1
     → HasRead front (run_read scan kept count) → HasRead (front ++ byte ∷ []) (run_read scan next (count + 1))
 run_taken front byte scan kept next count is_run digit cut dropped h =

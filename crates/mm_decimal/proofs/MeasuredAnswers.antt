@@ -1,5 +1,6 @@
 -- The answer as a function is the answer.
-use Rattle.std.proofs.Common.{◌≡◌, ℕ, ◌+◌, ◌*◌, ◌%◌, ◌<◌, ◌≤◌, inl, inr, List, [], ◌∷◌, ◌++◌, length, take, Bool, true, false, refl, sym, ap, ◌∙◌, subst, arith, append_assoc, append-nil, length-append}
+use Rattle.std.proofs.Common.{◌≡◌, ℕ, ◌+◌, ◌*◌, ◌%◌, ◌<◌, ◌≤◌, inl, inr, List, [], ◌∷◌, ◌++◌, length, take, Bool, true}
+use Rattle.std.proofs.Common.{false, refl, sym, ap, ◌∙◌, subst, arith, append_assoc, append-nil, length-append}
 use Rattle.std.specs.Prelude.{◌||◌, ◌==◌, nat_lt, if◌then◌else◌, Option, Some, None, Result, Ok, Err, unsigned_abs}
 use Rattle.std.specs.Option.{option_map_or}
 use Rattle.std.proofs.Math.Seq.{take-append_seam}
@@ -46,7 +47,8 @@ module _ (text : List ℕ) where
   at_end : (read : Read) → run read_after nothing_read text ≡ Some read → (ends : Bool) → is_last read.phase ≡ ends
       → Passes text (if ends then Ok read else Err (length text))
   at_end read was true ends = (was, last_so read.phase ends)
-  at_end read was false ends = fault_at_end IsNumeral read_after nothing_read EndsThere recognizes text read was (not_last_so read.phase ends)
+  at_end read was false ends = fault_at_end IsNumeral read_after nothing_read EndsThere recognizes text read was
+      (not_last_so read.phase ends)
 
   front_is : (front rest : List ℕ) → front ++ rest ≡ text → take (length front) text ≡ front
   front_is front rest whole = subst (λ (t : List ℕ). take (length front) t ≡ front) whole (take-append_seam front rest)
@@ -54,7 +56,8 @@ module _ (text : List ℕ) where
   more_is : (front rest : List ℕ) (byte : ℕ) → front ++ byte ∷ rest ≡ text → (front ++ byte ∷ []) ++ rest ≡ text
   more_is front rest byte whole = append_assoc front (byte ∷ []) rest ∙ whole
 
-  refused_there : (front rest : List ℕ) (byte : ℕ) (read : Read) → front ++ byte ∷ rest ≡ text → run read_after nothing_read front ≡ Some read
+  refused_there : (front rest : List ℕ) (byte : ℕ) (read : Read) → front ++ byte ∷ rest ≡ text
+      → run read_after nothing_read front ≡ Some read
       → read_after read byte ≡ None → IsFirstFault IsNumeral text (length front)
   refused_there front rest byte read whole was none =
       fault_at IsNumeral read_after nothing_read EndsThere recognizes text (length front) read
@@ -64,26 +67,32 @@ module _ (text : List ℕ) where
       ∙ ap (run read_after nothing_read) (front_is (front ++ byte ∷ []) rest (more_is front rest byte whole))
       ∙ run_next read_after nothing_read read front byte was ∙ none)
 
-  passes : (front rest : List ℕ) (read : Read) (count : ℕ) → count ≡ length front → front ++ rest ≡ text → run read_after nothing_read front ≡ Some read
+  passes : (front rest : List ℕ) (read : Read) (count : ℕ) → count ≡ length front → front ++ rest ≡ text
+      → run read_after nothing_read front ≡ Some read
       → Passes text (read_with read count rest)
   passes front [] read count long whole was =
       let all : front ≡ text = sym (append-nil front) ∙ whole in
       subst (λ n. Passes text (if is_last read.phase then Ok read else Err n)) (sym (long ∙ ap length all))
       (at_end read (ap (run read_after nothing_read) (sym all) ∙ was) (is_last read.phase) refl)
   passes front (byte ∷ rest) read count long whole was =
-      step (λ next here. passes (front ++ byte ∷ []) rest next (count + 1) (ap (λ n. n + 1) long ∙ sym (length_push front byte)) (more_is front rest byte whole)
+      step (λ next here. passes (front ++ byte ∷ []) rest next (count + 1)
+      (ap (λ n. n + 1) long ∙ sym (length_push front byte)) (more_is front rest byte whole)
       (run_next read_after nothing_read read front byte was ∙ here)) (read_after read byte) refl
     where
-      step : ((next : Read) → read_after read byte ≡ Some next → Passes text (read_with next (count + 1) rest)) → (o : Option Read) → read_after read byte ≡ o
+      step : ((next : Read) → read_after read byte ≡ Some next → Passes text (read_with next (count + 1) rest))
+          → (o : Option Read) → read_after read byte ≡ o
           → Passes text (option_map_or (λ next. read_with next (count + 1) rest) o (Err count))
       step on None is = subst (IsFirstFault IsNumeral text) (sym long) (refused_there front rest byte read whole was is)
       step on (Some next) is = on next is
 
 module _ (text : List ℕ) (short : length text ≤ LONGEST) where
-  in_bounds : (value : Value) → HasValue text value → (high far : Bool) → nat_lt HIGHEST value.power ≡ high → nat_lt LIMIT (unsigned_abs (mm_of value)) ≡ far
-      → Answers text (if high || far then Err Range else Ok (record { mm = mm_of value; exact = ((1000 * numerator value) % denominator value) == 0 }))
+  in_bounds : (value : Value) → HasValue text value → (high far : Bool) → nat_lt HIGHEST value.power ≡ high
+      → nat_lt LIMIT (unsigned_abs (mm_of value)) ≡ far
+      → Answers text (if high || far then Err Range else Ok
+      (record { mm = mm_of value; exact = ((1000 * numerator value) % denominator value) == 0 }))
   in_bounds value has true far high_is far_is = (short, (value, has, inl (ltb-true HIGHEST value.power high_is)))
-  in_bounds value has false true high_is far_is = (short, (value, has, inr (ltb-true LIMIT (unsigned_abs (mm_of value)) far_is)))
+  in_bounds value has false true high_is far_is =
+      (short, (value, has, inr (ltb-true LIMIT (unsigned_abs (mm_of value)) far_is)))
   in_bounds value has false false high_is far_is = (
     short,
     (
@@ -93,7 +102,11 @@ module _ (text : List ℕ) (short : length text ≤ LONGEST) where
         power = ltb-false HIGHEST value.power high_is;
         limit = ltb-false LIMIT (unsigned_abs (mm_of value)) far_is;
         mm = refl;
-        exact = (λ h. eqb-true ((1000 * numerator value) % denominator value) 0 h, λ h. eq-eqb ((1000 * numerator value) % denominator value) 0 h);
+        exact = (
+          λ h. eqb-true ((1000 * numerator value) % denominator value) 0 h,
+          λ h. eq-eqb
+              ((1000 * numerator value) % denominator value) 0 h,
+        );
       },
     ),
   )
@@ -101,19 +114,24 @@ module _ (text : List ℕ) (short : length text ≤ LONGEST) where
   answers_so : (r : Result Read ℕ) → Passes text r → Answers text (answer_to r)
   answers_so (Ok read) (was, last) =
       let numeral = only_numerals text read was last in
-      let is : value_read read ≡ value_of numeral.0 = value_by_run text (value_of numeral.0) read (numeral.0, numeral.1, refl) was in
-      in_bounds (value_read read) (numeral.0, numeral.1, sym is) (nat_lt HIGHEST read.power) (nat_lt LIMIT (unsigned_abs (mm_of (value_read read)))) refl refl
+      let is : value_read read ≡ value_of numeral.0 =
+      value_by_run text (value_of numeral.0) read (numeral.0, numeral.1, refl) was in
+      in_bounds (value_read read) (numeral.0, numeral.1, sym is) (nat_lt HIGHEST read.power)
+      (nat_lt LIMIT (unsigned_abs (mm_of (value_read read)))) refl refl
   answers_so (Err at) fault = (short, fault)
 
-answers_by : (text : List ℕ) (long : Bool) → nat_lt LONGEST (length text) ≡ long → Answers text (if long then Err Long else answer_to (read_with nothing_read 0 text))
+answers_by : (text : List ℕ) (long : Bool) → nat_lt LONGEST (length text) ≡ long
+    → Answers text (if long then Err Long else answer_to (read_with nothing_read 0 text))
 answers_by text true is = ltb-true LONGEST (length text) is
 answers_by text false is =
-    answers_so text (ltb-false LONGEST (length text) is) (read_with nothing_read 0 text) (passes text [] text nothing_read 0 refl refl refl)
+    answers_so text (ltb-false LONGEST (length text) is) (read_with nothing_read 0 text)
+    (passes text [] text nothing_read 0 refl refl refl)
 
 pub measured_answers : (text : List ℕ) → Answers text (measured text)
 unfolding measured
 measured_answers text = answers_by text (nat_lt LONGEST (length text)) refl
 
 -- an answer is this one
-pub answer_is_measured : (text : List ℕ) (answer : Result MmRead NumFault) → Answers text answer → answer ≡ measured text
+pub answer_is_measured : (text : List ℕ) (answer : Result MmRead NumFault) → Answers text answer
+    → answer ≡ measured text
 answer_is_measured text answer is = one_answer text answer (measured text) is (measured_answers text)

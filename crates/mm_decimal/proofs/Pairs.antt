@@ -1,22 +1,27 @@
 -- The table of the decimal digits of 0 to 99.
-use Rattle.std.proofs.Common.{◌≡◌, ℕ, zero, suc, ◌+◌, ◌-◌, ◌*◌, ◌/◌, ◌%◌, ◌<◌, Bool, true, ◌&&◌, T, eqb, get_or, inl, inr, arith, eq-zero-or-pos, eqb→eq, ap, ◌∙◌}
+use Rattle.std.proofs.Common.{◌≡◌, ℕ, zero, suc, ◌+◌, ◌-◌, ◌*◌, ◌/◌, ◌%◌, ◌<◌, Bool, true, ◌&&◌, T, eqb, get_or, inl}
+use Rattle.std.proofs.Common.{inr, arith, eq-zero-or-pos, eqb→eq, ap, ◌∙◌}
 use lib.Ieee.Fits.{and_l, and_r}
 use Rattle.mm_decimal.specs.declared.writing.TheConstants.{PAIRS}
 
 abbrev are_pairs : ℕ → Bool
 are_pairs zero = true
-are_pairs (suc p) = (eqb (get_or PAIRS (p * 2) 0) (48 + p / 10) && eqb (get_or PAIRS (p * 2 + 1) 0) (48 + p % 10)) && are_pairs p
+are_pairs (suc p) = (eqb (get_or PAIRS (p * 2) 0) (48 + p / 10) && eqb (get_or PAIRS (p * 2 + 1) 0) (48 + p % 10)) &&
+    are_pairs p
 
-below : (n p : ℕ) → T (are_pairs n) → p < n → (get_or PAIRS (p * 2) 0 ≡ 48 + p / 10) × (get_or PAIRS (p * 2 + 1) 0 ≡ 48 + p % 10)
+below : (n p : ℕ) → T (are_pairs n) → p < n
+    → (get_or PAIRS (p * 2) 0 ≡ 48 + p / 10) × (get_or PAIRS (p * 2 + 1) 0 ≡ 48 + p % 10)
 below zero p t h = absurd (omega arith)
 below (suc n) p t h =
     elim (eq-zero-or-pos (n - p)) [
-      | inl z ↦ let e : p ≡ n = omega arith in let a = and_l _ (are_pairs n) t in rw e (eqb→eq _ _ (and_l _ _ a), eqb→eq _ _ (and_r _ _ a))
+      | inl z ↦ let e : p ≡ n = omega arith in let a =
+          and_l _ (are_pairs n) t in rw e (eqb→eq _ _ (and_l _ _ a), eqb→eq _ _ (and_r _ _ a))
       | inr g ↦ below n p (and_r _ (are_pairs n) t) (omega arith)
     ]
 
 -- the two digits of a number below 100
-pub pair_at : (number : ℕ) → (get_or PAIRS (number % 100 * 2) 0 ≡ 48 + number / 10 % 10) × (get_or PAIRS (number % 100 * 2 + 1) 0 ≡ 48 + number % 10)
+pub pair_at : (number : ℕ) → (get_or PAIRS (number % 100 * 2) 0 ≡ 48 + number / 10 % 10)
+    × (get_or PAIRS (number % 100 * 2 + 1) 0 ≡ 48 + number % 10)
 pair_at number =
     let p = below 100 (number % 100) tt (omega arith) in
     let ten : number % 100 / 10 ≡ number / 10 % 10 = omega arith in

@@ -1,6 +1,7 @@
--- The answer to a text, as a function: what stands above reads texts by it. It goes over the bytes as the words on a pass do,
--- and a law says that it is the answer.
-use Rattle.std.specs.Prelude.{ℕ, ◌+◌, ◌*◌, ◌%◌, Bool, true, false, ◌==◌, ◌||◌, nat_lt, if◌then◌else◌, List, [], ◌∷◌, length, Result, Ok, Err, unsigned_abs}
+-- The answer to a text, as a function: what stands above reads texts by it. It goes over the bytes as the words on a
+-- pass do, and a law says that it is the answer.
+use Rattle.std.specs.Prelude.{ℕ, ◌+◌, ◌*◌, ◌%◌, Bool, true, false, ◌==◌, ◌||◌, nat_lt, if◌then◌else◌, List, [], ◌∷◌}
+use Rattle.std.specs.Prelude.{length, Result, Ok, Err, unsigned_abs}
 use Rattle.std.specs.Option.{option_map_or}
 use Rattle.mm_decimal.specs.Numerals.{Value}
 use Rattle.mm_decimal.specs.Millimetres.{numerator, denominator, mm_of}
@@ -22,7 +23,8 @@ is_last phase = false
 -- what is read with these bytes more, or how many bytes begin a numeral
 abbrev pub read_with : Read → ℕ → List ℕ → Result Read ℕ
 read_with read count [] = if is_last read.phase then Ok read else Err count
-read_with read count (byte ∷ bytes) = option_map_or (λ next. read_with next (count + 1) bytes) (read_after read byte) (Err count)
+read_with read count (byte ∷ bytes) = option_map_or (λ next. read_with next (count + 1) bytes) (read_after read byte)
+    (Err count)
 
 abbrev pub in_millimetres : Value → Result MmRead NumFault
 in_millimetres v =

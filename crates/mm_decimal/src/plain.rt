@@ -1,6 +1,8 @@
-//! Numerals of digits, and perhaps a point and up to three digits, as most files have them. They are read without a scan.
+//! Numerals of digits, and perhaps a point and up to three digits, as most files have them. They are read without a
+//! scan.
 
-ghost use Rattle.std.specs.Prelude.{◌≡◌, ◌*◌, ◌^◌, ◌<◌, ◌≤◌, ◌++◌, ◌∷◌, ℕ, List, length, take, drop, IfSome, IsTrue, true};
+ghost use Rattle.std.specs.Prelude.{◌≡◌, ◌*◌, ◌^◌, ◌<◌, ◌≤◌, ◌++◌, ◌∷◌, ℕ, List, length, take, drop, IfSome, IsTrue};
+ghost use Rattle.std.specs.Prelude.{true};
 ghost use Rattle.mm_decimal.specs.Millimetres.{signed_of};
 ghost use Rattle.mm_decimal.specs.Answers.{Reads};
 ghost use Rattle.mm_decimal.specs.Plain.{Write, IsPlain};

@@ -1,5 +1,6 @@
 -- Lists: equal heads and tails, what is behind a place, and numbers that ascend.
-use Rattle.std.proofs.Common.{◌≡◌, ◌⊎◌, ⊎_elim, ℕ, ◌+◌, ◌-◌, ◌<◌, List, [], ◌∷◌, ◌++◌, length, take, drop, get_or, arith}
+use Rattle.std.proofs.Common.{◌≡◌, ◌⊎◌, ⊎_elim, ℕ, ◌+◌, ◌-◌, ◌<◌, List, [], ◌∷◌, ◌++◌, length, take, drop, get_or}
+use Rattle.std.proofs.Common.{arith}
 use Rattle.std.specs.Prelude.{Contains}
 use Rattle.std.specs.List.{AllByRecursion}
 use Rattle.std.specs.List.Sorted.{IsStrictlyIncreasing}
@@ -19,16 +20,19 @@ pub take_rest : (xs : List ℕ) (n : ℕ) → take (length xs - n) (drop n xs) �
 take_rest xs n = grind (arith, common_steps)
 
 -- what holds of each in two lists holds of each in both together
-pub all_append : {A : Type 0} (P : A → Type 0) (xs ys : List A) → AllByRecursion P xs → AllByRecursion P ys → AllByRecursion P (xs ++ ys)
+pub all_append : {A : Type 0} (P : A → Type 0) (xs ys : List A) → AllByRecursion P xs → AllByRecursion P ys
+    → AllByRecursion P (xs ++ ys)
 all_append P [] ys a b = b
 all_append P (x ∷ xs) ys a b = (a.0, all_append P xs ys a.1 b)
 
 -- ascending numbers and one more that is greater than each of them
-pub increasing_push : (xs : List ℕ) (n : ℕ) → IsStrictlyIncreasing xs → ((k : ℕ) → Contains xs k → k < n) → IsStrictlyIncreasing (xs ++ n ∷ [])
+pub increasing_push : (xs : List ℕ) (n : ℕ) → IsStrictlyIncreasing xs → ((k : ℕ) → Contains xs k → k < n)
+    → IsStrictlyIncreasing (xs ++ n ∷ [])
 increasing_push xs n up below k within =
     let long = length_push xs n in
     let low : get_or (xs ++ n ∷ []) k 0 ≡ get_or xs k 0 = get_or_append_left xs (n ∷ []) 0 k (omega arith) in
     ⊎_elim
     (λ inside. rw (low, get_or_append_left xs (n ∷ []) 0 (k + 1) inside) (up k inside))
-    (λ at_end. rw (low, get_or_push xs n 0 (k + 1) (omega arith)) (below (get_or xs k 0) (Contains-get_or xs k 0 (omega arith))))
+    (λ at_end. rw (low, get_or_push xs n 0 (k + 1) (omega arith))
+    (below (get_or xs k 0) (Contains-get_or xs k 0 (omega arith))))
     (cases_lt (k + 1) (length xs))

@@ -26,15 +26,18 @@ pub share_some : (n d : ℤ) (k l : ℕ) → n ≡ pos k → d -ℤ n ≡ pos l 
 share_some n d k l e f h = omega (arith, ints)
 
 pub share_axis : (n d k l a b : ℤ) → n ≡ k → d -ℤ n ≡ l → (d -ℤ n) *ℤ a +ℤ n *ℤ b ≡ l *ℤ a +ℤ (k *ℤ b +ℤ pos 0)
-share_axis = follows 6 (λ n d k l a b. n ≐ k ⇒ d ⊖ n ≐ l ⇒ (d ⊖ n) ⊗ a ⊕ n ⊗ b ≐ l ⊗ a ⊕ (k ⊗ b ⊕ num (pos 0)) because eqn 0 b ⊞ eqn 1 a) tt
+share_axis = follows 6 (λ n d k l a b. n ≐ k ⇒ d ⊖ n ≐ l ⇒ (d ⊖ n) ⊗ a ⊕ n ⊗ b ≐ l ⊗ a
+    ⊕ (k ⊗ b ⊕ num (pos 0)) because eqn 0 b ⊞ eqn 1 a) tt
 
 -- a mix of one number with itself
 pub same_axis : (k l a : ℤ) → (k *ℤ a +ℤ (l *ℤ a +ℤ pos 0)) *ℤ pos 1 ≡ a *ℤ (k *ℤ pos 1 +ℤ (l *ℤ pos 1 +ℤ pos 0))
-same_axis = solve 3 (λ k l a. (k ⊗ a ⊕ (l ⊗ a ⊕ num (pos 0))) ⊗ num (pos 1) ≐ a ⊗ (k ⊗ num (pos 1) ⊕ (l ⊗ num (pos 1) ⊕ num (pos 0)))) tt
+same_axis = solve 3 (λ k l a. (k ⊗ a ⊕ (l ⊗ a ⊕ num (pos 0))) ⊗ num (pos 1) ≐ a
+    ⊗ (k ⊗ num (pos 1) ⊕ (l ⊗ num (pos 1) ⊕ num (pos 0)))) tt
 
 -- a mix of zeros is 0
 pub zero_mix : (k l s t : ℤ) → s ≡ pos 0 → t ≡ pos 0 → k *ℤ s +ℤ l *ℤ t ≡ pos 0
-zero_mix = follows 4 (λ k l s t. s ≐ num (pos 0) ⇒ t ≐ num (pos 0) ⇒ k ⊗ s ⊕ l ⊗ t ≐ num (pos 0) because eqn 0 k ⊞ eqn 1 l) tt
+zero_mix = follows 4 (λ k l s t. s ≐ num (pos 0) ⇒ t ≐ num (pos 0) ⇒ k ⊗ s ⊕ l ⊗ t
+    ≐ num (pos 0) because eqn 0 k ⊞ eqn 1 l) tt
 
 -- a factor of a product that is 0
 pub zero_factor : (s t v : ℤ) → s *ℤ t ≡ v *ℤ pos 0 → t *ℤ s ≡ pos 0 *ℤ s
@@ -45,8 +48,10 @@ pub lift : (z : ℤ) → (n : ℕ) × (pos 0 ≤ℤ (pos n +ℤ z))
 lift (pos k) = (0, omega (arith, ints))
 lift (negsuc k) = (k + 1, omega (arith, ints))
 
-pub lift_both : (m n : ℕ) (y z : ℤ) → pos 0 ≤ℤ (pos m +ℤ y) → pos 0 ≤ℤ (pos n +ℤ z) → (pos 0 ≤ℤ (pos (m + n) +ℤ y)) × (pos 0 ≤ℤ (pos (m + n) +ℤ z))
+pub lift_both : (m n : ℕ) (y z : ℤ) → pos 0 ≤ℤ (pos m +ℤ y) → pos 0 ≤ℤ (pos n +ℤ z)
+    → (pos 0 ≤ℤ (pos (m + n) +ℤ y)) × (pos 0 ≤ℤ (pos (m + n) +ℤ z))
 lift_both m n y z h k = (omega (arith, ints), omega (arith, ints))
 
 pub lift_times : (n d z : ℤ) → pos 0 ≤ℤ (n +ℤ z) → pos 0 ≤ℤ n → pos 0 <ℤ d → pos 0 ≤ℤ (n *ℤ d +ℤ z)
-lift_times = follows 3 (λ n d z. num (pos 0) ≼ n ⊕ z ⇒ num (pos 0) ≼ n ⇒ num (pos 0) ≺ d ⇒ num (pos 0) ≼ n ⊗ d ⊕ z because gap 0 ⊞ gap 1 ⊠ over 2) tt
+lift_times = follows 3 (λ n d z. num (pos 0) ≼ n ⊕ z ⇒ num (pos 0) ≼ n ⇒ num (pos 0) ≺ d ⇒ num (pos 0) ≼ n ⊗ d
+    ⊕ z because gap 0 ⊞ gap 1 ⊠ over 2) tt

@@ -1,17 +1,22 @@
--- Boxes: mixes of places in a box are in it, the box of some points has them and is the least, and boxes that are apart have no place in common.
-use Rattle.std.proofs.Common.{◌≡◌, ◌⊎◌, inl, inr, ℕ, ℤ, pos, ◌+ℤ◌, ◌*ℤ◌, ◌≤ℤ◌, ◌<ℤ◌, List, [], ◌∷◌, ◌↔◌, ⊎_elim, IsTrue, Bool, true, false, not, refl, subst, sym, arith}
+-- Boxes: mixes of places in a box are in it, the box of some points has them and is the least, and boxes that are apart
+-- have no place in common.
+use Rattle.std.proofs.Common.{◌≡◌, ◌⊎◌, inl, inr, ℕ, ℤ, pos, ◌+ℤ◌, ◌*ℤ◌, ◌≤ℤ◌, ◌<ℤ◌, List, [], ◌∷◌, ◌↔◌, ⊎_elim, IsTrue}
+use Rattle.std.proofs.Common.{Bool, true, false, not, refl, subst, sym, arith}
 use Rattle.std.proofs.lemmas.Int.{ints, int_min_is, int_max_is}
 use Rattle.std.specs.Int.{int_min, int_max}
 use lib.Signed.{lt_z_yes}
 use Rattle.integer_ring.proofs.Ring.{num, neg, ◌⊕◌, ◌⊗◌}
 use Rattle.integer_ring.proofs.Order.{nonneg_pos, ≤_or_>}
-use Rattle.integer_ring.proofs.Claims.{◌≐◌, ◌≼◌, ◌≺◌, never, gap, over, eqn, ◌⊞◌, ◌⊠◌, ◌because◌, ◌otherwise◌, ◌⇒◌, follows}
+use Rattle.integer_ring.proofs.Claims.{◌≐◌, ◌≼◌, ◌≺◌, never, gap, over, eqn, ◌⊞◌, ◌⊠◌, ◌because◌, ◌otherwise◌, ◌⇒◌}
+use Rattle.integer_ring.proofs.Claims.{follows}
 use Rattle.plane_base.specs.declared.shapes.Pt.{Pt}
 use Rattle.plane_base.specs.declared.shapes.Tri.{Tri}
 use Rattle.plane_base.specs.declared.shapes.Rect.{Rect}
 use Rattle.plane_base.specs.Plane.{Point, Same, weighed, IsMix, whole, corners}
 use Rattle.plane_base.specs.Laws.{ArePlaces}
-use Rattle.plane_base.specs.Boxes.{HasPoint, IsIn, AreIn, HasBox, IsOrdered, ShareAPoint, AreApart, AreEither, ShareAPointOrAreApart, box_of_point, box_of_segment, box_of_triangle, widened, joined, common_of}
+use Rattle.plane_base.specs.Boxes.{HasPoint, IsIn, AreIn, HasBox, IsOrdered, ShareAPoint, AreApart, AreEither}
+use Rattle.plane_base.specs.Boxes.{ShareAPointOrAreApart, box_of_point, box_of_segment, box_of_triangle, widened}
+use Rattle.plane_base.specs.Boxes.{joined, common_of}
 use Rattle.plane_base.proofs.Mixes.{weighed-place}
 
 one : pos 0 <ℤ pos 1
@@ -30,11 +35,25 @@ lesser_greatest m a b h k = omega (arith, ints, int_min_is a b)
 pub greater_least : (m a b : ℤ) → a ≤ℤ m → b ≤ℤ m → int_max a b ≤ℤ m
 greater_least m a b h k = omega (arith, ints, int_max_is a b)
 
-pub least_under : (a b c : ℤ) → (int_min a (int_min b c) ≤ℤ a) × (int_min a (int_min b c) ≤ℤ b) × (int_min a (int_min b c) ≤ℤ c)
-least_under a b c = (omega (arith, ints, int_min_is a (int_min b c), int_min_is b c), omega (arith, ints, int_min_is a (int_min b c), int_min_is b c), omega (arith, ints, int_min_is a (int_min b c), int_min_is b c))
+pub least_under : (a b c : ℤ) → (int_min a (int_min b c) ≤ℤ a) × (int_min a (int_min b c) ≤ℤ b)
+    × (int_min a (int_min b c) ≤ℤ c)
+least_under a b c = (
+  omega (arith, ints, int_min_is a (int_min b c), int_min_is b c),
+  omega
+      (arith, ints, int_min_is a (int_min b c), int_min_is b c),
+  omega
+      (arith, ints, int_min_is a (int_min b c), int_min_is b c),
+)
 
-pub greatest_over : (a b c : ℤ) → (a ≤ℤ int_max a (int_max b c)) × (b ≤ℤ int_max a (int_max b c)) × (c ≤ℤ int_max a (int_max b c))
-greatest_over a b c = (omega (arith, ints, int_max_is a (int_max b c), int_max_is b c), omega (arith, ints, int_max_is a (int_max b c), int_max_is b c), omega (arith, ints, int_max_is a (int_max b c), int_max_is b c))
+pub greatest_over : (a b c : ℤ) → (a ≤ℤ int_max a (int_max b c)) × (b ≤ℤ int_max a (int_max b c))
+    × (c ≤ℤ int_max a (int_max b c))
+greatest_over a b c = (
+  omega (arith, ints, int_max_is a (int_max b c), int_max_is b c),
+  omega
+      (arith, ints, int_max_is a (int_max b c), int_max_is b c),
+  omega
+      (arith, ints, int_max_is a (int_max b c), int_max_is b c),
+)
 
 pub least_greatest : (m a b c : ℤ) → m ≤ℤ a → m ≤ℤ b → m ≤ℤ c → m ≤ℤ int_min a (int_min b c)
 least_greatest m a b c h k l = lesser_greatest m a (int_min b c) h (lesser_greatest m b c k l)
@@ -62,18 +81,24 @@ one_of_three m n a b c (inl e) k = inl e
 one_of_three m n a b c (inr e) (inl f) = inr (inl (cc))
 one_of_three m n a b c (inr e) (inr f) = inr (inr (cc))
 
-pub least_is_one : (a b c : ℤ) → (int_min a (int_min b c) ≡ a) ⊎ ((int_min a (int_min b c) ≡ b) ⊎ (int_min a (int_min b c) ≡ c))
-least_is_one a b c = one_of_three (int_min a (int_min b c)) (int_min b c) a b c (lesser_is_one a (int_min b c)) (lesser_is_one b c)
+pub least_is_one : (a b c : ℤ) → (int_min a (int_min b c) ≡ a)
+    ⊎ ((int_min a (int_min b c) ≡ b) ⊎ (int_min a (int_min b c) ≡ c))
+least_is_one a b c = one_of_three (int_min a (int_min b c)) (int_min b c) a b c (lesser_is_one a (int_min b c))
+    (lesser_is_one b c)
 
-pub greatest_is_one : (a b c : ℤ) → (int_max a (int_max b c) ≡ a) ⊎ ((int_max a (int_max b c) ≡ b) ⊎ (int_max a (int_max b c) ≡ c))
-greatest_is_one a b c = one_of_three (int_max a (int_max b c)) (int_max b c) a b c (greater_is_one a (int_max b c)) (greater_is_one b c)
+pub greatest_is_one : (a b c : ℤ) → (int_max a (int_max b c) ≡ a)
+    ⊎ ((int_max a (int_max b c) ≡ b) ⊎ (int_max a (int_max b c) ≡ c))
+greatest_is_one a b c = one_of_three (int_max a (int_max b c)) (int_max b c) a b c (greater_is_one a (int_max b c))
+    (greater_is_one b c)
 
 -- ---- a mix of places in a box is in it
 low_more : (m x w k y v : ℤ) → pos 0 ≤ℤ k → (m *ℤ w) ≤ℤ x → (m *ℤ v) ≤ℤ y → (m *ℤ (k *ℤ w +ℤ v)) ≤ℤ (k *ℤ x +ℤ y)
-low_more = follows 6 (λ m x w k y v. num (pos 0) ≼ k ⇒ m ⊗ w ≼ x ⇒ m ⊗ v ≼ y ⇒ m ⊗ (k ⊗ w ⊕ v) ≼ k ⊗ x ⊕ y because gap 0 ⊠ gap 1 ⊞ gap 2) tt
+low_more = follows 6 (λ m x w k y v. num (pos 0) ≼ k ⇒ m ⊗ w ≼ x ⇒ m ⊗ v ≼ y ⇒ m ⊗ (k ⊗ w ⊕ v) ≼ k ⊗ x
+    ⊕ y because gap 0 ⊠ gap 1 ⊞ gap 2) tt
 
 high_more : (m x w k y v : ℤ) → pos 0 ≤ℤ k → x ≤ℤ (m *ℤ w) → y ≤ℤ (m *ℤ v) → (k *ℤ x +ℤ y) ≤ℤ (m *ℤ (k *ℤ w +ℤ v))
-high_more = follows 6 (λ m x w k y v. num (pos 0) ≼ k ⇒ x ≼ m ⊗ w ⇒ y ≼ m ⊗ v ⇒ k ⊗ x ⊕ y ≼ m ⊗ (k ⊗ w ⊕ v) because gap 0 ⊠ gap 1 ⊞ gap 2) tt
+high_more = follows 6 (λ m x w k y v. num (pos 0) ≼ k ⇒ x ≼ m ⊗ w ⇒ y ≼ m ⊗ v ⇒ k ⊗ x ⊕ y ≼ m
+    ⊗ (k ⊗ w ⊕ v) because gap 0 ⊠ gap 1 ⊞ gap 2) tt
 
 low_moved : (m x w y v : ℤ) → pos 0 <ℤ w → pos 0 <ℤ v → x *ℤ v ≡ y *ℤ w → (m *ℤ v) ≤ℤ y → (m *ℤ w) ≤ℤ x
 low_moved =
@@ -86,8 +111,20 @@ high_moved =
     otherwise over 4 ⊠ gap 1 ⊞ over 1 ⊞ eqn 2 (num (pos 1)) ⊞ gap 0 ⊠ gap 3) tt
 
 pub sum_in : (box : Rect) (ks : List ℕ) (ps : List Point) → AreIn box ps → IsIn box (weighed ks ps)
-sum_in box [] ps h = record { left = omega (arith, ints); right = omega (arith, ints); bottom = omega (arith, ints); top = omega (arith, ints) }
-sum_in box (k ∷ ks) [] h = record { left = omega (arith, ints); right = omega (arith, ints); bottom = omega (arith, ints); top = omega (arith, ints) }
+sum_in box [] ps h = record {
+  left = omega (arith, ints);
+  right = omega (arith, ints);
+  bottom =
+      omega (arith, ints);
+  top = omega (arith, ints);
+}
+sum_in box (k ∷ ks) [] h = record {
+  left = omega (arith, ints);
+  right = omega (arith, ints);
+  bottom =
+      omega (arith, ints);
+  top = omega (arith, ints);
+}
 sum_in box (k ∷ ks) (p ∷ ps) h =
     let here = h.0 in let rest = sum_in box ks ps h.1 in let s = weighed ks ps in record {
       left = low_more box.x0 p.x p.w (pos k) s.x s.w (nonneg_pos k) here.left rest.left;
@@ -105,8 +142,10 @@ moved_in box r s hr hs same h = record {
   top = high_moved box.y1 r.y r.w s.y s.w hr hs same.1 h.top;
 }
 
-pub mix_in : (box : Rect) (ps : List Point) → ArePlaces ps → AreIn box ps → (r : Point) → pos 0 <ℤ r.w → IsMix r ps → IsIn box r
-mix_in box ps are h r hr mix = moved_in box r (weighed mix.0 ps) hr (weighed-place mix.0 ps mix.1 are mix.2) mix.3 (sum_in box mix.0 ps h)
+pub mix_in : (box : Rect) (ps : List Point) → ArePlaces ps → AreIn box ps → (r : Point) → pos 0 <ℤ r.w → IsMix r ps
+    → IsIn box r
+mix_in box ps are h r hr mix = moved_in box r (weighed mix.0 ps) hr (weighed-place mix.0 ps mix.1 are mix.2) mix.3
+    (sum_in box mix.0 ps h)
 
 -- ---- whole points
 at_once : (m x : ℤ) → m ≤ℤ x → (m *ℤ pos 1) ≤ℤ x
@@ -123,10 +162,22 @@ from_at_most_once m x h = omega (arith, ints)
 
 -- a box has a whole point exactly where the point's place is in it
 pub whole_in : (box : Rect) (p : Pt) → HasPoint box p → IsIn box (whole p)
-whole_in box p h = record { left = at_once box.x0 p.x h.left; right = at_most_once box.x1 p.x h.right; bottom = at_once box.y0 p.y h.bottom; top = at_most_once box.y1 p.y h.top }
+whole_in box p h = record {
+  left = at_once box.x0 p.x h.left;
+  right = at_most_once box.x1 p.x h.right;
+  bottom =
+      at_once box.y0 p.y h.bottom;
+  top = at_most_once box.y1 p.y h.top;
+}
 
 pub has_whole : (box : Rect) (p : Pt) → IsIn box (whole p) → HasPoint box p
-has_whole box p h = record { left = from_once box.x0 p.x h.left; right = from_at_most_once box.x1 p.x h.right; bottom = from_once box.y0 p.y h.bottom; top = from_at_most_once box.y1 p.y h.top }
+has_whole box p h = record {
+  left = from_once box.x0 p.x h.left;
+  right = from_at_most_once box.x1 p.x h.right;
+  bottom =
+      from_once box.y0 p.y h.bottom;
+  top = from_at_most_once box.y1 p.y h.top;
+}
 
 pub two_places : (a b : Pt) → ArePlaces (whole a ∷ whole b ∷ [])
 two_places a b = (one, (one, tt))
@@ -134,24 +185,38 @@ two_places a b = (one, (one, tt))
 pub three_places : (t : Tri) → ArePlaces (corners t)
 three_places t = (one, (one, (one, tt)))
 
--- a box that has the ends of a segment has each of its places, and one with the corners of a triangle each of its places
-pub segment_in : (box : Rect) (a b : Pt) → HasPoint box a → HasPoint box b → (r : Point) → pos 0 <ℤ r.w → IsMix r (whole a ∷ whole b ∷ []) → IsIn box r
-segment_in box a b ha hb r hr mix = mix_in box (whole a ∷ whole b ∷ []) (two_places a b) (whole_in box a ha, (whole_in box b hb, tt)) r hr mix
+-- a box that has the ends of a segment has each of its places, and one with the corners of a triangle each of its
+-- places
+pub segment_in : (box : Rect) (a b : Pt) → HasPoint box a → HasPoint box b → (r : Point) → pos 0 <ℤ r.w
+    → IsMix r (whole a ∷ whole b ∷ []) → IsIn box r
+segment_in box a b ha hb r hr mix = mix_in box (whole a ∷ whole b ∷ []) (two_places a b)
+    (whole_in box a ha, (whole_in box b hb, tt)) r hr mix
 
-pub triangle_in : (box : Rect) (t : Tri) → HasPoint box t.a → HasPoint box t.b → HasPoint box t.c → (r : Point) → pos 0 <ℤ r.w → IsMix r (corners t) → IsIn box r
-triangle_in box t ha hb hc r hr mix = mix_in box (corners t) (three_places t) (whole_in box t.a ha, (whole_in box t.b hb, (whole_in box t.c hc, tt))) r hr mix
+pub triangle_in : (box : Rect) (t : Tri) → HasPoint box t.a → HasPoint box t.b → HasPoint box t.c → (r : Point)
+    → pos 0 <ℤ r.w → IsMix r (corners t) → IsIn box r
+triangle_in box t ha hb hc r hr mix = mix_in box (corners t) (three_places t)
+    (whole_in box t.a ha, (whole_in box t.b hb, (whole_in box t.c hc, tt))) r hr mix
 
 -- ---- the box of one point, of two, and of a triangle has them, and each box that has them has it
 pub point_has : (p : Pt) → HasPoint (box_of_point p) p
-point_has p = record { left = omega (arith, ints); right = omega (arith, ints); bottom = omega (arith, ints); top = omega (arith, ints) }
+point_has p = record {
+  left = omega (arith, ints);
+  right = omega (arith, ints);
+  bottom = omega (arith, ints);
+  top =
+      omega (arith, ints);
+}
 
 pub point_least : (box : Rect) (p : Pt) → HasPoint box p → HasBox box (box_of_point p)
 point_least box p h = record { left = h.left; right = h.right; bottom = h.bottom; top = h.top }
 
 pub segment_has : (a b : Pt) → HasPoint (box_of_segment a b) a × HasPoint (box_of_segment a b) b
 segment_has a b =
-    let x = lesser_under a.x b.x in let y = lesser_under a.y b.y in let z = greater_over a.x b.x in let w = greater_over a.y b.y in
-    (record { left = x.0; right = z.0; bottom = y.0; top = w.0 }, record { left = x.1; right = z.1; bottom = y.1; top = w.1 })
+    let x = lesser_under a.x b.x in let y = lesser_under a.y b.y in let z = greater_over a.x b.x in let w =
+    greater_over a.y b.y in (
+      record { left = x.0; right = z.0; bottom = y.0; top = w.0 },
+      record { left = x.1; right = z.1; bottom = y.1; top = w.1 },
+    )
 
 pub segment_least : (box : Rect) (a b : Pt) → HasPoint box a → HasPoint box b → HasBox box (box_of_segment a b)
 segment_least box a b ha hb = record {
@@ -199,8 +264,11 @@ held_has t p mix = has_whole (box_of_triangle t) p (inside_in t (whole p) one mi
 -- ---- one more point, two boxes
 pub widened_has : (rect : Rect) (p : Pt) → HasPoint (widened rect p) p × HasBox (widened rect p) rect
 widened_has rect p =
-    let x = lesser_under rect.x0 p.x in let y = lesser_under rect.y0 p.y in let z = greater_over rect.x1 p.x in let w = greater_over rect.y1 p.y in
-    (record { left = x.1; right = z.1; bottom = y.1; top = w.1 }, record { left = x.0; right = z.0; bottom = y.0; top = w.0 })
+    let x = lesser_under rect.x0 p.x in let y = lesser_under rect.y0 p.y in let z = greater_over rect.x1 p.x in let w =
+    greater_over rect.y1 p.y in (
+      record { left = x.1; right = z.1; bottom = y.1; top = w.1 },
+      record { left = x.0; right = z.0; bottom = y.0; top = w.0 },
+    )
 
 pub widened_least : (box rect : Rect) (p : Pt) → HasBox box rect → HasPoint box p → HasBox box (widened rect p)
 widened_least box rect p h k = record {
@@ -212,8 +280,11 @@ widened_least box rect p h k = record {
 
 pub joined_has : (p q : Rect) → HasBox (joined p q) p × HasBox (joined p q) q
 joined_has p q =
-    let x = lesser_under p.x0 q.x0 in let y = lesser_under p.y0 q.y0 in let z = greater_over p.x1 q.x1 in let w = greater_over p.y1 q.y1 in
-    (record { left = x.0; right = z.0; bottom = y.0; top = w.0 }, record { left = x.1; right = z.1; bottom = y.1; top = w.1 })
+    let x = lesser_under p.x0 q.x0 in let y = lesser_under p.y0 q.y0 in let z = greater_over p.x1 q.x1 in let w =
+    greater_over p.y1 q.y1 in (
+      record { left = x.0; right = z.0; bottom = y.0; top = w.0 },
+      record { left = x.1; right = z.1; bottom = y.1; top = w.1 },
+    )
 
 pub joined_least : (box p q : Rect) → HasBox box p → HasBox box q → HasBox box (joined p q)
 joined_least box p q h k = record {
@@ -225,8 +296,11 @@ joined_least box p q h k = record {
 
 pub common_within : (p q : Rect) → HasBox p (common_of p q) × HasBox q (common_of p q)
 common_within p q =
-    let x = greater_over p.x0 q.x0 in let y = greater_over p.y0 q.y0 in let z = lesser_under p.x1 q.x1 in let w = lesser_under p.y1 q.y1 in
-    (record { left = x.0; right = z.0; bottom = y.0; top = w.0 }, record { left = x.1; right = z.1; bottom = y.1; top = w.1 })
+    let x = greater_over p.x0 q.x0 in let y = greater_over p.y0 q.y0 in let z = lesser_under p.x1 q.x1 in let w =
+    lesser_under p.y1 q.y1 in (
+      record { left = x.0; right = z.0; bottom = y.0; top = w.0 },
+      record { left = x.1; right = z.1; bottom = y.1; top = w.1 },
+    )
 
 low_of_one : (m a b w x : ℤ) → (m ≡ a) ⊎ (m ≡ b) → (a *ℤ w) ≤ℤ x → (b *ℤ w) ≤ℤ x → (m *ℤ w) ≤ℤ x
 low_of_one m a b w x (inl e) h k = subst (λ (z : ℤ). (z *ℤ w) ≤ℤ x) (sym e) h
@@ -248,19 +322,36 @@ common_has p q r h k = record {
 -- what the inner box has, the outer one has
 pub outer_has : (outer inner : Rect) (p : Pt) → HasBox outer inner → HasPoint inner p → HasPoint outer p
 outer_has outer inner p w h =
-    record { left = omega (arith, ints, w.left, h.left); right = omega (arith, ints, w.right, h.right); bottom = omega (arith, ints, w.bottom, h.bottom); top = omega (arith, ints, w.top, h.top) }
+    record {
+      left = omega (arith, ints, w.left, h.left);
+      right = omega (arith, ints, w.right, h.right);
+      bottom =
+          omega (arith, ints, w.bottom, h.bottom);
+      top = omega (arith, ints, w.top, h.top);
+    }
 
 pub outer_box : (r q p : Rect) → HasBox r q → HasBox q p → HasBox r p
 outer_box r q p w h =
-    record { left = omega (arith, ints, w.left, h.left); right = omega (arith, ints, w.right, h.right); bottom = omega (arith, ints, w.bottom, h.bottom); top = omega (arith, ints, w.top, h.top) }
+    record {
+      left = omega (arith, ints, w.left, h.left);
+      right = omega (arith, ints, w.right, h.right);
+      bottom =
+          omega (arith, ints, w.bottom, h.bottom);
+      top = omega (arith, ints, w.top, h.top);
+    }
 
 -- ---- ordered boxes
 not_past : (m n w x : ℤ) → pos 0 <ℤ w → (m *ℤ w) ≤ℤ x → x ≤ℤ (n *ℤ w) → m ≤ℤ n
-not_past = follows 4 (λ m n w x. num (pos 0) ≺ w ⇒ m ⊗ w ≼ x ⇒ x ≼ n ⊗ w ⇒ m ≼ n otherwise over 3 ⊠ gap 0 ⊞ over 0 ⊞ gap 1 ⊞ gap 2) tt
+not_past = follows 4 (λ m n w x. num (pos 0) ≺ w ⇒ m ⊗ w ≼ x ⇒ x ≼ n
+    ⊗ w ⇒ m ≼ n otherwise over 3 ⊠ gap 0 ⊞ over 0 ⊞ gap 1 ⊞ gap 2) tt
 
 -- a box that has a place is ordered
 pub ordered_by : (box : Rect) (r : Point) → pos 0 <ℤ r.w → IsIn box r → IsOrdered box
-ordered_by box r hr h = (not_past box.x0 box.x1 r.w r.x hr h.left h.right, not_past box.y0 box.y1 r.w r.y hr h.bottom h.top)
+ordered_by box r hr h = (
+  not_past box.x0 box.x1 r.w r.x hr h.left h.right,
+  not_past box.y0 box.y1 r.w r.y hr h.bottom
+      h.top,
+)
 
 pub ordered_with : (box : Rect) (p : Pt) → HasPoint box p → IsOrdered box
 ordered_with box p h = (omega (arith, ints, h.left, h.right), omega (arith, ints, h.bottom, h.top))
@@ -273,7 +364,8 @@ segment_ordered a b = let h = segment_has a b in ordered_with (box_of_segment a 
 
 -- ---- boxes that are apart have no place in common
 beyond : (m n x w : ℤ) → pos 0 <ℤ w → m <ℤ n → x ≤ℤ (m *ℤ w) → (n *ℤ w) ≤ℤ x → ⊥
-beyond = follows 4 (λ m n x w. num (pos 0) ≺ w ⇒ m ≺ n ⇒ x ≼ m ⊗ w ⇒ n ⊗ w ≼ x ⇒ never because gap 2 ⊞ gap 3 ⊞ over 1 ⊠ gap 0 ⊞ over 0) tt
+beyond = follows 4 (λ m n x w. num (pos 0) ≺ w ⇒ m ≺ n ⇒ x ≼ m ⊗ w ⇒ n
+    ⊗ w ≼ x ⇒ never because gap 2 ⊞ gap 3 ⊞ over 1 ⊠ gap 0 ⊞ over 0) tt
 
 pub none_in_both : (p q : Rect) → AreApart p q → (r : Point) → pos 0 <ℤ r.w → IsIn p r → IsIn q r → ⊥
 none_in_both p q (inl (inl h)) r w i j = beyond p.x1 q.x0 r.x r.w w h i.right j.left
@@ -293,15 +385,33 @@ pub shared : (p q : Rect) → IsOrdered p → IsOrdered q → DoMeet p q → Sha
 shared p q op oq meet =
     let x = greater_over p.x0 q.x0 in let y = greater_over p.y0 q.y0 in (
       record { x = int_max p.x0 q.x0; y = int_max p.y0 q.y0 },
-      record { left = x.0; right = greater_least p.x1 p.x0 q.x0 op.0 meet.right; bottom = y.0; top = greater_least p.y1 p.y0 q.y0 op.1 meet.top },
-      record { left = x.1; right = greater_least q.x1 p.x0 q.x0 meet.left oq.0; bottom = y.1; top = greater_least q.y1 p.y0 q.y0 meet.bottom oq.1 },
+      record {
+        left = x.0;
+        right = greater_least p.x1 p.x0 q.x0 op.0 meet.right;
+        bottom = y.0;
+        top =
+            greater_least p.y1 p.y0 q.y0 op.1 meet.top;
+      },
+      record {
+        left = x.1;
+        right = greater_least q.x1 p.x0 q.x0 meet.left oq.0;
+        bottom = y.1;
+        top =
+            greater_least q.y1 p.y0 q.y0 meet.bottom oq.1;
+      },
     )
 
 pub meeting : (p q : Rect) → ShareAPoint p q → DoMeet p q
 meeting p q s =
     let a = s.1 in
     let b = s.2 in
-    record { left = omega (arith, ints, a.left, b.right); right = omega (arith, ints, b.left, a.right); bottom = omega (arith, ints, a.bottom, b.top); top = omega (arith, ints, b.bottom, a.top) }
+    record {
+      left = omega (arith, ints, a.left, b.right);
+      right = omega (arith, ints, b.left, a.right);
+      bottom =
+          omega (arith, ints, a.bottom, b.top);
+      top = omega (arith, ints, b.bottom, a.top);
+    }
 
 pub not_apart : (p q : Rect) → DoMeet p q → AreApart p q → ⊥
 not_apart p q m (inl (inl h)) = omega (arith, ints, m.right)
@@ -312,7 +422,8 @@ not_apart p q m (inr (inr h)) = omega (arith, ints, m.bottom)
 pub meet_or_apart : (p q : Rect) → DoMeet p q ⊎ AreApart p q
 meet_or_apart p q = go (≤_or_> p.x0 q.x1) (≤_or_> q.x0 p.x1) (≤_or_> p.y0 q.y1) (≤_or_> q.y0 p.y1)
   where
-    go : (p.x0 ≤ℤ q.x1) ⊎ (q.x1 <ℤ p.x0) → (q.x0 ≤ℤ p.x1) ⊎ (p.x1 <ℤ q.x0) → (p.y0 ≤ℤ q.y1) ⊎ (q.y1 <ℤ p.y0) → (q.y0 ≤ℤ p.y1) ⊎ (p.y1 <ℤ q.y0) → DoMeet p q ⊎ AreApart p q
+    go : (p.x0 ≤ℤ q.x1) ⊎ (q.x1 <ℤ p.x0) → (q.x0 ≤ℤ p.x1) ⊎ (p.x1 <ℤ q.x0) → (p.y0 ≤ℤ q.y1) ⊎ (q.y1 <ℤ p.y0)
+        → (q.y0 ≤ℤ p.y1) ⊎ (p.y1 <ℤ q.y0) → DoMeet p q ⊎ AreApart p q
     go (inl a) (inl b) (inl c) (inl d) = inl (record { left = a; right = b; bottom = c; top = d })
     go (inr a) b c d = inr (inl (inr a))
     go (inl a) (inr b) c d = inr (inl (inl b))
@@ -346,17 +457,32 @@ share_or_apart p q op oq = go (meet_or_apart p q)
 no_false : IsTrue false → ⊥
 no_false e = cc
 
-pub no_point : (rect : Rect) (p : Pt) → IsTrue false ↔ ((rect.x0 ≤ℤ p.x) × (p.x ≤ℤ rect.x1)) → IsTrue false ↔ HasPoint rect p
+pub no_point : (rect : Rect) (p : Pt) → IsTrue false ↔ ((rect.x0 ≤ℤ p.x) × (p.x ≤ℤ rect.x1))
+    → IsTrue false ↔ HasPoint rect p
 no_point rect p told = (λ e. absurd (no_false e), λ h. told.1 (h.left, h.right))
 
-pub point_if : (rect : Rect) (p : Pt) (y : Bool) → IsTrue true ↔ ((rect.x0 ≤ℤ p.x) × (p.x ≤ℤ rect.x1)) → IsTrue y ↔ ((rect.y0 ≤ℤ p.y) × (p.y ≤ℤ rect.y1)) → IsTrue y ↔ HasPoint rect p
+pub point_if : (rect : Rect) (p : Pt) (y : Bool) → IsTrue true ↔ ((rect.x0 ≤ℤ p.x) × (p.x ≤ℤ rect.x1))
+    → IsTrue y ↔ ((rect.y0 ≤ℤ p.y) × (p.y ≤ℤ rect.y1)) → IsTrue y ↔ HasPoint rect p
 point_if rect p y first second =
-    let a = first.0 refl in
-    (λ t. let b = second.0 t in record { left = a.0; right = a.1; bottom = b.0; top = b.1 }, λ h. second.1 (h.bottom, h.top))
+    let a = first.0 refl in (
+      λ t. let b = second.0 t in record { left = a.0; right = a.1; bottom = b.0; top = b.1 },
+      λ h. second.1
+          (h.bottom, h.top),
+    )
 
-pub apart_if : (p q : Rect) (y : Bool) → IsTrue false ↔ ((p.x1 <ℤ q.x0) ⊎ (q.x1 <ℤ p.x0)) → IsTrue y ↔ ((p.y1 <ℤ q.y0) ⊎ (q.y1 <ℤ p.y0)) → IsTrue y ↔ AreApart p q
-apart_if p q y first second = (λ e. inr (second.0 e), λ h. ⊎_elim (λ x. absurd (no_false (first.1 x))) (λ k. second.1 k) h)
+pub apart_if : (p q : Rect) (y : Bool) → IsTrue false ↔ ((p.x1 <ℤ q.x0) ⊎ (q.x1 <ℤ p.x0))
+    → IsTrue y ↔ ((p.y1 <ℤ q.y0) ⊎ (q.y1 <ℤ p.y0)) → IsTrue y ↔ AreApart p q
+apart_if p q y first second = (
+  λ e. inr (second.0 e),
+  λ h. ⊎_elim (λ x. absurd (no_false (first.1 x))) (λ k. second.1 k)
+      h,
+)
 
-pub shared_if : (p q : Rect) (b : Bool) → IsOrdered p → IsOrdered q → IsTrue b ↔ AreApart p q → IsTrue (not b) ↔ ShareAPoint p q
-shared_if p q true op oq told = (λ e. absurd (no_false e), λ s. absurd ((share_or_apart p q op oq).shared.0 s (told.0 refl)))
+pub shared_if : (p q : Rect) (b : Bool) → IsOrdered p → IsOrdered q → IsTrue b ↔ AreApart p q
+    → IsTrue (not b) ↔ ShareAPoint p q
+shared_if p q true op oq told = (
+  λ e. absurd (no_false e),
+  λ s. absurd
+      ((share_or_apart p q op oq).shared.0 s (told.0 refl)),
+)
 shared_if p q false op oq told = (λ _. (share_or_apart p q op oq).shared.1 (λ a. no_false (told.1 a)), λ _. refl)

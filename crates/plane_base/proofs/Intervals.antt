@@ -32,17 +32,21 @@ IsLeft u v x d = pos 0 ≤ℤ value_at u v x d
 -- ---- a number that goes up from u to v, in an interval from k/l to m/n
 left_up : (u v k l x d : ℤ) → pos 0 <ℤ l → pos 0 <ℤ d → u ≤ℤ v → IsLeft u v k l → (k *ℤ d) ≤ℤ (x *ℤ l) → IsLeft u v x d
 left_up =
-    follows 6 (λ u v k l x d. num (pos 0) ≺ l ⇒ num (pos 0) ≺ d ⇒ u ≼ v ⇒ num (pos 0) ≼ (l ⊖ k) ⊗ u ⊕ k ⊗ v ⇒ k ⊗ d ≼ x ⊗ l ⇒ num (pos 0) ≼ (d ⊖ x) ⊗ u ⊕ x ⊗ v
+    follows 6 (λ u v k l x d. num (pos 0) ≺ l ⇒ num (pos 0) ≺ d ⇒ u ≼ v ⇒ num (pos 0) ≼ (l ⊖ k) ⊗ u ⊕ k ⊗ v ⇒ k ⊗ d ≼ x
+    ⊗ l ⇒ num (pos 0) ≼ (d ⊖ x) ⊗ u ⊕ x ⊗ v
     otherwise over 5 ⊠ gap 0 ⊞ gap 1 ⊠ gap 3 ⊞ gap 2 ⊠ gap 4 ⊞ over 0) tt
 
-never_up : (u v m n x d : ℤ) → pos 0 <ℤ n → pos 0 <ℤ d → u ≤ℤ v → value_at u v m n <ℤ pos 0 → (x *ℤ n) ≤ℤ (m *ℤ d) → IsLeft u v x d → ⊥
+never_up : (u v m n x d : ℤ) → pos 0 <ℤ n → pos 0 <ℤ d → u ≤ℤ v → value_at u v m n <ℤ pos 0 → (x *ℤ n) ≤ℤ (m *ℤ d)
+    → IsLeft u v x d → ⊥
 never_up =
-    follows 6 (λ u v m n x d. num (pos 0) ≺ n ⇒ num (pos 0) ≺ d ⇒ u ≼ v ⇒ (n ⊖ m) ⊗ u ⊕ m ⊗ v ≺ num (pos 0) ⇒ x ⊗ n ≼ m ⊗ d ⇒ num (pos 0) ≼ (d ⊖ x) ⊗ u ⊕ x ⊗ v ⇒ never
+    follows 6 (λ u v m n x d. num (pos 0) ≺ n ⇒ num (pos 0) ≺ d ⇒ u ≼ v ⇒ (n ⊖ m) ⊗ u ⊕ m ⊗ v ≺ num (pos 0) ⇒ x ⊗ n ≼ m
+    ⊗ d ⇒ num (pos 0) ≼ (d ⊖ x) ⊗ u ⊕ x ⊗ v ⇒ never
     because gap 5 ⊠ gap 0 ⊞ gap 2 ⊠ gap 4 ⊞ over 3 ⊠ gap 1 ⊞ over 1) tt
 
 up_from_below : (u v k l : ℤ) → pos 0 <ℤ l → pos 0 ≤ℤ k → u ≤ℤ v → value_at u v k l <ℤ pos 0 → pos 0 ≤ℤ neg_ℤ u
 up_from_below =
-    follows 4 (λ u v k l. num (pos 0) ≺ l ⇒ num (pos 0) ≼ k ⇒ u ≼ v ⇒ (l ⊖ k) ⊗ u ⊕ k ⊗ v ≺ num (pos 0) ⇒ num (pos 0) ≼ neg u
+    follows 4 (λ u v k l. num (pos 0) ≺ l ⇒ num (pos 0) ≼ k ⇒ u ≼ v ⇒ (l ⊖ k) ⊗ u ⊕ k
+    ⊗ v ≺ num (pos 0) ⇒ num (pos 0) ≼ neg u
     otherwise gap 1 ⊠ gap 2 ⊞ gap 0 ⊠ gap 4 ⊞ over 3) tt
 
 up_to_above : (u v m n : ℤ) → pos 0 <ℤ n → m ≤ℤ n → u ≤ℤ v → IsLeft u v m n → neg_ℤ u ≤ℤ (v -ℤ u)
@@ -50,9 +54,11 @@ up_to_above =
     follows 4 (λ u v m n. num (pos 0) ≺ n ⇒ m ≼ n ⇒ u ≼ v ⇒ num (pos 0) ≼ (n ⊖ m) ⊗ u ⊕ m ⊗ v ⇒ neg u ≼ v ⊖ u
     otherwise gap 3 ⊞ gap 1 ⊠ gap 2 ⊞ over 4 ⊠ gap 0 ⊞ over 0) tt
 
-up_strictly : (u v k l m n : ℤ) → pos 0 <ℤ l → pos 0 <ℤ n → (k *ℤ n) ≤ℤ (m *ℤ l) → value_at u v k l <ℤ pos 0 → IsLeft u v m n → pos 0 <ℤ (v -ℤ u)
+up_strictly : (u v k l m n : ℤ) → pos 0 <ℤ l → pos 0 <ℤ n → (k *ℤ n) ≤ℤ (m *ℤ l) → value_at u v k l <ℤ pos 0
+    → IsLeft u v m n → pos 0 <ℤ (v -ℤ u)
 up_strictly =
-    follows 6 (λ u v k l m n. num (pos 0) ≺ l ⇒ num (pos 0) ≺ n ⇒ k ⊗ n ≼ m ⊗ l ⇒ (l ⊖ k) ⊗ u ⊕ k ⊗ v ≺ num (pos 0) ⇒ num (pos 0) ≼ (n ⊖ m) ⊗ u ⊕ m ⊗ v ⇒ num (pos 0) ≺ v ⊖ u
+    follows 6 (λ u v k l m n. num (pos 0) ≺ l ⇒ num (pos 0) ≺ n ⇒ k ⊗ n ≼ m ⊗ l ⇒ (l ⊖ k) ⊗ u ⊕ k
+    ⊗ v ≺ num (pos 0) ⇒ num (pos 0) ≼ (n ⊖ m) ⊗ u ⊕ m ⊗ v ⇒ num (pos 0) ≺ v ⊖ u
     otherwise gap 4 ⊠ gap 0 ⊞ over 3 ⊠ gap 1 ⊞ gap 5 ⊠ gap 2 ⊞ over 1) tt
 
 below_zero_up : (u v k l : ℤ) → value_at u v k l <ℤ pos 0 → (k *ℤ (v -ℤ u)) ≤ℤ (neg_ℤ u *ℤ l)
@@ -61,7 +67,8 @@ below_zero_up = follows 4 (λ u v k l. (l ⊖ k) ⊗ u ⊕ k ⊗ v ≺ num (pos 
 cut_up : (P : ℤ → ℤ → Type 0) (u v : ℤ) → u ≤ℤ v → Interval P → Some (λ x d. P x d × IsLeft u v x d)
 cut_up P u v up i = go (≤_or_> (pos 0) (value_at u v i.k i.l)) (≤_or_> (pos 0) (value_at u v i.m i.n))
   where
-    go : IsLeft u v i.k i.l ⊎ (value_at u v i.k i.l <ℤ pos 0) → IsLeft u v i.m i.n ⊎ (value_at u v i.m i.n <ℤ pos 0) → Some (λ x d. P x d × IsLeft u v x d)
+    go : IsLeft u v i.k i.l ⊎ (value_at u v i.k i.l <ℤ pos 0) → IsLeft u v i.m i.n ⊎ (value_at u v i.m i.n <ℤ pos 0)
+        → Some (λ x d. P x d × IsLeft u v x d)
     go (inl left) h = inr (record {
       k = i.k;
       l = i.l;
@@ -70,9 +77,14 @@ cut_up P u v up i = go (≤_or_> (pos 0) (value_at u v i.k i.l)) (≤_or_> (pos 
       first = i.first;
       last = i.last;
       order = i.order;
-      between = λ x d p. (λ q. (i.between x d p).0 q.0, λ b. ((i.between x d p).1 b, left_up u v i.k i.l x d i.first.0 p.0 up left b.0));
+      between = λ x d p. (
+        λ q. (i.between x d p).0 q.0,
+        λ b.
+            ((i.between x d p).1 b, left_up u v i.k i.l x d i.first.0 p.0 up left b.0),
+      );
     })
-    go (inr right) (inr below) = inl (λ x d p q. never_up u v i.m i.n x d i.last.0 p.0 up below ((i.between x d p).0 q.0).1 q.1)
+    go (inr right) (inr below) = inl (λ x d p q. never_up u v i.m i.n x d i.last.0 p.0 up below
+        ((i.between x d p).0 q.0).1 q.1)
     go (inr right) (inl left) =
         let strictly = up_strictly u v i.k i.l i.m i.n i.first.0 i.last.0 i.order right left in
         inr (record {
@@ -80,32 +92,46 @@ cut_up P u v up i = go (≤_or_> (pos 0) (value_at u v i.k i.l)) (≤_or_> (pos 
           l = v -ℤ u;
           m = i.m;
           n = i.n;
-          first = (strictly, up_from_below u v i.k i.l i.first.0 i.first.1 up right, up_to_above u v i.m i.n i.last.0 i.last.2 up left);
+          first = (
+            strictly,
+            up_from_below u v i.k i.l i.first.0 i.first.1 up right,
+            up_to_above u v i.m i.n i.last.0
+                i.last.2 up left,
+          );
           last = i.last;
           order = (rises u v i.m i.n).0 left;
           between = λ x d p. (
             λ q. ((rises u v x d).0 q.1, ((i.between x d p).0 q.0).1),
             λ b. (
-              (i.between x d p).1 (frac-≤_trans i.k i.l (neg_ℤ u) (v -ℤ u) x d i.first.0 strictly p.0 (below_zero_up u v i.k i.l right) b.0, b.1),
+              (i.between x d p).1 (
+                frac-≤_trans i.k i.l (neg_ℤ u) (v -ℤ u) x d i.first.0 strictly p.0
+                    (below_zero_up u v i.k i.l right) b.0,
+                b.1,
+              ),
               (rises u v x d).1 b.0,
             ),
           );
         })
 
 -- ---- and one that goes down
-left_down : (u v m n x d : ℤ) → pos 0 <ℤ n → pos 0 <ℤ d → v ≤ℤ u → IsLeft u v m n → (x *ℤ n) ≤ℤ (m *ℤ d) → IsLeft u v x d
+left_down : (u v m n x d : ℤ) → pos 0 <ℤ n → pos 0 <ℤ d → v ≤ℤ u → IsLeft u v m n → (x *ℤ n) ≤ℤ (m *ℤ d)
+    → IsLeft u v x d
 left_down =
-    follows 6 (λ u v m n x d. num (pos 0) ≺ n ⇒ num (pos 0) ≺ d ⇒ v ≼ u ⇒ num (pos 0) ≼ (n ⊖ m) ⊗ u ⊕ m ⊗ v ⇒ x ⊗ n ≼ m ⊗ d ⇒ num (pos 0) ≼ (d ⊖ x) ⊗ u ⊕ x ⊗ v
+    follows 6 (λ u v m n x d. num (pos 0) ≺ n ⇒ num (pos 0) ≺ d ⇒ v ≼ u ⇒ num (pos 0) ≼ (n ⊖ m) ⊗ u ⊕ m ⊗ v ⇒ x ⊗ n ≼ m
+    ⊗ d ⇒ num (pos 0) ≼ (d ⊖ x) ⊗ u ⊕ x ⊗ v
     otherwise over 5 ⊠ gap 0 ⊞ gap 1 ⊠ gap 3 ⊞ gap 2 ⊠ gap 4 ⊞ over 0) tt
 
-never_down : (u v k l x d : ℤ) → pos 0 <ℤ l → pos 0 <ℤ d → v ≤ℤ u → value_at u v k l <ℤ pos 0 → (k *ℤ d) ≤ℤ (x *ℤ l) → IsLeft u v x d → ⊥
+never_down : (u v k l x d : ℤ) → pos 0 <ℤ l → pos 0 <ℤ d → v ≤ℤ u → value_at u v k l <ℤ pos 0 → (k *ℤ d) ≤ℤ (x *ℤ l)
+    → IsLeft u v x d → ⊥
 never_down =
-    follows 6 (λ u v k l x d. num (pos 0) ≺ l ⇒ num (pos 0) ≺ d ⇒ v ≼ u ⇒ (l ⊖ k) ⊗ u ⊕ k ⊗ v ≺ num (pos 0) ⇒ k ⊗ d ≼ x ⊗ l ⇒ num (pos 0) ≼ (d ⊖ x) ⊗ u ⊕ x ⊗ v ⇒ never
+    follows 6 (λ u v k l x d. num (pos 0) ≺ l ⇒ num (pos 0) ≺ d ⇒ v ≼ u ⇒ (l ⊖ k) ⊗ u ⊕ k ⊗ v ≺ num (pos 0) ⇒ k ⊗ d ≼ x
+    ⊗ l ⇒ num (pos 0) ≼ (d ⊖ x) ⊗ u ⊕ x ⊗ v ⇒ never
     because gap 5 ⊠ gap 0 ⊞ gap 2 ⊠ gap 4 ⊞ over 3 ⊠ gap 1 ⊞ over 1) tt
 
 down_from_above : (u v k l : ℤ) → pos 0 <ℤ l → pos 0 ≤ℤ k → v ≤ℤ u → IsLeft u v k l → pos 0 ≤ℤ u
 down_from_above =
-    follows 4 (λ u v k l. num (pos 0) ≺ l ⇒ num (pos 0) ≼ k ⇒ v ≼ u ⇒ num (pos 0) ≼ (l ⊖ k) ⊗ u ⊕ k ⊗ v ⇒ num (pos 0) ≼ u
+    follows 4 (λ u v k l. num (pos 0) ≺ l ⇒ num (pos 0) ≼ k ⇒ v ≼ u ⇒ num (pos 0) ≼ (l ⊖ k) ⊗ u ⊕ k
+    ⊗ v ⇒ num (pos 0) ≼ u
     otherwise gap 3 ⊞ gap 1 ⊠ gap 2 ⊞ over 4 ⊠ gap 0 ⊞ over 0) tt
 
 down_to_below : (u v m n : ℤ) → pos 0 <ℤ n → m ≤ℤ n → v ≤ℤ u → value_at u v m n <ℤ pos 0 → u ≤ℤ (u -ℤ v)
@@ -125,7 +151,8 @@ cut_down P u v down i = go (≤_or_> (pos 0) (value_at u v i.k i.l)) (≤_or_> (
     weakly : v ≤ℤ u
     weakly = ≤_of_< v u down
 
-    go : IsLeft u v i.k i.l ⊎ (value_at u v i.k i.l <ℤ pos 0) → IsLeft u v i.m i.n ⊎ (value_at u v i.m i.n <ℤ pos 0) → Some (λ x d. P x d × IsLeft u v x d)
+    go : IsLeft u v i.k i.l ⊎ (value_at u v i.k i.l <ℤ pos 0) → IsLeft u v i.m i.n ⊎ (value_at u v i.m i.n <ℤ pos 0)
+        → Some (λ x d. P x d × IsLeft u v x d)
     go h (inl left) = inr (record {
       k = i.k;
       l = i.l;
@@ -134,9 +161,14 @@ cut_down P u v down i = go (≤_or_> (pos 0) (value_at u v i.k i.l)) (≤_or_> (
       first = i.first;
       last = i.last;
       order = i.order;
-      between = λ x d p. (λ q. (i.between x d p).0 q.0, λ b. ((i.between x d p).1 b, left_down u v i.m i.n x d i.last.0 p.0 weakly left b.1));
+      between = λ x d p. (
+        λ q. (i.between x d p).0 q.0,
+        λ b.
+            ((i.between x d p).1 b, left_down u v i.m i.n x d i.last.0 p.0 weakly left b.1),
+      );
     })
-    go (inr below) (inr right) = inl (λ x d p q. never_down u v i.k i.l x d i.first.0 p.0 weakly below ((i.between x d p).0 q.0).0 q.1)
+    go (inr below) (inr right) = inl (λ x d p q. never_down u v i.k i.l x d i.first.0 p.0 weakly below
+        ((i.between x d p).0 q.0).0 q.1)
     go (inl left) (inr right) =
         let strictly = down_strictly u v down in
         inr (record {
@@ -145,12 +177,21 @@ cut_down P u v down i = go (≤_or_> (pos 0) (value_at u v i.k i.l)) (≤_or_> (
           m = u;
           n = u -ℤ v;
           first = i.first;
-          last = (strictly, down_from_above u v i.k i.l i.first.0 i.first.1 weakly left, down_to_below u v i.m i.n i.last.0 i.last.2 weakly right);
+          last = (
+            strictly,
+            down_from_above u v i.k i.l i.first.0 i.first.1 weakly left,
+            down_to_below u v i.m i.n
+                i.last.0 i.last.2 weakly right,
+          );
           order = (falls u v i.k i.l).0 left;
           between = λ x d p. (
             λ q. (((i.between x d p).0 q.0).0, (falls u v x d).0 q.1),
             λ b. (
-              (i.between x d p).1 (b.0, frac-≤_trans x d u (u -ℤ v) i.m i.n p.0 strictly i.last.0 b.1 (below_zero_down u v i.m i.n right)),
+              (i.between x d p).1 (
+                b.0,
+                frac-≤_trans x d u (u -ℤ v) i.m i.n p.0 strictly i.last.0 b.1
+                    (below_zero_down u v i.m i.n right),
+              ),
               (falls u v x d).1 b.1,
             ),
           );
@@ -206,9 +247,11 @@ for_same P Q e (inr i) = inr (record {
 abbrev NonNeg : ℤ → Type 0
 NonNeg z = pos 0 ≤ℤ z
 
-along-place : (v w n d : ℤ) → pos 0 <ℤ v → pos 0 <ℤ w → pos 0 <ℤ d → pos 0 ≤ℤ n → n ≤ℤ d → pos 0 <ℤ ((d -ℤ n) *ℤ v +ℤ n *ℤ w)
+along-place : (v w n d : ℤ) → pos 0 <ℤ v → pos 0 <ℤ w → pos 0 <ℤ d → pos 0 ≤ℤ n → n ≤ℤ d
+    → pos 0 <ℤ ((d -ℤ n) *ℤ v +ℤ n *ℤ w)
 along-place =
-    follows 4 (λ v w n d. num (pos 0) ≺ v ⇒ num (pos 0) ≺ w ⇒ num (pos 0) ≺ d ⇒ num (pos 0) ≼ n ⇒ n ≼ d ⇒ num (pos 0) ≺ (d ⊖ n) ⊗ v ⊕ n ⊗ w
+    follows 4 (λ v w n d. num (pos 0) ≺ v ⇒ num (pos 0) ≺ w ⇒ num (pos 0) ≺ d ⇒ num (pos 0) ≼ n ⇒ n ≼ d ⇒ num (pos 0) ≺
+    (d ⊖ n) ⊗ v ⊕ n ⊗ w
     because gap 4 ⊠ over 0 ⊞ gap 3 ⊠ over 1 ⊞ over 2) tt
 
 abbrev LeftOf : Point → Point → Point → Point → ℤ → ℤ → Type 0
@@ -217,13 +260,16 @@ LeftOf a b p q x d = IsLeft (turn_of a b p) (turn_of a b q) x d
 abbrev LeftOfAll : Point → Point → Point → Point → Point → ℤ → ℤ → Type 0
 LeftOfAll a b c p q x d = ((Unit {0} × LeftOf a b p q x d) × LeftOf b c p q x d) × LeftOf c a p q x d
 
-in_iff_left : (a b c p q : Point) (x d : ℤ) → ArePlaces (a ∷ b ∷ c ∷ p ∷ q ∷ []) → pos 0 <ℤ turn_of a b c → IsParam x d → IsMix (along p q x d) (a ∷ b ∷ c ∷ []) ↔ LeftOfAll a b c p q x d
+in_iff_left : (a b c p q : Point) (x d : ℤ) → ArePlaces (a ∷ b ∷ c ∷ p ∷ q ∷ []) → pos 0 <ℤ turn_of a b c → IsParam x d
+    → IsMix (along p q x d) (a ∷ b ∷ c ∷ []) ↔ LeftOfAll a b c p q x d
 in_iff_left a b c p q x d h positive param =
     let r = along p q x d in
     let place = along-place p.w q.w x d h.1.1.1.0 h.1.1.1.1.0 param.0 param.1 param.2 in
     let e0 = turn_along a b p q x d in let e1 = turn_along b c p q x d in let e2 = turn_along c a p q x d in (
-      λ m. let t = turns_of_mix a b c r h.0 h.1.0 h.1.1.0 place positive m in (((tt, subst NonNeg e0 t.0), subst NonNeg e1 t.1), subst NonNeg e2 t.2),
-      λ l. mix_of_turns a b c r h.0 h.1.0 h.1.1.0 place positive (subst NonNeg (sym e0) l.0.0.1) (subst NonNeg (sym e1) l.0.1) (subst NonNeg (sym e2) l.1),
+      λ m. let t = turns_of_mix a b c r h.0 h.1.0 h.1.1.0 place positive
+          m in (((tt, subst NonNeg e0 t.0), subst NonNeg e1 t.1), subst NonNeg e2 t.2),
+      λ l. mix_of_turns a b c r h.0 h.1.0 h.1.1.0 place positive (subst NonNeg (sym e0) l.0.0.1)
+          (subst NonNeg (sym e1) l.0.1) (subst NonNeg (sym e2) l.1),
     )
 
 some_left : (a b c p q : Point) → Some (λ x d. LeftOfAll a b c p q x d)
@@ -234,8 +280,20 @@ some_left a b c p q =
 
 pub segments_meet_in_intervals : SegmentsMeetInIntervals
 segments_meet_in_intervals a b c p q h positive =
-    told (for_same (λ x d. LeftOfAll a b c p q x d) (λ x d. IsMix (along p q x d) (a ∷ b ∷ c ∷ [])) (λ x d param. in_iff_left a b c p q x d h positive param) (some_left a b c p q))
+    told (for_same (λ x d. LeftOfAll a b c p q x d) (λ x d. IsMix (along p q x d) (a ∷ b ∷ c ∷ []))
+    (λ x d param. in_iff_left a b c p q x d h positive param) (some_left a b c p q))
   where
-    told : Some (λ x d. IsMix (along p q x d) (a ∷ b ∷ c ∷ [])) → ((n d : ℤ) → IsParam n d → IsMix (along p q n d) (a ∷ b ∷ c ∷ []) → ⊥) ⊎ AreFromTo a b c p q
+    told : Some (λ x d. IsMix (along p q x d) (a ∷ b ∷ c ∷ []))
+        → ((n d : ℤ) → IsParam n d → IsMix (along p q n d) (a ∷ b ∷ c ∷ []) → ⊥) ⊎ AreFromTo a b c p q
     told (inl none) = inl none
-    told (inr i) = inr (record { least = i.k; least_of = i.l; greatest = i.m; greatest_of = i.n; first = i.first; last = i.last; order = i.order; between = i.between })
+    told (inr i) = inr (record {
+      least = i.k;
+      least_of = i.l;
+      greatest = i.m;
+      greatest_of = i.n;
+      first = i.first;
+      last =
+          i.last;
+      order = i.order;
+      between = i.between;
+    })

@@ -1,5 +1,6 @@
 -- Two triangles to the left of one side have a common point that is not on it.
-use Rattle.std.proofs.Common.{◌≡◌, ℕ, ◌+◌, ◌<◌, ℤ, pos, negsuc, ◌+ℤ◌, ◌*ℤ◌, ◌≤ℤ◌, ◌<ℤ◌, [], ◌∷◌, sum, sym, subst, refl, arith}
+use Rattle.std.proofs.Common.{◌≡◌, ℕ, ◌+◌, ◌<◌, ℤ, pos, negsuc, ◌+ℤ◌, ◌*ℤ◌, ◌≤ℤ◌, ◌<ℤ◌, [], ◌∷◌, sum, sym, subst, refl}
+use Rattle.std.proofs.Common.{arith}
 use Rattle.std.proofs.lemmas.Int.{ints}
 use Rattle.integer_ring.proofs.Ring.{num, ◌⊕◌, ◌⊗◌}
 use Rattle.integer_ring.proofs.Order.{≤_of_<, nonneg_pos}
@@ -16,26 +17,52 @@ fill : (z : ℤ) → (n : ℕ) × (pos 0 ≤ℤ (pos n +ℤ z))
 fill (pos k) = (0, omega (arith, ints))
 fill (negsuc k) = (k + 1, omega (arith, ints))
 
-fill_both : (m n : ℕ) (y z : ℤ) → pos 0 ≤ℤ (pos m +ℤ y) → pos 0 ≤ℤ (pos n +ℤ z) → (pos 0 ≤ℤ (pos (m + n) +ℤ y)) × (pos 0 ≤ℤ (pos (m + n) +ℤ z))
+fill_both : (m n : ℕ) (y z : ℤ) → pos 0 ≤ℤ (pos m +ℤ y) → pos 0 ≤ℤ (pos n +ℤ z)
+    → (pos 0 ≤ℤ (pos (m + n) +ℤ y)) × (pos 0 ≤ℤ (pos (m + n) +ℤ z))
 fill_both m n y z h k = (omega (arith, ints), omega (arith, ints))
 
 -- a point of the one triangle that is near the middle of the side: its turns with the sides of the other
-turn_near_b : (a b c g : Point) (n : ℤ) → turn_of b g (record { x = n *ℤ a.x +ℤ (n *ℤ b.x +ℤ (pos 1 *ℤ c.x +ℤ pos 0)); y = n *ℤ a.y +ℤ (n *ℤ b.y +ℤ (pos 1 *ℤ c.y +ℤ pos 0)); w = n *ℤ a.w +ℤ (n *ℤ b.w +ℤ (pos 1 *ℤ c.w +ℤ pos 0)) }) ≡ n *ℤ turn_of a b g +ℤ turn_of b g c
-turn_near_b = solve_at 4 1 (λ a b c g n. turn b g (plus n a (plus n b (plus (num (pos 1)) c nothing))) ≐ n ⊗ turn a b g ⊕ turn b g c) tt
+turn_near_b : (a b c g : Point) (n : ℤ) → turn_of b g
+    (record {
+      x = n *ℤ a.x +ℤ (n *ℤ b.x +ℤ (pos 1 *ℤ c.x +ℤ pos 0));
+      y =
+          n *ℤ a.y +ℤ (n *ℤ b.y +ℤ (pos 1 *ℤ c.y +ℤ pos 0));
+      w = n *ℤ a.w +ℤ (n *ℤ b.w +ℤ (pos 1 *ℤ c.w +ℤ pos 0));
+    }) ≡ n
+    *ℤ turn_of a b g +ℤ turn_of b g c
+turn_near_b = solve_at 4 1 (λ a b c g n. turn b g (plus n a (plus n b (plus (num (pos 1)) c nothing))) ≐ n ⊗ turn a b g
+    ⊕ turn b g c) tt
 
-turn_near_a : (a b c g : Point) (n : ℤ) → turn_of g a (record { x = n *ℤ a.x +ℤ (n *ℤ b.x +ℤ (pos 1 *ℤ c.x +ℤ pos 0)); y = n *ℤ a.y +ℤ (n *ℤ b.y +ℤ (pos 1 *ℤ c.y +ℤ pos 0)); w = n *ℤ a.w +ℤ (n *ℤ b.w +ℤ (pos 1 *ℤ c.w +ℤ pos 0)) }) ≡ n *ℤ turn_of a b g +ℤ turn_of g a c
-turn_near_a = solve_at 4 1 (λ a b c g n. turn g a (plus n a (plus n b (plus (num (pos 1)) c nothing))) ≐ n ⊗ turn a b g ⊕ turn g a c) tt
+turn_near_a : (a b c g : Point) (n : ℤ) → turn_of g a
+    (record {
+      x = n *ℤ a.x +ℤ (n *ℤ b.x +ℤ (pos 1 *ℤ c.x +ℤ pos 0));
+      y =
+          n *ℤ a.y +ℤ (n *ℤ b.y +ℤ (pos 1 *ℤ c.y +ℤ pos 0));
+      w = n *ℤ a.w +ℤ (n *ℤ b.w +ℤ (pos 1 *ℤ c.w +ℤ pos 0));
+    }) ≡ n
+    *ℤ turn_of a b g +ℤ turn_of g a c
+turn_near_a = solve_at 4 1 (λ a b c g n. turn g a (plus n a (plus n b (plus (num (pos 1)) c nothing))) ≐ n ⊗ turn a b g
+    ⊕ turn g a c) tt
 
-turn_near : (a b c : Point) (n : ℤ) → turn_of a b (record { x = n *ℤ a.x +ℤ (n *ℤ b.x +ℤ (pos 1 *ℤ c.x +ℤ pos 0)); y = n *ℤ a.y +ℤ (n *ℤ b.y +ℤ (pos 1 *ℤ c.y +ℤ pos 0)); w = n *ℤ a.w +ℤ (n *ℤ b.w +ℤ (pos 1 *ℤ c.w +ℤ pos 0)) }) ≡ turn_of a b c
+turn_near : (a b c : Point) (n : ℤ) → turn_of a b
+    (record {
+      x = n *ℤ a.x +ℤ (n *ℤ b.x +ℤ (pos 1 *ℤ c.x +ℤ pos 0));
+      y =
+          n *ℤ a.y +ℤ (n *ℤ b.y +ℤ (pos 1 *ℤ c.y +ℤ pos 0));
+      w = n *ℤ a.w +ℤ (n *ℤ b.w +ℤ (pos 1 *ℤ c.w +ℤ pos 0));
+    })
+    ≡ turn_of a b c
 turn_near = solve_at 3 1 (λ a b c n. turn a b (plus n a (plus n b (plus (num (pos 1)) c nothing))) ≐ turn a b c) tt
 
-near-w : (v w x n : ℤ) → pos 0 <ℤ v → pos 0 <ℤ w → pos 0 <ℤ x → pos 0 ≤ℤ n → pos 0 <ℤ (n *ℤ v +ℤ (n *ℤ w +ℤ (pos 1 *ℤ x +ℤ pos 0)))
+near-w : (v w x n : ℤ) → pos 0 <ℤ v → pos 0 <ℤ w → pos 0 <ℤ x → pos 0 ≤ℤ n
+    → pos 0 <ℤ (n *ℤ v +ℤ (n *ℤ w +ℤ (pos 1 *ℤ x +ℤ pos 0)))
 near-w =
     follows 4 (λ v w x n. num (pos 0) ≺ v ⇒ num (pos 0) ≺ w ⇒ num (pos 0) ≺ x ⇒ num (pos 0) ≼ n
     ⇒ num (pos 0) ≺ n ⊗ v ⊕ (n ⊗ w ⊕ (num (pos 1) ⊗ x ⊕ num (pos 0))) because gap 3 ⊠ gap 0 ⊞ gap 3 ⊠ gap 1 ⊞ over 2) tt
 
 far_enough : (n d z : ℤ) → pos 0 ≤ℤ (n +ℤ z) → pos 0 ≤ℤ n → pos 0 <ℤ d → pos 0 ≤ℤ (n *ℤ d +ℤ z)
-far_enough = follows 3 (λ n d z. num (pos 0) ≼ n ⊕ z ⇒ num (pos 0) ≼ n ⇒ num (pos 0) ≺ d ⇒ num (pos 0) ≼ n ⊗ d ⊕ z because gap 0 ⊞ gap 1 ⊠ over 2) tt
+far_enough = follows 3 (λ n d z. num (pos 0) ≼ n ⊕ z ⇒ num (pos 0) ≼ n ⇒ num (pos 0) ≺ d ⇒ num (pos 0) ≼ n ⊗ d
+    ⊕ z because gap 0 ⊞ gap 1 ⊠ over 2) tt
 
 some_weight : (n : ℕ) → 0 < sum (n ∷ n ∷ 1 ∷ [])
 some_weight n = omega arith
@@ -44,7 +71,9 @@ not_both : (z : ℤ) → pos 0 <ℤ z → z ≡ pos 0 → ⊥
 not_both z h e = absurd (omega (arith, ints))
 
 -- the side runs from a to b in both: then the triangles overlap
-pub overlap_at_side : (a b c g : Point) → pos 0 <ℤ a.w → pos 0 <ℤ b.w → pos 0 <ℤ c.w → pos 0 <ℤ g.w → pos 0 <ℤ turn_of a b c → pos 0 <ℤ turn_of a b g → ((p : Point) → pos 0 <ℤ p.w → IsMix p (a ∷ b ∷ c ∷ []) → IsMix p (a ∷ b ∷ g ∷ []) → turn_of a b p ≡ pos 0) → ⊥
+pub overlap_at_side : (a b c g : Point) → pos 0 <ℤ a.w → pos 0 <ℤ b.w → pos 0 <ℤ c.w → pos 0 <ℤ g.w
+    → pos 0 <ℤ turn_of a b c → pos 0 <ℤ turn_of a b g
+    → ((p : Point) → pos 0 <ℤ p.w → IsMix p (a ∷ b ∷ c ∷ []) → IsMix p (a ∷ b ∷ g ∷ []) → turn_of a b p ≡ pos 0) → ⊥
 overlap_at_side a b c g ha hb hc hg d d' only =
     let m = fill (turn_of b g c) in
     let k = fill (turn_of g a c) in
@@ -55,7 +84,9 @@ overlap_at_side a b c g ha hb hc hg d d' only =
         let p = weighed (n ∷ n ∷ 1 ∷ []) (a ∷ b ∷ c ∷ []) in
         let w : pos 0 <ℤ p.w = near-w a.w b.w c.w (pos n) ha hb hc (nonneg_pos n) in
         let at_ab : pos 0 <ℤ turn_of a b p = subst (λ (z : ℤ). pos 0 <ℤ z) (sym (turn_near a b c (pos n))) d in
-        let at_bg : pos 0 ≤ℤ turn_of b g p = subst NonNeg (sym (turn_near_b a b c g (pos n))) (far_enough (pos n) (turn_of a b g) (turn_of b g c) h.0 (nonneg_pos n) d') in
-        let at_ga : pos 0 ≤ℤ turn_of g a p = subst NonNeg (sym (turn_near_a a b c g (pos n))) (far_enough (pos n) (turn_of a b g) (turn_of g a c) h.1 (nonneg_pos n) d') in
+        let at_bg : pos 0 ≤ℤ turn_of b g p = subst NonNeg (sym (turn_near_b a b c g (pos n)))
+        (far_enough (pos n) (turn_of a b g) (turn_of b g c) h.0 (nonneg_pos n) d') in
+        let at_ga : pos 0 ≤ℤ turn_of g a p = subst NonNeg (sym (turn_near_a a b c g (pos n)))
+        (far_enough (pos n) (turn_of a b g) (turn_of g a c) h.1 (nonneg_pos n) d') in
         let in_u = mix_of_turns a b g p ha hb hg w d' (≤_of_< (pos 0) (turn_of a b p) at_ab) at_bg at_ga in
         not_both (turn_of a b p) at_ab (only p w (n ∷ n ∷ 1 ∷ [], refl, some_weight n, (refl, refl)) in_u)

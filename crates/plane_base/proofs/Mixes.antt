@@ -1,5 +1,6 @@
 -- Places and mixes: one place in two spellings, two weights, the points of a side, and mixes of mixes.
-use Rattle.std.proofs.Common.{◌≡◌, ℕ, zero, suc, negsuc, ◌+◌, ◌*◌, ◌<◌, ℤ, pos, ◌+ℤ◌, ◌*ℤ◌, ◌≤ℤ◌, ◌<ℤ◌, List, [], ◌∷◌, length, sum, sym, ◌∙◌, ap, subst, refl, arith}
+use Rattle.std.proofs.Common.{◌≡◌, ℕ, zero, suc, negsuc, ◌+◌, ◌*◌, ◌<◌, ℤ, pos, ◌+ℤ◌, ◌*ℤ◌, ◌≤ℤ◌, ◌<ℤ◌, List, [], ◌∷◌}
+use Rattle.std.proofs.Common.{length, sum, sym, ◌∙◌, ap, subst, refl, arith}
 use Rattle.std.proofs.lemmas.Int.{ints}
 use Rattle.integer_ring.proofs.Ring.{num, neg, ◌⊕◌, ◌⊗◌}
 use Rattle.integer_ring.proofs.Order.{nonneg_pos, to_nat, ≤_of_<}
@@ -19,10 +20,15 @@ pub same_sym : (p q : Point) → Same p q → Same q p
 same_sym p q s = (sym s.0, sym s.1)
 
 pub same_trans : (p q r : Point) → pos 0 <ℤ q.w → Same p q → Same q r → Same p r
-same_trans p q r h s t = (frac-≡_trans p.x p.w q.x q.w r.x r.w h s.0 t.0, frac-≡_trans p.y p.w q.y q.w r.y r.w h s.1 t.1)
+same_trans p q r h s t = (
+  frac-≡_trans p.x p.w q.x q.w r.x r.w h s.0 t.0,
+  frac-≡_trans p.y p.w q.y q.w r.y r.w h s.1
+      t.1,
+)
 
 moved : (x w a b c d : ℤ) → a ≡ c → b ≡ d → x *ℤ b ≡ a *ℤ w → x *ℤ d ≡ c *ℤ w
-moved = follows 6 (λ x w a b c d. a ≐ c ⇒ b ≐ d ⇒ x ⊗ b ≐ a ⊗ w ⇒ x ⊗ d ≐ c ⊗ w because eqn 2 (num (pos 1)) ⊞ eqn 0 w ⊞ eqn 1 (neg x)) tt
+moved = follows 6 (λ x w a b c d. a ≐ c ⇒ b ≐ d ⇒ x ⊗ b ≐ a ⊗ w ⇒ x ⊗ d ≐ c
+    ⊗ w because eqn 2 (num (pos 1)) ⊞ eqn 0 w ⊞ eqn 1 (neg x)) tt
 
 -- a point may stand for another of the same numbers
 pub same_moved : (p q r : Point) → q.x ≡ r.x → q.y ≡ r.y → q.w ≡ r.w → Same p q → Same p r
@@ -58,22 +64,31 @@ between_weights p q r m = go m.0 (two_weights m.0 m.1) m.2 m.3
     go : (ks : List ℕ) → Two ks → 0 < sum ks → Same r (weighed ks (p ∷ q ∷ [])) → Between p q r
     go ks (two k l e) h s =
         let h' : 0 < sum (k ∷ l ∷ []) = subst (λ (xs : List ℕ). 0 < sum xs) e h in
-        record { k = k; l = l; some = omega arith; same = subst (λ (xs : List ℕ). Same r (weighed xs (p ∷ q ∷ []))) e s }
+        record {
+          k = k;
+          l = l;
+          some = omega arith;
+          same =
+              subst (λ (xs : List ℕ). Same r (weighed xs (p ∷ q ∷ []))) e s;
+        }
 
 pub weights_between : (p q r : Point) → Between p q r → IsMix r (p ∷ q ∷ [])
 weights_between p q r b = (b.k ∷ b.l ∷ [], refl, (let h = b.some in omega arith), b.same)
 
-mixed-w : (k l v w : ℤ) → pos 0 <ℤ v → pos 0 <ℤ w → pos 0 <ℤ (k +ℤ l) → pos 0 ≤ℤ k → pos 0 ≤ℤ l → pos 0 <ℤ (k *ℤ v +ℤ (l *ℤ w +ℤ pos 0))
+mixed-w : (k l v w : ℤ) → pos 0 <ℤ v → pos 0 <ℤ w → pos 0 <ℤ (k +ℤ l) → pos 0 ≤ℤ k → pos 0 ≤ℤ l
+    → pos 0 <ℤ (k *ℤ v +ℤ (l *ℤ w +ℤ pos 0))
 mixed-w =
     follows 4 (λ k l v w. num (pos 0) ≺ v ⇒ num (pos 0) ≺ w ⇒ num (pos 0) ≺ k ⊕ l ⇒ num (pos 0) ≼ k ⇒ num (pos 0) ≼ l
     ⇒ num (pos 0) ≺ k ⊗ v ⊕ (l ⊗ w ⊕ num (pos 0)) because gap 3 ⊠ over 0 ⊞ gap 4 ⊠ over 1 ⊞ over 2) tt
 
 pub between-w : (p q r : Point) (b : Between p q r) → pos 0 <ℤ p.w → pos 0 <ℤ q.w → pos 0 <ℤ (mixed b.k b.l p q).w
-between-w p q r b hp hq = mixed-w (pos b.k) (pos b.l) p.w q.w hp hq (two_positive b.k b.l b.some) (nonneg_pos b.k) (nonneg_pos b.l)
+between-w p q r b hp hq = mixed-w (pos b.k) (pos b.l) p.w q.w hp hq (two_positive b.k b.l b.some) (nonneg_pos b.k)
+    (nonneg_pos b.l)
 
 -- a segment goes from either end
 last_first : (k l a b : ℤ) → k *ℤ a +ℤ (l *ℤ b +ℤ pos 0) ≡ l *ℤ b +ℤ (k *ℤ a +ℤ pos 0)
-last_first = follows 4 (λ k l a b. k ⊗ a ⊕ (l ⊗ b ⊕ num (pos 0)) ≐ l ⊗ b ⊕ (k ⊗ a ⊕ num (pos 0)) because eqn 0 (num (pos 0))) tt
+last_first = follows 4 (λ k l a b. k ⊗ a ⊕ (l ⊗ b ⊕ num (pos 0)) ≐ l ⊗ b
+    ⊕ (k ⊗ a ⊕ num (pos 0)) because eqn 0 (num (pos 0))) tt
 
 pub mix_swapped : (p c d : Point) → IsMix p (c ∷ d ∷ []) → IsMix p (d ∷ c ∷ [])
 mix_swapped p c d m =
@@ -82,18 +97,22 @@ mix_swapped p c d m =
       k = i.l;
       l = i.k;
       some = let h : 0 < i.k + i.l = i.some in omega arith;
-      same = same_moved p (mixed i.k i.l c d) (mixed i.l i.k d c) (last_first (pos i.k) (pos i.l) c.x d.x) (last_first (pos i.k) (pos i.l) c.y d.y) (last_first (pos i.k) (pos i.l) c.w d.w) i.same;
+      same = same_moved p (mixed i.k i.l c d) (mixed i.l i.k d c) (last_first (pos i.k) (pos i.l) c.x d.x)
+          (last_first (pos i.k) (pos i.l) c.y d.y) (last_first (pos i.k) (pos i.l) c.w d.w) i.same;
     })
 
 -- ---- the turn of a side is 0 at each of its points
 side_turn : (c d : Point) (k l : ℕ) → turn_of c d (mixed k l c d) ≡ pos 0
-side_turn c d k l = solve_at 2 2 (λ c d k l. turn c d (plus k c (plus l d nothing)) ≐ num (pos 0)) tt c d (pos k) (pos l)
+side_turn c d k l = solve_at 2 2 (λ c d k l. turn c d (plus k c (plus l d nothing)) ≐ num (pos 0)) tt c d (pos k)
+    (pos l)
 
 pub turn_on_side : (c d p : Point) → pos 0 <ℤ c.w → pos 0 <ℤ d.w → IsMix p (c ∷ d ∷ []) → turn_of c d p ≡ pos 0
 turn_on_side c d p hc hd on =
     let i = between_weights c d p on in
     let q = mixed i.k i.l c d in
-    ≡_of_mul (turn_of c d p) (pos 0) q.w (between-w c d p i hc hd) (zero_factor q.w (turn_of c d p) p.w (turn_same c d p q i.same ∙ ap (λ (z : ℤ). p.w *ℤ z) (side_turn c d i.k i.l)))
+    ≡_of_mul (turn_of c d p) (pos 0) q.w (between-w c d p i hc hd)
+    (zero_factor q.w (turn_of c d p) p.w (turn_same c d p q i.same
+    ∙ ap (λ (z : ℤ). p.w *ℤ z) (side_turn c d i.k i.l)))
 
 -- ---- m times some weights and n times others
 unfoldable pub combined : ℕ → ℕ → List ℕ → List ℕ → List ℕ
@@ -111,7 +130,8 @@ combined-length m n (k ∷ ks) (l ∷ ls) e = let rest = combined-length m n ks 
 one_sum : (m n k l s t r : ℕ) → r ≡ m * s + n * t → m * k + n * l + r ≡ m * (k + s) + n * (l + t)
 one_sum m n k l s t r e = omega arith
 
-pub combined-sum : (m n : ℕ) (ks ls : List ℕ) → length ks ≡ length ls → sum (combined m n ks ls) ≡ m * sum ks + n * sum ls
+pub combined-sum : (m n : ℕ) (ks ls : List ℕ) → length ks ≡ length ls
+    → sum (combined m n ks ls) ≡ m * sum ks + n * sum ls
 unfolding combined
 combined-sum m n [] [] e = omega arith
 combined-sum m n [] (l ∷ ls) e = absurd (omega arith)
@@ -119,7 +139,8 @@ combined-sum m n (k ∷ ks) [] e = absurd (omega arith)
 combined-sum m n (k ∷ ks) (l ∷ ls) e =
     sum-cons (m * k + n * l) (combined m n ks ls)
     ∙ one_sum m n k l (sum ks) (sum ls) (sum (combined m n ks ls)) (combined-sum m n ks ls (omega arith))
-    ∙ sym (ap (λ (z : ℕ). m * z + n * sum (l ∷ ls)) (sum-cons k ks) ∙ ap (λ (z : ℕ). m * (k + sum ks) + n * z) (sum-cons l ls))
+    ∙ sym (ap (λ (z : ℕ). m * z + n * sum (l ∷ ls)) (sum-cons k ks)
+    ∙ ap (λ (z : ℕ). m * (k + sum ks) + n * z) (sum-cons l ls))
 
 -- r is m·p + n·q
 pub record IsSum (m n : ℤ) (p q r : Point) : Type 0 where
@@ -127,15 +148,23 @@ pub record IsSum (m n : ℤ) (p q r : Point) : Type 0 where
   pub y : r.y ≡ m *ℤ p.y +ℤ n *ℤ q.y
   pub w : r.w ≡ m *ℤ p.w +ℤ n *ℤ q.w
 
-one_axis : (m n k l v s t r : ℤ) → r ≡ m *ℤ s +ℤ n *ℤ t → (m *ℤ k +ℤ n *ℤ l) *ℤ v +ℤ r ≡ m *ℤ (k *ℤ v +ℤ s) +ℤ n *ℤ (l *ℤ v +ℤ t)
-one_axis = follows 8 (λ m n k l v s t r. r ≐ m ⊗ s ⊕ n ⊗ t ⇒ (m ⊗ k ⊕ n ⊗ l) ⊗ v ⊕ r ≐ m ⊗ (k ⊗ v ⊕ s) ⊕ n ⊗ (l ⊗ v ⊕ t) because eqn 0 (num (pos 1))) tt
+one_axis : (m n k l v s t r : ℤ) → r ≡ m *ℤ s +ℤ n *ℤ t
+    → (m *ℤ k +ℤ n *ℤ l) *ℤ v +ℤ r ≡ m *ℤ (k *ℤ v +ℤ s) +ℤ n *ℤ (l *ℤ v +ℤ t)
+one_axis = follows 8 (λ m n k l v s t r. r ≐ m ⊗ s ⊕ n ⊗ t ⇒ (m ⊗ k ⊕ n ⊗ l) ⊗ v ⊕ r ≐ m ⊗ (k ⊗ v ⊕ s) ⊕ n
+    ⊗ (l ⊗ v ⊕ t) because eqn 0 (num (pos 1))) tt
 
 no_axis : (m n : ℤ) → pos 0 ≡ m *ℤ pos 0 +ℤ n *ℤ pos 0
 no_axis = follows 2 (λ m n. num (pos 0) ≐ m ⊗ num (pos 0) ⊕ n ⊗ num (pos 0) because eqn 0 (num (pos 0))) tt
 
-pub combined_mix : (m n : ℕ) (ks ls : List ℕ) (ps : List Point) → length ks ≡ length ps → length ls ≡ length ps → IsSum (pos m) (pos n) (weighed ks ps) (weighed ls ps) (weighed (combined m n ks ls) ps)
+pub combined_mix : (m n : ℕ) (ks ls : List ℕ) (ps : List Point) → length ks ≡ length ps → length ls ≡ length ps
+    → IsSum (pos m) (pos n) (weighed ks ps) (weighed ls ps) (weighed (combined m n ks ls) ps)
 unfolding combined
-combined_mix m n [] [] ps e f = record { x = no_axis (pos m) (pos n); y = no_axis (pos m) (pos n); w = no_axis (pos m) (pos n) }
+combined_mix m n [] [] ps e f = record {
+  x = no_axis (pos m) (pos n);
+  y = no_axis (pos m) (pos n);
+  w =
+      no_axis (pos m) (pos n);
+}
 combined_mix m n [] (l ∷ ls) ps e f = absurd (omega arith)
 combined_mix m n (k ∷ ks) [] ps e f = absurd (omega arith)
 combined_mix m n (k ∷ ks) (l ∷ ls) [] e f = absurd (omega arith)
@@ -157,25 +186,32 @@ natural z h = let n = to_nat z (≤_of_< (pos 0) z h) in (n.0, n.1, above n.0 (s
 
 -- some weights of some places make a place
 nonneg-sum : (k v w : ℤ) → pos 0 ≤ℤ k → pos 0 ≤ℤ v → pos 0 ≤ℤ w → pos 0 ≤ℤ (k *ℤ v +ℤ w)
-nonneg-sum = follows 3 (λ k v w. num (pos 0) ≼ k ⇒ num (pos 0) ≼ v ⇒ num (pos 0) ≼ w ⇒ num (pos 0) ≼ k ⊗ v ⊕ w because gap 0 ⊠ gap 1 ⊞ gap 2) tt
+nonneg-sum = follows 3 (λ k v w. num (pos 0) ≼ k ⇒ num (pos 0) ≼ v ⇒ num (pos 0) ≼ w ⇒ num (pos 0) ≼ k ⊗ v
+    ⊕ w because gap 0 ⊠ gap 1 ⊞ gap 2) tt
 
 pub weighed-nonneg : (ks : List ℕ) (ps : List Point) → ArePlaces ps → pos 0 ≤ℤ (weighed ks ps).w
 weighed-nonneg [] ps h = nonneg_pos 0
 weighed-nonneg (k ∷ ks) [] h = nonneg_pos 0
-weighed-nonneg (k ∷ ks) (p ∷ ps) h = nonneg-sum (pos k) p.w (weighed ks ps).w (nonneg_pos k) (≤_of_< (pos 0) p.w h.0) (weighed-nonneg ks ps h.1)
+weighed-nonneg (k ∷ ks) (p ∷ ps) h = nonneg-sum (pos k) p.w (weighed ks ps).w (nonneg_pos k) (≤_of_< (pos 0) p.w h.0)
+    (weighed-nonneg ks ps h.1)
 
 first_some : (k v w : ℤ) → pos 0 <ℤ k → pos 0 <ℤ v → pos 0 ≤ℤ w → pos 0 <ℤ (k *ℤ v +ℤ w)
-first_some = follows 3 (λ k v w. num (pos 0) ≺ k ⇒ num (pos 0) ≺ v ⇒ num (pos 0) ≼ w ⇒ num (pos 0) ≺ k ⊗ v ⊕ w because over 0 ⊠ gap 1 ⊞ over 1 ⊞ gap 2) tt
+first_some = follows 3 (λ k v w. num (pos 0) ≺ k ⇒ num (pos 0) ≺ v ⇒ num (pos 0) ≼ w ⇒ num (pos 0) ≺ k ⊗ v
+    ⊕ w because over 0 ⊠ gap 1 ⊞ over 1 ⊞ gap 2) tt
 
 later_some : (k v w : ℤ) → pos 0 ≤ℤ k → pos 0 <ℤ v → pos 0 <ℤ w → pos 0 <ℤ (k *ℤ v +ℤ w)
-later_some = follows 3 (λ k v w. num (pos 0) ≼ k ⇒ num (pos 0) ≺ v ⇒ num (pos 0) ≺ w ⇒ num (pos 0) ≺ k ⊗ v ⊕ w because gap 0 ⊠ gap 1 ⊞ over 2) tt
+later_some = follows 3 (λ k v w. num (pos 0) ≼ k ⇒ num (pos 0) ≺ v ⇒ num (pos 0) ≺ w ⇒ num (pos 0) ≺ k ⊗ v
+    ⊕ w because gap 0 ⊠ gap 1 ⊞ over 2) tt
 
-pub weighed-place : (ks : List ℕ) (ps : List Point) → length ks ≡ length ps → ArePlaces ps → 0 < sum ks → pos 0 <ℤ (weighed ks ps).w
+pub weighed-place : (ks : List ℕ) (ps : List Point) → length ks ≡ length ps → ArePlaces ps → 0 < sum ks
+    → pos 0 <ℤ (weighed ks ps).w
 weighed-place [] ps e h some = absurd (omega arith)
 weighed-place (k ∷ ks) [] e h some = absurd (omega arith)
 weighed-place (zero ∷ ks) (p ∷ ps) e h some =
-    later_some (pos 0) p.w (weighed ks ps).w (nonneg_pos 0) h.0 (weighed-place ks ps (omega arith) h.1 (omega (arith, sum-cons 0 ks)))
-weighed-place (suc k ∷ ks) (p ∷ ps) e h some = first_some (pos (suc k)) p.w (weighed ks ps).w (above k) h.0 (weighed-nonneg ks ps h.1)
+    later_some (pos 0) p.w (weighed ks ps).w (nonneg_pos 0) h.0
+    (weighed-place ks ps (omega arith) h.1 (omega (arith, sum-cons 0 ks)))
+weighed-place (suc k ∷ ks) (p ∷ ps) e h some =
+    first_some (pos (suc k)) p.w (weighed ks ps).w (above k) h.0 (weighed-nonneg ks ps h.1)
   where
     above : (k : ℕ) → pos 0 <ℤ pos (suc k)
     above k = omega (arith, ints)
@@ -220,7 +256,8 @@ nothing_is : (f z : ℤ) → z ≡ pos 0 → f *ℤ pos 0 ≡ z
 nothing_is = follows 2 (λ f z. z ≐ num (pos 0) ⇒ f ⊗ num (pos 0) ≐ z because eqn 0 (neg (num (pos 1)))) tt
 
 -- p, whose w is u, is in the place of m, whose w is v; f·s is t, and r is (f·k·u)·m + v·t: then (f·v)·(k·p + s) is r
-more_axis : (f k u v p m s t r : ℤ) → p *ℤ v ≡ m *ℤ u → f *ℤ s ≡ t → r ≡ (f *ℤ k *ℤ u) *ℤ m +ℤ v *ℤ t → (f *ℤ v) *ℤ (k *ℤ p +ℤ s) ≡ r
+more_axis : (f k u v p m s t r : ℤ) → p *ℤ v ≡ m *ℤ u → f *ℤ s ≡ t → r ≡ (f *ℤ k *ℤ u) *ℤ m +ℤ v *ℤ t
+    → (f *ℤ v) *ℤ (k *ℤ p +ℤ s) ≡ r
 more_axis =
     follows 9 (λ f k u v p m s t r. p ⊗ v ≐ m ⊗ u ⇒ f ⊗ s ≐ t ⇒ r ≐ (f ⊗ k ⊗ u) ⊗ m ⊕ v ⊗ t ⇒ (f ⊗ v) ⊗ (k ⊗ p ⊕ s) ≐ r
     because eqn 0 (f ⊗ k) ⊞ eqn 1 v ⊞ eqn 2 (num (negsuc 0))) tt
@@ -236,20 +273,28 @@ some_here m n s t z e h = omega arith
 some_there : (m n s t z : ℕ) → z ≡ m * s + n * t → 0 < n * t → 0 < z
 some_there m n s t z e h = omega arith
 
-remix_more : (k : ℕ) (p : Point) (ks : List ℕ) (ps rs : List Point) → IsPlace p → ArePlaces rs → IsMix p rs → Remixed ks ps rs → Remixed (k ∷ ks) (p ∷ ps) rs
-remix_more k p ks ps rs hp hrs mix i = go (natural p.w hp) (natural (weighed mix.0 rs).w (weighed-place mix.0 rs mix.1 hrs mix.2))
+remix_more : (k : ℕ) (p : Point) (ks : List ℕ) (ps rs : List Point) → IsPlace p → ArePlaces rs → IsMix p rs
+    → Remixed ks ps rs → Remixed (k ∷ ks) (p ∷ ps) rs
+remix_more k p ks ps rs hp hrs mix i = go (natural p.w hp)
+    (natural (weighed mix.0 rs).w (weighed-place mix.0 rs mix.1 hrs mix.2))
   where
-    go : (u : ℕ) × (p.w ≡ pos u) × (0 < u) → (v : ℕ) × ((weighed mix.0 rs).w ≡ pos v) × (0 < v) → Remixed (k ∷ ks) (p ∷ ps) rs
+    go : (u : ℕ) × (p.w ≡ pos u) × (0 < u) → (v : ℕ) × ((weighed mix.0 rs).w ≡ pos v) × (0 < v)
+        → Remixed (k ∷ ks) (p ∷ ps) rs
     go u v =
         let f = i.times in let ms = mix.0 in let m = weighed ms rs in
         let s = weighed ks ps in let t = weighed i.weights rs in
         let ws = combined (f * k * u.0) v.0 ms i.weights in
         let one_length : length ms ≡ length i.weights = mix.1 ∙ sym i.each in
         let r = combined_mix (f * k * u.0) v.0 ms i.weights rs mix.1 i.each in
-        let in_sum : sum ws ≡ (f * k * u.0) * sum ms + v.0 * sum i.weights = combined-sum (f * k * u.0) v.0 ms i.weights one_length in
-        let same_x : p.x *ℤ pos v.0 ≡ m.x *ℤ pos u.0 = subst (λ (z : ℤ). p.x *ℤ pos v.0 ≡ m.x *ℤ z) u.1 (subst (λ (z : ℤ). p.x *ℤ z ≡ m.x *ℤ p.w) v.1 mix.3.0) in
-        let same_y : p.y *ℤ pos v.0 ≡ m.y *ℤ pos u.0 = subst (λ (z : ℤ). p.y *ℤ pos v.0 ≡ m.y *ℤ z) u.1 (subst (λ (z : ℤ). p.y *ℤ z ≡ m.y *ℤ p.w) v.1 mix.3.1) in
-        let same_w : p.w *ℤ pos v.0 ≡ m.w *ℤ pos u.0 = subst (λ (z : ℤ). z *ℤ pos v.0 ≡ m.w *ℤ pos u.0) (sym u.1) (subst (λ (z : ℤ). pos u.0 *ℤ pos v.0 ≡ z *ℤ pos u.0) (sym v.1) (across (pos u.0) (pos v.0))) in
+        let in_sum : sum ws ≡ (f * k * u.0) * sum ms + v.0 * sum i.weights =
+        combined-sum (f * k * u.0) v.0 ms i.weights one_length in
+        let same_x : p.x *ℤ pos v.0 ≡ m.x *ℤ pos u.0 =
+        subst (λ (z : ℤ). p.x *ℤ pos v.0 ≡ m.x *ℤ z) u.1 (subst (λ (z : ℤ). p.x *ℤ z ≡ m.x *ℤ p.w) v.1 mix.3.0) in
+        let same_y : p.y *ℤ pos v.0 ≡ m.y *ℤ pos u.0 =
+        subst (λ (z : ℤ). p.y *ℤ pos v.0 ≡ m.y *ℤ z) u.1 (subst (λ (z : ℤ). p.y *ℤ z ≡ m.y *ℤ p.w) v.1 mix.3.1) in
+        let same_w : p.w *ℤ pos v.0 ≡ m.w *ℤ pos u.0 =
+        subst (λ (z : ℤ). z *ℤ pos v.0 ≡ m.w *ℤ pos u.0) (sym u.1)
+        (subst (λ (z : ℤ). pos u.0 *ℤ pos v.0 ≡ z *ℤ pos u.0) (sym v.1) (across (pos u.0) (pos v.0))) in
         record {
           times = f * v.0;
           some = some_times f v.0 i.some v.2;
@@ -264,11 +309,16 @@ remix_more k p ks ps rs hp hrs mix i = go (natural p.w hp) (natural (weighed mix
         across : (u v : ℤ) → u *ℤ v ≡ v *ℤ u
         across = follows 2 (λ u v. u ⊗ v ≐ v ⊗ u because eqn 0 (num (pos 0))) tt
 
-        some_weights : (j : ℕ) → {z : ℕ} → z ≡ (i.times * j * u.0) * sum mix.0 + v.0 * sum i.weights → 0 < sum (j ∷ ks) → 0 < z
-        some_weights zero {z} e h = some_there (i.times * 0 * u.0) v.0 (sum mix.0) (sum i.weights) z e (some_times v.0 (sum i.weights) v.2 (i.kept (omega (arith, sum-cons 0 ks))))
-        some_weights (suc j) {z} e h = some_here (i.times * suc j * u.0) v.0 (sum mix.0) (sum i.weights) z e (some_times (i.times * suc j * u.0) (sum mix.0) (some_times (i.times * suc j) u.0 (some_times i.times (suc j) i.some (omega arith)) u.2) mix.2)
+        some_weights : (j : ℕ) → {z : ℕ} → z ≡ (i.times * j * u.0) * sum mix.0 + v.0 * sum i.weights → 0 < sum (j ∷ ks)
+            → 0 < z
+        some_weights zero {z} e h = some_there (i.times * 0 * u.0) v.0 (sum mix.0) (sum i.weights) z e
+            (some_times v.0 (sum i.weights) v.2 (i.kept (omega (arith, sum-cons 0 ks))))
+        some_weights (suc j) {z} e h = some_here (i.times * suc j * u.0) v.0 (sum mix.0) (sum i.weights) z e
+            (some_times (i.times * suc j * u.0) (sum mix.0)
+            (some_times (i.times * suc j) u.0 (some_times i.times (suc j) i.some (omega arith)) u.2) mix.2)
 
-remix_all : (ks : List ℕ) (ps rs : List Point) → length ks ≡ length ps → ArePlaces ps → ArePlaces rs → AreMixes ps rs → Remixed ks ps rs
+remix_all : (ks : List ℕ) (ps rs : List Point) → length ks ≡ length ps → ArePlaces ps → ArePlaces rs → AreMixes ps rs
+    → Remixed ks ps rs
 remix_all [] [] rs e hp hr m =
     let n = no_weights-mix rs in
     record {
@@ -283,11 +333,13 @@ remix_all [] [] rs e hp hr m =
     }
 remix_all [] (p ∷ ps) rs e hp hr m = absurd (omega arith)
 remix_all (k ∷ ks) [] rs e hp hr m = absurd (omega arith)
-remix_all (k ∷ ks) (p ∷ ps) rs e hp hr m = remix_more k p ks ps rs hp.0 hr m.0 (remix_all ks ps rs (omega arith) hp.1 hr m.1)
+remix_all (k ∷ ks) (p ∷ ps) rs e hp hr m =
+    remix_more k p ks ps rs hp.0 hr m.0 (remix_all ks ps rs (omega arith) hp.1 hr m.1)
 
 -- q is in the place of m, and f·m is r
 times_axis : (f q w mx mw rx rw : ℤ) → q *ℤ mw ≡ mx *ℤ w → f *ℤ mx ≡ rx → f *ℤ mw ≡ rw → q *ℤ rw ≡ rx *ℤ w
-times_axis = follows 7 (λ f q w mx mw rx rw. q ⊗ mw ≐ mx ⊗ w ⇒ f ⊗ mx ≐ rx ⇒ f ⊗ mw ≐ rw ⇒ q ⊗ rw ≐ rx ⊗ w because eqn 0 f ⊞ eqn 1 w ⊞ eqn 2 (neg q)) tt
+times_axis = follows 7 (λ f q w mx mw rx rw. q ⊗ mw ≐ mx ⊗ w ⇒ f ⊗ mx ≐ rx ⇒ f ⊗ mw ≐ rw ⇒ q ⊗ rw ≐ rx
+    ⊗ w because eqn 0 f ⊞ eqn 1 w ⊞ eqn 2 (neg q)) tt
 
 pub mixes_mix : MixesMix
 mixes_mix q ps rs hp hr m mix =
@@ -296,8 +348,14 @@ mixes_mix q ps rs hp hr m mix =
       i.weights,
       i.each,
       i.kept mix.2,
-      (times_axis (pos i.times) q.x q.w s.x s.w t.x t.w mix.3.0 i.x i.w, times_axis (pos i.times) q.y q.w s.y s.w t.y t.w mix.3.1 i.y i.w),
+      (
+        times_axis (pos i.times) q.x q.w s.x s.w t.x t.w mix.3.0 i.x i.w,
+        times_axis (pos i.times) q.y q.w s.y s.w t.y
+            t.w mix.3.1 i.y i.w,
+      ),
     )
 
 pub triangles_are_convex : TrianglesAreConvex
-triangles_are_convex a b c p q r h mp mq mr = mixes_mix r (p ∷ q ∷ []) (a ∷ b ∷ c ∷ []) (h.1.1.1.0, (h.1.1.1.1.0, tt)) (h.0, (h.1.0, (h.1.1.0, tt))) (mp, (mq, tt)) mr
+triangles_are_convex a b c p q r h mp mq mr =
+    mixes_mix r (p ∷ q ∷ []) (a ∷ b ∷ c ∷ []) (h.1.1.1.0, (h.1.1.1.1.0, tt)) (h.0, (h.1.0, (h.1.1.0, tt)))
+    (mp, (mq, tt)) mr

@@ -12,7 +12,8 @@ use Rattle.plain_laws.proofs.Weights.{share_axis, share_some}
 
 -- weights k and l are the parameter l/(k + l)
 one_axis : (k l n d a b : ℤ) → n ≡ l → d -ℤ n ≡ k → k *ℤ a +ℤ (l *ℤ b +ℤ pos 0) ≡ (d -ℤ n) *ℤ a +ℤ n *ℤ b
-one_axis = follows 6 (λ k l n d a b. n ≐ l ⇒ d ⊖ n ≐ k ⇒ k ⊗ a ⊕ (l ⊗ b ⊕ num (pos 0)) ≐ (d ⊖ n) ⊗ a ⊕ n ⊗ b because eqn 0 (neg b) ⊞ eqn 1 (neg a)) tt
+one_axis = follows 6 (λ k l n d a b. n ≐ l ⇒ d ⊖ n ≐ k ⇒ k ⊗ a ⊕ (l ⊗ b ⊕ num (pos 0)) ≐ (d ⊖ n) ⊗ a ⊕ n
+    ⊗ b because eqn 0 (neg b) ⊞ eqn 1 (neg a)) tt
 
 rest : (k l : ℕ) → pos (k + l) -ℤ pos l ≡ pos k
 rest k l = omega (arith, ints)
@@ -32,7 +33,8 @@ segments_have_parameters p q r = (there, back)
           d = d;
           param = param_of k l b.some;
           same = same_moved r (mixed k l p q) (along p q n d)
-              (one_axis (pos k) (pos l) n d p.x q.x e (rest k l)) (one_axis (pos k) (pos l) n d p.y q.y e (rest k l)) (one_axis (pos k) (pos l) n d p.w q.w e (rest k l)) b.same;
+              (one_axis (pos k) (pos l) n d p.x q.x e (rest k l)) (one_axis (pos k) (pos l) n d p.y q.y e (rest k l))
+              (one_axis (pos k) (pos l) n d p.w q.w e (rest k l)) b.same;
         }
 
     back : HasParameter p q r → IsMix r (p ∷ q ∷ [])
@@ -44,5 +46,6 @@ segments_have_parameters p q r = (there, back)
           l = l.0;
           some = share_some n d l.0 k.0 l.1 k.1 h.param.0;
           same = same_moved r (along p q n d) (mixed k.0 l.0 p q)
-              (share_axis n d (pos l.0) (pos k.0) p.x q.x l.1 k.1) (share_axis n d (pos l.0) (pos k.0) p.y q.y l.1 k.1) (share_axis n d (pos l.0) (pos k.0) p.w q.w l.1 k.1) h.same;
+              (share_axis n d (pos l.0) (pos k.0) p.x q.x l.1 k.1) (share_axis n d (pos l.0) (pos k.0) p.y q.y l.1 k.1)
+              (share_axis n d (pos l.0) (pos k.0) p.w q.w l.1 k.1) h.same;
         })

@@ -1,7 +1,8 @@
 -- The laws of `Claims` with points for variables: three numbers each.
 use Rattle.std.proofs.Common.{ℕ, zero, suc, ◌+◌, ◌*◌, ℤ, pos, List, [], ◌∷◌, T}
 use Rattle.integer_ring.proofs.Ring.{Expr, var, num, ◌⊕◌, ◌⊖◌, ◌⊗◌}
-use Rattle.integer_ring.proofs.Claims.{Claim, Law, none, gives, identity_holds, says, states, checks, law_holds, Over, at_vars, For, for_all}
+use Rattle.integer_ring.proofs.Claims.{Claim, Law, none, gives, identity_holds, says, states, checks, law_holds, Over}
+use Rattle.integer_ring.proofs.Claims.{at_vars, For, for_all}
 use Rattle.plane_base.specs.Plane.{Point}
 
 -- a point whose numbers are expressions
@@ -43,8 +44,10 @@ for_points S f zero n ρ = for_all S f n ρ
 for_points S f (suc m) n ρ = λ p. for_points S f m n (p.x ∷ p.y ∷ p.w ∷ ρ)
 
 -- `follows` and `solve` over m points and n numbers
-pub follows_at : (m n : ℕ) (f : OverPoints Law m n) → T (checks [] (at_points Law m n f)) → ForPoints (states (at_points Law m n f)) m n []
+pub follows_at : (m n : ℕ) (f : OverPoints Law m n) → T (checks [] (at_points Law m n f))
+    → ForPoints (states (at_points Law m n f)) m n []
 follows_at m n f t = for_points (states (at_points Law m n f)) (law_holds (at_points Law m n f) t) m n []
 
-pub solve_at : (m n : ℕ) (f : OverPoints Claim m n) → T (gives [] (at_points Claim m n f) none) → ForPoints (says (at_points Claim m n f)) m n []
+pub solve_at : (m n : ℕ) (f : OverPoints Claim m n) → T (gives [] (at_points Claim m n f) none)
+    → ForPoints (says (at_points Claim m n f)) m n []
 solve_at m n f t = for_points (says (at_points Claim m n f)) (identity_holds (at_points Claim m n f) t) m n []

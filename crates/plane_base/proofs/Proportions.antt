@@ -1,4 +1,5 @@
--- The weights of a mix of a triangle's corners: each is the turn of the side opposite, and so they are unique up to a factor.
+-- The weights of a mix of a triangle's corners: each is the turn of the side opposite, and so they are unique up to a
+-- factor.
 use Rattle.std.proofs.Common.{◌≡◌, ℕ, ℤ, pos, ◌*ℤ◌, ◌<ℤ◌, ◌∙◌, ap}
 use Rattle.integer_ring.proofs.Ring.{neg, ◌⊗◌}
 use Rattle.integer_ring.proofs.Signs.{≡_of_mul, mul-positive}
@@ -16,13 +17,16 @@ triangles_are_left_of_sides a b c p h d = (
 )
 
 turn_a : (a b c : Point) (k l m : ℕ) → turn_of b c (mix_of k l m a b c) ≡ pos k *ℤ turn_of a b c
-turn_a a b c k l m = solve_at 3 3 (λ a b c k l m. turn b c (plus k a (plus l b (plus m c nothing))) ≐ k ⊗ turn a b c) tt a b c (pos k) (pos l) (pos m)
+turn_a a b c k l m = solve_at 3 3 (λ a b c k l m. turn b c (plus k a (plus l b (plus m c nothing))) ≐ k ⊗ turn a b c) tt
+    a b c (pos k) (pos l) (pos m)
 
 turn_b : (a b c : Point) (k l m : ℕ) → turn_of c a (mix_of k l m a b c) ≡ pos l *ℤ turn_of a b c
-turn_b a b c k l m = solve_at 3 3 (λ a b c k l m. turn c a (plus k a (plus l b (plus m c nothing))) ≐ l ⊗ turn a b c) tt a b c (pos k) (pos l) (pos m)
+turn_b a b c k l m = solve_at 3 3 (λ a b c k l m. turn c a (plus k a (plus l b (plus m c nothing))) ≐ l ⊗ turn a b c) tt
+    a b c (pos k) (pos l) (pos m)
 
 turn_c : (a b c : Point) (k l m : ℕ) → turn_of a b (mix_of k l m a b c) ≡ pos m *ℤ turn_of a b c
-turn_c a b c k l m = solve_at 3 3 (λ a b c k l m. turn a b (plus k a (plus l b (plus m c nothing))) ≐ m ⊗ turn a b c) tt a b c (pos k) (pos l) (pos m)
+turn_c a b c k l m = solve_at 3 3 (λ a b c k l m. turn a b (plus k a (plus l b (plus m c nothing))) ≐ m ⊗ turn a b c) tt
+    a b c (pos k) (pos l) (pos m)
 
 pub weights_are_turns : WeightsAreTurns
 weights_are_turns a b c p k l m same =
@@ -34,10 +38,12 @@ weights_are_turns a b c p k l m same =
     }
 
 -- v·t = p·(k·d) and w·t = p·(r·d) give k·w = r·v
-one_weight : (k r v w p t d : ℤ) → pos 0 <ℤ p → pos 0 <ℤ d → v *ℤ t ≡ p *ℤ (k *ℤ d) → w *ℤ t ≡ p *ℤ (r *ℤ d) → k *ℤ w ≡ r *ℤ v
+one_weight : (k r v w p t d : ℤ) → pos 0 <ℤ p → pos 0 <ℤ d → v *ℤ t ≡ p *ℤ (k *ℤ d) → w *ℤ t ≡ p *ℤ (r *ℤ d)
+    → k *ℤ w ≡ r *ℤ v
 one_weight k r v w p t d hp hd e f =
     ≡_of_mul (k *ℤ w) (r *ℤ v) (p *ℤ d) (mul-positive p d hp hd)
-    (follows 7 (λ k r v w p t d. v ⊗ t ≐ p ⊗ (k ⊗ d) ⇒ w ⊗ t ≐ p ⊗ (r ⊗ d) ⇒ k ⊗ w ⊗ (p ⊗ d) ≐ r ⊗ v ⊗ (p ⊗ d) because eqn 0 (neg w) ⊞ eqn 1 v) tt k r v w p t d e f)
+    (follows 7 (λ k r v w p t d. v ⊗ t ≐ p ⊗ (k ⊗ d) ⇒ w ⊗ t ≐ p ⊗ (r ⊗ d) ⇒ k ⊗ w ⊗ (p ⊗ d) ≐ r ⊗ v
+    ⊗ (p ⊗ d) because eqn 0 (neg w) ⊞ eqn 1 v) tt k r v w p t d e f)
 
 pub weights_are_unique : WeightsAreUnique
 weights_are_unique a b c p k l m r s t h d same same' =

@@ -33,9 +33,12 @@ pub cross_fits : (z : ℤ) → IsSmall z → SFits w64 z
 cross_fits z h = omega (arith, ints)
 
 -- the turn of whole points, as the cross product of two differences
-pub turn_whole : (ax ay bx by cx cy u v s t z : ℤ) → u ≡ bx -ℤ ax → v ≡ by -ℤ ay → s ≡ cx -ℤ ax → t ≡ cy -ℤ ay → z ≡ u *ℤ t -ℤ v *ℤ s → z ≡ turn_of (record { x = ax; y = ay; w = pos 1 }) (record { x = bx; y = by; w = pos 1 }) (record { x = cx; y = cy; w = pos 1 })
+pub turn_whole : (ax ay bx by cx cy u v s t z : ℤ) → u ≡ bx -ℤ ax → v ≡ by -ℤ ay → s ≡ cx -ℤ ax → t ≡ cy -ℤ ay
+    → z ≡ u *ℤ t -ℤ v *ℤ s → z ≡ turn_of (record { x = ax; y = ay; w = pos 1 }) (record { x = bx; y = by; w = pos 1 })
+    (record { x = cx; y = cy; w = pos 1 })
 turn_whole =
     follows 11 (λ ax ay bx by cx cy u v s t z.
     u ≐ bx ⊖ ax ⇒ v ≐ by ⊖ ay ⇒ s ≐ cx ⊖ ax ⇒ t ≐ cy ⊖ ay ⇒ z ≐ u ⊗ t ⊖ v ⊗ s
-    ⇒ z ≐ turn (record { x = ax; y = ay; w = num (pos 1) }) (record { x = bx; y = by; w = num (pos 1) }) (record { x = cx; y = cy; w = num (pos 1) })
+    ⇒ z ≐ turn (record { x = ax; y = ay; w = num (pos 1) }) (record { x = bx; y = by; w = num (pos 1) })
+    (record { x = cx; y = cy; w = num (pos 1) })
     because eqn 4 (num (pos 1)) ⊞ eqn 0 (cy ⊖ ay) ⊞ eqn 3 u ⊞ eqn 1 (neg (cx ⊖ ax)) ⊞ eqn 2 (neg v)) tt

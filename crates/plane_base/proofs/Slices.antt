@@ -27,13 +27,19 @@ use Rattle.plane_base.specs.declared.ranges.Range.{Range}
 near_size : (x y : ℤ) → (x -ℤ y) <ℤ SPAN → (y -ℤ x) <ℤ SPAN → IsShort (x -ℤ y)
 near_size x y h k = omega (arith, ints)
 
-apart_is : (px py qx qy ax ay bx by : ℤ) → (px -ℤ qx) *ℤ (by -ℤ ay) -ℤ (py -ℤ qy) *ℤ (bx -ℤ ax) ≡ turn_of (record { x = px; y = py; w = pos 1 }) (record { x = qx; y = qy; w = pos 1 }) (record { x = ax; y = ay; w = pos 1 }) -ℤ turn_of (record { x = px; y = py; w = pos 1 }) (record { x = qx; y = qy; w = pos 1 }) (record { x = bx; y = by; w = pos 1 })
+apart_is : (px py qx qy ax ay bx by : ℤ) → (px -ℤ qx) *ℤ (by -ℤ ay) -ℤ (py -ℤ qy) *ℤ (bx -ℤ ax)
+    ≡ turn_of (record { x = px; y = py; w = pos 1 }) (record { x = qx; y = qy; w = pos 1 })
+    (record { x = ax; y = ay; w = pos 1 }) -ℤ turn_of (record { x = px; y = py; w = pos 1 })
+    (record { x = qx; y = qy; w = pos 1 }) (record { x = bx; y = by; w = pos 1 })
 apart_is =
     solve 8 (λ px py qx qy ax ay bx by. (px ⊖ qx) ⊗ (by ⊖ ay) ⊖ (py ⊖ qy) ⊗ (bx ⊖ ax)
-    ≐ turn (record { x = px; y = py; w = num (pos 1) }) (record { x = qx; y = qy; w = num (pos 1) }) (record { x = ax; y = ay; w = num (pos 1) })
-    ⊖ turn (record { x = px; y = py; w = num (pos 1) }) (record { x = qx; y = qy; w = num (pos 1) }) (record { x = bx; y = by; w = num (pos 1) })) tt
+    ≐ turn (record { x = px; y = py; w = num (pos 1) }) (record { x = qx; y = qy; w = num (pos 1) })
+    (record { x = ax; y = ay; w = num (pos 1) })
+    ⊖ turn (record { x = px; y = py; w = num (pos 1) }) (record { x = qx; y = qy; w = num (pos 1) })
+    (record { x = bx; y = by; w = num (pos 1) })) tt
 
-pub apart_size : (p q a b : Pt) (u v : ℤ) → IsNear p q → IsNear a b → u ≡ turn_of (whole p) (whole q) (whole a) → v ≡ turn_of (whole p) (whole q) (whole b) → IsSmall (u -ℤ v)
+pub apart_size : (p q a b : Pt) (u v : ℤ) → IsNear p q → IsNear a b → u ≡ turn_of (whole p) (whole q) (whole a)
+    → v ≡ turn_of (whole p) (whole q) (whole b) → IsSmall (u -ℤ v)
 apart_size p q a b u v n m eu ev =
     subst (λ (z : ℤ). IsSmall (u -ℤ z)) (sym ev)
     (subst (λ (z : ℤ). IsSmall (z -ℤ turn_of (whole p) (whole q) (whole b))) (sym eu)
@@ -45,12 +51,15 @@ apart_size p q a b u v n m eu ev =
 abbrev NonNeg : ℤ → Type 0
 NonNeg z = pos 0 ≤ℤ z
 
-pub along_is : (p q a b : Pt) (u v n d : ℤ) → u ≡ turn_of (whole p) (whole q) (whole a) → v ≡ turn_of (whole p) (whole q) (whole b) → turn_of (whole p) (whole q) (along (whole a) (whole b) n d) ≡ (d -ℤ n) *ℤ u +ℤ n *ℤ v
+pub along_is : (p q a b : Pt) (u v n d : ℤ) → u ≡ turn_of (whole p) (whole q) (whole a)
+    → v ≡ turn_of (whole p) (whole q) (whole b)
+    → turn_of (whole p) (whole q) (along (whole a) (whole b) n d) ≡ (d -ℤ n) *ℤ u +ℤ n *ℤ v
 along_is p q a b u v n d eu ev = rw (eu, ev) (turn_along (whole p) (whole q) (whole a) (whole b) n d)
 
 -- ---- all sides
 -- a point of the segment is in the triangle exactly where no side has it on its right
-pub in_iff : (a b : Pt) (t : Tri) (c : Courses) (n d : ℤ) → pos 0 <ℤ turn_of (whole t.a) (whole t.b) (whole t.c) → AreOfSides a b t c → IsIn a b t n d ↔ IsLeftOfAll c n d
+pub in_iff : (a b : Pt) (t : Tri) (c : Courses) (n d : ℤ) → pos 0 <ℤ turn_of (whole t.a) (whole t.b) (whole t.c)
+    → AreOfSides a b t c → IsIn a b t n d ↔ IsLeftOfAll c n d
 in_iff a b t c n d positive e = (there, back)
   where
     one : pos 0 <ℤ pos 1
@@ -67,12 +76,17 @@ in_iff a b t c n d positive e = (there, back)
 
     there : IsIn a b t n d → IsLeftOfAll c n d
     there i =
-        let r = turns_of_mix (whole t.a) (whole t.b) (whole t.c) (along (whole a) (whole b) n d) one one one (along-w n d i.0.0) positive i.1 in
+        let r = turns_of_mix (whole t.a) (whole t.b) (whole t.c) (along (whole a) (whole b) n d) one one one
+        (along-w n d i.0.0) positive i.1 in
         (i.0, subst NonNeg e0 r.0, subst NonNeg e1 r.1, subst NonNeg e2 r.2)
 
     back : IsLeftOfAll c n d → IsIn a b t n d
-    back l =
-        (l.0, mix_of_turns (whole t.a) (whole t.b) (whole t.c) (along (whole a) (whole b) n d) one one one (along-w n d l.0.0) positive (subst NonNeg (sym e0) l.1) (subst NonNeg (sym e1) l.2) (subst NonNeg (sym e2) l.3))
+    back l = (
+      l.0,
+      mix_of_turns (whole t.a) (whole t.b) (whole t.c) (along (whole a) (whole b) n d) one one one
+          (along-w n d l.0.0) positive (subst NonNeg (sym e0) l.1) (subst NonNeg (sym e1) l.2)
+          (subst NonNeg (sym e2) l.3),
+    )
 
 -- the range of each side, and three uses of `both`
 pub all_of : (c : Courses) (w x y z yz xyz s : Range)
@@ -89,11 +103,16 @@ all_of c w x y z yz xyz s hw hx hy hz f g h n d k = (
       let p = (h n d k).0 i in let q = (g n d k).0 p.1 in let r = (f n d k).0 q.1 in
       let m = (hw n d k).0 p.0 in let l : IsParam n d = (k, m.0, m.1) in
       (l, (hx n d l).1 q.0, (hy n d l).1 r.0, (hz n d l).1 r.1),
-  λ i. (h n d k).1 ((hw n d k).1 (i.0.1, i.0.2), (g n d k).1 ((hx n d i.0).0 i.1, (f n d k).1 ((hy n d i.0).0 i.2, (hz n d i.0).0 i.3))),
+  λ i. (h n d k).1 (
+    (hw n d k).1 (i.0.1, i.0.2),
+    (g n d k).1
+        ((hx n d i.0).0 i.1, (f n d k).1 ((hy n d i.0).0 i.2, (hz n d i.0).0 i.3)),
+  ),
 )
 
 -- ---- the two answers
-pub none_common : (a b : Pt) (t : Tri) (lo hi : Frac) → ((n d : ℤ) → pos 0 <ℤ d → IsIn a b t n d ↔ IsWithin lo hi n d) → IsBelow hi lo → (n d : ℤ) → IsIn a b t n d → ⊥
+pub none_common : (a b : Pt) (t : Tri) (lo hi : Frac) → ((n d : ℤ) → pos 0 <ℤ d → IsIn a b t n d ↔ IsWithin lo hi n d)
+    → IsBelow hi lo → (n d : ℤ) → IsIn a b t n d → ⊥
 none_common a b t lo hi h lt n d i =
     let m = (h n d i.0.0).0 i in
     follows 2 (λ x y. x ≺ y ⇒ y ≼ x ⇒ never because over 0 ⊞ gap 1) tt (hi.num *ℤ lo.den) (lo.num *ℤ hi.den) lt
@@ -105,8 +124,15 @@ at_lo lo hi le = (≤_of_≡ (lo.num *ℤ lo.den) (lo.num *ℤ lo.den) refl, le)
 pub at_hi : (lo hi : Frac) → IsAtMost lo hi → IsWithin lo hi hi.num hi.den
 at_hi lo hi le = (le, ≤_of_≡ (hi.num *ℤ hi.den) (hi.num *ℤ hi.den) refl)
 
-pub some_common : (a b : Pt) (t : Tri) (lo hi : Frac) → ((n d : ℤ) → pos 0 <ℤ d → IsIn a b t n d ↔ IsWithin lo hi n d) → IsAtMost lo hi → IsIn a b t lo.num lo.den × IsIn a b t hi.num hi.den × ((n d : ℤ) → IsIn a b t n d → IsWithin lo hi n d)
-some_common a b t lo hi h le = ((h lo.num lo.den lo.positive).1 (at_lo lo hi le), (h hi.num hi.den hi.positive).1 (at_hi lo hi le), λ n d i. (h n d i.0.0).0 i)
+pub some_common : (a b : Pt) (t : Tri) (lo hi : Frac) → ((n d : ℤ) → pos 0 <ℤ d → IsIn a b t n d ↔ IsWithin lo hi n d)
+    → IsAtMost lo hi → IsIn a b t lo.num lo.den × IsIn a b t hi.num hi.den
+    × ((n d : ℤ) → IsIn a b t n d → IsWithin lo hi n d)
+some_common a b t lo hi h le = (
+  (h lo.num lo.den lo.positive).1 (at_lo lo hi le),
+  (h hi.num hi.den hi.positive).1
+      (at_hi lo hi le),
+  λ n d i. (h n d i.0.0).0 i,
+)
 
 pub both_ways : {A B C : Type 0} → A ↔ B → C ↔ B → A ↔ C
 both_ways e f = (λ a. f.1 (e.0 a), λ c. e.1 (f.0 c))

@@ -16,7 +16,8 @@ pub turn_twice : (a b : Point) → turn_of a a b ≡ pos 0
 turn_twice = solve_at 2 0 (λ a b. turn a a b ≐ num (pos 0)) tt
 
 -- the three turns at a point make the turn of the triangle
-pub turn_split : (a b c p : Point) → p.w *ℤ turn_of a b c ≡ c.w *ℤ turn_of a b p +ℤ a.w *ℤ turn_of b c p +ℤ b.w *ℤ turn_of c a p
+pub turn_split : (a b c p : Point) → p.w *ℤ turn_of a b c ≡ c.w *ℤ turn_of a b p +ℤ a.w *ℤ turn_of b c p +ℤ b.w
+    *ℤ turn_of c a p
 turn_split = solve_at 4 0 (λ a b c p. p.w ⊗ turn a b c ≐ c.w ⊗ turn a b p ⊕ a.w ⊗ turn b c p ⊕ b.w ⊗ turn c a p) tt
 
 -- ---- the same place, and mixes
@@ -27,6 +28,8 @@ turn_same a b p q s =
     because eqn 0 (a.y ⊗ b.w ⊖ b.y ⊗ a.w) ⊞ eqn 1 (neg (a.x ⊗ b.w ⊖ b.x ⊗ a.w))) tt a b p q s.0 s.1
 
 -- the turn of two corners and a mix is the third corner's weight times the triangle's turn
-pub turn_mix : (a b c : Point) (k l m : ℕ) → turn_of a b (weighed (k ∷ l ∷ m ∷ []) (a ∷ b ∷ c ∷ [])) ≡ pos m *ℤ turn_of a b c
+pub turn_mix : (a b c : Point) (k l m : ℕ)
+    → turn_of a b (weighed (k ∷ l ∷ m ∷ []) (a ∷ b ∷ c ∷ [])) ≡ pos m *ℤ turn_of a b c
 turn_mix a b c k l m =
-    solve_at 3 3 (λ a b c k l m. turn a b (plus k a (plus l b (plus m c nothing))) ≐ m ⊗ turn a b c) tt a b c (pos k) (pos l) (pos m)
+    solve_at 3 3 (λ a b c k l m. turn a b (plus k a (plus l b (plus m c nothing))) ≐ m ⊗ turn a b c) tt a b c (pos k)
+    (pos l) (pos m)

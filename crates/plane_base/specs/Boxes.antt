@@ -1,4 +1,5 @@
--- Boxes of the plane, with sides along the axes and whole numbers: the points that one has, the least box that has some points, and boxes apart.
+-- Boxes of the plane, with sides along the axes and whole numbers: the points that one has, the least box that has some
+-- points, and boxes apart.
 use Rattle.std.specs.Prelude.{◌⊎◌, ◌↔◌, ◌*ℤ◌, ◌≤ℤ◌, ◌<ℤ◌, List, [], ◌∷◌}
 use Rattle.std.specs.Int.{int_min, int_max}
 use Rattle.plane_base.specs.declared.shapes.Pt.{Pt}
@@ -57,7 +58,13 @@ box_of_triangle t = record {
 
 -- the least box that has a box and one more point
 abbrev pub widened : Rect → Pt → Rect
-widened rect p = record { x0 = int_min rect.x0 p.x; y0 = int_min rect.y0 p.y; x1 = int_max rect.x1 p.x; y1 = int_max rect.y1 p.y }
+widened rect p = record {
+  x0 = int_min rect.x0 p.x;
+  y0 = int_min rect.y0 p.y;
+  x1 = int_max rect.x1 p.x;
+  y1 =
+      int_max rect.y1 p.y;
+}
 
 -- the least box that has two boxes
 abbrev pub joined : Rect → Rect → Rect
@@ -65,7 +72,13 @@ joined p q = record { x0 = int_min p.x0 q.x0; y0 = int_min p.y0 q.y0; x1 = int_m
 
 -- the points that two boxes have in common; it is not ordered where they are apart
 abbrev pub common_of : Rect → Rect → Rect
-common_of p q = record { x0 = int_max p.x0 q.x0; y0 = int_max p.y0 q.y0; x1 = int_min p.x1 q.x1; y1 = int_min p.y1 q.y1 }
+common_of p q = record {
+  x0 = int_max p.x0 q.x0;
+  y0 = int_max p.y0 q.y0;
+  x1 = int_min p.x1 q.x1;
+  y1 =
+      int_min p.y1 q.y1;
+}
 
 -- ---- two boxes
 -- a whole point is in both

@@ -23,7 +23,8 @@ MixesMix = (q : Point) (ps rs : List Point) → ArePlaces ps → ArePlaces rs �
 
 -- with two points a triangle has each point between them
 abbrev pub TrianglesAreConvex : Type 0
-TrianglesAreConvex = (a b c p q r : Point) → ArePlaces (a ∷ b ∷ c ∷ p ∷ q ∷ []) → IsMix p (a ∷ b ∷ c ∷ []) → IsMix q (a ∷ b ∷ c ∷ []) → IsMix r (p ∷ q ∷ []) → IsMix r (a ∷ b ∷ c ∷ [])
+TrianglesAreConvex = (a b c p q r : Point) → ArePlaces (a ∷ b ∷ c ∷ p ∷ q ∷ []) → IsMix p (a ∷ b ∷ c ∷ [])
+    → IsMix q (a ∷ b ∷ c ∷ []) → IsMix r (p ∷ q ∷ []) → IsMix r (a ∷ b ∷ c ∷ [])
 
 -- ---- triangles of positive turn
 -- the mix of three corners with weights k, l and m
@@ -36,7 +37,8 @@ TrianglesAreLeftOfSides =
     (a b c p : Point) → ArePlaces (a ∷ b ∷ c ∷ p ∷ []) → pos 0 <ℤ turn_of a b c
     → IsMix p (a ∷ b ∷ c ∷ []) ↔ ((pos 0 ≤ℤ turn_of a b p) × (pos 0 ≤ℤ turn_of b c p) × (pos 0 ≤ℤ turn_of c a p))
 
--- the turn of a side with a mix is the weight of the corner opposite, times the triangle's turn, up to the factor between the two points
+-- the turn of a side with a mix is the weight of the corner opposite, times the triangle's turn, up to the factor
+-- between the two points
 pub record AreTurns (a b c p : Point) (k l m : ℕ) : Type 0 where
   pub of_a : (mix_of k l m a b c).w *ℤ turn_of b c p ≡ p.w *ℤ (pos k *ℤ turn_of a b c)
   pub of_b : (mix_of k l m a b c).w *ℤ turn_of c a p ≡ p.w *ℤ (pos l *ℤ turn_of a b c)
@@ -78,7 +80,8 @@ pub record AreFromTo (a b c p q : Point) : Type 0 where
   pub first : IsParam least least_of
   pub last : IsParam greatest greatest_of
   pub order : (least *ℤ greatest_of) ≤ℤ (greatest *ℤ least_of)
-  pub between : (n d : ℤ) → IsParam n d → IsMix (along p q n d) (a ∷ b ∷ c ∷ []) ↔ (((least *ℤ d) ≤ℤ (n *ℤ least_of)) × ((n *ℤ greatest_of) ≤ℤ (greatest *ℤ d)))
+  pub between : (n d : ℤ) → IsParam n d → IsMix (along p q n d) (a ∷ b ∷ c ∷ [])
+      ↔ (((least *ℤ d) ≤ℤ (n *ℤ least_of)) × ((n *ℤ greatest_of) ≤ℤ (greatest *ℤ d)))
 
 -- none, or a closed interval
 abbrev pub SegmentsMeetInIntervals : Type 0

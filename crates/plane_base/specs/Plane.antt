@@ -24,7 +24,12 @@ abbrev pub weighed : List ℕ → List Point → Point
 weighed [] ps = record { x = pos 0; y = pos 0; w = pos 0 }
 weighed (k ∷ ks) [] = record { x = pos 0; y = pos 0; w = pos 0 }
 weighed (k ∷ ks) (p ∷ ps) =
-    let rest = weighed ks ps in record { x = pos k *ℤ p.x +ℤ rest.x; y = pos k *ℤ p.y +ℤ rest.y; w = pos k *ℤ p.w +ℤ rest.w }
+    let rest = weighed ks ps in record {
+      x = pos k *ℤ p.x +ℤ rest.x;
+      y = pos k *ℤ p.y +ℤ rest.y;
+      w =
+          pos k *ℤ p.w +ℤ rest.w;
+    }
 
 -- a point is a mix of points, with weights that are not all 0
 abbrev pub IsMix : Point → List Point → Type 0
@@ -40,7 +45,12 @@ corners t = whole t.a ∷ whole t.b ∷ whole t.c ∷ []
 
 -- the point at n/d on the way from a to b
 abbrev pub along : Point → Point → ℤ → ℤ → Point
-along a b n d = record { x = (d -ℤ n) *ℤ a.x +ℤ n *ℤ b.x; y = (d -ℤ n) *ℤ a.y +ℤ n *ℤ b.y; w = (d -ℤ n) *ℤ a.w +ℤ n *ℤ b.w }
+along a b n d = record {
+  x = (d -ℤ n) *ℤ a.x +ℤ n *ℤ b.x;
+  y = (d -ℤ n) *ℤ a.y +ℤ n *ℤ b.y;
+  w =
+      (d -ℤ n) *ℤ a.w +ℤ n *ℤ b.w;
+}
 
 -- below `SPAN` in magnitude
 abbrev pub IsShort : ℤ → Type 0

@@ -21,16 +21,20 @@ pub record AreOfSides (a b : Pt) (t : Tri) (c : Courses) : Type 0 where
 -- a parameter at which none of the three is below 0
 abbrev pub IsLeftOfAll : Courses → ℤ → ℤ → Type 0
 IsLeftOfAll c n d =
-    IsParam n d × (pos 0 ≤ℤ value_at c.ab.start c.ab.end n d) × (pos 0 ≤ℤ value_at c.bc.start c.bc.end n d) × (pos 0 ≤ℤ value_at c.ca.start c.ca.end n d)
+    IsParam n d × (pos 0 ≤ℤ value_at c.ab.start c.ab.end n d) × (pos 0 ≤ℤ value_at c.bc.start c.bc.end n d)
+    × (pos 0 ≤ℤ value_at c.ca.start c.ca.end n d)
 
 -- f is an end of the way, or a bound of one of the three
 abbrev pub IsBoundOfOne : Type 0 → Courses → Frac → Type 0
-IsBoundOfOne end c f = end ⊎ (IsBound end c.ab.start c.ab.end f ⊎ (IsBound end c.bc.start c.bc.end f ⊎ IsBound end c.ca.start c.ca.end f))
+IsBoundOfOne end c f = end ⊎ (IsBound end c.ab.start c.ab.end f
+    ⊎ (IsBound end c.bc.start c.bc.end f ⊎ IsBound end c.ca.start c.ca.end f))
 
 -- f is an end of the way, or one of the three changes and is 0 there
 abbrev pub IsZeroOfOne : Type 0 → Courses → Frac → Type 0
-IsZeroOfOne end c f = end ⊎ (IsZeroAt c.ab.start c.ab.end f ⊎ (IsZeroAt c.bc.start c.bc.end f ⊎ IsZeroAt c.ca.start c.ca.end f))
+IsZeroOfOne end c f = end ⊎ (IsZeroAt c.ab.start c.ab.end f
+    ⊎ (IsZeroAt c.bc.start c.bc.end f ⊎ IsZeroAt c.ca.start c.ca.end f))
 
 -- where f lies, by the three
 abbrev pub IsEndBy : Type 0 → Courses → Frac → End → Type 0
-IsEndBy vertex c f end = IsEnd vertex (IsZeroAt c.ab.start c.ab.end f) (IsZeroAt c.bc.start c.bc.end f) (IsZeroAt c.ca.start c.ca.end f) end
+IsEndBy vertex c f end = IsEnd vertex (IsZeroAt c.ab.start c.ab.end f) (IsZeroAt c.bc.start c.bc.end f)
+    (IsZeroAt c.ca.start c.ca.end f) end

@@ -27,7 +27,8 @@ IsIn a b t n d = IsParam n d × IsMix (along (whole a) (whole b) n d) (corners t
 
 -- the least and the greatest parameter of a point in the triangle
 abbrev pub IsCommon : Pt → Pt → Tri → Stretch → Type 0
-IsCommon a b t s = IsIn a b t s.lo.num s.lo.den × IsIn a b t s.hi.num s.hi.den × ((n d : ℤ) → IsIn a b t n d → IsBetween s n d)
+IsCommon a b t s = IsIn a b t s.lo.num s.lo.den × IsIn a b t s.hi.num s.hi.den
+    × ((n d : ℤ) → IsIn a b t n d → IsBetween s n d)
 
 -- none where no parameter gives a point of the triangle, else those two
 abbrev pub slice_of : Pt → Pt → Tri → Option Stretch → Type 0
@@ -57,7 +58,8 @@ IsEnd V A B C (Side k) = (¬ V) × IsLeast A B C k
 
 -- where the point at f lies, in a triangle
 abbrev pub LiesAt : Pt → Pt → Tri → Frac → Type 0 → End → Type 0
-LiesAt a b t f vertex end = IsEnd vertex (IsCrossed a b t.a t.b f) (IsCrossed a b t.b t.c f) (IsCrossed a b t.c t.a f) end
+LiesAt a b t f vertex end = IsEnd vertex (IsCrossed a b t.a t.b f) (IsCrossed a b t.b t.c f) (IsCrossed a b t.c t.a f)
+    end
 
 -- `enter` tells where `lo` lies, `leave` where `hi` lies
 pub record AreEnds (a b : Pt) (t : Tri) (s : Stretch) : Type 0 where

@@ -7,8 +7,8 @@ use crate::Pt;
 use crate::courses::{course_of, zero_of};
 use frac128::Frac;
 
-/// The parameter, from `p` (0) to `q` (1), of the one point at which the line through `a` and `b` meets the line through `p` and `q`.
-/// It is below 0 or above 1 where that point is not between the two.
+/// The parameter, from `p` (0) to `q` (1), of the one point at which the line through `a` and `b` meets the line
+/// through `p` and `q`. It is below 0 or above 1 where that point is not between the two.
 pub fn edge_param(a: Pt, b: Pt, p: Pt, q: Pt) -> Frac
     requires near_p { IsNearAll a b p }
     requires near_q { IsNearAll a b q }

@@ -1,6 +1,8 @@
 //! Laws of mixes, triangles, segments and boxes of the plane.
 
+ghost use Rattle.std.specs.Prelude.{◌≡◌, ◌^◌, pos};
 ghost use Rattle.plane_base.specs.Boxes.{ShareAPointOrAreApart};
+ghost use Rattle.plane_base.specs.declared.shapes.TheConstants.{SPAN};
 ghost use Rattle.plane_base.specs.Laws.{
   MixesMix,
   TrianglesAreConvex,
@@ -49,4 +51,9 @@ pub fn segments_meet_in_intervals()
 /// Two boxes, each with a point, have no common point exactly where on one of the axes the one is behind the other.
 pub fn boxes_share_a_point_or_are_apart()
     ensures { ShareAPointOrAreApart }
+{}
+
+/// A law: the limit on what lies near is this number of millimetres.
+pub fn limits_are_stated()
+    ensures span { SPAN ≡ pos (2 ^ 31) }
 {}

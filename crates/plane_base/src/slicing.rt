@@ -95,10 +95,10 @@ fn end_at(courses: Courses, at: Frac, is_vertex: bool) -> End
     End::Side(2)
 }
 
-/// The part of the closed segment from `a` to `b` that is in the triangle: the least and the greatest parameter of a common point.
-/// `None` comes exactly where there is no common point. Where `a` is `b`, the parameters are 0 and 1.
-/// `enter` is `Vertex` exactly where `lo` is 0, and `leave` exactly where `hi` is 1. Any other end is on a side: the least one
-/// that holds the point and is not parallel to the segment.
+/// The part of the closed segment from `a` to `b` that is in the triangle: the least and the greatest parameter of a
+/// common point. `None` comes exactly where there is no common point. Where `a` is `b`, the parameters are 0 and 1.
+/// `enter` is `Vertex` exactly where `lo` is 0, and `leave` exactly where `hi` is 1. Any other end is on a side: the
+/// least one that holds the point and is not parallel to the segment.
 pub fn slice(a: Pt, b: Pt, t: &Tri) -> Option<Stretch>
     requires near { IsNearAll t.now.a t.now.b t.now.c }
     requires near_a { IsNearTri t.now a }

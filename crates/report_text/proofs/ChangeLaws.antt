@@ -1,5 +1,6 @@
 -- Lines of changes.
-use Rattle.std.proofs.Common.{◌≡◌, ◌==◌, ℕ, Bool, true, false, ◌||◌, cond, List, [], ◌∷◌, ◌++◌, length, codes, Option, Some, None, refl, sym, ◌∙◌, ap, arith, append_assoc, append-nil, subst}
+use Rattle.std.proofs.Common.{◌≡◌, ◌==◌, ℕ, Bool, true, false, ◌||◌, cond, List, [], ◌∷◌, ◌++◌, length, codes, Option}
+use Rattle.std.proofs.Common.{Some, None, refl, sym, ◌∙◌, ap, arith, append_assoc, append-nil, subst}
 use Rattle.std.specs.Prelude.{not}
 use Rattle.std.specs.List.{concat}
 use Rattle.std.proofs.lemmas.Bool.Decides.{nat_tests}
@@ -22,16 +23,22 @@ use Rattle.report_text.proofs.Words.{after_takes}
 in_a_row : (a b c d r : List ℕ) → concat (a ∷ b ∷ c ∷ d ∷ []) ++ r ≡ a ++ (b ++ (c ++ (d ++ r)))
 in_a_row a b c d r = simp (append_assoc, append-nil) refl
 
-place_is : (place : Place) (rest : List ℕ) → place_text place ++ rest ≡ field [] place.layer ++ (field (codes "/") place.path ++ (field (codes "/") place.segment ++ (field (codes "/") place.piece ++ rest)))
-place_is place rest = in_a_row (field [] place.layer) (field (codes "/") place.path) (field (codes "/") place.segment) (field (codes "/") place.piece) rest
+place_is : (place : Place) (rest : List ℕ)
+    → place_text place ++ rest ≡ field [] place.layer
+    ++ (field (codes "/") place.path ++ (field (codes "/") place.segment ++ (field (codes "/") place.piece ++ rest)))
+place_is place rest = in_a_row (field [] place.layer) (field (codes "/") place.path) (field (codes "/") place.segment)
+    (field (codes "/") place.piece) rest
 
-place_again : (place : Place) (rest : List ℕ) → IsPlaceHeld place → Stops rest → place_at (place_text place ++ rest) ≡ Some (place, rest)
+place_again : (place : Place) (rest : List ℕ) → IsPlaceHeld place → Stops rest
+    → place_at (place_text place ++ rest) ≡ Some (place, rest)
 unfolding place_at
 place_again place rest held stops =
     ap place_at (place_is place rest)
     ∙ rw (
-      short_again [] (field (codes "/") place.path ++ (field (codes "/") place.segment ++ (field (codes "/") place.piece ++ rest))) place.layer held.layer refl,
-      short_again (codes "/") (field (codes "/") place.segment ++ (field (codes "/") place.piece ++ rest)) place.path held.path refl,
+      short_again [] (field (codes "/") place.path
+          ++ (field (codes "/") place.segment ++ (field (codes "/") place.piece ++ rest))) place.layer held.layer refl,
+      short_again (codes "/") (field (codes "/") place.segment ++ (field (codes "/") place.piece ++ rest)) place.path
+          held.path refl,
       short_again (codes "/") (field (codes "/") place.piece ++ rest) place.segment held.segment refl,
       short_again (codes "/") rest place.piece held.piece stops,
     ) refl
@@ -53,8 +60,11 @@ place_takes text found is =
     let td = short_takes (codes "/") c.found.1 d.found d.is in
     let place : Place = record { layer = a.found.0; path = b.found.0; segment = c.found.0; piece = d.found.0 } in
     let made : Place × List ℕ = (place, d.found.1) in
-    let whole : text ≡ field [] place.layer ++ (field (codes "/") place.path ++ (field (codes "/") place.segment ++ (field (codes "/") place.piece ++ d.found.1))) =
-    ta.parts ∙ ap (λ r. field [] a.found.0 ++ r) (tb.parts ∙ ap (λ r. field (codes "/") b.found.0 ++ r) (tc.parts ∙ ap (λ r. field (codes "/") c.found.0 ++ r) td.parts)) in
+    let whole : text ≡ field [] place.layer ++ (field (codes "/") place.path
+    ++ (field (codes "/") place.segment ++ (field (codes "/") place.piece ++ d.found.1))) =
+    ta.parts ∙ ap (λ r. field [] a.found.0 ++ r)
+    (tb.parts ∙ ap (λ r. field (codes "/") b.found.0 ++ r)
+    (tc.parts ∙ ap (λ r. field (codes "/") c.found.0 ++ r) td.parts)) in
     subst (TakesPlace text) (some_is made found d.goes_on) (record {
       parts = whole ∙ sym (place_is place d.found.1);
       held = record { layer = ta.small; path = tb.small; segment = tc.small; piece = td.small };
@@ -73,11 +83,13 @@ relation_again Crossing rest = refl
 relation_again Overlapping rest = refl
 
 -- the word of one relation is at the front of the text
-as_takes : (relation : Rel) (text : List ℕ) (read : Option (List ℕ)) (found : Rel × List ℕ) → after (spaced relation) text ≡ read → as_relation relation read ≡ Some found → text ≡ spaced found.0 ++ found.1
+as_takes : (relation : Rel) (text : List ℕ) (read : Option (List ℕ)) (found : Rel × List ℕ)
+    → after (spaced relation) text ≡ read → as_relation relation read ≡ Some found → text ≡ spaced found.0 ++ found.1
 as_takes relation text None found read is = absurd cc
 as_takes relation text (Some rest) found read is =
     let made : Rel × List ℕ = (relation, rest) in
-    subst (λ (f : Rel × List ℕ). text ≡ spaced f.0 ++ f.1) (some_is made found is) (after_takes (spaced relation) text rest read)
+    subst (λ (f : Rel × List ℕ). text ≡ spaced f.0 ++ f.1) (some_is made found is)
+    (after_takes (spaced relation) text rest read)
 
 either : (text : List ℕ) (first other : Option (Rel × List ℕ)) (found : Rel × List ℕ)
     → (first ≡ Some found → text ≡ spaced found.0 ++ found.1) → (other ≡ Some found → text ≡ spaced found.0 ++ found.1)
@@ -85,7 +97,8 @@ either : (text : List ℕ) (first other : Option (Rel × List ℕ)) (found : Rel
 either text None other found here there is = there is
 either text (Some f) other found here there is = here is
 
-relation_takes : (text : List ℕ) (found : Rel × List ℕ) → relation_at text ≡ Some found → text ≡ spaced found.0 ++ found.1
+relation_takes : (text : List ℕ) (found : Rel × List ℕ) → relation_at text ≡ Some found
+    → text ≡ spaced found.0 ++ found.1
 unfolding relation_at
 relation_takes text found is =
     either text _ _ found (as_takes Apart text (after (codes " apart") text) found refl)
@@ -126,22 +139,26 @@ pub record IsChangeGood (change : Change) : Type 0 where
   pub held : IsChangeHeld change
   pub changed : IsChanged change
 
-all_in_a_row : (w a s b x r y t : List ℕ) → concat (w ∷ a ∷ s ∷ b ∷ x ∷ r ∷ y ∷ t ∷ []) ≡ w ++ (a ++ (s ++ (b ++ ((x ++ r) ++ ((y ++ t) ++ [])))))
+all_in_a_row : (w a s b x r y t : List ℕ) → concat (w ∷ a ∷ s ∷ b ∷ x ∷ r ∷ y ∷ t ∷ []) ≡ w
+    ++ (a ++ (s ++ (b ++ ((x ++ r) ++ ((y ++ t) ++ [])))))
 all_in_a_row w a s b x r y t = simp (append_assoc, append-nil) refl
 
 abbrev change_parts : Change → List ℕ
-change_parts change = codes "change " ++ (place_text change.first ++ (codes " " ++ (place_text change.second ++ (spaced change.was ++ (spaced change.now ++ [])))))
+change_parts change = codes "change " ++ (place_text change.first
+    ++ (codes " " ++ (place_text change.second ++ (spaced change.was ++ (spaced change.now ++ [])))))
 
 change_is : (change : Change) → change_line change ≡ change_parts change
 unfolding change_line
-change_is change = all_in_a_row (codes "change ") (place_text change.first) (codes " ") (place_text change.second) (codes " ") (relation_word change.was) (codes " ") (relation_word change.now)
+change_is change = all_in_a_row (codes "change ") (place_text change.first) (codes " ") (place_text change.second)
+    (codes " ") (relation_word change.was) (codes " ") (relation_word change.now)
 
 pub change_again : (change : Change) → IsChangeGood change → change_of (change_line change) ≡ Some change
 unfolding change_of
 change_again change good =
     ap change_of (change_is change)
     ∙ rw (
-      place_again change.first (codes " " ++ (place_text change.second ++ (spaced change.was ++ (spaced change.now ++ [])))) good.held.0 refl,
+      place_again change.first (codes " " ++ (place_text change.second
+          ++ (spaced change.was ++ (spaced change.now ++ [])))) good.held.0 refl,
       place_again change.second (spaced change.was ++ (spaced change.now ++ [])) good.held.1 refl,
       relation_again change.was (spaced change.now ++ []),
       relation_again change.now [],
@@ -152,7 +169,8 @@ pub record TakesChange (line : List ℕ) (change : Change) : Type 0 where
   pub parts : line ≡ change_line change
   pub good : IsChangeGood change
 
-neither : {A : Type 0} (same more : Bool) (value last : A) → cond (same || not more) None (Some value) ≡ Some last → (same ≡ false) × (more ≡ true) × (value ≡ last)
+neither : {A : Type 0} (same more : Bool) (value last : A) → cond (same || not more) None (Some value) ≡ Some last
+    → (same ≡ false) × (more ≡ true) × (value ≡ last)
 neither true more value last is = absurd cc
 neither false true value last is = (refl, refl, some_is value last is)
 neither false false value last is = absurd cc
@@ -178,7 +196,8 @@ change_takes line change is =
     let none : f.found.1 ≡ [] = nil_from_length f.found.1 (grind (arith, nat_tests, ended)) in
     let whole : line ≡ change_parts made =
     ta ∙ ap (λ r. codes "change " ++ r) (tb.parts ∙ ap (λ r. place_text b.found.0 ++ r) (tc ∙ ap (λ r. codes " " ++ r)
-    (td.parts ∙ ap (λ r. place_text d.found.0 ++ r) (te ∙ ap (λ r. spaced e.found.0 ++ r) (tf ∙ ap (λ r. spaced f.found.0 ++ r) none))))) in
+    (td.parts ∙ ap (λ r. place_text d.found.0 ++ r)
+    (te ∙ ap (λ r. spaced e.found.0 ++ r) (tf ∙ ap (λ r. spaced f.found.0 ++ r) none))))) in
     subst (TakesChange line) last.2 (record {
       parts = whole ∙ sym (change_is made);
       good = record { held = (tb.held, td.held); changed = same_relation e.found.0 f.found.0 last.0 };

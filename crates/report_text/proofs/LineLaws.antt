@@ -1,5 +1,6 @@
 -- Each kind of line: what is written is read, and what is read is written so.
-use Rattle.std.proofs.Common.{◌≡◌, ℕ, ◌<◌, ◌^◌, List, [], ◌∷◌, ◌++◌, codes, Some, refl, sym, ◌∙◌, ap, append_assoc, append-nil, subst}
+use Rattle.std.proofs.Common.{◌≡◌, ℕ, ◌<◌, ◌^◌, List, [], ◌∷◌, ◌++◌, codes, Some, refl, sym, ◌∙◌, ap, append_assoc}
+use Rattle.std.proofs.Common.{append-nil, subst}
 use Rattle.std.specs.Prelude.{IsUtf8}
 use Rattle.std.specs.List.{concat}
 use Rattle.tin_base.specs.declared.pieces.Change.{Change}
@@ -37,19 +38,27 @@ in_a_row a b c w n = simp (append_assoc, append-nil) refl
 
 abbrev tin_parts : TinRow → List ℕ
 tin_parts tin =
-    field (codes "triangulation corners ") tin.corners ++ (field (codes " triangles ") tin.triangles ++ (field (codes " inexact ") tin.inexact ++ (codes " name " ++ tin.name)))
+    field (codes "triangulation corners ") tin.corners
+    ++ (field (codes " triangles ") tin.triangles
+    ++ (field (codes " inexact ") tin.inexact ++ (codes " name " ++ tin.name)))
 
-tin_is : (tin : TinRow) (rows : List LayerRow) (changes : List Change) → tin_line (contents_of tin rows changes) ≡ tin_parts tin
+tin_is : (tin : TinRow) (rows : List LayerRow) (changes : List Change)
+    → tin_line (contents_of tin rows changes) ≡ tin_parts tin
 unfolding tin_line
-tin_is tin rows changes = sym (in_a_row (field (codes "triangulation corners ") tin.corners) (field (codes " triangles ") tin.triangles) (field (codes " inexact ") tin.inexact) (codes " name ") tin.name)
+tin_is tin rows changes = sym (in_a_row (field (codes "triangulation corners ") tin.corners)
+    (field (codes " triangles ") tin.triangles) (field (codes " inexact ") tin.inexact) (codes " name ") tin.name)
 
-pub tin_again : (tin : TinRow) (rows : List LayerRow) (changes : List Change) → IsTinHeld tin → tin_of (tin_line (contents_of tin rows changes)) ≡ Some tin
+pub tin_again : (tin : TinRow) (rows : List LayerRow) (changes : List Change) → IsTinHeld tin
+    → tin_of (tin_line (contents_of tin rows changes)) ≡ Some tin
 unfolding tin_of
 tin_again tin rows changes held =
     ap tin_of (tin_is tin rows changes)
     ∙ rw (
-      short_again (codes "triangulation corners ") (field (codes " triangles ") tin.triangles ++ (field (codes " inexact ") tin.inexact ++ (codes " name " ++ tin.name))) tin.corners held.corners refl,
-      short_again (codes " triangles ") (field (codes " inexact ") tin.inexact ++ (codes " name " ++ tin.name)) tin.triangles held.triangles refl,
+      short_again (codes "triangulation corners ")
+          (field (codes " triangles ") tin.triangles
+          ++ (field (codes " inexact ") tin.inexact ++ (codes " name " ++ tin.name))) tin.corners held.corners refl,
+      short_again (codes " triangles ") (field (codes " inexact ") tin.inexact ++ (codes " name " ++ tin.name))
+          tin.triangles held.triangles refl,
       long_again (codes " inexact ") (codes " name " ++ tin.name) tin.inexact held.inexact refl,
       name_again tin.name held.printable held.utf8,
     ) refl
@@ -72,12 +81,21 @@ tin_takes line tin is =
     let made : TinRow = record { corners = a.found.0; triangles = b.found.0; inexact = c.found.0; name = d.found } in
     let whole : line ≡ tin_parts made =
     ta.parts ∙ ap (λ r. field (codes "triangulation corners ") a.found.0 ++ r)
-    (tb.parts ∙ ap (λ r. field (codes " triangles ") b.found.0 ++ r) (tc.parts ∙ ap (λ r. field (codes " inexact ") c.found.0 ++ r) td.parts)) in
+    (tb.parts ∙ ap (λ r. field (codes " triangles ") b.found.0 ++ r)
+    (tc.parts ∙ ap (λ r. field (codes " inexact ") c.found.0 ++ r) td.parts)) in
     subst (TakesTin line) (some_is made tin d.goes_on) (record {
       parts = λ rows changes. whole ∙ sym (tin_is made rows changes);
-      held = record { corners = ta.small; triangles = tb.small; inexact = tc.small; utf8 = td.utf8; printable = td.printable };
+      held = record {
+        corners = ta.small;
+        triangles = tb.small;
+        inexact = tc.small;
+        utf8 = td.utf8;
+        printable =
+            td.printable;
+      };
     })
 
 -- the line of a triangulation says nothing of layers and changes
-pub tin_line_same : (tin : TinRow) (rows : List LayerRow) (changes : List Change) → tin_line (contents_of tin [] []) ≡ tin_line (contents_of tin rows changes)
+pub tin_line_same : (tin : TinRow) (rows : List LayerRow) (changes : List Change)
+    → tin_line (contents_of tin [] []) ≡ tin_line (contents_of tin rows changes)
 tin_line_same tin rows changes = tin_is tin [] [] ∙ sym (tin_is tin rows changes)

@@ -37,7 +37,8 @@ pub no_feed : (line front behind : List ℕ) → IsLine line → line ≡ front 
 no_feed [] [] behind is same = cc
 no_feed [] (c ∷ front) behind is same = cc
 no_feed (b ∷ line) [] behind is same = let head : b ≡ LINE_FEED = cc in is.0 head
-no_feed (b ∷ line) (c ∷ front) behind is same = let rest : line ≡ front ++ LINE_FEED ∷ behind = cc in no_feed line front behind is.1 rest
+no_feed (b ∷ line) (c ∷ front) behind is same = let rest : line ≡ front ++ LINE_FEED ∷ behind =
+    cc in no_feed line front behind is.1 rest
 
 -- a text of lines whose front is a text of lines has these lines at its front
 pub record AreFront (all front : List (List ℕ)) (rest : List ℕ) : Type 0 where
@@ -48,16 +49,23 @@ pub record AreFront (all front : List (List ℕ)) (rest : List ℕ) : Type 0 whe
 pub front_lines : (all front : List (List ℕ)) (rest : List ℕ) → AllByRecursion IsLine all → AllByRecursion IsLine front
     → text_of_lines all ≡ text_of_lines front ++ rest → AreFront all front rest
 front_lines all [] rest are_all are_front same = record { more = all; whole = refl; behind = sym same }
-front_lines [] (line ∷ front) rest are_all are_front same = absurd (nothing line (text_of_lines front ++ rest) (same ∙ (append_assoc (line ++ LINE_FEED ∷ []) (text_of_lines front) rest ∙ append_assoc line (LINE_FEED ∷ []) (text_of_lines front ++ rest))))
+front_lines [] (line ∷ front) rest are_all are_front same =
+    absurd (nothing line (text_of_lines front ++ rest)
+    (same ∙ (append_assoc (line ++ LINE_FEED ∷ []) (text_of_lines front) rest
+    ∙ append_assoc line (LINE_FEED ∷ []) (text_of_lines front ++ rest))))
   where
     nothing : (line behind : List ℕ) → [] ≡ line ++ LINE_FEED ∷ behind → ⊥
     nothing [] behind is = cc
     nothing (b ∷ line) behind is = cc
 front_lines (first ∷ all) (line ∷ front) rest are_all are_front same =
-    let left : (first ++ LINE_FEED ∷ []) ++ text_of_lines all ≡ first ++ LINE_FEED ∷ text_of_lines all = append_assoc first (LINE_FEED ∷ []) (text_of_lines all) in
-    let right : ((line ++ LINE_FEED ∷ []) ++ text_of_lines front) ++ rest ≡ line ++ LINE_FEED ∷ (text_of_lines front ++ rest)
-    = append_assoc (line ++ LINE_FEED ∷ []) (text_of_lines front) rest ∙ append_assoc line (LINE_FEED ∷ []) (text_of_lines front ++ rest) in
-    let one = one_line first line (text_of_lines all) (text_of_lines front ++ rest) are_all.0 are_front.0 (sym left ∙ (same ∙ right)) in
+    let left : (first ++ LINE_FEED ∷ []) ++ text_of_lines all ≡ first ++ LINE_FEED ∷ text_of_lines all =
+    append_assoc first (LINE_FEED ∷ []) (text_of_lines all) in
+    let right : ((line ++ LINE_FEED ∷ []) ++ text_of_lines front) ++ rest ≡ line ++ LINE_FEED
+    ∷ (text_of_lines front ++ rest)
+    = append_assoc (line ++ LINE_FEED ∷ []) (text_of_lines front) rest
+    ∙ append_assoc line (LINE_FEED ∷ []) (text_of_lines front ++ rest) in
+    let one = one_line first line (text_of_lines all) (text_of_lines front ++ rest) are_all.0 are_front.0
+    (sym left ∙ (same ∙ right)) in
     let inner = front_lines all front rest are_all.1 are_front.1 one.behind in
     record { more = inner.more; whole = cons_same one.line inner.whole; behind = inner.behind }
   where
@@ -65,9 +73,12 @@ front_lines (first ∷ all) (line ∷ front) rest are_all are_front same =
     cons_same h t = cc
 
 -- one more line behind some
-pub more_lines : (lines : List (List ℕ)) (line : List ℕ) → AllByRecursion IsLine lines → IsLine line → AllByRecursion IsLine (lines ++ line ∷ [])
+pub more_lines : (lines : List (List ℕ)) (line : List ℕ) → AllByRecursion IsLine lines → IsLine line
+    → AllByRecursion IsLine (lines ++ line ∷ [])
 more_lines [] line are is = (is, tt)
 more_lines (first ∷ lines) line are is = (are.0, more_lines lines line are.1 is)
 
-pub text_of_more : (lines : List (List ℕ)) (line : List ℕ) → text_of_lines (lines ++ line ∷ []) ≡ text_of_lines lines ++ (line ++ LINE_FEED ∷ [])
-text_of_more lines line = text_of_lines-append lines (line ∷ []) ∙ ap (λ t. text_of_lines lines ++ t) (append-nil (line ++ LINE_FEED ∷ []))
+pub text_of_more : (lines : List (List ℕ)) (line : List ℕ)
+    → text_of_lines (lines ++ line ∷ []) ≡ text_of_lines lines ++ (line ++ LINE_FEED ∷ [])
+text_of_more lines line = text_of_lines-append lines (line ∷ [])
+    ∙ ap (λ t. text_of_lines lines ++ t) (append-nil (line ++ LINE_FEED ∷ []))

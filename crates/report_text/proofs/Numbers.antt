@@ -1,5 +1,7 @@
 -- Numbers of digits without leading zeros.
-use Rattle.std.proofs.Common.{◌≡◌, ◌==◌, ℕ, zero, suc, ◌+◌, ◌<◌, ◌≤◌, ◌^◌, Bool, true, false, ◌&&◌, cond, List, [], ◌∷◌, ◌++◌, length, take, drop, get_or, Some, None, Result, Ok, Err, refl, sym, ◌∙◌, ap, arith, nat_lt, subst}
+use Rattle.std.proofs.Common.{◌≡◌, ◌==◌, ℕ, zero, suc, ◌+◌, ◌<◌, ◌≤◌, ◌^◌, Bool, true, false, ◌&&◌, cond, List, [], ◌∷◌}
+use Rattle.std.proofs.Common.{◌++◌, length, take, drop, get_or, Some, None, Result, Ok, Err, refl, sym, ◌∙◌, ap, arith}
+use Rattle.std.proofs.Common.{nat_lt, subst}
 use Rattle.std.specs.Prelude.{not}
 use Rattle.std.specs.Char.{is_ascii_digit}
 use Rattle.std.specs.List.{prefix_len}
@@ -8,7 +10,8 @@ use Rattle.std.specs.Result.{OkIff, result_ok}
 use Rattle.std.specs.Str.{all_ascii_digits, IsUtf8}
 use Rattle.std.specs.Str.Parse.{digits_value, ParsesUnsigned}
 use Rattle.std.proofs.lemmas.Bool.Decides.{nat_tests}
-use Rattle.std.proofs.lemmas.Fmt.{decimal_is_IsNumeral, decimal-digits_value, first_decimal, IsAscii-from_digits, decimal_nonempty, decimal_digit}
+use Rattle.std.proofs.lemmas.Fmt.{decimal_is_IsNumeral, decimal-digits_value, first_decimal, IsAscii-from_digits}
+use Rattle.std.proofs.lemmas.Fmt.{decimal_nonempty, decimal_digit}
 use Rattle.std.proofs.lemmas.List.{take_at, drop_at, take-append-drop}
 use Rattle.std.proofs.lemmas.Str.{IsUtf8-from_ascii}
 use Rattle.std.proofs.lemmas.Str.Parse.{parse_digits}
@@ -41,7 +44,8 @@ chosen true value number is = (refl, cc)
 chosen false value number is = absurd cc
 
 -- digits that are read
-number_some : (digits : List ℕ) → has_leading_zero digits ≡ false → 0 < length digits → digits_value 10 digits < 2 ^ 64 → number_of digits ≡ Some (digits_value 10 digits)
+number_some : (digits : List ℕ) → has_leading_zero digits ≡ false → 0 < length digits → digits_value 10 digits < 2 ^ 64
+    → number_of digits ≡ Some (digits_value 10 digits)
 unfolding number_of
 number_some digits plain some small =
     let there : nat_lt 0 (length digits) ≡ true = grind (arith, nat_tests, some) in
@@ -49,7 +53,8 @@ number_some digits plain some small =
     rw (there, plain, fits) refl
 
 -- digits that are not
-number_none : (digits : List ℕ) → has_leading_zero digits ≡ false → (0 < length digits → digits_value 10 digits < 2 ^ 64 → ⊥) → number_of digits ≡ None
+number_none : (digits : List ℕ) → has_leading_zero digits ≡ false
+    → (0 < length digits → digits_value 10 digits < 2 ^ 64 → ⊥) → number_of digits ≡ None
 unfolding number_of
 number_none digits plain never =
     ap (λ test. cond test (Some (digits_value 10 digits)) None)
@@ -57,11 +62,13 @@ number_none digits plain never =
     (λ some small. never (grind (arith, nat_tests, some)) (grind (arith, nat_tests, small))))
 
 -- what `parse` says of digits
-pub parsed : {E : Type 0} (digits : List ℕ) (answer : Result ℕ E) → all_ascii_digits digits ≡ true → has_leading_zero digits ≡ false
+pub parsed : {E : Type 0} (digits : List ℕ) (answer : Result ℕ E) → all_ascii_digits digits ≡ true
+    → has_leading_zero digits ≡ false
     → ParsesUnsigned 64 10 digits answer → result_ok answer ≡ number_of digits
 parsed {E} digits answer all plain is = by_answer answer (parse_digits digit_texts 64 digits answer is all)
   where
-    by_answer : (answer : Result ℕ E) → OkIff answer ((0 < length digits) × (digits_value 10 digits < 2 ^ 64)) (digits_value 10 digits) → result_ok answer ≡ number_of digits
+    by_answer : (answer : Result ℕ E) → OkIff answer ((0 < length digits) × (digits_value 10 digits < 2 ^ 64))
+        (digits_value 10 digits) → result_ok answer ≡ number_of digits
     by_answer (Ok number) is = ap Some is.1 ∙ sym (number_some digits plain is.0.0 is.0.1)
     by_answer (Err e) is = sym (number_none digits plain (λ some small. is (some, small)))
 
@@ -75,8 +82,10 @@ record IsRead (digits : List ℕ) (number : ℕ) : Type 0 where
 number_told : (digits : List ℕ) (number : ℕ) → number_of digits ≡ Some number → IsRead digits number
 unfolding number_of
 number_told digits number is =
-    let found = chosen ((nat_lt 0 (length digits) && not (has_leading_zero digits)) && nat_lt (digits_value 10 digits) (2 ^ 64)) (digits_value 10 digits) number is in
-    let tests = passed (nat_lt 0 (length digits)) (has_leading_zero digits) (nat_lt (digits_value 10 digits) (2 ^ 64)) found.0 in
+    let found = chosen ((nat_lt 0 (length digits) && not (has_leading_zero digits)) && nat_lt (digits_value 10 digits)
+    (2 ^ 64)) (digits_value 10 digits) number is in
+    let tests = passed (nat_lt 0 (length digits)) (has_leading_zero digits) (nat_lt (digits_value 10 digits) (2 ^ 64))
+    found.0 in
     let some = tests.0 in let small = tests.2 in
     record {
       some = grind (arith, nat_tests, some);
@@ -101,7 +110,8 @@ no_zero (suc number) small =
 pub number_again : (number : ℕ) → number < 2 ^ 64 → number_of (decimal number) ≡ Some number
 number_again number small =
     let numeral = decimal_is_IsNumeral number small in
-    number_some (decimal number) (no_zero number small) (decimal_nonempty number small) (subst (λ n. n < 2 ^ 64) (sym numeral.1) small) ∙ ap Some numeral.1
+    number_some (decimal number) (no_zero number small) (decimal_nonempty number small)
+    (subst (λ n. n < 2 ^ 64) (sym numeral.1) small) ∙ ap Some numeral.1
 
 one_of : (n : ℕ) → 0 < n → (1 < n → ⊥) → n ≡ 1
 one_of n some few = omega (arith, few_is n few)
@@ -109,9 +119,11 @@ one_of n some few = omega (arith, few_is n few)
     few_is : (n : ℕ) → (1 < n → ⊥) → n ≤ 1
     few_is n few = grind (arith, few)
 
-only_digit : (digits : List ℕ) → 0 < length digits → has_leading_zero digits ≡ false → get_or digits 0 0 ≡ 48 → length digits ≡ 1
+only_digit : (digits : List ℕ) → 0 < length digits → has_leading_zero digits ≡ false → get_or digits 0 0 ≡ 48
+    → length digits ≡ 1
 only_digit digits some plain is =
-    one_of (length digits) some (λ more. both (nat_lt 1 (length digits)) (get_or digits 0 0 == 48) (grind (arith, nat_tests, more)) (grind (arith, nat_tests, is)) plain)
+    one_of (length digits) some (λ more. both (nat_lt 1 (length digits)) (get_or digits 0 0 == 48)
+    (grind (arith, nat_tests, more)) (grind (arith, nat_tests, is)) plain)
   where
     both : (a b : Bool) → a ≡ true → b ≡ true → (a && b) ≡ false → ⊥
     both true true _ _ other = cc
@@ -119,10 +131,12 @@ only_digit digits some plain is =
     both false b other _ _ = cc
 
 -- a number that is read is written so
-pub number_takes : (digits : List ℕ) (number : ℕ) → all_ascii_digits digits ≡ true → number_of digits ≡ Some number → (digits ≡ decimal number) × (number < 2 ^ 64)
+pub number_takes : (digits : List ℕ) (number : ℕ) → all_ascii_digits digits ≡ true → number_of digits ≡ Some number
+    → (digits ≡ decimal number) × (number < 2 ^ 64)
 number_takes digits number all is =
     let told = number_told digits number is in
-    let same : decimal (digits_value 10 digits) ≡ digits = decimal-digits_value digit_texts digits all told.some (only_digit digits told.some told.plain) told.small in
+    let same : decimal (digits_value 10 digits) ≡ digits =
+    decimal-digits_value digit_texts digits all told.some (only_digit digits told.some told.plain) told.small in
     (sym same ∙ ap decimal told.value, subst (λ n. n < 2 ^ 64) told.value told.small)
 
 pub are_front_digits : (text : List ℕ) → all_ascii_digits (take (prefix_len is_ascii_digit text) text) ≡ true
@@ -132,7 +146,8 @@ are_front_digits (byte ∷ text) = by_test (are_front_digits text) (is_ascii_dig
     one_more : 1 + prefix_len is_ascii_digit text ≡ suc (prefix_len is_ascii_digit text)
     one_more = omega arith
 
-    by_test : all_ascii_digits (take (prefix_len is_ascii_digit text) text) ≡ true → (test : Bool) → test ≡ is_ascii_digit byte
+    by_test : all_ascii_digits (take (prefix_len is_ascii_digit text) text) ≡ true → (test : Bool)
+        → test ≡ is_ascii_digit byte
         → all_ascii_digits (take (cond test (1 + prefix_len is_ascii_digit text) 0) (byte ∷ text)) ≡ true
     by_test later true is = rw (one_more, ← is) later
     by_test later false is = refl
@@ -142,7 +157,8 @@ abbrev pub Stops : List ℕ → Type 0
 Stops [] = Unit {0}
 Stops (byte ∷ rest) = is_ascii_digit byte ≡ false
 
-pub digits_end : (digits rest : List ℕ) → all_ascii_digits digits ≡ true → Stops rest → prefix_len is_ascii_digit (digits ++ rest) ≡ length digits
+pub digits_end : (digits rest : List ℕ) → all_ascii_digits digits ≡ true → Stops rest
+    → prefix_len is_ascii_digit (digits ++ rest) ≡ length digits
 digits_end [] [] all stops = refl
 digits_end [] (byte ∷ rest) all stops = rw stops refl
 digits_end (digit ∷ digits) rest all stops =
@@ -150,14 +166,18 @@ digits_end (digit ∷ digits) rest all stops =
     let later = digits_end digits rest parts.1 stops in
     rw (parts.0, later) (omega arith)
 
-pub number_at_again : (number : ℕ) (rest : List ℕ) → number < 2 ^ 64 → Stops rest → number_at (decimal number ++ rest) ≡ Some (number, rest)
+pub number_at_again : (number : ℕ) (rest : List ℕ) → number < 2 ^ 64 → Stops rest
+    → number_at (decimal number ++ rest) ≡ Some (number, rest)
 unfolding number_at
 number_at_again number rest small stops =
-    let all : all_ascii_digits (decimal number) ≡ true = digit_texts.from (decimal number) (decimal_is_IsNumeral number small).0.1 in
+    let all : all_ascii_digits (decimal number) ≡ true =
+    digit_texts.from (decimal number) (decimal_is_IsNumeral number small).0.1 in
     let count = digits_end (decimal number) rest all stops in
-    rw (count, take_at (decimal number) rest _ refl, drop_at (decimal number) rest _ refl, number_again number small) refl
+    rw (count, take_at (decimal number) rest _ refl, drop_at (decimal number) rest _ refl, number_again number small)
+    refl
 
-pub number_at_takes : (text : List ℕ) (found : ℕ × List ℕ) → number_at text ≡ Some found → (text ≡ decimal found.0 ++ found.1) × (found.0 < 2 ^ 64)
+pub number_at_takes : (text : List ℕ) (found : ℕ × List ℕ) → number_at text ≡ Some found
+    → (text ≡ decimal found.0 ++ found.1) × (found.0 < 2 ^ 64)
 unfolding number_at
 number_at_takes text found is =
     let front = take (prefix_len is_ascii_digit text) text in
@@ -166,5 +186,6 @@ number_at_takes text found is =
     let made : ℕ × List ℕ = (read.found, behind) in
     let taken = number_takes front read.found (are_front_digits text) read.is in
     let whole : front ++ behind ≡ text = take-append-drop (prefix_len is_ascii_digit text) text in
-    subst (λ (pair : ℕ × List ℕ). (text ≡ decimal pair.0 ++ pair.1) × (pair.0 < 2 ^ 64)) (some_is made found read.goes_on)
+    subst (λ (pair : ℕ × List ℕ). (text ≡ decimal pair.0 ++ pair.1) × (pair.0 < 2 ^ 64))
+    (some_is made found read.goes_on)
     (sym whole ∙ ap (λ f. f ++ behind) taken.0, taken.1)

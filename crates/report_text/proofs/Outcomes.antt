@@ -1,5 +1,6 @@
 -- Any bytes are the text of a report or bad at a line, and what is written is read again.
-use Rattle.std.proofs.Common.{◌≡◌, ◌≢◌, ℕ, zero, suc, ◌+◌, ◌≤◌, ◌⊎◌, inl, inr, List, [], ◌∷◌, ◌++◌, length, Option, Some, None, Result, Ok, Err, refl, sym, ◌∙◌, ap, arith, length-append}
+use Rattle.std.proofs.Common.{◌≡◌, ◌≢◌, ℕ, zero, suc, ◌+◌, ◌≤◌, ◌⊎◌, inl, inr, List, [], ◌∷◌, ◌++◌, length, Option}
+use Rattle.std.proofs.Common.{Some, None, Result, Ok, Err, refl, sym, ◌∙◌, ap, arith, length-append}
 use Rattle.std.proofs.lemmas.Bool.Decides.{eqb_tells}
 use Rattle.report_text.specs.declared.faults.ReportFault.{ReportFault}
 use Rattle.report_text.specs.declared.faults.ReportFault.TheVariants.{Bad, NoMemory}
@@ -36,7 +37,13 @@ first_line (b ∷ text) = by_byte (same_byte b) (first_line text)
     by_byte : (b ≡ LINE_FEED) ⊎ (b ≢ LINE_FEED) → IsLine text ⊎ HasLine text → IsLine (b ∷ text) ⊎ HasLine (b ∷ text)
     by_byte (inl feed) later = inr (record { line = []; behind = text; is_line = tt; whole = ap (λ x. x ∷ text) feed })
     by_byte (inr other) (inl is_line) = inl (other, is_line)
-    by_byte (inr other) (inr has) = inr (record { line = b ∷ has.line; behind = has.behind; is_line = (other, has.is_line); whole = ap (λ t. b ∷ t) has.whole })
+    by_byte (inr other) (inr has) = inr (record {
+      line = b ∷ has.line;
+      behind = has.behind;
+      is_line =
+          (other, has.is_line);
+      whole = ap (λ t. b ∷ t) has.whole;
+    })
 
 -- ---- the outcome
 
@@ -45,48 +52,64 @@ Outcome bytes = ((report : Contents) × IsReportText bytes report) ⊎ ((line : 
 
 -- where nothing stands behind the lines that were read
 at_the_end : (bytes : List ℕ) (number : ℕ) (state : State) → Reached bytes [] number state → Outcome bytes
-at_the_end bytes number at_title reached = inr (number, ends_here bytes [] number at_title reached tt (λ ends nothing. ends))
-at_the_end bytes number at_tin reached = inr (number, ends_here bytes [] number at_tin reached tt (λ ends nothing. ends))
-at_the_end bytes number (at_layers tin rows) reached = inr (number, ends_here bytes [] number (at_layers tin rows) reached tt (λ ends nothing. ends))
-at_the_end bytes number (at_row tin rows row) reached = inr (number, ends_here bytes [] number (at_row tin rows row) reached tt (λ ends nothing. ends))
-at_the_end bytes number (at_changes tin rows changes left) reached = inr (number, ends_here bytes [] number (at_changes tin rows changes left) reached tt (λ ends nothing. ends))
-at_the_end bytes number (at_end tin rows changes) reached = inl (contents_of tin rows changes, is_whole bytes number tin rows changes reached)
+at_the_end bytes number at_title reached =
+    inr (number, ends_here bytes [] number at_title reached tt (λ ends nothing. ends))
+at_the_end bytes number at_tin reached = inr
+    (number, ends_here bytes [] number at_tin reached tt (λ ends nothing. ends))
+at_the_end bytes number (at_layers tin rows) reached =
+    inr (number, ends_here bytes [] number (at_layers tin rows) reached tt (λ ends nothing. ends))
+at_the_end bytes number (at_row tin rows row) reached =
+    inr (number, ends_here bytes [] number (at_row tin rows row) reached tt (λ ends nothing. ends))
+at_the_end bytes number (at_changes tin rows changes left) reached =
+    inr (number, ends_here bytes [] number (at_changes tin rows changes left) reached tt (λ ends nothing. ends))
+at_the_end bytes number (at_end tin rows changes) reached =
+    inl (contents_of tin rows changes, is_whole bytes number tin rows changes reached)
 
 -- where a line stands that is not ended
-in_a_line : (bytes rest : List ℕ) (number : ℕ) (state : State) → Reached bytes rest number state → IsLine rest → Outcome bytes
+in_a_line : (bytes rest : List ℕ) (number : ℕ) (state : State) → Reached bytes rest number state → IsLine rest
+    → Outcome bytes
 in_a_line bytes [] number state reached is_line = at_the_end bytes number state reached
-in_a_line bytes (b ∷ rest) number state reached is_line = inr (number, ends_here bytes (b ∷ rest) number state reached is_line (λ ends nothing. cc))
+in_a_line bytes (b ∷ rest) number state reached is_line =
+    inr (number, ends_here bytes (b ∷ rest) number state reached is_line (λ ends nothing. cc))
 
-shorter : (rest line behind : List ℕ) (most : ℕ) → rest ≡ line ++ LINE_FEED ∷ behind → length rest ≤ suc most → length behind ≤ most
+shorter : (rest line behind : List ℕ) (most : ℕ) → rest ≡ line ++ LINE_FEED ∷ behind → length rest ≤ suc most
+    → length behind ≤ most
 shorter rest line behind most is few =
-    let size : length rest ≡ length line + suc (length behind) = ap length is ∙ length-append line (LINE_FEED ∷ behind) in
+    let size : length rest ≡ length line + suc (length behind) = ap length is
+    ∙ length-append line (LINE_FEED ∷ behind) in
     omega (arith, size)
 
 -- by the next line, where what follows it has an outcome
 by_step : (bytes rest : List ℕ) (number : ℕ) (state : State) → Reached bytes rest number state → (has : HasLine rest)
-    → ((next : State) → Reached bytes has.behind (number + 1) next → Outcome bytes) → (next : Option State) → step state has.line ≡ next → Outcome bytes
-by_step bytes rest number state reached has later None stops = inr (number, stops_here bytes rest has.line has.behind number state reached has.is_line has.whole stops)
+    → ((next : State) → Reached bytes has.behind (number + 1) next → Outcome bytes) → (next : Option State)
+    → step state has.line ≡ next → Outcome bytes
+by_step bytes rest number state reached has later None stops =
+    inr (number, stops_here bytes rest has.line has.behind number state reached has.is_line has.whole stops)
 by_step bytes rest number state reached has later (Some next) leads =
     later next (one_more bytes rest has.line has.behind number state next reached has.is_line has.whole leads)
 
-outcome_from : (most : ℕ) (bytes rest : List ℕ) (number : ℕ) (state : State) → length rest ≤ most → Reached bytes rest number state → Outcome bytes
+outcome_from : (most : ℕ) (bytes rest : List ℕ) (number : ℕ) (state : State) → length rest ≤ most
+    → Reached bytes rest number state → Outcome bytes
 outcome_from zero bytes [] number state few reached = at_the_end bytes number state reached
 outcome_from zero bytes (b ∷ rest) number state few reached = absurd (omega arith)
 outcome_from (suc most) bytes rest number state few reached =
     elim (first_line rest) [
       | inl is_line ↦ in_a_line bytes rest number state reached is_line
       | inr has ↦ by_step bytes rest number state reached has
-          (λ next later. outcome_from most bytes has.behind (number + 1) next (shorter rest has.line has.behind most has.whole few) later)
+          (λ next later. outcome_from most bytes has.behind (number + 1) next
+          (shorter rest has.line has.behind most has.whole few) later)
           (step state has.line) refl
     ]
 
 pub some_outcome : (bytes : List ℕ) → Outcome bytes
 some_outcome bytes =
-    outcome_from (length bytes) bytes bytes 1 at_title (omega arith) (record { lines = []; whole = refl; are_lines = tt; counted = refl; leads = refl })
+    outcome_from (length bytes) bytes bytes 1 at_title (omega arith)
+    (record { lines = []; whole = refl; are_lines = tt; counted = refl; leads = refl })
 
 -- ---- writing and reading
 
-pub written_read : (bytes : List ℕ) (report : Contents) (answer : Result Contents ReportFault) → IsReportText bytes report → IsAnswerTo bytes answer → GivesBack report answer
+pub written_read : (bytes : List ℕ) (report : Contents) (answer : Result Contents ReportFault)
+    → IsReportText bytes report → IsAnswerTo bytes answer → GivesBack report answer
 written_read bytes report (Ok read) text is = one_report bytes read report is text
 written_read bytes report (Err (Bad line)) text is = is.no_text (report, text)
 written_read bytes report (Err NoMemory) text is = tt

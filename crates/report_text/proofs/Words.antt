@@ -1,5 +1,6 @@
 -- Words at the front of a text, and names at its end.
-use Rattle.std.proofs.Common.{◌≡◌, ℕ, Bool, true, false, ◌&&◌, cond, List, [], ◌∷◌, ◌++◌, length, take, drop, codes, Some, None, refl, sym, ◌∙◌, ap, nat_eq, nat_le, arith, subst}
+use Rattle.std.proofs.Common.{◌≡◌, ℕ, Bool, true, false, ◌&&◌, cond, List, [], ◌∷◌, ◌++◌, length, take, drop, codes}
+use Rattle.std.proofs.Common.{Some, None, refl, sym, ◌∙◌, ap, nat_eq, nat_le, arith, subst}
 use Rattle.std.specs.Cmp.Lexicographic.{same_text}
 use Rattle.std.specs.Prelude.{IsUtf8}
 use Rattle.std.specs.Str.{is_utf8, bytes_eq}
@@ -19,13 +20,19 @@ equals_itself (byte ∷ text) =
 
 -- a word in front of a rest
 pub after_again : (word rest : List ℕ) → after word (word ++ rest) ≡ Some rest
-after_again word rest = rw (take_at word rest (length word) refl, drop_at word rest (length word) refl, equals_itself word) refl
+after_again word rest = rw (
+  take_at word rest (length word) refl,
+  drop_at word rest (length word) refl,
+  equals_itself
+      word,
+) refl
 
 pub after_takes : (word text rest : List ℕ) → after word text ≡ Some rest → text ≡ word ++ rest
 after_takes word text rest is =
     let found = let_through (bytes_eq (take (length word) text) word) (drop (length word) text) rest is in
     let same : take (length word) text ≡ word = same_text (take (length word) text) word (sym found.passes) in
-    sym (take-append-drop (length word) text) ∙ (ap (λ front. front ++ drop (length word) text) same ∙ ap (λ behind. word ++ behind) found.same)
+    sym (take-append-drop (length word) text)
+    ∙ (ap (λ front. front ++ drop (length word) text) same ∙ ap (λ behind. word ++ behind) found.same)
 
 pub printable_is : (name : List ℕ) → is_printable name ≡ true → IsPrintable name
 printable_is [] is = tt
@@ -43,7 +50,11 @@ is_printable_from (byte ∷ name) is =
 
 pub name_again : (name : List ℕ) → IsPrintable name → IsUtf8 name → name_at (codes " name " ++ name) ≡ Some name
 unfolding name_at
-name_again name printable utf8 = rw (after_again (codes " name ") name, is_printable_from name printable, is_utf8-from_IsUtf8 name utf8) refl
+name_again name printable utf8 = rw (
+  after_again (codes " name ") name,
+  is_printable_from name printable,
+  is_utf8-from_IsUtf8 name utf8,
+) refl
 
 pub record TakesName (text name : List ℕ) : Type 0 where
   pub parts : text ≡ codes " name " ++ name
@@ -63,7 +74,8 @@ name_takes text name is =
     }
 
 -- for a name's reading: text that is not UTF-8, text that is
-pub name_fails : (text name : List ℕ) → after (codes " name ") text ≡ Some name → (IsUtf8 name → ⊥) → name_at text ≡ None
+pub name_fails : (text name : List ℕ) → after (codes " name ") text ≡ Some name → (IsUtf8 name → ⊥)
+    → name_at text ≡ None
 unfolding name_at
 name_fails text name behind never =
     rw behind (by_tests (is_printable name) (is_utf8 name) (λ yes. never (IsUtf8-from_is_utf8 name yes)))
@@ -73,7 +85,8 @@ name_fails text name behind never =
     by_tests true false never = refl
     by_tests false b never = refl
 
-pub name_found : (text name : List ℕ) → after (codes " name ") text ≡ Some name → IsUtf8 name → name_at text ≡ cond (is_printable name) (Some name) None
+pub name_found : (text name : List ℕ) → after (codes " name ") text ≡ Some name → IsUtf8 name
+    → name_at text ≡ cond (is_printable name) (Some name) None
 unfolding name_at
 name_found text name behind utf8 = rw (behind, is_utf8-from_IsUtf8 name utf8) (by_test (is_printable name))
   where

@@ -18,7 +18,16 @@ square = record {
   triangles = 2;
   inexact = 0;
   name = codes "s.json";
-  layers = record { paths = 2; segments = 2; pieces = 3; inexact = 0; dropped = 0; drawing = false; name = codes "nine.wkt" } ∷ [];
+  layers = record {
+    paths = 2;
+    segments = 2;
+    pieces = 3;
+    inexact = 0;
+    dropped = 0;
+    drawing = false;
+    name =
+        codes "nine.wkt";
+  } ∷ [];
   changes = record {
     first = record { layer = 0; path = 0; segment = 0; piece = 0 };
     second = record { layer = 0; path = 1; segment = 0; piece = 0 };
@@ -28,9 +37,16 @@ square = record {
 }
 
 square_text : report_text square
-    ≡ codes "tinmove report 1\ntriangulation corners 4 triangles 2 inexact 0 name s.json\nlayer 0 paths 2 segments 2 pieces 3 inexact 0 dropped 0 name nine.wkt\nchanges 1\nchange 0/0/0/0 0/1/0/0 touching apart\nend\n"
+    ≡ codes
+    "tinmove report 1\ntriangulation corners 4 triangles 2 inexact 0 name s.json\nlayer 0 paths 2 segments 2 pieces 3 inexact 0 dropped 0 name nine.wkt\nchanges 1\nchange 0/0/0/0 0/1/0/0 touching apart\nend\n"
 unfolding title tin_line layer_line count_line change_line end_line
-square_text = rw (decimal_digit 4 (omega arith), decimal_digit 3 (omega arith), decimal_digit 2 (omega arith), decimal_digit 1 (omega arith), decimal_digit 0 (omega arith)) refl
+square_text = rw (
+  decimal_digit 4 (omega arith),
+  decimal_digit 3 (omega arith),
+  decimal_digit 2 (omega arith),
+  decimal_digit 1 (omega arith),
+  decimal_digit 0 (omega arith),
+) refl
 
 -- a report of nothing
 abbrev nothing : Contents
@@ -90,6 +106,7 @@ empty_line = record {
   no_text = no_report_begins_so [];
 }
   where
-    first : (line more : List ℕ) → IsLine line → LINE_FEED ∷ [] ≡ line ++ LINE_FEED ∷ more → Begins IsSomeText (line ++ LINE_FEED ∷ []) → ⊥
+    first : (line more : List ℕ) → IsLine line → LINE_FEED ∷ [] ≡ line ++ LINE_FEED ∷ more
+        → Begins IsSomeText (line ++ LINE_FEED ∷ []) → ⊥
     first [] more is_line is begins = no_report_begins_so begins.0 begins.1
     first (byte ∷ line) more is_line is begins = let head : byte ≡ LINE_FEED = cc in is_line.0 head

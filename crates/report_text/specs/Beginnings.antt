@@ -21,8 +21,9 @@ IsSomeText bytes = (report : Contents) × IsReportText bytes report
 abbrev pub IsLine : List ℕ → Type 0
 IsLine line = AllByRecursion (λ byte. byte ≢ LINE_FEED) line
 
--- The line of this number, counted from 1, is the first up to which no report's text begins with the bytes: some report's
--- text begins with the lines before it, and none with it too. Where the bytes end in it, they are no report's text.
+-- The line of this number, counted from 1, is the first up to which no report's text begins with the bytes: some
+-- report's text begins with the lines before it, and none with it too. Where the bytes end in it, they are no report's
+-- text.
 pub record IsBadAt (bytes : List ℕ) (number : ℕ) : Type 0 where
   pub before : List (List ℕ)
   pub rest : List ℕ
@@ -30,7 +31,8 @@ pub record IsBadAt (bytes : List ℕ) (number : ℕ) : Type 0 where
   pub are_lines : AllByRecursion IsLine before
   pub counted : number ≡ length before + 1
   pub begun : Begins IsSomeText (text_of_lines before)
-  pub stops : (line more : List ℕ) → IsLine line → rest ≡ line ++ LINE_FEED ∷ more → Begins IsSomeText (text_of_lines before ++ (line ++ LINE_FEED ∷ [])) → ⊥
+  pub stops : (line more : List ℕ) → IsLine line → rest ≡ line ++ LINE_FEED ∷ more
+      → Begins IsSomeText (text_of_lines before ++ (line ++ LINE_FEED ∷ [])) → ⊥
   pub no_text : IsSomeText bytes → ⊥
 
 -- what a fault says of the bytes

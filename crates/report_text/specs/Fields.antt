@@ -1,5 +1,6 @@
 -- Reading at the front of a text. Only private functions speak of it.
-use Rattle.std.specs.Prelude.{◌≡◌, ℕ, ◌^◌, ◌==◌, Bool, ◌&&◌, not, if◌then◌else◌, List, length, take, drop, slice_index, codes, nat_lt, nat_le, Option, None, Some}
+use Rattle.std.specs.Prelude.{◌≡◌, ℕ, ◌^◌, ◌==◌, Bool, ◌&&◌, not, if◌then◌else◌, List, length, take, drop, slice_index}
+use Rattle.std.specs.Prelude.{codes, nat_lt, nat_le, Option, None, Some}
 use Rattle.std.specs.Char.{is_ascii_digit}
 use Rattle.std.specs.List.{prefix_len, list_all}
 use Rattle.std.specs.Str.{bytes_eq, is_utf8}
@@ -26,7 +27,8 @@ has_leading_zero digits = nat_lt 1 (length digits) && (slice_index digits 0 == 4
 -- the number of some digits without leading zeros, where it fits 64 bits
 unfoldable pub number_of : List ℕ → Option ℕ
 number_of digits =
-    if (nat_lt 0 (length digits) && not (has_leading_zero digits)) && nat_lt (digits_value 10 digits) (2 ^ 64) then Some (digits_value 10 digits) else None
+    if (nat_lt 0 (length digits) && not (has_leading_zero digits)) && nat_lt (digits_value 10 digits) (2 ^ 64) then Some
+    (digits_value 10 digits) else None
 
 -- the number at the front of a text, up to the first byte that is no digit, and what stands behind it
 unfoldable pub number_at : List ℕ → Option (ℕ × List ℕ)

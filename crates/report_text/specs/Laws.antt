@@ -8,7 +8,8 @@ use Rattle.report_text.specs.ReportText.{report_text}
 
 -- bytes are the text of one report
 abbrev pub TextsAreOne : Type 0
-TextsAreOne = (bytes : List ℕ) (report other : Contents) → IsReportText bytes report → IsReportText bytes other → report ≡ other
+TextsAreOne = (bytes : List ℕ) (report other : Contents) → IsReportText bytes report → IsReportText bytes other
+    → report ≡ other
 
 -- bytes are bad at one line
 abbrev pub BadLinesAreOne : Type 0
@@ -33,7 +34,8 @@ GivesBack report (Err NoMemory) = Unit {0}
 
 -- reading what was written of a report gives the report back
 abbrev pub WrittenIsRead : Type 0
-WrittenIsRead = (bytes : List ℕ) (report : Contents) (answer : Result Contents ReportFault) → IsReportText bytes report → IsAnswerTo bytes answer → GivesBack report answer
+WrittenIsRead = (bytes : List ℕ) (report : Contents) (answer : Result Contents ReportFault) → IsReportText bytes report
+    → IsAnswerTo bytes answer → GivesBack report answer
 
 -- of what is read the same bytes are written
 abbrev pub ReadIsWritten : Type 0

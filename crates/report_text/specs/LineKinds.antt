@@ -1,5 +1,6 @@
 -- What each kind of line is read as. Only private functions speak of it.
-use Rattle.std.specs.Prelude.{ℕ, ◌==◌, Bool, false, ◌&&◌, ◌||◌, not, if◌then◌else◌, List, [], length, codes, Option, None, Some}
+use Rattle.std.specs.Prelude.{ℕ, ◌==◌, Bool, false, ◌&&◌, ◌||◌, not, if◌then◌else◌, List, [], length, codes, Option}
+use Rattle.std.specs.Prelude.{None, Some}
 use Rattle.std.specs.Str.{bytes_eq}
 use Rattle.tin_base.specs.declared.pieces.Change.{Change}
 use Rattle.tin_base.specs.declared.pieces.Place.{Place}
@@ -12,7 +13,13 @@ use Rattle.report_text.specs.declared.rows.LayerRow.{LayerRow}
 use Rattle.report_text.specs.Fields.{◌>>=◌, after, long_at, short_at, name_at}
 
 abbrev pub tin_named : TinCounts → List ℕ → TinRow
-tin_named counts name = record { corners = counts.corners; triangles = counts.triangles; inexact = counts.inexact; name = name }
+tin_named counts name = record {
+  corners = counts.corners;
+  triangles = counts.triangles;
+  inexact =
+      counts.inexact;
+  name = name;
+}
 
 abbrev pub layer_named : LayerCounts → List ℕ → LayerRow
 layer_named counts name = record {
@@ -43,7 +50,16 @@ row_at text = do
   inexact ← long_at (codes " inexact ") pieces.1
   dropped ← long_at (codes " dropped ") inexact.1
   name ← name_at dropped.1
-  Some (record { paths = paths.0; segments = segments.0; pieces = pieces.0; inexact = inexact.0; dropped = dropped.0; drawing = false; name = name })
+  Some (record {
+    paths = paths.0;
+    segments = segments.0;
+    pieces = pieces.0;
+    inexact = inexact.0;
+    dropped =
+        dropped.0;
+    drawing = false;
+    name = name;
+  })
 
 -- the line of the layer of this number
 unfoldable pub layer_of : ℕ → List ℕ → Option LayerRow
@@ -88,7 +104,8 @@ unfoldable pub relation_at : List ℕ → Option (Rel × List ℕ)
 relation_at text =
     found_or (as_relation Apart (after (codes " apart") text))
     (found_or (as_relation Touching (after (codes " touching") text))
-    (found_or (as_relation Crossing (after (codes " crossing") text)) (as_relation Overlapping (after (codes " overlapping") text))))
+    (found_or (as_relation Crossing (after (codes " crossing") text))
+    (as_relation Overlapping (after (codes " overlapping") text))))
 
 abbrev pub number_of_relation : Rel → ℕ
 number_of_relation Apart = 0
@@ -108,4 +125,5 @@ change_of line = do
   second ← place_at between
   was ← relation_at second.1
   now ← relation_at was.1
-  if is_same was.0 now.0 || not (length now.1 == 0) then None else Some (record { first = first.0; second = second.0; was = was.0; now = now.0 })
+  if is_same was.0 now.0 || not (length now.1 == 0) then None else Some
+      (record { first = first.0; second = second.0; was = was.0; now = now.0 })

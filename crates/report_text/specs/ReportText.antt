@@ -19,7 +19,8 @@ title = codes "tinmove report 1"
 -- how many corners and triangles the triangulation has, and how many of its numbers lost digits
 abbrev pub tin_counts : Contents → List ℕ
 tin_counts report = concat (
-    field (codes "triangulation corners ") report.corners ∷ field (codes " triangles ") report.triangles ∷ field (codes " inexact ") report.inexact ∷ [])
+    field (codes "triangulation corners ") report.corners ∷ field (codes " triangles ") report.triangles
+    ∷ field (codes " inexact ") report.inexact ∷ [])
 
 -- the line of the triangulation
 unfoldable pub tin_line : Contents → List ℕ
@@ -27,7 +28,8 @@ tin_line report = concat (tin_counts report ∷ codes " name " ∷ report.name �
 
 -- how many paths, segments and pieces a layer has
 abbrev pub sizes : LayerRow → List ℕ
-sizes row = concat (field (codes " paths ") row.paths ∷ field (codes " segments ") row.segments ∷ field (codes " pieces ") row.pieces ∷ [])
+sizes row = concat (field (codes " paths ") row.paths ∷ field (codes " segments ") row.segments
+    ∷ field (codes " pieces ") row.pieces ∷ [])
 
 -- how many of its numbers lost digits, and how many of its entities are left out
 abbrev pub losses : LayerRow → List ℕ
@@ -48,12 +50,14 @@ extents_lines number false = []
 -- the lines of layers, of which the first has this number
 abbrev pub layer_lines : ℕ → List LayerRow → List (List ℕ)
 layer_lines number [] = []
-layer_lines number (row ∷ rows) = layer_line number row ∷ (extents_lines number row.drawing ++ layer_lines (number + 1) rows)
+layer_lines number (row ∷ rows) = layer_line number row
+    ∷ (extents_lines number row.drawing ++ layer_lines (number + 1) rows)
 
 -- where a piece comes from: its layer, path, segment and piece
 abbrev pub place_text : Place → List ℕ
 place_text place = concat (
-    decimal place.layer ∷ field (codes "/") place.path ∷ field (codes "/") place.segment ∷ field (codes "/") place.piece ∷ [])
+    decimal place.layer ∷ field (codes "/") place.path ∷ field (codes "/") place.segment ∷ field (codes "/") place.piece
+    ∷ [])
 
 abbrev pub relation_word : Rel → List ℕ
 relation_word Apart = codes "apart"
@@ -80,7 +84,8 @@ end_line = codes "end"
 
 -- all lines of a report
 abbrev pub report_lines : Contents → List (List ℕ)
-report_lines report = title ∷ tin_line report ∷ (layer_lines 0 report.layers ++ (change_lines report.changes ++ (end_line ∷ [])))
+report_lines report = title ∷ tin_line report
+    ∷ (layer_lines 0 report.layers ++ (change_lines report.changes ++ (end_line ∷ [])))
 
 -- lines, each with its line feed
 abbrev pub text_of_lines : List (List ℕ) → List ℕ

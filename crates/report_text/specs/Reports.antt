@@ -5,7 +5,8 @@ use Rattle.tin_base.specs.declared.pieces.Place.{Place}
 use Rattle.tin_base.specs.declared.pieces.Change.{Change}
 use Rattle.report_text.specs.declared.rows.LayerRow.{LayerRow}
 
--- the numbers and the name of a triangulation, the layers that were carried through it, and the changes among their pieces
+-- the numbers and the name of a triangulation, the layers that were carried through it, and the changes among their
+-- pieces
 pub record Contents : Type 0 where
   pub corners : ℕ
   pub triangles : ℕ

@@ -1,5 +1,6 @@
 -- Reading a report line by line: what was read, and what a line makes of it. Only private functions speak of it.
-use Rattle.std.specs.Prelude.{◌≡◌, ℕ, zero, suc, true, if◌then◌else◌, List, [], ◌∷◌, ◌++◌, length, Option, None, Some, Result, Ok, Err}
+use Rattle.std.specs.Prelude.{◌≡◌, ℕ, zero, suc, true, if◌then◌else◌, List, [], ◌∷◌, ◌++◌, length, Option, None, Some}
+use Rattle.std.specs.Prelude.{Result, Ok, Err}
 use Rattle.std.specs.Str.{bytes_eq}
 use Rattle.tin_base.specs.declared.pieces.Change.{Change}
 use Rattle.report_text.specs.declared.drafts.Draft.{Draft}
@@ -52,7 +53,8 @@ drawn row = record row { drawing = true }
 -- behind a layer that is a drawing if its extents come
 abbrev pub step_of_row : TinRow → List LayerRow → LayerRow → List ℕ → Option State
 step_of_row tin rows row line =
-    if is_extents (length rows) line then Some (at_layers tin (rows ++ drawn row ∷ [])) else step_of_layers tin (rows ++ row ∷ []) line
+    if is_extents (length rows) line then Some (at_layers tin (rows ++ drawn row ∷ [])) else step_of_layers tin
+    (rows ++ row ∷ []) line
 
 abbrev pub behind_change : TinRow → List LayerRow → List Change → ℕ → Option Change → Option State
 behind_change tin rows changes left None = None
@@ -72,7 +74,7 @@ step (at_row tin rows row) line = step_of_row tin rows row line
 step (at_changes tin rows changes left) line = step_of_changes tin rows changes left line
 step (at_end tin rows changes) line = None
 
--- the fault is that the line of this number leads nowhere, or want of memory
+-- the fault is that the line of this number leads nowhere, or memory ran out
 abbrev pub Refuses : ReportFault → ℕ → Option State → Type 0
 Refuses (Bad line) number answer = (line ≡ number) × (answer ≡ None)
 Refuses NoMemory number answer = Unit {0}

@@ -4,7 +4,9 @@ ghost use Rattle.std.specs.Prelude.{◌≡◌, true};
 ghost use Rattle.std.specs.Char.{is_ascii_digit};
 ghost use Rattle.std.specs.List.{prefix_len};
 ghost use Rattle.std.specs.Str.{all_ascii_digits};
-ghost use Rattle.report_text.specs.Fields.{Gives, after as after_word, has_leading_zero, number_of as number_of_digits, number_at as number_front, long_at as long_field, short_at as short_field, name_at as name_behind, is_printable as are_printable};
+ghost use Rattle.report_text.specs.Fields.{Gives, after as after_word, has_leading_zero, number_of as number_of_digits};
+ghost use Rattle.report_text.specs.Fields.{number_at as number_front, long_at as long_field, short_at as short_field};
+ghost use Rattle.report_text.specs.Fields.{name_at as name_behind, is_printable as are_printable};
 
 /// What stands behind a word at the front of a text.
 pub(crate) fn after<'a>(text: &'a [u8], word: &[u8]) -> Option<&'a [u8]>

@@ -14,8 +14,8 @@ pub fn bad_lines_are_one()
     ensures { BadLinesAreOne }
 {}
 
-/// A law: any bytes are the text of some report, or bad at some line. With the two laws above, what bytes say is one function
-/// of them.
+/// A law: any bytes are the text of some report, or bad at some line. With the two laws above, what bytes say is one
+/// function of them.
 pub fn outcome_exists()
     ensures { OutcomeExists }
 {}

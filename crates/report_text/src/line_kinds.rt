@@ -2,7 +2,9 @@
 
 ghost use Rattle.std.specs.Prelude.{◌≡◌};
 ghost use Rattle.report_text.specs.Fields.{Gives};
-ghost use Rattle.report_text.specs.LineKinds.{tin_of, layer_of, layer_named, row_at as row_front, tin_named, is_extents as is_line_of_extents, count_of, place_at as place_front, relation_at as relation_front, change_of};
+ghost use Rattle.report_text.specs.LineKinds.{tin_of, layer_of, layer_named, row_at as row_front, tin_named};
+ghost use Rattle.report_text.specs.LineKinds.{is_extents as is_line_of_extents, count_of, place_at as place_front};
+ghost use Rattle.report_text.specs.LineKinds.{relation_at as relation_front, change_of};
 
 use crate::fields::{after, long_at, name_at, short_at};
 use tin_base::{Change, Place, Rel};

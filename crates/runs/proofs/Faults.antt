@@ -5,9 +5,11 @@ use Rattle.sheet_base.specs.declared.faults.LayerFault.TheVariants as layers
 use Rattle.tin_check.specs.declared.faults.CheckFault.{CheckFault}
 use Rattle.tin_check.specs.declared.faults.CheckFault.TheVariants.{Flat, TurnsOver, Meets, NoMemory as CheckMemory}
 use Rattle.tin_file.specs.declared.faults.TinFault.{TinFault}
-use Rattle.tin_file.specs.declared.faults.TinFault.TheVariants.{Json, Deep, Key, Version, Fallback, NoHorizontal, TooMany, Row, Number, Inexact, Index, Span, NoMemory}
+use Rattle.tin_file.specs.declared.faults.TinFault.TheVariants.{Json, Deep, Key, Version, Fallback, NoHorizontal}
+use Rattle.tin_file.specs.declared.faults.TinFault.TheVariants.{TooMany, Row, Number, Inexact, Index, Span, NoMemory}
 use Rattle.runs.specs.declared.status.Status.{Status}
-use Rattle.runs.specs.declared.status.Status.TheVariants.{Tin as TinStatus, Layer as LayerStatus, Read, Write, Memory, Limit}
+use Rattle.runs.specs.declared.status.Status.TheVariants.{Tin as TinStatus, Layer as LayerStatus, Read, Write, Memory}
+use Rattle.runs.specs.declared.status.Status.TheVariants.{Limit}
 use Rattle.runs.specs.Refusals.{status_of_tin, status_of_check, status_of_layer}
 
 -- the statuses of a triangulation that is refused

@@ -1,5 +1,6 @@
 -- A line that tells of bytes is that of a file with too many: no other line has such a beginning.
-use Rattle.std.proofs.Common.{◌≡◌, ◌≢◌, ◌⊎◌, ◌<◌, inl, inr, ℕ, zero, suc, List, [], ◌∷◌, ◌++◌, length, take, get_or, refl, sym, ◌∙◌, ap, subst, arith}
+use Rattle.std.proofs.Common.{◌≡◌, ◌≢◌, ◌⊎◌, ◌<◌, inl, inr, ℕ, zero, suc, List, [], ◌∷◌, ◌++◌, length, take, get_or}
+use Rattle.std.proofs.Common.{refl, sym, ◌∙◌, ap, subst, arith}
 use Rattle.mm_decimal.specs.declared.reading.NumFault.{NumFault}
 use Rattle.mm_decimal.specs.declared.reading.NumFault.TheVariants.{Form, Long, Range}
 use Rattle.sheet_base.specs.declared.faults.LayerFault.{LayerFault}
@@ -10,23 +11,30 @@ use Rattle.tin_check.specs.declared.faults.CheckFault.TheVariants.{Flat, TurnsOv
 use Rattle.tin_file.specs.declared.faults.Nearest.TheVariants.{Side, Centroid}
 use Rattle.tin_file.specs.declared.faults.Rows.TheVariants.{Vertices, Triangles}
 use Rattle.tin_file.specs.declared.faults.TinFault.{TinFault}
-use Rattle.tin_file.specs.declared.faults.TinFault.TheVariants.{Json, Deep, Key, Version, Fallback, NoHorizontal, TooMany, Row, Number, Inexact, Index, Span, NoMemory as TinMemory}
+use Rattle.tin_file.specs.declared.faults.TinFault.TheVariants.{Json, Deep, Key, Version, Fallback, NoHorizontal}
+use Rattle.tin_file.specs.declared.faults.TinFault.TheVariants.{TooMany, Row, Number, Inexact, Index, Span}
+use Rattle.tin_file.specs.declared.faults.TinFault.TheVariants.{NoMemory as TinMemory}
 use Rattle.job_words.specs.declared.faults.Which.TheVariants.{Tin as WhichTin, Out as WhichOut, Layer as WhichLayer}
 use Rattle.job_words.specs.declared.faults.WordsFault.{WordsFault}
-use Rattle.job_words.specs.declared.faults.WordsFault.TheVariants.{NoMode, Parse, Size, Many, Name, Suffix, SameName, NoMemory as WordsMemory}
+use Rattle.job_words.specs.declared.faults.WordsFault.TheVariants.{NoMode, Parse, Size, Many, Name, Suffix, SameName}
+use Rattle.job_words.specs.declared.faults.WordsFault.TheVariants.{NoMemory as WordsMemory}
 use Rattle.runs.specs.declared.refusal.Refusal.{Refusal}
-use Rattle.runs.specs.declared.refusal.Refusal.TheVariants.{Words, TinUnread, TinLong, Tin, Check, LayerUnread, LayersLong, Layer, Outside, TooManyPieces, TooManyChanges, NoMemory}
+use Rattle.runs.specs.declared.refusal.Refusal.TheVariants.{Words, TinUnread, TinLong, Tin, Check, LayerUnread}
+use Rattle.runs.specs.declared.refusal.Refusal.TheVariants.{LayersLong, Layer, Outside, TooManyPieces, TooManyChanges}
+use Rattle.runs.specs.declared.refusal.Refusal.TheVariants.{NoMemory}
 use Rattle.runs.specs.Lines.{words_line, tin_line, check_line, number_line, layer_line, layer_number_line}
 use Rattle.runs.specs.Refusals.{line_of, limit_front}
 
-byte_of_take : (line : List ℕ) (count k : ℕ) → (get_or (take count line) k 0 ≡ get_or line k 0) ⊎ (get_or (take count line) k 0 ≡ 0)
+byte_of_take : (line : List ℕ) (count k : ℕ)
+    → (get_or (take count line) k 0 ≡ get_or line k 0) ⊎ (get_or (take count line) k 0 ≡ 0)
 byte_of_take line zero k = inr refl
 byte_of_take [] (suc count) k = inl refl
 byte_of_take (byte ∷ line) (suc count) zero = inl refl
 byte_of_take (byte ∷ line) (suc count) (suc k) = byte_of_take line count k
 
 -- no front of a line is a text with another byte at a place
-differs_at : (text line : List ℕ) (count k : ℕ) → text ≡ take count line → get_or text k 0 ≢ get_or line k 0 → get_or text k 0 ≢ 0 → ⊥
+differs_at : (text line : List ℕ) (count k : ℕ) → text ≡ take count line → get_or text k 0 ≢ get_or line k 0
+    → get_or text k 0 ≢ 0 → ⊥
 differs_at text line count k same other some =
     elim (byte_of_take line count k) [
       | inl is ↦ other (ap (λ t. get_or t k 0) same ∙ is)
@@ -47,7 +55,8 @@ front_byte (byte ∷ front) rest zero within = refl
 front_byte (byte ∷ front) rest (suc k) within = front_byte front rest k (omega (arith, within))
 
 limit_byte : (rest : List ℕ) (k : ℕ) → k < 15 → get_or (limit_front ++ rest) k 0 ≡ get_or limit_front k 0
-limit_byte rest k within = let size : 15 ≡ length limit_front = refl in front_byte limit_front rest k (subst (λ n. k < n) size within)
+limit_byte rest k within = let size : 15 ≡ length limit_front =
+    refl in front_byte limit_front rest k (subst (λ n. k < n) size within)
 
 pub at-first : (line : List ℕ) (byte : ℕ) → get_or line 0 0 ≡ byte → byte ≢ 108 → TellsNone line
 at-first line byte is other = record {
@@ -160,7 +169,8 @@ words-none WordsMemory = at-first _ 110 refl (λ e. omega (arith, e))
 pub none-begins : (line rest : List ℕ) (count : ℕ) → TellsNone line → limit_front ++ rest ≡ take count line → ⊥
 none-begins line rest count none same =
     let byte = limit_byte rest none.place none.early in
-    differs_at (limit_front ++ rest) line count none.place same (λ e. none.other (sym byte ∙ e)) (λ e. none.some (sym byte ∙ e))
+    differs_at (limit_front ++ rest) line count none.place same (λ e. none.other (sym byte ∙ e))
+    (λ e. none.some (sym byte ∙ e))
 
 -- a refusal tells of bytes only where a file has too many
 pub data IsLimitLine (refusal : Refusal) : Type 0 where

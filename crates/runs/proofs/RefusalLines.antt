@@ -5,12 +5,17 @@ use Rattle.sheet_base.specs.declared.faults.LayerFault.TheVariants as layers
 use Rattle.tin_check.specs.declared.faults.CheckFault.{CheckFault}
 use Rattle.tin_check.specs.declared.faults.CheckFault.TheVariants.{Flat, TurnsOver, Meets, NoMemory as CheckMemory}
 use Rattle.tin_file.specs.declared.faults.TinFault.{TinFault}
-use Rattle.tin_file.specs.declared.faults.TinFault.TheVariants.{Json, Deep, Key, Version, Fallback, NoHorizontal, TooMany, Row, Number, Inexact, Index, Span, NoMemory as TinMemory}
+use Rattle.tin_file.specs.declared.faults.TinFault.TheVariants.{Json, Deep, Key, Version, Fallback, NoHorizontal}
+use Rattle.tin_file.specs.declared.faults.TinFault.TheVariants.{TooMany, Row, Number, Inexact, Index, Span}
+use Rattle.tin_file.specs.declared.faults.TinFault.TheVariants.{NoMemory as TinMemory}
 use Rattle.job_words.specs.declared.faults.WordsFault.{WordsFault}
-use Rattle.job_words.specs.declared.faults.WordsFault.TheVariants.{NoMode, Parse, Size, Many, Name, Suffix, SameName, NoMemory as WordsMemory}
+use Rattle.job_words.specs.declared.faults.WordsFault.TheVariants.{NoMode, Parse, Size, Many, Name, Suffix, SameName}
+use Rattle.job_words.specs.declared.faults.WordsFault.TheVariants.{NoMemory as WordsMemory}
 use Rattle.runs.specs.declared.status.Status.TheVariants.{Write, Memory}
 use Rattle.runs.specs.declared.refusal.Refusal.{Refusal}
-use Rattle.runs.specs.declared.refusal.Refusal.TheVariants.{Words, TinUnread, TinLong, Tin, Check, LayerUnread, LayersLong, Layer, Outside, TooManyPieces, TooManyChanges, NoMemory}
+use Rattle.runs.specs.declared.refusal.Refusal.TheVariants.{Words, TinUnread, TinLong, Tin, Check, LayerUnread}
+use Rattle.runs.specs.declared.refusal.Refusal.TheVariants.{LayersLong, Layer, Outside, TooManyPieces, TooManyChanges}
+use Rattle.runs.specs.declared.refusal.Refusal.TheVariants.{NoMemory}
 use Rattle.runs.specs.Lines.{words_line, tin_line, check_line, layer_line}
 use Rattle.runs.specs.Refusals.{status_of, line_of, status_of_words, status_of_tin, status_of_check, status_of_layer}
 use Rattle.runs.proofs.Faults.{of_text, of_check, of_layer, not_write, layer_not_write}
@@ -60,7 +65,8 @@ check-memory (TurnsOver triangle) is = cc
 check-memory (Meets first second frame) is = cc
 check-memory CheckMemory is = refl
 
-layer-memory : (layer : ℕ) (fault : LayerFault) → status_of_layer fault ≡ Memory → layer_line layer fault ≡ line_of NoMemory
+layer-memory : (layer : ℕ) (fault : LayerFault) → status_of_layer fault ≡ Memory
+    → layer_line layer fault ≡ line_of NoMemory
 layer-memory layer (layers.Bad at) is = cc
 layer-memory layer (layers.Deep at) is = cc
 layer-memory layer (layers.Repeat at) is = cc

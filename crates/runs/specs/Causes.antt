@@ -14,7 +14,8 @@ pub data MayRefuse (by_files reaches : Refusal → Type 0) (shelf_rose : Type 0)
 
 -- the causes that are known whether or not the shelf tells its files: of the status `Read` where a wanted file may be
 -- missing, of a file with too many bytes, and which statuses there are
-pub record HasCauses (lacks : Type 0) (may_be : Status → Type 0) (shelf_rose given_passed : Type 0) (refusal : Refusal) : Type 0 where
+pub record HasCauses (lacks : Type 0) (may_be : Status → Type 0) (shelf_rose given_passed : Type 0)
+    (refusal : Refusal) : Type 0 where
   pub understood : status_of refusal ≢ Words
   pub read : status_of refusal ≡ Read → shelf_rose ⊎ lacks
   pub tin_long : refusal ≡ TinLong → given_passed

@@ -12,4 +12,5 @@ IsTinEnd files how name (Ok tin) = HasTin files how name tin
 IsTinEnd files how name (Err refusal) = IsTinRefused files how name refusal
 
 abbrev pub TinEndIsOne : Type 0
-TinEndIsOne = (files : Files) (how : How) (name : List ℕ) (end other : Result Triangulation Refusal) → IsTinEnd files how name end → IsTinEnd files how name other → end ≡ other
+TinEndIsOne = (files : Files) (how : How) (name : List ℕ) (end other : Result Triangulation Refusal)
+    → IsTinEnd files how name end → IsTinEnd files how name other → end ≡ other

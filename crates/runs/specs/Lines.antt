@@ -8,7 +8,8 @@ use Rattle.sheet_base.specs.declared.faults.LayerFault.TheVariants as layers
 use Rattle.job_words.specs.declared.faults.Which.{Which}
 use Rattle.job_words.specs.declared.faults.Which.TheVariants.{Tin as WhichTin, Out as WhichOut, Layer as WhichLayer}
 use Rattle.job_words.specs.declared.faults.WordsFault.{WordsFault}
-use Rattle.job_words.specs.declared.faults.WordsFault.TheVariants.{NoMode, Parse, Size, Many, Name, Suffix, SameName, NoMemory as WordsMemory}
+use Rattle.job_words.specs.declared.faults.WordsFault.TheVariants.{NoMode, Parse, Size, Many, Name, Suffix, SameName}
+use Rattle.job_words.specs.declared.faults.WordsFault.TheVariants.{NoMemory as WordsMemory}
 use Rattle.tin_base.specs.declared.frames.Axis.{Axis}
 use Rattle.tin_base.specs.declared.frames.Axis.TheVariants.{X, Y}
 use Rattle.tin_base.specs.declared.frames.Frame.{Frame}
@@ -21,7 +22,8 @@ use Rattle.tin_file.specs.declared.faults.Nearest.TheVariants.{Side, Centroid}
 use Rattle.tin_file.specs.declared.faults.Rows.{Rows}
 use Rattle.tin_file.specs.declared.faults.Rows.TheVariants.{Vertices, Triangles}
 use Rattle.tin_file.specs.declared.faults.TinFault.{TinFault}
-use Rattle.tin_file.specs.declared.faults.TinFault.TheVariants.{Json, Deep, Key, Version, Fallback, NoHorizontal, TooMany, Row, Number, Inexact, Index, Span, NoMemory}
+use Rattle.tin_file.specs.declared.faults.TinFault.TheVariants.{Json, Deep, Key, Version, Fallback, NoHorizontal}
+use Rattle.tin_file.specs.declared.faults.TinFault.TheVariants.{TooMany, Row, Number, Inexact, Index, Span, NoMemory}
 
 abbrev pub frame_end : Frame → List ℕ
 frame_end Source = codes " source\n"
@@ -49,7 +51,8 @@ limit_line Triangles = codes "limit: triangles\n"
 
 -- a number text of a vertex row
 abbrev pub number_line : ℕ → NumFault → List ℕ
-number_line row (Form at) = codes "triangulation: number form in row " ++ decimal row ++ codes " place " ++ decimal at ++ codes "\n"
+number_line row (Form at) = codes "triangulation: number form in row " ++ decimal row ++ codes " place " ++ decimal at
+    ++ codes "\n"
 number_line row Long = codes "triangulation: number long in row " ++ decimal row ++ codes "\n"
 number_line row Range = codes "triangulation: number range in row " ++ decimal row ++ codes "\n"
 
@@ -73,21 +76,27 @@ tin_line NoMemory = codes "no memory\n"
 abbrev pub check_line : CheckFault → List ℕ
 check_line (Flat triangle frame) = codes "triangulation: flat " ++ decimal triangle ++ frame_end frame
 check_line (TurnsOver triangle) = codes "triangulation: turns over " ++ decimal triangle ++ codes "\n"
-check_line (Meets first second frame) = codes "triangulation: meets " ++ decimal first ++ codes " " ++ decimal second ++ frame_end frame
+check_line (Meets first second frame) = codes "triangulation: meets " ++ decimal first ++ codes " " ++ decimal second
+    ++ frame_end frame
 check_line CheckMemory = codes "no memory\n"
 
 -- a number text of the layer of this number
 abbrev pub layer_number_line : ℕ → ℕ → NumFault → List ℕ
-layer_number_line layer at (Form place) = codes "layer " ++ decimal layer ++ codes ": number form at " ++ decimal at ++ codes " place " ++ decimal place ++ codes "\n"
-layer_number_line layer at Long = codes "layer " ++ decimal layer ++ codes ": number long at " ++ decimal at ++ codes "\n"
-layer_number_line layer at Range = codes "layer " ++ decimal layer ++ codes ": number range at " ++ decimal at ++ codes "\n"
+layer_number_line layer at (Form place) = codes "layer " ++ decimal layer ++ codes ": number form at " ++ decimal at
+    ++ codes " place " ++ decimal place ++ codes "\n"
+layer_number_line layer at Long = codes "layer " ++ decimal layer ++ codes ": number long at " ++ decimal at
+    ++ codes "\n"
+layer_number_line layer at Range = codes "layer " ++ decimal layer ++ codes ": number range at " ++ decimal at
+    ++ codes "\n"
 
 -- a fault with a word of its own, at a place of the layer's bytes, or at one of its lines
 abbrev pub at_place : ℕ → List ℕ → ℕ → List ℕ
-at_place layer word at = codes "layer " ++ decimal layer ++ codes ": " ++ word ++ codes " at " ++ decimal at ++ codes "\n"
+at_place layer word at = codes "layer " ++ decimal layer ++ codes ": " ++ word ++ codes " at " ++ decimal at
+    ++ codes "\n"
 
 abbrev pub at_line : ℕ → List ℕ → ℕ → List ℕ
-at_line layer word line = codes "layer " ++ decimal layer ++ codes ": " ++ word ++ codes " at line " ++ decimal line ++ codes "\n"
+at_line layer word line = codes "layer " ++ decimal layer ++ codes ": " ++ word ++ codes " at line " ++ decimal line
+    ++ codes "\n"
 
 -- a layer that is not read
 abbrev pub layer_line : ℕ → LayerFault → List ℕ
@@ -121,7 +130,7 @@ which_line WhichTin = codes "words: name of triangulation\n"
 which_line WhichOut = codes "words: name of folder\n"
 which_line (WhichLayer layer) = codes "words: name of layer " ++ decimal layer ++ codes "\n"
 
--- words that give no job
+-- words that are not understood
 abbrev pub words_line : WordsFault → List ℕ
 words_line NoMode = codes "words: no mode\n"
 words_line Parse = codes "words: not understood\n"

@@ -13,13 +13,19 @@ abbrev pub IsOver : Option Files → List ℕ → ℕ → Type 0
 IsOver told name most = IfSome told (IsLonger name most)
 
 -- why a file is not loaded: `unread` where it is missing or a read failed, `long` where it has more than `most` bytes
-pub data IsUnloaded (told : Option Files) (name : List ℕ) (most : ℕ) (unread long : Refusal) (shelf_rose given_passed : Type 0) (refusal : Refusal) : Type 0 where
-  missing : refusal ≡ unread → LacksName told name → IsUnloaded told name most unread long shelf_rose given_passed refusal
+pub data IsUnloaded (told : Option Files) (name : List ℕ) (most : ℕ) (unread long : Refusal)
+    (shelf_rose given_passed : Type 0) (refusal : Refusal) : Type 0 where
+  missing : refusal ≡ unread → LacksName told name
+      → IsUnloaded told name most unread long shelf_rose given_passed refusal
   read_failed : refusal ≡ unread → shelf_rose → IsUnloaded told name most unread long shelf_rose given_passed refusal
-  too_long : refusal ≡ long → IsOver told name most → given_passed → IsUnloaded told name most unread long shelf_rose given_passed refusal
+  too_long : refusal ≡ long → IsOver told name most → given_passed
+      → IsUnloaded told name most unread long shelf_rose given_passed refusal
   no_memory : refusal ≡ NoMemory → IsUnloaded told name most unread long shelf_rose given_passed refusal
 
 -- why no sound triangulation is loaded: its file is not, or its text gives none
-pub data IsTinUnready (told : Option Files) (how : How) (name : List ℕ) (shelf_rose given_passed : Type 0) (refusal : Refusal) : Type 0 where
-  not_loaded : IsUnloaded told name MOST_BYTES TinUnread TinLong shelf_rose given_passed refusal → IsTinUnready told how name shelf_rose given_passed refusal
-  no_tin : (text : List ℕ) → IfSome told (λ files. HasFile files name text) → IsTextRefused how text refusal → IsTinUnready told how name shelf_rose given_passed refusal
+pub data IsTinUnready (told : Option Files) (how : How) (name : List ℕ) (shelf_rose given_passed : Type 0)
+    (refusal : Refusal) : Type 0 where
+  not_loaded : IsUnloaded told name MOST_BYTES TinUnread TinLong shelf_rose given_passed refusal
+      → IsTinUnready told how name shelf_rose given_passed refusal
+  no_tin : (text : List ℕ) → IfSome told (λ files. HasFile files name text) → IsTextRefused how text refusal
+      → IsTinUnready told how name shelf_rose given_passed refusal

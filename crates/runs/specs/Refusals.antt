@@ -10,9 +10,12 @@ use Rattle.tin_check.specs.declared.faults.CheckFault.TheVariants.{NoMemory as C
 use Rattle.tin_file.specs.declared.faults.TinFault.{TinFault}
 use Rattle.tin_file.specs.declared.faults.TinFault.TheVariants.{TooMany as TooManyRows, NoMemory as TinMemory}
 use Rattle.runs.specs.declared.status.Status.{Status}
-use Rattle.runs.specs.declared.status.Status.TheVariants.{Words as WordsStatus, Tin as TinStatus, Layer as LayerStatus, Outside as OutsideStatus, Read, Memory, Limit}
+use Rattle.runs.specs.declared.status.Status.TheVariants.{Words as WordsStatus, Tin as TinStatus, Layer as LayerStatus}
+use Rattle.runs.specs.declared.status.Status.TheVariants.{Outside as OutsideStatus, Read, Memory, Limit}
 use Rattle.runs.specs.declared.refusal.Refusal.{Refusal}
-use Rattle.runs.specs.declared.refusal.Refusal.TheVariants.{Words, TinUnread, TinLong, Tin, Check, LayerUnread, LayersLong, Layer, Outside, TooManyPieces, TooManyChanges, NoMemory}
+use Rattle.runs.specs.declared.refusal.Refusal.TheVariants.{Words, TinUnread, TinLong, Tin, Check, LayerUnread}
+use Rattle.runs.specs.declared.refusal.Refusal.TheVariants.{LayersLong, Layer, Outside, TooManyPieces, TooManyChanges}
+use Rattle.runs.specs.declared.refusal.Refusal.TheVariants.{NoMemory}
 use Rattle.runs.specs.Lines.{words_line, tin_line, check_line, layer_line}
 
 -- running out of memory says nothing of the words
@@ -59,7 +62,8 @@ line_of (Check fault) = check_line fault
 line_of (LayerUnread layer) = codes "read fault: layer " ++ decimal layer ++ codes "\n"
 line_of LayersLong = codes "limit: bytes of layers\n"
 line_of (Layer layer fault) = layer_line layer fault
-line_of (Outside layer path segment) = codes "outside: layer " ++ decimal layer ++ codes " path " ++ decimal path ++ codes " segment " ++ decimal segment ++ codes "\n"
+line_of (Outside layer path segment) = codes "outside: layer " ++ decimal layer ++ codes " path " ++ decimal path
+    ++ codes " segment " ++ decimal segment ++ codes "\n"
 line_of TooManyPieces = codes "limit: pieces\n"
 line_of TooManyChanges = codes "limit: changes\n"
 line_of NoMemory = codes "no memory\n"

@@ -1,7 +1,8 @@
 -- The number with which a process ends, and the status of a run that has written all.
 use Rattle.std.specs.Prelude.{ℕ, Bool, true, false}
 use Rattle.runs.specs.declared.status.Status.{Status}
-use Rattle.runs.specs.declared.status.Status.TheVariants.{Same, Changed, Words, Tin, Layer, Outside, Read, Write, Memory, Limit}
+use Rattle.runs.specs.declared.status.Status.TheVariants.{Same, Changed, Words, Tin, Layer, Outside, Read, Write}
+use Rattle.runs.specs.declared.status.Status.TheVariants.{Memory, Limit}
 
 abbrev pub code_of : Status → ℕ
 code_of Same = 0

@@ -19,8 +19,8 @@ use tin_base::SoundTin;
 /// The most bytes of a triangulation's file, and of all layers' files together.
 pub const MOST_BYTES: u64 = tin_file::MOST_BYTES as u64;
 
-/// The bytes of a file, at most `most` of them. The error is `unread` where the file is missing or a read failed, `long`
-/// where it has more bytes, and `NoMemory`. The shelf's files stay as they are.
+/// The bytes of a file, at most `most` of them. The error is `unread` where the file is missing or a read failed,
+/// `long` where it has more bytes, and `NoMemory`. The shelf's files stay as they are.
 pub fn load_file<S: Shelf>(
     alloc: Global,
     shelf: &mut S,
@@ -49,8 +49,8 @@ pub fn load_file<S: Shelf>(
     }
 }
 
-/// The sound triangulation of the file of this name. The error is that of the file, at most `MOST_BYTES` long, or of its
-/// text: the first fault of reading it, or else of its soundness.
+/// The sound triangulation of the file of this name. The error is that of the file, at most `MOST_BYTES` long, or of
+/// its text: the first fault of reading it, or else of its soundness.
 pub fn load_tin<S: Shelf>(
     alloc: Global,
     shelf: &mut S,

@@ -1,7 +1,8 @@
 //! Why a run is refused, and the one line that says so.
 
 ghost use Rattle.std.specs.Prelude.{◌≡◌};
-ghost use Rattle.runs.specs.Refusals.{line_of, status_of, status_of_words, status_of_tin, status_of_check, status_of_layer};
+ghost use Rattle.runs.specs.Refusals.{line_of, status_of, status_of_words, status_of_tin, status_of_check};
+ghost use Rattle.runs.specs.Refusals.{status_of_layer};
 ghost use Rattle.runs.specs.declared.refusal.Refusal.TheVariants.{Tin, Check, NoMemory};
 
 use crate::layer_lines::{layer_line, outside_line};
@@ -67,7 +68,7 @@ impl From<CheckFault> for Refusal {
     }
 }
 
-/// The status of words that give no job.
+/// The status of words that are not understood.
 fn words_status(fault: WordsFault) -> Status
     ensures { result ≡ status_of_words fault }
 {

@@ -1,5 +1,6 @@
 -- Two segments that cross share a point: the turns of the ends of each with the other are the weights there.
-use Rattle.std.proofs.Common.{◌≡◌, ◌↔◌, inl, inr, ℕ, ◌<◌, ℤ, pos, ◌+ℤ◌, ◌*ℤ◌, ◌≤ℤ◌, ◌<ℤ◌, neg_ℤ, negsuc, Bool, false, IsTrue, sym, ◌∙◌, subst}
+use Rattle.std.proofs.Common.{◌≡◌, ◌↔◌, inl, inr, ℕ, ◌<◌, ℤ, pos, ◌+ℤ◌, ◌*ℤ◌, ◌≤ℤ◌, ◌<ℤ◌, neg_ℤ, negsuc, Bool, false}
+use Rattle.std.proofs.Common.{IsTrue, sym, ◌∙◌, subst}
 use Rattle.std.proofs.lemmas.Bool.{false≢true}
 use Rattle.integer_ring.proofs.Ring.{num, neg, ◌⊕◌, ◌⊗◌}
 use Rattle.integer_ring.proofs.Claims.{◌≐◌, ◌≼◌, ◌≺◌, never, gap, over, eqn, ◌⊞◌, ◌because◌, ◌⇒◌, follows, solve}
@@ -12,36 +13,46 @@ use Rattle.seg_gap.proofs.Sides.{whole_turn_is}
 use Rattle.seg_gap.proofs.Places.{mix_at, of_weights, same_closer}
 
 -- ---- the two mixes are one
-left_x : (a b c d : Pt) → neg_ℤ (whole_turn c d b) *ℤ a.x +ℤ whole_turn c d a *ℤ b.x ≡ whole_turn a b d *ℤ c.x +ℤ neg_ℤ (whole_turn a b c) *ℤ d.x
+left_x : (a b c d : Pt) → neg_ℤ (whole_turn c d b) *ℤ a.x +ℤ whole_turn c d a *ℤ b.x ≡ whole_turn a b d *ℤ c.x
+    +ℤ neg_ℤ (whole_turn a b c) *ℤ d.x
 left_x a b c d =
-    solve 8 (λ ax ay bx by cx cy dx dy. neg (whole_turnE cx cy dx dy bx by) ⊗ ax ⊕ whole_turnE cx cy dx dy ax ay ⊗ bx ≐ whole_turnE ax ay bx by dx dy ⊗ cx ⊕ neg (whole_turnE ax ay bx by cx cy) ⊗ dx) tt
+    solve 8 (λ ax ay bx by cx cy dx dy. neg (whole_turnE cx cy dx dy bx by) ⊗ ax ⊕ whole_turnE cx cy dx dy ax ay ⊗ bx
+    ≐ whole_turnE ax ay bx by dx dy ⊗ cx ⊕ neg (whole_turnE ax ay bx by cx cy) ⊗ dx) tt
     a.x a.y b.x b.y c.x c.y d.x d.y
 
-left_y : (a b c d : Pt) → neg_ℤ (whole_turn c d b) *ℤ a.y +ℤ whole_turn c d a *ℤ b.y ≡ whole_turn a b d *ℤ c.y +ℤ neg_ℤ (whole_turn a b c) *ℤ d.y
+left_y : (a b c d : Pt) → neg_ℤ (whole_turn c d b) *ℤ a.y +ℤ whole_turn c d a *ℤ b.y ≡ whole_turn a b d *ℤ c.y
+    +ℤ neg_ℤ (whole_turn a b c) *ℤ d.y
 left_y a b c d =
-    solve 8 (λ ax ay bx by cx cy dx dy. neg (whole_turnE cx cy dx dy bx by) ⊗ ay ⊕ whole_turnE cx cy dx dy ax ay ⊗ by ≐ whole_turnE ax ay bx by dx dy ⊗ cy ⊕ neg (whole_turnE ax ay bx by cx cy) ⊗ dy) tt
+    solve 8 (λ ax ay bx by cx cy dx dy. neg (whole_turnE cx cy dx dy bx by) ⊗ ay ⊕ whole_turnE cx cy dx dy ax ay
+    ⊗ by ≐ whole_turnE ax ay bx by dx dy ⊗ cy ⊕ neg (whole_turnE ax ay bx by cx cy) ⊗ dy) tt
     a.x a.y b.x b.y c.x c.y d.x d.y
 
 left_w : (a b c d : Pt) → neg_ℤ (whole_turn c d b) +ℤ whole_turn c d a ≡ whole_turn a b d +ℤ neg_ℤ (whole_turn a b c)
 left_w a b c d =
-    solve 8 (λ ax ay bx by cx cy dx dy. neg (whole_turnE cx cy dx dy bx by) ⊕ whole_turnE cx cy dx dy ax ay ≐ whole_turnE ax ay bx by dx dy ⊕ neg (whole_turnE ax ay bx by cx cy)) tt
+    solve 8 (λ ax ay bx by cx cy dx dy. neg (whole_turnE cx cy dx dy bx by) ⊕ whole_turnE cx cy dx dy ax ay
+    ≐ whole_turnE ax ay bx by dx dy ⊕ neg (whole_turnE ax ay bx by cx cy)) tt
     a.x a.y b.x b.y c.x c.y d.x d.y
 
 right_x : (a b c d : Pt)
-    → whole_turn c d b *ℤ a.x +ℤ neg_ℤ (whole_turn c d a) *ℤ b.x ≡ neg_ℤ (whole_turn a b d) *ℤ c.x +ℤ whole_turn a b c *ℤ d.x
+    → whole_turn c d b *ℤ a.x +ℤ neg_ℤ (whole_turn c d a) *ℤ b.x ≡ neg_ℤ (whole_turn a b d) *ℤ c.x +ℤ whole_turn a b c
+    *ℤ d.x
 right_x a b c d =
-    solve 8 (λ ax ay bx by cx cy dx dy. whole_turnE cx cy dx dy bx by ⊗ ax ⊕ neg (whole_turnE cx cy dx dy ax ay) ⊗ bx ≐ neg (whole_turnE ax ay bx by dx dy) ⊗ cx ⊕ whole_turnE ax ay bx by cx cy ⊗ dx) tt
+    solve 8 (λ ax ay bx by cx cy dx dy. whole_turnE cx cy dx dy bx by ⊗ ax ⊕ neg (whole_turnE cx cy dx dy ax ay) ⊗ bx
+    ≐ neg (whole_turnE ax ay bx by dx dy) ⊗ cx ⊕ whole_turnE ax ay bx by cx cy ⊗ dx) tt
     a.x a.y b.x b.y c.x c.y d.x d.y
 
 right_y : (a b c d : Pt)
-    → whole_turn c d b *ℤ a.y +ℤ neg_ℤ (whole_turn c d a) *ℤ b.y ≡ neg_ℤ (whole_turn a b d) *ℤ c.y +ℤ whole_turn a b c *ℤ d.y
+    → whole_turn c d b *ℤ a.y +ℤ neg_ℤ (whole_turn c d a) *ℤ b.y ≡ neg_ℤ (whole_turn a b d) *ℤ c.y +ℤ whole_turn a b c
+    *ℤ d.y
 right_y a b c d =
-    solve 8 (λ ax ay bx by cx cy dx dy. whole_turnE cx cy dx dy bx by ⊗ ay ⊕ neg (whole_turnE cx cy dx dy ax ay) ⊗ by ≐ neg (whole_turnE ax ay bx by dx dy) ⊗ cy ⊕ whole_turnE ax ay bx by cx cy ⊗ dy) tt
+    solve 8 (λ ax ay bx by cx cy dx dy. whole_turnE cx cy dx dy bx by ⊗ ay ⊕ neg (whole_turnE cx cy dx dy ax ay)
+    ⊗ by ≐ neg (whole_turnE ax ay bx by dx dy) ⊗ cy ⊕ whole_turnE ax ay bx by cx cy ⊗ dy) tt
     a.x a.y b.x b.y c.x c.y d.x d.y
 
 right_w : (a b c d : Pt) → whole_turn c d b +ℤ neg_ℤ (whole_turn c d a) ≡ neg_ℤ (whole_turn a b d) +ℤ whole_turn a b c
 right_w a b c d =
-    solve 8 (λ ax ay bx by cx cy dx dy. whole_turnE cx cy dx dy bx by ⊕ neg (whole_turnE cx cy dx dy ax ay) ≐ neg (whole_turnE ax ay bx by dx dy) ⊕ whole_turnE ax ay bx by cx cy) tt
+    solve 8 (λ ax ay bx by cx cy dx dy. whole_turnE cx cy dx dy bx by ⊕ neg (whole_turnE cx cy dx dy ax ay)
+    ≐ neg (whole_turnE ax ay bx by dx dy) ⊕ whole_turnE ax ay bx by cx cy) tt
     a.x a.y b.x b.y c.x c.y d.x d.y
 
 -- ---- the weights
@@ -95,7 +106,14 @@ at_crossing n a b c d some (inl h) (inr k) =
     let q = mix_at c d (whole_turn a b d) (neg_ℤ (whole_turn a b c)) in
     let first = of_weights a b (neg_ℤ (whole_turn c d b)) (whole_turn c d a) v in
     let second = of_weights c d (whole_turn a b d) (neg_ℤ (whole_turn a b c)) w in
-    record { p = p; q = q; first = first; second = second; closer = same_closer n p q some first.place second.place (left_x a b c d) (left_y a b c d) (left_w a b c d) }
+    record {
+      p = p;
+      q = q;
+      first = first;
+      second = second;
+      closer =
+          same_closer n p q some first.place second.place (left_x a b c d) (left_y a b c d) (left_w a b c d);
+    }
 at_crossing n a b c d some (inr h) (inl k) =
     let v = second_below (whole_turn c d b) (whole_turn c d a) k.1 k.0 in
     let w = first_below (whole_turn a b d) (whole_turn a b c) h.1 h.0 in
@@ -103,18 +121,31 @@ at_crossing n a b c d some (inr h) (inl k) =
     let q = mix_at c d (neg_ℤ (whole_turn a b d)) (whole_turn a b c) in
     let first = of_weights a b (whole_turn c d b) (neg_ℤ (whole_turn c d a)) v in
     let second = of_weights c d (neg_ℤ (whole_turn a b d)) (whole_turn a b c) w in
-    record { p = p; q = q; first = first; second = second; closer = same_closer n p q some first.place second.place (right_x a b c d) (right_y a b c d) (right_w a b c d) }
-at_crossing n a b c d some (inl h) (inl k) = absurd (no_left (whole_turn c d a) (whole_turn c d b) (whole_turn a b c) (whole_turn a b d) (left_w a b c d) h.0 h.1 k.0 k.1)
-at_crossing n a b c d some (inr h) (inr k) = absurd (no_right (whole_turn c d a) (whole_turn c d b) (whole_turn a b c) (whole_turn a b d) (left_w a b c d) h.0 h.1 k.0 k.1)
+    record {
+      p = p;
+      q = q;
+      first = first;
+      second = second;
+      closer =
+          same_closer n p q some first.place second.place (right_x a b c d) (right_y a b c d) (right_w a b c d);
+    }
+at_crossing n a b c d some (inl h) (inl k) =
+    absurd (no_left (whole_turn c d a) (whole_turn c d b) (whole_turn a b c) (whole_turn a b d) (left_w a b c d) h.0 h.1
+    k.0 k.1)
+at_crossing n a b c d some (inr h) (inr k) =
+    absurd (no_right (whole_turn c d a) (whole_turn c d b) (whole_turn a b c) (whole_turn a b d) (left_w a b c d) h.0
+    h.1 k.0 k.1)
 
 opposite_of : (c d a b : Pt)
     → AreOpposite (turn_of (whole c) (whole d) (whole a)) (turn_of (whole c) (whole d) (whole b))
     → AreOpposite (whole_turn c d a) (whole_turn c d b)
 opposite_of c d a b h =
-    subst (λ (z : ℤ). AreOpposite (whole_turn c d a) z) (whole_turn_is c d b) (subst (λ (z : ℤ). AreOpposite z (turn_of (whole c) (whole d) (whole b))) (whole_turn_is c d a) h)
+    subst (λ (z : ℤ). AreOpposite (whole_turn c d a) z) (whole_turn_is c d b)
+    (subst (λ (z : ℤ). AreOpposite z (turn_of (whole c) (whole d) (whole b))) (whole_turn_is c d a) h)
 
 pub closer_crossing : (n : ℕ) (a b c d : Pt) → 0 < n → DoCross a b c d → HaveCloser n a b c d
-closer_crossing n a b c d some h = at_crossing n a b c d some (opposite_of a b c d h.first) (opposite_of c d a b h.second)
+closer_crossing n a b c d some h = at_crossing n a b c d some (opposite_of a b c d h.first)
+    (opposite_of c d a b h.second)
 
 -- ---- what the tests of four turns say
 opposite_as : (s t u v : ℤ) → s ≡ u → t ≡ v → AreOpposite s t → AreOpposite u v

@@ -1,5 +1,6 @@
 -- A point and a segment: the nearest point of the segment is an end, or the foot of the perpendicular.
-use Rattle.std.proofs.Common.{◌≡◌, ◌⊎◌, inl, inr, ℕ, ℤ, pos, negsuc, ◌+ℤ◌, ◌*ℤ◌, ◌≤ℤ◌, ◌<ℤ◌, T, true, false, sym, ap, ◌∙◌, subst}
+use Rattle.std.proofs.Common.{◌≡◌, ◌⊎◌, inl, inr, ℕ, ℤ, pos, negsuc, ◌+ℤ◌, ◌*ℤ◌, ◌≤ℤ◌, ◌<ℤ◌, T, true, false, sym, ap}
+use Rattle.std.proofs.Common.{◌∙◌, subst}
 use Rattle.std.specs.Int.Signed.{le_z, le_z_yes}
 use Rattle.integer_ring.proofs.Ring.{Expr, num, neg, ◌⊕◌, ◌⊖◌, ◌⊗◌}
 use Rattle.integer_ring.proofs.Order.{≤_or_>, ≤_of_<, nonneg_pos}
@@ -46,7 +47,12 @@ end_high v p c d =
     because eqn 0 (num (negsuc 0))) tt v p.x p.y c.x c.y d.x d.y
 
 pub at_first : AreWeights (pos 1) (pos 0)
-at_first = record { first = nonneg_pos 1; second = nonneg_pos 0; some = follows 0 (num (pos 0) ≺ num (pos 1) because nat 0) tt }
+at_first = record {
+  first = nonneg_pos 1;
+  second = nonneg_pos 0;
+  some =
+      follows 0 (num (pos 0) ≺ num (pos 1) because nat 0) tt;
+}
 
 pub square_of_end : (p c d : Pt) (value : ℕ) → dot_of c p d ≤ℤ pos 0 → pos value ≡ pos 4 *ℤ dot_of c p p
     → IsEndSquare p c d value
@@ -64,7 +70,8 @@ mix_below_swapped v p c d h =
       l = h.k;
       weights = weights_swapped h.k h.l h.weights;
       below =
-          follows 9 (λ v px py cx cy dx dy k l. square_toE px py dx dy cx cy k l ≺ (v ⊕ num (pos 1)) ⊗ ((k ⊕ l) ⊗ (k ⊕ l))
+          follows 9 (λ v px py cx cy dx dy k l. square_toE px py dx dy cx cy k l ≺ (v ⊕ num (pos 1))
+          ⊗ ((k ⊕ l) ⊗ (k ⊕ l))
           ⇒ square_toE px py cx cy dx dy l k ≺ (v ⊕ num (pos 1)) ⊗ ((l ⊕ k) ⊗ (l ⊕ k)) because over 0) tt
           v p.x p.y c.x c.y d.x d.y h.k h.l h.below;
     }
@@ -76,7 +83,8 @@ end_square_swapped p c d value h =
 -- ---- the foot is between the ends: the height is the turn over the length
 foot_times : (v t : ℤ) (p c d : Pt) (k l : ℤ) → t ≡ whole_turn c d p
     → (v *ℤ (dot_of c p d +ℤ dot_of d p c)) ≤ℤ (pos 4 *ℤ (t *ℤ t))
-    → ((v *ℤ ((k +ℤ l) *ℤ (k +ℤ l))) *ℤ (dot_of c p d +ℤ dot_of d p c)) ≤ℤ (square_to p c d k l *ℤ (dot_of c p d +ℤ dot_of d p c))
+    → ((v *ℤ ((k +ℤ l) *ℤ (k +ℤ l))) *ℤ (dot_of c p d +ℤ dot_of d p c))
+    ≤ℤ (square_to p c d k l *ℤ (dot_of c p d +ℤ dot_of d p c))
 foot_times v t p c d k l =
     follows 10 (λ v t px py cx cy dx dy k l. t ≐ whole_turnE cx cy dx dy px py
     ⇒ v ⊗ (dotE cx cy px py dx dy ⊕ dotE dx dy px py cx cy) ≼ num (pos 4) ⊗ (t ⊗ t)
@@ -96,9 +104,11 @@ foot_high v t p c d =
     ⇒ num (pos 4) ⊗ (t ⊗ t) ≺ (v ⊕ num (pos 1)) ⊗ (dotE cx cy px py dx dy ⊕ dotE dx dy px py cx cy)
     ⇒ num (pos 0) ≺ dotE dx dy px py cx cy ⊕ dotE cx cy px py dx dy
     ⇒ square_toE px py cx cy dx dy (dotE dx dy px py cx cy) (dotE cx cy px py dx dy)
-    ≺ (v ⊕ num (pos 1)) ⊗ ((dotE dx dy px py cx cy ⊕ dotE cx cy px py dx dy) ⊗ (dotE dx dy px py cx cy ⊕ dotE cx cy px py dx dy))
+    ≺ (v ⊕ num (pos 1)) ⊗ ((dotE dx dy px py cx cy ⊕ dotE cx cy px py dx dy)
+    ⊗ (dotE dx dy px py cx cy ⊕ dotE cx cy px py dx dy))
     because gap 2 ⊠ over 1 ⊞ over 2
-    ⊞ eqn 0 (neg (num (pos 4) ⊗ (dotE dx dy px py cx cy ⊕ dotE cx cy px py dx dy) ⊗ (whole_turnE cx cy dx dy px py ⊕ t)))) tt
+    ⊞ eqn 0 (neg (num (pos 4) ⊗ (dotE dx dy px py cx cy ⊕ dotE cx cy px py dx dy)
+    ⊗ (whole_turnE cx cy dx dy px py ⊕ t)))) tt
     v t p.x p.y c.x c.y d.x d.y
 
 sum_some : (f g : ℤ) → pos 0 <ℤ f → pos 0 <ℤ g → pos 0 <ℤ (f +ℤ g)
@@ -129,7 +139,12 @@ square_of_foot p c d t value from to e low high =
       high = record {
         k = dot_of d p c;
         l = dot_of c p d;
-        weights = record { first = ≤_of_< (pos 0) (dot_of d p c) to; second = ≤_of_< (pos 0) (dot_of c p d) from; some = some };
+        weights = record {
+          first = ≤_of_< (pos 0) (dot_of d p c) to;
+          second = ≤_of_< (pos 0) (dot_of c p d) from;
+          some =
+              some;
+        };
         below = foot_high (pos value) t p c d e high some;
       };
     }

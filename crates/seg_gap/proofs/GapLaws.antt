@@ -12,13 +12,18 @@ use Rattle.seg_gap.proofs.Crossings.{closer_crossing}
 
 -- ---- what the code finds
 pub gap_crossing : (a b c d : Pt) → DoCross a b c d → IsGap a b c d 0
-gap_crossing a b c d h = record { near = closer_crossing 1 a b c d (omega arith) h; far = λ some k. absurd (omega arith) }
+gap_crossing a b c d h = record {
+  near = closer_crossing 1 a b c d (omega arith) h;
+  far =
+      λ some k. absurd (omega arith);
+}
 
 near_end : (value n : ℕ) (a b c d : Pt) → value < n * n → IsSomeMixBelow (pos value) a b c d → HaveCloser n a b c d
 near_end value n a b c d h (inl r) = closer_end value n a b c d r h
 near_end value n a b c d h (inr (inl r)) = closer_reversed n b a c d (closer_end value n b a c d r h)
 near_end value n a b c d h (inr (inr (inl r))) = closer_exchanged n c d a b (closer_end value n c d a b r h)
-near_end value n a b c d h (inr (inr (inr r))) = closer_exchanged n c d a b (closer_reversed n d c a b (closer_end value n d c a b r h))
+near_end value n a b c d h (inr (inr (inr r))) =
+    closer_exchanged n c d a b (closer_reversed n d c a b (closer_end value n d c a b r h))
 
 pub gap_by_ends : (a b c d : Pt) (value half : ℕ) → (DoCross a b c d → ⊥) → IsLeast a b c d value
     → IsHalfRoot value half → IsGap a b c d half
@@ -27,12 +32,19 @@ gap_by_ends a b c d value half apart least root =
       near = near_end value (2 * half + 1) a b c d root.high least.high;
       far = λ some k.
           none_closer value (2 * half - 1) a b c d
-          (far_apart (pos value) a b c d apart (record { of_a = least.of_a; of_b = least.of_b; of_c = least.of_c; of_d = least.of_d })) (root.low some) k;
+          (far_apart (pos value) a b c d apart (record {
+            of_a = least.of_a;
+            of_b = least.of_b;
+            of_c = least.of_c;
+            of_d =
+                least.of_d;
+          })) (root.low some) k;
     }
 
 -- ---- the laws
 not_below : (a b c d : Pt) (first second : ℕ) → IsGap a b c d first → IsGap a b c d second → first < second → ⊥
-not_below a b c d first second g h order = h.far (omega arith) (closer_more (2 * first + 1) (2 * second - 1) a b c d (omega arith) g.near)
+not_below a b c d first second g h order =
+    h.far (omega arith) (closer_more (2 * first + 1) (2 * second - 1) a b c d (omega arith) g.near)
 
 pub gap_is_one : GapIsOne
 gap_is_one a b c d first second g h = go (trichotomy first second)
@@ -44,7 +56,14 @@ gap_is_one a b c d first second g h = go (trichotomy first second)
 
 shared : (n : ℕ) (a b c d : Pt) (p : Point) → 0 < n → IsOfSegment a b p → IsOfSegment c d p → HaveCloser n a b c d
 shared n a b c d p some first second =
-    record { p = p; q = p; first = first; second = second; closer = same_closer n p p some first.place second.place refl refl refl }
+    record {
+      p = p;
+      q = p;
+      first = first;
+      second = second;
+      closer =
+          same_closer n p p some first.place second.place refl refl refl;
+    }
 
 pub no_gap : SegmentsThatShareAPointHaveNoGap
 no_gap a b c d p gap first second = (there gap, back)
@@ -61,6 +80,14 @@ no_gap a b c d p gap first second = (there gap, back)
 pub gap_is_symmetric : GapIsSymmetric
 gap_is_symmetric a b c d gap g =
     record {
-      exchanged = record { near = closer_exchanged (2 * gap + 1) a b c d g.near; far = λ some k. g.far some (closer_exchanged (2 * gap - 1) c d a b k) };
-      reversed = record { near = closer_reversed (2 * gap + 1) a b c d g.near; far = λ some k. g.far some (closer_reversed (2 * gap - 1) b a c d k) };
+      exchanged = record {
+        near = closer_exchanged (2 * gap + 1) a b c d g.near;
+        far =
+            λ some k. g.far some (closer_exchanged (2 * gap - 1) c d a b k);
+      };
+      reversed = record {
+        near = closer_reversed (2 * gap + 1) a b c d g.near;
+        far =
+            λ some k. g.far some (closer_reversed (2 * gap - 1) b a c d k);
+      };
     }

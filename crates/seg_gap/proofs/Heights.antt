@@ -21,7 +21,8 @@ pub height_low : (t s : ℤ) (h d : ℕ) → h ≡ unsigned_abs t → d ≡ unsi
 height_low t (pos m) h d e f some =
     subst (λ (z : ℤ). (pos (4 * (h * h) / d) *ℤ pos m) ≤ℤ z) (four_squares t)
     (subst (λ (k : ℕ). (pos (4 * (k * k) / d) *ℤ pos m) ≤ℤ pos (4 * (unsigned_abs t * unsigned_abs t))) (sym e)
-    (subst (λ (k : ℕ). (pos (4 * (unsigned_abs t * unsigned_abs t) / k) *ℤ pos m) ≤ℤ pos (4 * (unsigned_abs t * unsigned_abs t))) (sym f)
+    (subst (λ (k : ℕ). (pos (4 * (unsigned_abs t * unsigned_abs t) / k) *ℤ pos m)
+    ≤ℤ pos (4 * (unsigned_abs t * unsigned_abs t))) (sym f)
     (quotient_low (4 * (unsigned_abs t * unsigned_abs t)) m some)))
 height_low t (negsuc m) h d e f some = absurd some.lt
 
@@ -30,6 +31,7 @@ pub height_high : (t s : ℤ) (h d : ℕ) → h ≡ unsigned_abs t → d ≡ uns
 height_high t (pos m) h d e f some =
     subst (λ (z : ℤ). z <ℤ (pos (4 * (h * h) / d + 1) *ℤ pos m)) (four_squares t)
     (subst (λ (k : ℕ). pos (4 * (unsigned_abs t * unsigned_abs t)) <ℤ (pos (4 * (k * k) / d + 1) *ℤ pos m)) (sym e)
-    (subst (λ (k : ℕ). pos (4 * (unsigned_abs t * unsigned_abs t)) <ℤ (pos (4 * (unsigned_abs t * unsigned_abs t) / k + 1) *ℤ pos m)) (sym f)
+    (subst (λ (k : ℕ). pos (4 * (unsigned_abs t * unsigned_abs t))
+    <ℤ (pos (4 * (unsigned_abs t * unsigned_abs t) / k + 1) *ℤ pos m)) (sym f)
     (quotient_high (4 * (unsigned_abs t * unsigned_abs t)) m some)))
 height_high t (negsuc m) h d e f some = absurd some.lt

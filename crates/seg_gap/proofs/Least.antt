@@ -30,7 +30,8 @@ mix_below_as m n p c d e h = subst (λ (z : ℕ). HasMixBelow (pos z) p c d) (sy
 pub least_of : (a b c d : Pt) (s t u v x y r : ℕ) → IsEndSquare a c d s → IsEndSquare b c d t → IsEndSquare c a b u
     → IsEndSquare d a b v → IsLesser s t x → IsLesser u v y → IsLesser x y r → IsLeast a b c d r
 least_of a b c d s t u v x y r of_a of_b of_c of_d first second both =
-    let xs = both.first in let ys = both.second in let h = first.first in let i = first.second in let j = second.first in let k = second.second in
+    let xs = both.first in let ys = both.second in let h = first.first in let i = first.second in let j =
+    second.first in let k = second.second in
     record {
       of_a = low_less r s a c d (omega arith) of_a.low;
       of_b = low_less r t b c d (omega arith) of_b.low;

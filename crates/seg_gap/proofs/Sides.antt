@@ -3,12 +3,14 @@ use Rattle.std.proofs.Common.{◌≡◌, ◌⊎◌, inl, inr, ℤ, pos, ◌+ℤ�
 use Rattle.integer_ring.proofs.Ring.{Expr, num, neg, ◌⊕◌, ◌⊖◌, ◌⊗◌}
 use Rattle.integer_ring.proofs.Order.{≤_or_>, ≤_of_<, ≤_antisymm, nonneg_square, nonneg_pos}
 use Rattle.integer_ring.proofs.Signs.{zero_cases}
-use Rattle.integer_ring.proofs.Claims.{Claim, ◌≐◌, ◌≼◌, ◌≺◌, gap, over, eqn, nat, square, ◌⊞◌, ◌⊠◌, ◌because◌, ◌⇒◌, follows, solve}
+use Rattle.integer_ring.proofs.Claims.{Claim, ◌≐◌, ◌≼◌, ◌≺◌, gap, over, eqn, nat, square, ◌⊞◌, ◌⊠◌, ◌because◌, ◌⇒◌}
+use Rattle.integer_ring.proofs.Claims.{follows, solve}
 use Rattle.plane_base.specs.Plane.{whole, turn_of}
 use Rattle.plane_base.specs.declared.shapes.Pt.{Pt}
 use Rattle.plane_base.proofs.Sizes.{turn_whole}
 use Rattle.seg_gap.specs.Ends.{AreWeights, AreOpposite, DoCross, way_to, IsLow}
-use Rattle.seg_gap.proofs.Steps.{way_from, way_fromE, way_toE, square_toE, whole_turn, whole_turnE, length_of, IsFarAt, shrink, step}
+use Rattle.seg_gap.proofs.Steps.{way_from, way_fromE, way_toE, square_toE, whole_turn, whole_turnE, length_of, IsFarAt}
+use Rattle.seg_gap.proofs.Steps.{shrink, step}
 
 -- all mixes of both segments
 abbrev pub IsFar : ℤ → Pt → Pt → Pt → Pt → Type 0
@@ -28,7 +30,8 @@ way_betweenE a b c d i j k l = way_fromE a b (k ⊗ c ⊕ l ⊗ d) (k ⊕ l) i j
 abbrev pub is_far : Expr → Expr → Expr → Expr → Expr → Expr → Expr → Expr → Expr → Expr → Expr → Expr → Expr → Claim
 is_far m ax ay bx by cx cy dx dy i j k l =
     m ⊗ (((i ⊕ j) ⊗ (k ⊕ l)) ⊗ ((i ⊕ j) ⊗ (k ⊕ l)))
-    ≼ num (pos 4) ⊗ (way_betweenE ax bx cx dx i j k l ⊗ way_betweenE ax bx cx dx i j k l ⊕ way_betweenE ay by cy dy i j k l ⊗ way_betweenE ay by cy dy i j k l)
+    ≼ num (pos 4) ⊗ (way_betweenE ax bx cx dx i j k l ⊗ way_betweenE ax bx cx dx i j k l
+    ⊕ way_betweenE ay by cy dy i j k l ⊗ way_betweenE ay by cy dy i j k l)
 
 -- ---- a segment from its other end, and the two segments in the other order
 pub weights_swapped : (k l : ℤ) → AreWeights k l → AreWeights l k
@@ -73,14 +76,17 @@ far_second m a b c d h = far_exchanged m a b c d (far_first m c d a b (far_excha
 
 -- ---- the second segment is a point
 zero_square : (u v : ℤ) → (u *ℤ u +ℤ v *ℤ v) ≤ℤ pos 0 → u ≡ pos 0
-zero_square u v h = go (zero_cases u u (≤_antisymm (u *ℤ u) (pos 0) (follows 2 (λ u v. u ⊗ u ⊕ v ⊗ v ≼ num (pos 0) ⇒ u ⊗ u ≼ num (pos 0) because gap 0 ⊞ square v) tt u v h) (nonneg_square u)))
+zero_square u v h = go (zero_cases u u (≤_antisymm (u *ℤ u) (pos 0)
+    (follows 2 (λ u v. u ⊗ u ⊕ v ⊗ v ≼ num (pos 0) ⇒ u ⊗ u ≼ num (pos 0) because gap 0 ⊞ square v) tt u v h)
+    (nonneg_square u)))
   where
     go : (u ≡ pos 0) ⊎ (u ≡ pos 0) → u ≡ pos 0
     go (inl e) = e
     go (inr e) = e
 
 zero_other : (u v : ℤ) → (u *ℤ u +ℤ v *ℤ v) ≤ℤ pos 0 → v ≡ pos 0
-zero_other u v h = zero_square v u (follows 2 (λ u v. u ⊗ u ⊕ v ⊗ v ≼ num (pos 0) ⇒ v ⊗ v ⊕ u ⊗ u ≼ num (pos 0) because gap 0) tt u v h)
+zero_other u v h = zero_square v u (follows 2
+    (λ u v. u ⊗ u ⊕ v ⊗ v ≼ num (pos 0) ⇒ v ⊗ v ⊕ u ⊗ u ≼ num (pos 0) because gap 0) tt u v h)
 
 point_axis : (a b c d i j k l : ℤ) → d -ℤ c ≡ pos 0
     → (k +ℤ l) *ℤ way_to c a b i j ≡ pos 1 *ℤ way_from a b (k *ℤ c +ℤ l *ℤ d) (k +ℤ l) i j
@@ -97,8 +103,11 @@ far_point m a b c d h low i j k l v w =
     shrink m (i +ℤ j) (way_to c.x a.x b.x i j) (way_to c.y a.y b.y i j) (k +ℤ l) ((i +ℤ j) *ℤ (k +ℤ l)) (pos 1) (pos 1)
     (way_from a.x b.x (k *ℤ c.x +ℤ l *ℤ d.x) (k +ℤ l) i j) (way_from a.y b.y (k *ℤ c.y +ℤ l *ℤ d.y) (k +ℤ l) i j)
     (low i j v) (point_sum i j k l)
-    (point_axis a.x b.x c.x d.x i j k l (zero_square (d.x -ℤ c.x) (d.y -ℤ c.y) h)) (point_axis a.y b.y c.y d.y i j k l (zero_other (d.x -ℤ c.x) (d.y -ℤ c.y) h))
-    (follows 0 (neg (num (pos 1)) ≼ num (pos 1) because nat 2) tt) (follows 0 (num (pos 1) ≼ num (pos 1) because nat 0) tt) (follows 0 (num (pos 0) ≺ num (pos 1) because nat 0) tt)
+    (point_axis a.x b.x c.x d.x i j k l (zero_square (d.x -ℤ c.x) (d.y -ℤ c.y) h))
+    (point_axis a.y b.y c.y d.y i j k l (zero_other (d.x -ℤ c.x) (d.y -ℤ c.y) h))
+    (follows 0 (neg (num (pos 1)) ≼ num (pos 1) because nat 2) tt)
+    (follows 0 (num (pos 1) ≼ num (pos 1) because nat 0) tt)
+    (follows 0 (num (pos 0) ≺ num (pos 1) because nat 0) tt)
 
 -- ---- a and b are on one side of the line of c and d, and a is not farther from it
 -- how far the mix of a and b is from the line
@@ -111,7 +120,8 @@ times_some = follows 2 (λ u m. num (pos 0) ≼ u ⇒ num (pos 0) ≺ m ⇒ num 
 on_it : (z t : ℤ) → z ≤ℤ pos 0 → t ≤ℤ z → pos 0 ≤ℤ t → pos 1 *ℤ z ≡ pos 1 *ℤ t
 on_it z t h k p =
     ≤_antisymm (pos 1 *ℤ z) (pos 1 *ℤ t)
-    (follows 2 (λ z t. z ≼ num (pos 0) ⇒ num (pos 0) ≼ t ⇒ num (pos 1) ⊗ z ≼ num (pos 1) ⊗ t because gap 0 ⊞ gap 1) tt z t h p)
+    (follows 2 (λ z t. z ≼ num (pos 0) ⇒ num (pos 0) ≼ t ⇒ num (pos 1) ⊗ z ≼ num (pos 1) ⊗ t because gap 0 ⊞ gap 1) tt z
+    t h p)
     (follows 2 (λ z t. t ≼ z ⇒ num (pos 1) ⊗ t ≼ num (pos 1) ⊗ z because gap 0) tt z t k)
 
 nearer_first : (m : ℤ) (a b c d : Pt) → pos 0 <ℤ length_of c d → pos 0 ≤ℤ whole_turn c d a
@@ -132,7 +142,8 @@ nearer_first m a b c d hg from order low i j k l v w = go (≤_or_> z (pos 0))
 
     go : (z ≤ℤ pos 0) ⊎ (pos 0 <ℤ z) → IsFarAt m a b c d i j k l
     go (inl none) =
-        step m a b c d i j k l (pos 1) (pos 1) v w (follows 0 (num (pos 0) ≺ num (pos 1) because nat 0) tt) (nonneg_pos 1) (follows 0 (num (pos 1) ≼ num (pos 1) because nat 0) tt) hg
+        step m a b c d i j k l (pos 1) (pos 1) v w (follows 0 (num (pos 0) ≺ num (pos 1) because nat 0) tt)
+        (nonneg_pos 1) (follows 0 (num (pos 1) ≼ num (pos 1) because nat 0) tt) hg
         (on_it z t none t_to t_some) low.of_a low.of_c low.of_d
     go (inr some) =
         step m a b c d i j k l z t v w some t_some t_to hg
@@ -144,7 +155,8 @@ left_of m a b c d hg ha hb low = go (≤_or_> (whole_turn c d a) (whole_turn c d
   where
     go : (whole_turn c d a ≤ℤ whole_turn c d b) ⊎ (whole_turn c d b <ℤ whole_turn c d a) → IsFar m a b c d
     go (inl h) = nearer_first m a b c d hg ha h low
-    go (inr h) = far_first m a b c d (nearer_first m b a c d hg hb (≤_of_< (whole_turn c d b) (whole_turn c d a) h) (lows_first m a b c d low))
+    go (inr h) = far_first m a b c d (nearer_first m b a c d hg hb (≤_of_< (whole_turn c d b) (whole_turn c d a) h)
+        (lows_first m a b c d low))
 
 -- ---- the line from the other end
 other_side : (c d a : Pt) → whole_turn c d a ≤ℤ pos 0 → pos 0 ≤ℤ whole_turn d c a
@@ -171,7 +183,8 @@ AreAside u v = ((pos 0 ≤ℤ u) × (pos 0 ≤ℤ v)) ⊎ ((u ≤ℤ pos 0) × (
 pub opposite_or_aside : (u v : ℤ) → AreOpposite u v ⊎ AreAside u v
 opposite_or_aside u v = go (≤_or_> (pos 0) u) (≤_or_> (pos 0) v) (≤_or_> u (pos 0)) (≤_or_> v (pos 0))
   where
-    go : (pos 0 ≤ℤ u) ⊎ (u <ℤ pos 0) → (pos 0 ≤ℤ v) ⊎ (v <ℤ pos 0) → (u ≤ℤ pos 0) ⊎ (pos 0 <ℤ u) → (v ≤ℤ pos 0) ⊎ (pos 0 <ℤ v) → AreOpposite u v ⊎ AreAside u v
+    go : (pos 0 ≤ℤ u) ⊎ (u <ℤ pos 0) → (pos 0 ≤ℤ v) ⊎ (v <ℤ pos 0) → (u ≤ℤ pos 0) ⊎ (pos 0 <ℤ u)
+        → (v ≤ℤ pos 0) ⊎ (pos 0 <ℤ v) → AreOpposite u v ⊎ AreAside u v
     go (inl p) (inl q) r s = inr (inl (p, q))
     go (inr p) (inr q) r s = inr (inr (≤_of_< u (pos 0) p, ≤_of_< v (pos 0) q))
     go (inl p) (inr q) (inl r) s = inr (inr (r, ≤_of_< v (pos 0) q))
@@ -182,7 +195,8 @@ opposite_or_aside u v = go (≤_or_> (pos 0) u) (≤_or_> (pos 0) v) (≤_or_> u
 far_aside : (m : ℤ) (a b c d : Pt) → AreAside (whole_turn c d a) (whole_turn c d b) → AreLow m a b c d → IsFar m a b c d
 far_aside m a b c d h low = go (≤_or_> (length_of c d) (pos 0)) h
   where
-    go : (length_of c d ≤ℤ pos 0) ⊎ (pos 0 <ℤ length_of c d) → AreAside (whole_turn c d a) (whole_turn c d b) → IsFar m a b c d
+    go : (length_of c d ≤ℤ pos 0) ⊎ (pos 0 <ℤ length_of c d) → AreAside (whole_turn c d a) (whole_turn c d b)
+        → IsFar m a b c d
     go (inl none) h = far_point m a b c d none low.of_c
     go (inr some) (inl h) = left_of m a b c d some h.0 h.1 low
     go (inr some) (inr h) = right_of m a b c d some h.0 h.1 low
@@ -190,19 +204,24 @@ far_aside m a b c d h low = go (≤_or_> (length_of c d) (pos 0)) h
 -- ---- the turn of whole points
 pub whole_turn_is : (c d a : Pt) → turn_of (whole c) (whole d) (whole a) ≡ whole_turn c d a
 whole_turn_is c d a =
-    sym (turn_whole c.x c.y d.x d.y a.x a.y (d.x -ℤ c.x) (d.y -ℤ c.y) (a.x -ℤ c.x) (a.y -ℤ c.y) (whole_turn c d a) refl refl refl refl refl)
+    sym (turn_whole c.x c.y d.x d.y a.x a.y (d.x -ℤ c.x) (d.y -ℤ c.y) (a.x -ℤ c.x) (a.y -ℤ c.y) (whole_turn c d a) refl
+    refl refl refl refl)
 
 aside_of : (c d a b : Pt) → AreAside (turn_of (whole c) (whole d) (whole a)) (turn_of (whole c) (whole d) (whole b))
     → AreAside (whole_turn c d a) (whole_turn c d b)
 aside_of c d a b h =
-    subst (λ (z : ℤ). AreAside (whole_turn c d a) z) (whole_turn_is c d b) (subst (λ (z : ℤ). AreAside z (turn_of (whole c) (whole d) (whole b))) (whole_turn_is c d a) h)
+    subst (λ (z : ℤ). AreAside (whole_turn c d a) z) (whole_turn_is c d b)
+    (subst (λ (z : ℤ). AreAside z (turn_of (whole c) (whole d) (whole b))) (whole_turn_is c d a) h)
 
 pub far_apart : (m : ℤ) (a b c d : Pt) → (DoCross a b c d → ⊥) → AreLow m a b c d → IsFar m a b c d
 far_apart m a b c d none low =
-    go (opposite_or_aside (turn_of (whole a) (whole b) (whole c)) (turn_of (whole a) (whole b) (whole d))) (opposite_or_aside (turn_of (whole c) (whole d) (whole a)) (turn_of (whole c) (whole d) (whole b)))
+    go (opposite_or_aside (turn_of (whole a) (whole b) (whole c)) (turn_of (whole a) (whole b) (whole d)))
+    (opposite_or_aside (turn_of (whole c) (whole d) (whole a)) (turn_of (whole c) (whole d) (whole b)))
   where
-    go : AreOpposite (turn_of (whole a) (whole b) (whole c)) (turn_of (whole a) (whole b) (whole d)) ⊎ AreAside (turn_of (whole a) (whole b) (whole c)) (turn_of (whole a) (whole b) (whole d))
-        → AreOpposite (turn_of (whole c) (whole d) (whole a)) (turn_of (whole c) (whole d) (whole b)) ⊎ AreAside (turn_of (whole c) (whole d) (whole a)) (turn_of (whole c) (whole d) (whole b)) → IsFar m a b c d
+    go : AreOpposite (turn_of (whole a) (whole b) (whole c)) (turn_of (whole a) (whole b) (whole d))
+        ⊎ AreAside (turn_of (whole a) (whole b) (whole c)) (turn_of (whole a) (whole b) (whole d))
+        → AreOpposite (turn_of (whole c) (whole d) (whole a)) (turn_of (whole c) (whole d) (whole b))
+        ⊎ AreAside (turn_of (whole c) (whole d) (whole a)) (turn_of (whole c) (whole d) (whole b)) → IsFar m a b c d
     go (inl h) (inl k) = absurd (none (record { first = h; second = k }))
     go (inl h) (inr k) = far_aside m a b c d (aside_of c d a b k) low
     go (inr h) k = far_exchanged m a b c d (far_aside m c d a b (aside_of a b c d h) (lows_exchanged m a b c d low))

@@ -3,7 +3,8 @@ use Rattle.std.proofs.Common.{◌≡◌, ◌⊎◌, inl, inr, ℤ, pos, negsuc, 
 use Rattle.integer_ring.proofs.Ring.{Expr, num, neg, ◌⊕◌, ◌⊖◌, ◌⊗◌}
 use Rattle.integer_ring.proofs.Order.{≤_or_>}
 use Rattle.integer_ring.proofs.Signs.{≤_of_mul, mul-positive}
-use Rattle.integer_ring.proofs.Claims.{◌≐◌, ◌≼◌, ◌≺◌, gap, over, eqn, nat, square, ◌⊞◌, ◌⊠◌, ◌because◌, ◌⇒◌, follows, solve}
+use Rattle.integer_ring.proofs.Claims.{◌≐◌, ◌≼◌, ◌≺◌, gap, over, eqn, nat, square, ◌⊞◌, ◌⊠◌, ◌because◌, ◌⇒◌, follows}
+use Rattle.integer_ring.proofs.Claims.{solve}
 use Rattle.plane_base.specs.declared.shapes.Pt.{Pt}
 use Rattle.seg_gap.specs.Ends.{AreWeights, way_to, IsLow}
 
@@ -53,7 +54,8 @@ pub shrink : (m t u v z s h k x y : ℤ) → (m *ℤ (t *ℤ t)) ≤ℤ (pos 4 *
     → z *ℤ u ≡ k *ℤ x → z *ℤ v ≡ k *ℤ y → neg_ℤ h ≤ℤ k → k ≤ℤ h → pos 0 <ℤ h
     → (m *ℤ (s *ℤ s)) ≤ℤ (pos 4 *ℤ (x *ℤ x +ℤ y *ℤ y))
 shrink m t u v z s h k x y low e f g from to positive =
-    ≤_of_mul (m *ℤ (s *ℤ s)) (pos 4 *ℤ (x *ℤ x +ℤ y *ℤ y)) (h *ℤ h) (mul-positive h h positive positive) (longer m t u v z s h k x y low e f g from to)
+    ≤_of_mul (m *ℤ (s *ℤ s)) (pos 4 *ℤ (x *ℤ x +ℤ y *ℤ y)) (h *ℤ h) (mul-positive h h positive positive)
+    (longer m t u v z s h k x y low e f g from to)
 
 -- ---- the share that is left, where a point is one way from the end and another from its start
 share_low : (f g r s : ℤ) → pos 0 ≤ℤ f → pos 0 <ℤ g → pos 0 <ℤ r → pos 0 ≤ℤ s
@@ -102,17 +104,24 @@ at_end_some =
 
 at_end_weights : (f g i j : ℤ) → pos 0 ≤ℤ f → pos 0 <ℤ g → AreWeights i j
     → AreWeights (g *ℤ i +ℤ f *ℤ (i +ℤ j)) (g *ℤ j)
-at_end_weights f g i j hf hg w = record { first = at_end_first f g i j hf hg w.first w.some; second = at_end_second g j hg w.second; some = at_end_some f g i j hf hg w.some }
+at_end_weights f g i j hf hg w = record {
+  first = at_end_first f g i j hf hg w.first w.some;
+  second =
+      at_end_second g j hg w.second;
+  some = at_end_some f g i j hf hg w.some;
+}
 
 at_end_sum : (f g i j n r : ℤ) → (r *ℤ n) *ℤ ((g *ℤ i +ℤ f *ℤ (i +ℤ j)) +ℤ g *ℤ j) ≡ ((i +ℤ j) *ℤ n) *ℤ (r *ℤ (f +ℤ g))
 at_end_sum = solve 6 (λ f g i j n r. (r ⊗ n) ⊗ ((g ⊗ i ⊕ f ⊗ (i ⊕ j)) ⊕ g ⊗ j) ≐ ((i ⊕ j) ⊗ n) ⊗ (r ⊗ (f ⊕ g))) tt
 
 -- on one axis: from the end to the other point the way is the share of the old way
 at_end_axis : (a b e v q n i j l r s g y : ℤ) → q ≡ n *ℤ e +ℤ l *ℤ v → g *ℤ partner a b e q n i j r s ≡ y *ℤ v
-    → (r *ℤ n) *ℤ way_to e a b ((n *ℤ neg_ℤ y) *ℤ i +ℤ (l *ℤ (denominator i j n r *ℤ g)) *ℤ (i +ℤ j)) ((n *ℤ neg_ℤ y) *ℤ j) ≡ ((n *ℤ neg_ℤ y) *ℤ r +ℤ (l *ℤ (denominator i j n r *ℤ g)) *ℤ s) *ℤ way_from a b q n i j
+    → (r *ℤ n) *ℤ way_to e a b ((n *ℤ neg_ℤ y) *ℤ i +ℤ (l *ℤ (denominator i j n r *ℤ g)) *ℤ (i +ℤ j))
+    ((n *ℤ neg_ℤ y) *ℤ j) ≡ ((n *ℤ neg_ℤ y) *ℤ r +ℤ (l *ℤ (denominator i j n r *ℤ g)) *ℤ s) *ℤ way_from a b q n i j
 at_end_axis =
     follows 13 (λ a b e v q n i j l r s g y. q ≐ n ⊗ e ⊕ l ⊗ v ⇒ g ⊗ partnerE a b e q n i j r s ≐ y ⊗ v
-    ⇒ (r ⊗ n) ⊗ way_toE e a b ((n ⊗ neg y) ⊗ i ⊕ (l ⊗ (denominatorE i j n r ⊗ g)) ⊗ (i ⊕ j)) ((n ⊗ neg y) ⊗ j) ≐ ((n ⊗ neg y) ⊗ r ⊕ (l ⊗ (denominatorE i j n r ⊗ g)) ⊗ s) ⊗ way_fromE a b q n i j
+    ⇒ (r ⊗ n) ⊗ way_toE e a b ((n ⊗ neg y) ⊗ i ⊕ (l ⊗ (denominatorE i j n r ⊗ g)) ⊗ (i ⊕ j)) ((n ⊗ neg y) ⊗ j)
+    ≐ ((n ⊗ neg y) ⊗ r ⊕ (l ⊗ (denominatorE i j n r ⊗ g)) ⊗ s) ⊗ way_fromE a b q n i j
     because eqn 0 (r ⊗ (n ⊗ neg y) ⊗ (i ⊕ j)) ⊞ eqn 1 (l ⊗ denominatorE i j n r)) tt
 
 -- the end e is met, since the partner is on the line from e in the direction v at y/g, with y below 0, and q at l/n
@@ -120,14 +129,17 @@ at_end : (m : ℤ) (a b e : Pt) (vx vy qx qy n i j l r s g y : ℤ) → AreWeigh
     → pos 0 <ℤ r → pos 0 ≤ℤ s → s ≤ℤ r → pos 0 <ℤ g → y <ℤ pos 0
     → qx ≡ n *ℤ e.x +ℤ l *ℤ vx → qy ≡ n *ℤ e.y +ℤ l *ℤ vy → g *ℤ partner a.x b.x e.x qx n i j r s ≡ y *ℤ vx
     → g *ℤ partner a.y b.y e.y qy n i j r s ≡ y *ℤ vy → IsLow m e a b
-    → (m *ℤ (((i +ℤ j) *ℤ n) *ℤ ((i +ℤ j) *ℤ n))) ≤ℤ (pos 4 *ℤ (way_from a.x b.x qx n i j *ℤ way_from a.x b.x qx n i j +ℤ way_from a.y b.y qy n i j *ℤ way_from a.y b.y qy n i j))
+    → (m *ℤ (((i +ℤ j) *ℤ n) *ℤ ((i +ℤ j) *ℤ n)))
+    ≤ℤ (pos 4 *ℤ (way_from a.x b.x qx n i j *ℤ way_from a.x b.x qx n i j +ℤ way_from a.y b.y qy n i j
+    *ℤ way_from a.y b.y qy n i j))
 at_end m a b e vx vy qx qy n i j l r s g y w hn hl hr hs hsr hg hy is_x is_y on_x on_y low =
     let f : ℤ = l *ℤ (denominator i j n r *ℤ g) in
     let h : ℤ = n *ℤ neg_ℤ y in
     let hf : pos 0 ≤ℤ f = far_some l i j n r g hl w.some hn hr hg in
     let hh : pos 0 <ℤ h = back_some n y hn hy in
     let k : ℤ = h *ℤ i +ℤ f *ℤ (i +ℤ j) in
-    shrink m (k +ℤ h *ℤ j) (way_to e.x a.x b.x k (h *ℤ j)) (way_to e.y a.y b.y k (h *ℤ j)) (r *ℤ n) ((i +ℤ j) *ℤ n) (r *ℤ (f +ℤ h)) (h *ℤ r +ℤ f *ℤ s)
+    shrink m (k +ℤ h *ℤ j) (way_to e.x a.x b.x k (h *ℤ j)) (way_to e.y a.y b.y k (h *ℤ j)) (r *ℤ n) ((i +ℤ j) *ℤ n)
+    (r *ℤ (f +ℤ h)) (h *ℤ r +ℤ f *ℤ s)
     (way_from a.x b.x qx n i j) (way_from a.y b.y qy n i j)
     (low k (h *ℤ j) (at_end_weights f h i j hf hh w)) (at_end_sum f h i j n r)
     (at_end_axis a.x b.x e.x vx qx n i j l r s g y is_x on_x) (at_end_axis a.y b.y e.y vy qy n i j l r s g y is_y on_y)
@@ -164,13 +176,22 @@ within : (m : ℤ) (a b c d : Pt) (qx qy n i j r s g y : ℤ) → AreWeights i j
     → s ≤ℤ r → pos 0 <ℤ g → pos 0 ≤ℤ y → y ≤ℤ (denominator i j n r *ℤ g)
     → g *ℤ partner a.x b.x c.x qx n i j r s ≡ y *ℤ (d.x -ℤ c.x)
     → g *ℤ partner a.y b.y c.y qy n i j r s ≡ y *ℤ (d.y -ℤ c.y) → IsLow m a c d
-    → (m *ℤ (((i +ℤ j) *ℤ n) *ℤ ((i +ℤ j) *ℤ n))) ≤ℤ (pos 4 *ℤ (way_from a.x b.x qx n i j *ℤ way_from a.x b.x qx n i j +ℤ way_from a.y b.y qy n i j *ℤ way_from a.y b.y qy n i j))
+    → (m *ℤ (((i +ℤ j) *ℤ n) *ℤ ((i +ℤ j) *ℤ n)))
+    ≤ℤ (pos 4 *ℤ (way_from a.x b.x qx n i j *ℤ way_from a.x b.x qx n i j +ℤ way_from a.y b.y qy n i j
+    *ℤ way_from a.y b.y qy n i j))
 within m a b c d qx qy n i j r s g y w hn hr hs hsr hg from to on_x on_y low =
     let k : ℤ = denominator i j n r *ℤ g -ℤ y in
-    shrink m (k +ℤ y) (way_to a.x c.x d.x k y) (way_to a.y c.y d.y k y) (pos 1) ((i +ℤ j) *ℤ n) (r *ℤ g) (neg_ℤ (g *ℤ s))
+    shrink m (k +ℤ y) (way_to a.x c.x d.x k y) (way_to a.y c.y d.y k y) (pos 1) ((i +ℤ j) *ℤ n) (r *ℤ g)
+    (neg_ℤ (g *ℤ s))
     (way_from a.x b.x qx n i j) (way_from a.y b.y qy n i j)
-    (low k y (record { first = rest_some (denominator i j n r *ℤ g) y to; second = from; some = all_some i j n r g y w.some hn hr hg }))
-    (within_sum i j n r g y) (within_axis a.x b.x c.x d.x qx n i j r s g y on_x) (within_axis a.y b.y c.y d.y qy n i j r s g y on_y)
+    (low k y (record {
+      first = rest_some (denominator i j n r *ℤ g) y to;
+      second = from;
+      some =
+          all_some i j n r g y w.some hn hr hg;
+    }))
+    (within_sum i j n r g y) (within_axis a.x b.x c.x d.x qx n i j r s g y on_x)
+    (within_axis a.y b.y c.y d.y qy n i j r s g y on_y)
     (within_low r s g hsr hg) (within_high r s g hs hr hg) (mul-positive r g hr hg)
 
 -- ---- the partner is on the line of c and d
@@ -187,7 +208,8 @@ on_line : (a b c d : Pt) (qx qy n i j l r s : ℤ) → qx ≡ n *ℤ c.x +ℤ l 
     → (d.x -ℤ c.x) *ℤ partner a.y b.y c.y qy n i j r s ≡ (d.y -ℤ c.y) *ℤ partner a.x b.x c.x qx n i j r s
 on_line a b c d qx qy n i j l r s =
     follows 16 (λ ax ay bx by cx cy dx dy qx qy n i j l r s. qx ≐ n ⊗ cx ⊕ l ⊗ (dx ⊖ cx) ⇒ qy ≐ n ⊗ cy ⊕ l ⊗ (dy ⊖ cy)
-    ⇒ s ⊗ (i ⊗ whole_turnE cx cy dx dy ax ay ⊕ j ⊗ whole_turnE cx cy dx dy bx by) ≐ r ⊗ ((i ⊕ j) ⊗ whole_turnE cx cy dx dy ax ay)
+    ⇒ s ⊗ (i ⊗ whole_turnE cx cy dx dy ax ay ⊕ j ⊗ whole_turnE cx cy dx dy bx by) ≐ r
+    ⊗ ((i ⊕ j) ⊗ whole_turnE cx cy dx dy ax ay)
     ⇒ (dx ⊖ cx) ⊗ partnerE ay by cy qy n i j r s ≐ (dy ⊖ cy) ⊗ partnerE ax bx cx qx n i j r s
     because eqn 0 (neg (s ⊗ (i ⊕ j) ⊗ (dy ⊖ cy))) ⊞ eqn 1 (s ⊗ (i ⊕ j) ⊗ (dx ⊖ cx)) ⊞ eqn 2 (neg n)) tt
     a.x a.y b.x b.y c.x c.y d.x d.y qx qy n i j l r s
@@ -226,14 +248,17 @@ way_between a b c d i j k l = way_from a b (k *ℤ c +ℤ l *ℤ d) (k +ℤ l) i
 
 abbrev pub IsFarAt : ℤ → Pt → Pt → Pt → Pt → ℤ → ℤ → ℤ → ℤ → Type 0
 IsFarAt m a b c d i j k l =
-    (m *ℤ (((i +ℤ j) *ℤ (k +ℤ l)) *ℤ ((i +ℤ j) *ℤ (k +ℤ l)))) ≤ℤ (pos 4 *ℤ (way_between a.x b.x c.x d.x i j k l *ℤ way_between a.x b.x c.x d.x i j k l +ℤ way_between a.y b.y c.y d.y i j k l *ℤ way_between a.y b.y c.y d.y i j k l))
+    (m *ℤ (((i +ℤ j) *ℤ (k +ℤ l)) *ℤ ((i +ℤ j) *ℤ (k +ℤ l))))
+    ≤ℤ (pos 4 *ℤ (way_between a.x b.x c.x d.x i j k l *ℤ way_between a.x b.x c.x d.x i j k l
+    +ℤ way_between a.y b.y c.y d.y i j k l *ℤ way_between a.y b.y c.y d.y i j k l))
 
 -- where the way, times s/r, leads from the line of c and d to a
 pub step : (m : ℤ) (a b c d : Pt) (i j k l r s : ℤ) → AreWeights i j → AreWeights k l → pos 0 <ℤ r → pos 0 ≤ℤ s
     → s ≤ℤ r → pos 0 <ℤ length_of c d
     → s *ℤ (i *ℤ whole_turn c d a +ℤ j *ℤ whole_turn c d b) ≡ r *ℤ ((i +ℤ j) *ℤ whole_turn c d a) → IsLow m a c d
     → IsLow m c a b → IsLow m d a b → IsFarAt m a b c d i j k l
-step m a b c d i j k l r s w v hr hs hsr hg e low_a low_c low_d = go (≤_or_> (pos 0) y) (≤_or_> y (denominator i j n r *ℤ g))
+step m a b c d i j k l r s w v hr hs hsr hg e low_a low_c low_d =
+    go (≤_or_> (pos 0) y) (≤_or_> y (denominator i j n r *ℤ g))
   where
     n : ℤ
     n = k +ℤ l
@@ -259,11 +284,14 @@ step m a b c d i j k l r s w v hr hs hsr hg e low_a low_c low_d = go (≤_or_> (
     at_y : g *ℤ partner a.y b.y c.y qy n i j r s ≡ y *ℤ (d.y -ℤ c.y)
     at_y = on_y (d.x -ℤ c.x) (d.y -ℤ c.y) (partner a.x b.x c.x qx n i j r s) (partner a.y b.y c.y qy n i j r s) line
 
-    go : (pos 0 ≤ℤ y) ⊎ (y <ℤ pos 0) → (y ≤ℤ (denominator i j n r *ℤ g)) ⊎ ((denominator i j n r *ℤ g) <ℤ y) → IsFarAt m a b c d i j k l
+    go : (pos 0 ≤ℤ y) ⊎ (y <ℤ pos 0) → (y ≤ℤ (denominator i j n r *ℤ g)) ⊎ ((denominator i j n r *ℤ g) <ℤ y)
+        → IsFarAt m a b c d i j k l
     go (inr before) after =
-        at_end m a b c (d.x -ℤ c.x) (d.y -ℤ c.y) qx qy n i j l r s g y w v.some v.second hr hs hsr hg before (mix_from_c c.x d.x k l) (mix_from_c c.y d.y k l) at_x at_y low_c
+        at_end m a b c (d.x -ℤ c.x) (d.y -ℤ c.y) qx qy n i j l r s g y w v.some v.second hr hs hsr hg before
+        (mix_from_c c.x d.x k l) (mix_from_c c.y d.y k l) at_x at_y low_c
     go (inl from) (inl to) = within m a b c d qx qy n i j r s g y w v.some hr hs hsr hg from to at_x at_y low_a
     go (inl from) (inr after) =
-        at_end m a b d (c.x -ℤ d.x) (c.y -ℤ d.y) qx qy n i j k r s g (denominator i j n r *ℤ g -ℤ y) w v.some v.first hr hs hsr hg (past (denominator i j n r *ℤ g) y after)
+        at_end m a b d (c.x -ℤ d.x) (c.y -ℤ d.y) qx qy n i j k r s g (denominator i j n r *ℤ g -ℤ y) w v.some v.first hr
+        hs hsr hg (past (denominator i j n r *ℤ g) y after)
         (mix_from_d c.x d.x k l) (mix_from_d c.y d.y k l)
         (from_end a.x b.x c.x d.x qx n i j r s g y at_x) (from_end a.y b.y c.y d.y qy n i j r s g y at_y) low_d

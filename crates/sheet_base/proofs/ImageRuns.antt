@@ -10,12 +10,15 @@ use Rattle.sheet_base.specs.Fitting.{Runs, run_begin, images_of, path_images, no
 use Rattle.sheet_base.proofs.ListParts.{all_parts}
 
 -- behind the last point stands no image
-pub last_end : (sheet : Contents) (images : Runs) → DoFit sheet images → run_begin images (length sheet.points) ≡ length images.points
+pub last_end : (sheet : Contents) (images : Runs) → DoFit sheet images
+    → run_begin images (length sheet.points) ≡ length images.points
 last_end sheet images fit = get_or-eq_default images.run (length images.points) (omega (arith, fit.one_each))
 
 -- so many points have at least so many images
-pub spread : (sheet : Contents) (images : Runs) → DoFit sheet images → (from count : ℕ) → from + count ≤ length sheet.points → run_begin images from + count ≤ run_begin images (from + count)
-spread sheet images fit from zero within = let e : from + 0 ≡ from = omega arith in let f = ap (run_begin images) e in omega (arith, f)
+pub spread : (sheet : Contents) (images : Runs) → DoFit sheet images → (from count : ℕ)
+    → from + count ≤ length sheet.points → run_begin images from + count ≤ run_begin images (from + count)
+spread sheet images fit from zero within = let e : from + 0 ≡ from = omega arith in let f =
+    ap (run_begin images) e in omega (arith, f)
 spread sheet images fit from (suc count) within =
     let a = spread sheet images fit from count (omega (arith, within)) in
     let b = fit.rises (from + count) (omega (arith, within)) in
@@ -23,23 +26,31 @@ spread sheet images fit from (suc count) within =
     let f = ap (run_begin images) e in
     omega (arith, a, b, f)
 
-pub ends_within : (sheet : Contents) (images : Runs) → DoFit sheet images → (past : ℕ) → past ≤ length sheet.points → run_begin images past ≤ length images.points
+pub ends_within : (sheet : Contents) (images : Runs) → DoFit sheet images → (past : ℕ) → past ≤ length sheet.points
+    → run_begin images past ≤ length images.points
 ends_within sheet images fit past within =
     let a = spread sheet images fit past (length sheet.points - past) (omega (arith, within)) in
     let e : past + (length sheet.points - past) ≡ length sheet.points = omega (arith, within) in
     let f = ap (run_begin images) e in
     omega (arith, a, f, last_end sheet images fit)
 
-pub images_length : (sheet : Contents) (images : Runs) → DoFit sheet images → (first past : ℕ) → past ≤ length sheet.points → length (images_of images first past) ≡ run_begin images past - run_begin images first
+pub images_length : (sheet : Contents) (images : Runs) → DoFit sheet images → (first past : ℕ)
+    → past ≤ length sheet.points → length (images_of images first past) ≡ run_begin images past - run_begin images first
 images_length sheet images fit first past within =
     let a = ends_within sheet images fit past within in
     let b = length-drop (run_begin images first) images.points in
-    length-take-le (run_begin images past - run_begin images first) (drop (run_begin images first) images.points) (omega (arith, a, b))
+    length-take-le (run_begin images past - run_begin images first) (drop (run_begin images first) images.points)
+    (omega (arith, a, b))
 
 -- what is true of all images is true of some
-pub all_of : (images : Runs) (first past : ℕ) → AllByRecursion IsWithinReach images.points → AllByRecursion IsWithinReach (images_of images first past)
+pub all_of : (images : Runs) (first past : ℕ) → AllByRecursion IsWithinReach images.points
+    → AllByRecursion IsWithinReach (images_of images first past)
 all_of images first past reach =
-    (all_parts IsWithinReach (run_begin images past - run_begin images first) (drop (run_begin images first) images.points) (all_parts IsWithinReach (run_begin images first) images.points reach).1).0
+    (all_parts IsWithinReach (run_begin images past - run_begin images first)
+    (drop (run_begin images first) images.points)
+    (all_parts IsWithinReach (run_begin images first) images.points reach).1).0
 
-pub path_within : (paths : List PathRow) (images : Runs) (number : ℕ) → AllByRecursion IsWithinReach images.points → AllByRecursion IsWithinReach (path_images paths images number)
-path_within paths images number reach = let path : PathRow = slice_index_or paths number no_path in all_of images path.first path.past reach
+pub path_within : (paths : List PathRow) (images : Runs) (number : ℕ) → AllByRecursion IsWithinReach images.points
+    → AllByRecursion IsWithinReach (path_images paths images number)
+path_within paths images number reach = let path : PathRow =
+    slice_index_or paths number no_path in all_of images path.first path.past reach

@@ -1,5 +1,6 @@
 -- Paths as a sheet keeps them, and the same paths with images in place of their points.
-use Rattle.std.proofs.Common.{◌≡◌, inl, ℕ, suc, ◌+◌, ◌-◌, ◌<◌, ◌≤◌, List, [], ◌∷◌, ◌++◌, length, take, drop, refl, sym, ap, ◌∙◌, subst, append_assoc, arith, length-append}
+use Rattle.std.proofs.Common.{◌≡◌, inl, ℕ, suc, ◌+◌, ◌-◌, ◌<◌, ◌≤◌, List, [], ◌∷◌, ◌++◌, length, take, drop, refl, sym}
+use Rattle.std.proofs.Common.{ap, ◌∙◌, subst, append_assoc, arith, length-append}
 use Rattle.std.specs.Prelude.{map, flat_map, slice_index_or}
 use Rattle.std.specs.List.{AllByRecursion}
 use Rattle.std.proofs.lemmas.Grind.{flat_map-append}
@@ -33,7 +34,8 @@ rows_of first (path ∷ paths) = row_from first path ∷ rows_of (first + length
 -- the same paths with images in place of their points: the images of the path of each number are given
 abbrev pub redrawn : (ℕ → List Pt) → ℕ → List Drawn → List Drawn
 redrawn images number [] = []
-redrawn images number (path ∷ paths) = record { kind = path.kind; points = images number } ∷ redrawn images (number + 1) paths
+redrawn images number (path ∷ paths) = record { kind = path.kind; points = images number }
+    ∷ redrawn images (number + 1) paths
 
 -- images that may take the place of a path's points: at least as many, and one where it is a dot
 pub record DoSuit (path : Drawn) (images : List Pt) : Type 0 where
@@ -52,60 +54,81 @@ pub record IsSome (path : Drawn) : Type 0 where
   pub dot : path.kind ≡ Dot → length path.points ≡ 1
 
 -- ---- lists of paths, one behind the other
-pub suit_parts : {A : Type 0} (drawn : A → Drawn) (images : ℕ → List Pt) (number : ℕ) (paths more : List A) → AllSuit images number (map drawn (paths ++ more))
+pub suit_parts : {A : Type 0} (drawn : A → Drawn) (images : ℕ → List Pt) (number : ℕ) (paths more : List A)
+    → AllSuit images number (map drawn (paths ++ more))
     → AllSuit images number (map drawn paths) × AllSuit images (number + length paths) (map drawn more)
-suit_parts drawn images number [] more all = let e : number ≡ number + 0 = omega arith in (tt, subst (λ n. AllSuit images n (map drawn more)) e all)
+suit_parts drawn images number [] more all = let e : number ≡ number + 0 =
+    omega arith in (tt, subst (λ n. AllSuit images n (map drawn more)) e all)
 suit_parts drawn images number (path ∷ paths) more all =
     let e : number + 1 + length paths ≡ number + suc (length paths) = omega arith in
     let (front, back) = suit_parts drawn images (number + 1) paths more all.1 in
     ((all.0, front), subst (λ n. AllSuit images n (map drawn more)) e back)
 
 pub redrawn_append : {A : Type 0} (drawn : A → Drawn) (images : ℕ → List Pt) (number : ℕ) (paths more : List A)
-    → redrawn images number (map drawn (paths ++ more)) ≡ redrawn images number (map drawn paths) ++ redrawn images (number + length paths) (map drawn more)
-redrawn_append drawn images number [] more = let e : number ≡ number + 0 = omega arith in ap (λ n. redrawn images n (map drawn more)) e
+    → redrawn images number (map drawn (paths ++ more)) ≡ redrawn images number (map drawn paths)
+    ++ redrawn images (number + length paths) (map drawn more)
+redrawn_append drawn images number [] more = let e : number ≡ number + 0 =
+    omega arith in ap (λ n. redrawn images n (map drawn more)) e
 redrawn_append drawn images number (path ∷ paths) more =
     let e : number + 1 + length paths ≡ number + suc (length paths) = omega arith in
     let one : Drawn = record { kind = (drawn path).kind; points = images number } in
-    ap (λ xs. one ∷ xs) (redrawn_append drawn images (number + 1) paths more ∙ ap (λ n. redrawn images (number + 1) (map drawn paths) ++ redrawn images n (map drawn more)) e)
+    ap (λ xs. one ∷ xs) (redrawn_append drawn images (number + 1) paths more
+    ∙ ap (λ n. redrawn images (number + 1) (map drawn paths) ++ redrawn images n (map drawn more)) e)
 
 -- ---- the images of each path
-row_lookup : (first : ℕ) (done : List Drawn) (path : Drawn) (more : List Drawn) → slice_index_or (rows_of first (done ++ path ∷ more)) (length done) no_path ≡ row_from (first + length (all_points done)) path
+row_lookup : (first : ℕ) (done : List Drawn) (path : Drawn) (more : List Drawn)
+    → slice_index_or (rows_of first (done ++ path ∷ more)) (length done) no_path
+    ≡ row_from (first + length (all_points done)) path
 row_lookup first [] path more = let e : first ≡ first + 0 = omega arith in ap (λ n. row_from n path) e
 row_lookup first (one ∷ done) path more =
-    let e : first + length one.points + length (all_points done) ≡ first + length (one.points ++ all_points done) = let f = length-append one.points (all_points done) in omega (arith, f) in
+    let e : first + length one.points + length (all_points done) ≡ first + length (one.points ++ all_points done) =
+    let f = length-append one.points (all_points done) in omega (arith, f) in
     row_lookup (first + length one.points) done path more ∙ ap (λ n. row_from n path) e
 
--- the images of the path of each number, from this number on, are those of its points, the first of which has that number
+-- the images of the path of each number, from this number on, are those of its points, the first of which has that
+-- number
 abbrev AreParts : Runs → (ℕ → List Pt) → ℕ → ℕ → List Drawn → Type 0
 AreParts images of number first [] = Unit {0}
-AreParts images of number first (path ∷ paths) = (of number ≡ images_of images first (first + length path.points)) × AreParts images of (number + 1) (first + length path.points) paths
+AreParts images of number first (path ∷ paths) =
+    (of number ≡ images_of images first (first + length path.points))
+    × AreParts images of (number + 1) (first + length path.points) paths
 
-parts_are : (images : Runs) (done paths : List Drawn) → AreParts images (path_images (rows_of 0 (done ++ paths)) images) (length done) (length (all_points done)) paths
+parts_are : (images : Runs) (done paths : List Drawn)
+    → AreParts images (path_images (rows_of 0 (done ++ paths)) images) (length done) (length (all_points done)) paths
 parts_are images done [] = tt
 parts_are images done (path ∷ paths) =
     let first = length (all_points done) in
     let e : 0 + first ≡ first = omega arith in
-    let row : slice_index_or (rows_of 0 (done ++ path ∷ paths)) (length done) no_path ≡ row_from first path = row_lookup 0 done path paths ∙ ap (λ n. row_from n path) e in
+    let row : slice_index_or (rows_of 0 (done ++ path ∷ paths)) (length done) no_path ≡ row_from first path =
+    row_lookup 0 done path paths ∙ ap (λ n. row_from n path) e in
     let size : length (done ++ path ∷ []) ≡ length done + 1 = length-append done (path ∷ []) in
     let kept : length (all_points (done ++ path ∷ [])) ≡ first + length path.points =
-    let f = ap length (flat_map-append (λ (d : Drawn). d.points) done (path ∷ [])) in let g = length-append (all_points done) (path.points ++ []) in let h = length-append path.points [] in omega (arith, f, g, h) in (
+    let f = ap length (flat_map-append (λ (d : Drawn). d.points) done (path ∷ [])) in let g =
+    length-append (all_points done) (path.points ++ []) in let h =
+    length-append path.points [] in omega (arith, f, g, h) in (
       ap (λ (r : PathRow). images_of images r.first r.past) row,
-      subst (λ n. AreParts images (path_images (rows_of 0 (done ++ path ∷ paths)) images) n (first + length path.points) paths) size
-          (subst (λ n. AreParts images (path_images (rows_of 0 (done ++ path ∷ paths)) images) (length (done ++ path ∷ [])) n paths) kept
-          (subst (λ ps. AreParts images (path_images (rows_of 0 ps) images) (length (done ++ path ∷ [])) (length (all_points (done ++ path ∷ []))) paths) (append_assoc done (path ∷ []) paths)
+      subst (λ n. AreParts images (path_images (rows_of 0 (done ++ path ∷ paths)) images) n (first + length path.points)
+          paths) size
+          (subst (λ n. AreParts images (path_images (rows_of 0 (done ++ path ∷ paths)) images)
+          (length (done ++ path ∷ [])) n paths) kept
+          (subst (λ ps. AreParts images (path_images (rows_of 0 ps) images) (length (done ++ path ∷ []))
+          (length (all_points (done ++ path ∷ []))) paths) (append_assoc done (path ∷ []) paths)
           (parts_are images (done ++ path ∷ []) paths))),
     )
 
 -- ---- a sheet of these paths, and images that fit it
 module _ (sheet : Contents) (images : Runs) (fit : DoFit sheet images) where
-  all_suit : (of : ℕ → List Pt) (number first : ℕ) (paths : List Drawn) → AreParts images of number first paths → first + length (all_points paths) ≤ length sheet.points → AllByRecursion IsSome paths
-      → AllByRecursion (EndsAlone images) (rows_of first paths) → AllByRecursion IsWithinReach images.points → AllSuit of number paths
+  all_suit : (of : ℕ → List Pt) (number first : ℕ) (paths : List Drawn) → AreParts images of number first paths
+      → first + length (all_points paths) ≤ length sheet.points → AllByRecursion IsSome paths
+      → AllByRecursion (EndsAlone images) (rows_of first paths) → AllByRecursion IsWithinReach images.points
+      → AllSuit of number paths
   all_suit of number first [] are within some alone reach = tt
   all_suit of number first (path ∷ paths) are within some alone reach =
       let both = length-append path.points (all_points paths) in
       let past = first + length path.points in
       let fits : past ≤ length sheet.points = omega (arith, within, both) in
-      let count : length (of number) ≡ run_begin images past - run_begin images first = ap length are.0 ∙ images_length sheet images fit first past fits in
+      let count : length (of number) ≡ run_begin images past - run_begin images first = ap length are.0
+      ∙ images_length sheet images fit first past fits in
       let room = spread sheet images fit first (length path.points) fits in
       let one = some.0.some in (
         record {
@@ -114,7 +137,8 @@ module _ (sheet : Contents) (images : Runs) (fit : DoFit sheet images) where
           dot = λ is.
               let single : length path.points ≡ 1 = some.0.dot is in
               let e : first + 1 ≡ past = omega (arith, single) in
-              let a : run_begin images (first + 1) ≡ run_begin images first + 1 = alone.0 (inl (λ loop. let f = sym is ∙ loop in cc)) first e in
+              let a : run_begin images (first + 1) ≡ run_begin images first + 1 =
+              alone.0 (inl (λ loop. let f = sym is ∙ loop in cc)) first e in
               let b = ap (run_begin images) e in
               omega (arith, count, a, b);
           reach = subst (AllByRecursion IsWithinReach) (sym are.0) (all_of images first past reach);
@@ -122,7 +146,8 @@ module _ (sheet : Contents) (images : Runs) (fit : DoFit sheet images) where
         all_suit of (number + 1) past paths are.1 (omega (arith, within, both)) some.1 alone.1 reach,
       )
 
-  points_redrawn : (of : ℕ → List Pt) (number first : ℕ) (paths : List Drawn) → AreParts images of number first paths → first + length (all_points paths) ≡ length sheet.points
+  points_redrawn : (of : ℕ → List Pt) (number first : ℕ) (paths : List Drawn) → AreParts images of number first paths
+      → first + length (all_points paths) ≡ length sheet.points
       → all_points (redrawn of number paths) ≡ drop (run_begin images first) images.points
   points_redrawn of number first [] are all =
       let e : first ≡ length sheet.points = let z : length {A = Pt} [] ≡ 0 = refl in omega (arith, all, z) in
@@ -135,22 +160,32 @@ module _ (sheet : Contents) (images : Runs) (fit : DoFit sheet images) where
       let count = run_begin images past - run_begin images first in
       let e : run_begin images first + count ≡ run_begin images past = omega (arith, room) in
       ap (λ xs. xs ++ all_points (redrawn of (number + 1) paths)) are.0
-      ∙ ap (λ xs. images_of images first past ++ xs) (points_redrawn of (number + 1) past paths are.1 (omega (arith, all, both)))
-      ∙ ap (λ xs. images_of images first past ++ xs) (sym (drop_twice (run_begin images first) count images.points ∙ ap (λ n. drop n images.points) e))
+      ∙ ap (λ xs. images_of images first past ++ xs)
+      (points_redrawn of (number + 1) past paths are.1 (omega (arith, all, both)))
+      ∙ ap (λ xs. images_of images first past ++ xs)
+      (sym (drop_twice (run_begin images first) count images.points ∙ ap (λ n. drop n images.points) e))
       ∙ take-append-drop count (drop (run_begin images first) images.points)
 
-  rows_redrawn : (of : ℕ → List Pt) (number first : ℕ) (paths : List Drawn) → AreParts images of number first paths → first + length (all_points paths) ≤ length sheet.points
+  rows_redrawn : (of : ℕ → List Pt) (number first : ℕ) (paths : List Drawn) → AreParts images of number first paths
+      → first + length (all_points paths) ≤ length sheet.points
       → rows_of (run_begin images first) (redrawn of number paths) ≡ map (imaged images) (rows_of first paths)
   rows_redrawn of number first [] are within = refl
   rows_redrawn of number first (path ∷ paths) are within =
       let both = length-append path.points (all_points paths) in
       let past = first + length path.points in
       let fits : past ≤ length sheet.points = omega (arith, within, both) in
-      let count : length (of number) ≡ run_begin images past - run_begin images first = ap length are.0 ∙ images_length sheet images fit first past fits in
+      let count : length (of number) ≡ run_begin images past - run_begin images first = ap length are.0
+      ∙ images_length sheet images fit first past fits in
       let room = spread sheet images fit first (length path.points) fits in
       let e : run_begin images first + length (of number) ≡ run_begin images past = omega (arith, count, room) in
-      ap (λ n. let row : PathRow = record { kind = path.kind; first = run_begin images first; past = n } in row ∷ rows_of n (redrawn of (number + 1) paths)) e
-      ∙ ap (λ rows. let row : PathRow = record { kind = path.kind; first = run_begin images first; past = run_begin images past } in row ∷ rows)
+      ap (λ n. let row : PathRow = record { kind = path.kind; first = run_begin images first; past = n } in row
+      ∷ rows_of n (redrawn of (number + 1) paths)) e
+      ∙ ap (λ rows. let row : PathRow = record {
+        kind = path.kind;
+        first = run_begin images first;
+        past =
+            run_begin images past;
+      } in row ∷ rows)
       (rows_redrawn of (number + 1) past paths are.1 (omega (arith, within, both)))
 
   -- the sheet has these paths
@@ -162,12 +197,14 @@ module _ (sheet : Contents) (images : Runs) (fit : DoFit sheet images) where
     sheet_suits some =
         let e = ap length points in
         all_suit (path_images sheet.paths images) 0 0 paths parts (omega (arith, e)) some
-        (subst (AllByRecursion (EndsAlone images)) rows (all_listed (EndsAlone images) sheet.paths fit.alone)) (all_listed IsWithinReach images.points fit.in_reach)
+        (subst (AllByRecursion (EndsAlone images)) rows (all_listed (EndsAlone images) sheet.paths fit.alone))
+        (all_listed IsWithinReach images.points fit.in_reach)
 
     pub points_again : all_points (redrawn (path_images sheet.paths images) 0 paths) ≡ images.points
     points_again =
         let e = ap length points in
-        points_redrawn (path_images sheet.paths images) 0 0 paths parts (omega (arith, e)) ∙ ap (λ n. drop n images.points) fit.begins
+        points_redrawn (path_images sheet.paths images) 0 0 paths parts (omega (arith, e))
+        ∙ ap (λ n. drop n images.points) fit.begins
 
     pub rows_again : rows_of 0 (redrawn (path_images sheet.paths images) 0 paths) ≡ map (imaged images) sheet.paths
     rows_again =

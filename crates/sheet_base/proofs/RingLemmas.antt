@@ -10,11 +10,18 @@ use Rattle.sheet_base.specs.Rings.{is_same, is_closed}
 
 pub same_is : (p q : Pt) → p ≡ q → is_same p q ≡ true
 same_is p q same =
-    rw ((Decides-int_eq p.x q.x).1 (ap (λ (r : Pt). r.x) same), (Decides-int_eq p.y q.y).1 (ap (λ (r : Pt). r.y) same)) refl
+    rw ((Decides-int_eq p.x q.x).1 (ap (λ (r : Pt). r.x) same), (Decides-int_eq p.y q.y).1 (ap (λ (r : Pt). r.y) same))
+    refl
 
 -- four points or more, of which the last is the first
-pub closed_by : (points : List Pt) → 4 ≤ length points → point_at points 0 ≡ point_at points (length points - 1) → is_closed points ≡ true
-closed_by points many same = rw (le-leb 4 (length points) many, same_is (point_at points 0) (point_at points (length points - 1)) same) refl
+pub closed_by : (points : List Pt) → 4 ≤ length points → point_at points 0 ≡ point_at points (length points - 1)
+    → is_closed points ≡ true
+closed_by points many same = rw (
+  le-leb 4 (length points) many,
+  same_is (point_at points 0)
+      (point_at points (length points - 1)) same,
+) refl
 
 pub closed_many : (points : List Pt) → is_closed points ≡ true → 4 ≤ length points
-closed_many points closed = leb-true 4 (length points) (and_parts (nat_le 4 (length points)) (is_same (point_at points 0) (point_at points (length points - 1))) closed).0
+closed_many points closed = leb-true 4 (length points)
+    (and_parts (nat_le 4 (length points)) (is_same (point_at points 0) (point_at points (length points - 1))) closed).0

@@ -9,14 +9,16 @@ use Rattle.sheet_base.specs.ReadBack.{ends_of, imaged, IsReadBack}
 use Rattle.sheet_base.proofs.Splicing.{if_ok_more, splices_keep}
 
 -- a text is read as a sheet of just these images, with the first sheet's paths over them, and no number lost digits
-pub record IsReadAgain (reads : List ℕ → Contents → Type 0) (text : List ℕ) (sheet : Contents) (images : Runs) : Type 0 where
-  pub back : Contents
-  pub is_read : reads text back
-  pub points : back.points ≡ images.points
-  pub paths : back.paths ≡ map (imaged images) sheet.paths
-  pub exact_all : back.inexact ≡ 0
+pub record IsReadAgain (reads : List ℕ → Contents → Type 0) (text : List ℕ) (sheet : Contents) (images : Runs) : Type 0
+  where
+    pub back : Contents
+    pub is_read : reads text back
+    pub points : back.points ≡ images.points
+    pub paths : back.paths ≡ map (imaged images) sheet.paths
+    pub exact_all : back.inexact ≡ 0
 
-pub read_back : (reads : List ℕ → Contents → Type 0) (text : List ℕ) (sheet : Contents) (images : Runs) → IsReadAgain reads text sheet images → IsReadBack reads sheet images text
+pub read_back : (reads : List ℕ → Contents → Type 0) (text : List ℕ) (sheet : Contents) (images : Runs)
+    → IsReadAgain reads text sheet images → IsReadBack reads sheet images text
 read_back reads text sheet images again = record {
   back = again.back;
   is_read = again.is_read;
@@ -24,12 +26,15 @@ read_back reads text sheet images again = record {
 }
 
 -- ---- where a call splices these bytes at the given edits, which are those of the sheet
-module _ {X E : Type 0} (result : Result X E) (bytes_in : X → List ℕ) (bytes : List ℕ) (text : Edit → List ℕ) (given edits : List Edit) (are : given ≡ edits)
+module _ {X E : Type 0} (result : Result X E) (bytes_in : X → List ℕ) (bytes : List ℕ) (text : Edit → List ℕ)
+    (given edits : List Edit) (are : given ≡ edits)
     (is_spliced : IfOk result (λ out. bytes_in out ≡ spliced bytes text given)) where
   -- what holds of the spliced bytes holds of the answer
-  pub holds_written : (Holds : List ℕ → Type 0) → Holds (spliced bytes text edits) → IfOk result (λ out. Holds (bytes_in out))
+  pub holds_written : (Holds : List ℕ → Type 0) → Holds (spliced bytes text edits)
+      → IfOk result (λ out. Holds (bytes_in out))
   holds_written Holds holds =
-      if_ok_more result (λ out. bytes_in out ≡ spliced bytes text given) (λ out. Holds (bytes_in out)) (λ out is. subst Holds (sym (is ∙ ap (spliced bytes text) are)) holds) is_spliced
+      if_ok_more result (λ out. bytes_in out ≡ spliced bytes text given) (λ out. Holds (bytes_in out))
+      (λ out is. subst Holds (sym (is ∙ ap (spliced bytes text) are)) holds) is_spliced
 
   pub rest_written : IfOk result (λ out. DoKeep bytes 0 edits (bytes_in out))
   rest_written = holds_written (DoKeep bytes 0 edits) (splices_keep bytes text edits)

@@ -1,5 +1,6 @@
 -- When images fit a sheet: one run of images for each of its points.
-use Rattle.std.specs.Prelude.{◌≡◌, ◌≢◌, ◌⊎◌, ℕ, ◌+◌, ◌-◌, ◌<◌, ◌≤◌, ◌^◌, unsigned_abs, All, List, length, take, drop, slice_index_or}
+use Rattle.std.specs.Prelude.{◌≡◌, ◌≢◌, ◌⊎◌, ℕ, ◌+◌, ◌-◌, ◌<◌, ◌≤◌, ◌^◌, unsigned_abs, All, List, length, take, drop}
+use Rattle.std.specs.Prelude.{slice_index_or}
 use Rattle.mm_decimal.specs.declared.limits.TheConstants.{LIMIT}
 use Rattle.plane_base.specs.declared.shapes.Pt.{Pt}
 use Rattle.sheet_base.specs.declared.paths.PathKind.TheVariants.{Dot, Loop}
@@ -18,7 +19,8 @@ run_begin images point = slice_index_or images.run point (length images.points)
 
 -- the images of the points from one number to before another, each with those of the crossings behind it
 abbrev pub images_of : Runs → ℕ → ℕ → List Pt
-images_of images first past = take (run_begin images past - run_begin images first) (drop (run_begin images first) images.points)
+images_of images first past = take (run_begin images past - run_begin images first)
+    (drop (run_begin images first) images.points)
 
 -- those of a path's points
 abbrev pub row_images : Runs → PathRow → List Pt
@@ -37,12 +39,14 @@ IsAlone images point = run_begin images (point + 1) ≡ run_begin images point +
 
 -- no crossing stands behind the last point of the path, where that begins no segment to another point
 abbrev pub EndsAlone : Runs → PathRow → Type 0
-EndsAlone images path = (path.kind ≢ Loop) ⊎ (points_in path ≡ 1) → (last : ℕ) → last + 1 ≡ path.past → IsAlone images last
+EndsAlone images path = (path.kind ≢ Loop) ⊎ (points_in path ≡ 1) → (last : ℕ) → last + 1 ≡ path.past
+    → IsAlone images last
 
 abbrev pub IsWithinReach : Pt → Type 0
 IsWithinReach point = (unsigned_abs point.x ≤ LIMIT) × (unsigned_abs point.y ≤ LIMIT)
 
--- each point of the sheet has one run, the runs follow each other without a gap from the first image to the last, and none is empty
+-- each point of the sheet has one run, the runs follow each other without a gap from the first image to the last, and
+-- none is empty
 pub record DoFit (sheet : Contents) (images : Runs) : Type 0 where
   pub few : length images.points < 2 ^ 32
   pub one_each : length images.run ≡ length sheet.points

@@ -15,4 +15,5 @@ list_text separator text (image ∷ images) = text image ++ texts_behind separat
 -- the same, and the first image again
 abbrev pub ring_text : List ℕ → (Pt → List ℕ) → List Pt → List ℕ
 ring_text separator text [] = []
-ring_text separator text (image ∷ images) = list_text separator text (image ∷ images) ++ texts_behind separator text (image ∷ [])
+ring_text separator text (image ∷ images) =
+    list_text separator text (image ∷ images) ++ texts_behind separator text (image ∷ [])

@@ -3,7 +3,14 @@ use Rattle.sheet_base.specs.declared.sheets.Sheet.TheInside.{Inside}
 use Rattle.sheet_base.specs.Sheets.{Contents, IsSheet}
 
 abbrev pub seen : Inside → Contents
-seen sheet = record { paths = sheet.paths; points = sheet.points; edits = sheet.edits; inexact = sheet.inexact; dropped = sheet.dropped }
+seen sheet = record {
+  paths = sheet.paths;
+  points = sheet.points;
+  edits = sheet.edits;
+  inexact =
+      sheet.inexact;
+  dropped = sheet.dropped;
+}
 
 -- what is true of each value of the type
 abbrev pub IsKept : Inside → Type 0

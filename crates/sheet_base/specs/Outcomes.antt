@@ -4,8 +4,8 @@ use Rattle.sheet_base.specs.declared.faults.LayerFault.{LayerFault}
 use Rattle.sheet_base.specs.declared.flags.How.{How}
 use Rattle.sheet_base.specs.Sheets.{Contents}
 
--- Of bytes that a format reads as these sheets and refuses by these faults: they have one sheet at most, or one fault at
--- most, and not both.
+-- Of bytes that a format reads as these sheets and refuses by these faults: they have one sheet at most, or one fault
+-- at most, and not both.
 pub record HasOneOutcome (reads : Contents → Type 0) (refuses : LayerFault → Type 0) : Type 0 where
   pub one_sheet : (sheet other : Contents) → reads sheet → reads other → sheet ≡ other
   pub one_fault : (fault other : LayerFault) → refuses fault → refuses other → fault ≡ other

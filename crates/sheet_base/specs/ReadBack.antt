@@ -28,8 +28,10 @@ ends_of points paths = flat_map (ends_in points) paths
 abbrev pub imaged : Runs → PathRow → PathRow
 imaged images path = record { kind = path.kind; first = run_begin images path.first; past = run_begin images path.past }
 
--- What was written is read as some sheet, and that one's segments in order go from image to image of the first sheet's paths.
-pub record IsReadBack (reads : List ℕ → Contents → Type 0) (sheet : Contents) (images : Runs) (written : List ℕ) : Type 0 where
+-- What was written is read as some sheet, and that one's segments in order go from image to image of the first sheet's
+-- paths.
+pub record IsReadBack (reads : List ℕ → Contents → Type 0) (sheet : Contents) (images : Runs) (written : List ℕ) : Type
+    0 where
   pub back : Contents
   pub is_read : reads written back
   pub segments : ends_of back.points back.paths ≡ ends_of images.points (map (imaged images) sheet.paths)

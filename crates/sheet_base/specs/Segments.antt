@@ -8,7 +8,8 @@ use Rattle.sheet_base.specs.declared.paths.PathRow.{PathRow}
 abbrev pub points_in : PathRow → ℕ
 points_in path = path.past - path.first
 
--- how many segments a path of so many points has: one point has the segment to itself, a line joins each point to the next, a loop joins its last to its first, too
+-- how many segments a path of so many points has: one point has the segment to itself, a line joins each point to the
+-- next, a loop joins its last to its first, too
 abbrev pub segments_of : PathKind → ℕ → ℕ
 segments_of Dot count = 1
 segments_of Line count = max 1 (count - 1)

@@ -5,7 +5,8 @@ use Rattle.sheet_base.specs.declared.edits.Edit.{Edit}
 use Rattle.sheet_base.specs.declared.paths.PathKind.TheVariants.{Dot}
 use Rattle.sheet_base.specs.declared.paths.PathRow.{PathRow}
 
--- the paths, points and edits of a layer in order of its text, how many of its numbers lost digits, and how many entities are left out
+-- the paths, points and edits of a layer in order of its text, how many of its numbers lost digits, and how many
+-- entities are left out
 pub record Contents : Type 0 where
   pub paths : List PathRow
   pub points : List Pt

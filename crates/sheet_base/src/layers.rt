@@ -29,7 +29,7 @@ pub trait Layer {
     ghost reads_back: { How → List ℕ → Contents → Runs → Type 0 };
 
     /// The sheet of a layer, with its edits in order and apart from each other; or the layer's first
-    /// fault, but for want of memory.
+    /// fault, except where memory runs out.
     fn read(alloc: Global, bytes: &[u8], how: How) -> Result<Sheet, LayerFault>
         requires { length bytes.now ≤ 2 ^ 26 }
         ensures sheet { IfOk result (λ sheet. reads how bytes.now sheet) }

@@ -9,7 +9,8 @@ use Rattle.shelf_io.specs.declared.store.Store.TheInside.{Inside}
 abbrev pub files_in : List Part → List ℕ → Files
 files_in [] text = []
 files_in (part ∷ parts) text =
-    (take part.name text, take part.content (drop part.name text)) ∷ files_in parts (drop part.content (drop part.name text))
+    (take part.name text, take part.content (drop part.name text))
+    ∷ files_in parts (drop part.content (drop part.name text))
 
 -- how long the text of these parts is
 abbrev pub length_of : List Part → ℕ

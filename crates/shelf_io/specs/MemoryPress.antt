@@ -26,7 +26,13 @@ after_fault p = record p { broken = true; calls = counted p.calls 1; faults = co
 
 -- after an empty file of this name was begun
 abbrev pub after_begin : MemoryPress → List ℕ → MemoryPress
-after_begin p name = record p { made = with_file name p.made; at_hand = true; broken = false; calls = counted p.calls 1 }
+after_begin p name = record p {
+  made = with_file name p.made;
+  at_hand = true;
+  broken = false;
+  calls =
+      counted p.calls 1;
+}
 
 -- after these bytes were written at the end of the file at hand
 abbrev pub after_write : MemoryPress → List ℕ → MemoryPress

@@ -18,7 +18,17 @@ pub record MemoryShelf : Type 0 where
   pub given : ℕ
 
 abbrev pub empty_shelf : ℕ → MemoryShelf
-empty_shelf most = record { files = []; most = most; fail = []; at_hand = None; place = 0; calls = 0; faults = 0; given = 0 }
+empty_shelf most = record {
+  files = [];
+  most = most;
+  fail = [];
+  at_hand = None;
+  place = 0;
+  calls = 0;
+  faults =
+      0;
+  given = 0;
+}
 
 -- what is left of a file from a place on, by the file's number
 abbrev pub rest_from : Files → Option ℕ → ℕ → Option (List ℕ)

@@ -20,6 +20,7 @@ shelf_of s = record {
 -- a read may give a byte, the place is in the file at hand, and the names differ
 pub record IsSound (s : Inside) : Type 0 where
   pub most : 0 < s.most
-  pub place : IfSome s.at_hand (λ number. IfSome (slice_get s.files.items number) (λ file. s.place ≤ length file.bytes.items))
+  pub place : IfSome s.at_hand (λ number. IfSome (slice_get s.files.items number)
+      (λ file. s.place ≤ length file.bytes.items))
   pub at_hand : IfSome s.at_hand (λ number. number < length s.files.items)
   pub distinct : AreDistinct (map named_bytes s.files.items)

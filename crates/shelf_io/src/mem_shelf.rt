@@ -1,6 +1,7 @@
 //! A shelf in memory, for tests: calls of chosen numbers fail.
 
-ghost use Rattle.std.specs.Prelude.{◌≡◌, ◌↔◌, ◌<◌, ◌≤◌, [], ◌∷◌, ◌++◌, length, Contains, IsTrue, IsErr, IfOk, OnOk, OnErr, is_some, Some, None, true, false};
+ghost use Rattle.std.specs.Prelude.{◌≡◌, ◌↔◌, ◌<◌, ◌≤◌, [], ◌∷◌, ◌++◌, length, Contains, IsTrue, IsErr, IfOk, OnOk};
+ghost use Rattle.std.specs.Prelude.{OnErr, is_some, Some, None, true, false};
 ghost use Rattle.shelf_io.specs.Count.{HasCause, counted};
 ghost use Rattle.shelf_io.specs.Files.{bytes_of, AreDistinct};
 ghost use Rattle.shelf_io.specs.MemoryShelf.{after_begin, after_fault, after_read, rest_at_hand};

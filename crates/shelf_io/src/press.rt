@@ -1,6 +1,7 @@
 //! What a press is: files made one after the other, with a count of the calls that failed.
 
-ghost use Rattle.std.specs.Prelude.{◌≡◌, ◌<◌, ◌≤◌, ℕ, Bool, true, false, Option, length, take, IfOk, OnOk, OnErr, IsTrue, is_err};
+ghost use Rattle.std.specs.Prelude.{◌≡◌, ◌<◌, ◌≤◌, ℕ, Bool, true, false, Option, length, take, IfOk, OnOk, OnErr};
+ghost use Rattle.std.specs.Prelude.{IsTrue, is_err};
 ghost use Rattle.shelf_io.specs.Files.{Files};
 ghost use Rattle.shelf_io.specs.Count.{HasCause};
 ghost use Rattle.shelf_io.specs.Made.{Adds, Appends, IsKept, Lacks};

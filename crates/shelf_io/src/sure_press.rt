@@ -1,6 +1,7 @@
 //! A press in memory of a fixed size, of which no call fails.
 
-ghost use Rattle.std.specs.Prelude.{◌≡◌, ◌<◌, ◌≤◌, length, take, IsTrue, IfOk, IfSome, OnOk, OnErr, Ok, Some, None, true, false, option_copied, is_err};
+ghost use Rattle.std.specs.Prelude.{◌≡◌, ◌<◌, ◌≤◌, length, take, IsTrue, IfOk, IfSome, OnOk, OnErr, Ok, Some, None};
+ghost use Rattle.std.specs.Prelude.{true, false, option_copied, is_err};
 ghost use Rattle.shelf_io.specs.Count.{HasCause};
 ghost use Rattle.shelf_io.specs.Files.{bytes_of};
 ghost use Rattle.shelf_io.specs.Made.{Adds, Appends, IsKept, Lacks};

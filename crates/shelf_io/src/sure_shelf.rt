@@ -1,6 +1,7 @@
 //! A shelf in memory of which no call fails.
 
-ghost use Rattle.std.specs.Prelude.{◌≡◌, ◌<◌, ◌≤◌, [], length, IsTrue, IfOk, IsOk, OnOk, OnErr, is_some, Some, None, true, false};
+ghost use Rattle.std.specs.Prelude.{◌≡◌, ◌<◌, ◌≤◌, [], length, IsTrue, IfOk, IsOk, OnOk, OnErr, is_some, Some, None};
+ghost use Rattle.std.specs.Prelude.{true, false};
 ghost use Rattle.shelf_io.specs.Count.{HasCause, counted};
 ghost use Rattle.shelf_io.specs.MemoryShelf.{after_begin, after_read, rest_at_hand};
 ghost use Rattle.shelf_io.specs.Shelf.{Begins, TakesFront};

@@ -12,7 +12,8 @@ use Rattle.tin_base.specs.Images.{AreLikeMixes}
 use Rattle.tin_base.proofs.Weights.{weighed-x, weighed-y, weighed-w, total-ones, HasAll, Spread, spread}
 
 -- ---- mixes of corners
-pub spread_same : (at : ℕ → Point) (ns ks ws : List ℕ) (p : Point) (s : Spread ns ks ws) → Same p (weighed ws (map at ks)) → Same p (weighed s.weights (map at ns))
+pub spread_same : (at : ℕ → Point) (ns ks ws : List ℕ) (p : Point) (s : Spread ns ks ws)
+    → Same p (weighed ws (map at ks)) → Same p (weighed s.weights (map at ns))
 spread_same at ns ks ws p s =
     same_moved p (weighed ws (map at ks)) (weighed s.weights (map at ns))
     (weighed-x at ws ks ∙ sym (s.totals (λ n. (at n).x)) ∙ sym (weighed-x at s.weights ns))
@@ -20,7 +21,8 @@ spread_same at ns ks ws p s =
     (weighed-w at ws ks ∙ sym (s.totals (λ n. (at n).w)) ∙ sym (weighed-w at s.weights ns))
 
 -- a mix of some of the corners is a mix of them all, with the same weights in both frames
-pub alike_more : (tin : Triangulation) (frame : Frame) (ns ks : List ℕ) (p r : Point) → HasAll ns ks → AreLikeMixes tin frame ks p r → AreLikeMixes tin frame ns p r
+pub alike_more : (tin : Triangulation) (frame : Frame) (ns ks : List ℕ) (p r : Point) → HasAll ns ks
+    → AreLikeMixes tin frame ks p r → AreLikeMixes tin frame ns p r
 alike_more tin frame ns ks p r h m =
     let s = spread ns ks m.0 m.1 h in (
       s.weights,
@@ -34,26 +36,38 @@ positive_of : (n : ℕ) (z : ℤ) → 0 < n → z ≡ pos n → pos 0 <ℤ z
 positive_of n z h e = omega (arith, ints)
 
 -- a mix of corners has a positive w
-pub mix-w : (tin : Triangulation) (frame : Frame) (ws ns : List ℕ) → length ws ≡ length ns → 0 < sum ws → pos 0 <ℤ (weighed ws (places tin frame ns)).w
-mix-w tin frame ws ns e h = positive_of (sum ws) _ h (weighed-w (λ n. place frame (corner_at tin n)) ws ns ∙ total-ones ws ns e)
+pub mix-w : (tin : Triangulation) (frame : Frame) (ws ns : List ℕ) → length ws ≡ length ns → 0 < sum ws
+    → pos 0 <ℤ (weighed ws (places tin frame ns)).w
+mix-w tin frame ws ns e h = positive_of (sum ws) _ h
+    (weighed-w (λ n. place frame (corner_at tin n)) ws ns ∙ total-ones ws ns e)
 
-pub alike_in : (tin : Triangulation) (frame : Frame) (ns : List ℕ) (p r : Point) → AreLikeMixes tin frame ns p r → IsMix p (places tin frame ns)
+pub alike_in : (tin : Triangulation) (frame : Frame) (ns : List ℕ) (p r : Point) → AreLikeMixes tin frame ns p r
+    → IsMix p (places tin frame ns)
 alike_in tin frame ns p r m = (m.0, m.1 ∙ sym (length-map ns (λ n. place frame (corner_at tin n))), m.2, m.3)
 
 -- the same mix in the other frame
-pub alike_of : (tin : Triangulation) (frame : Frame) (ns : List ℕ) (p : Point) → IsMix p (places tin frame ns) → (r : Point) × (pos 0 <ℤ r.w) × AreLikeMixes tin frame ns p r
+pub alike_of : (tin : Triangulation) (frame : Frame) (ns : List ℕ) (p : Point) → IsMix p (places tin frame ns)
+    → (r : Point) × (pos 0 <ℤ r.w) × AreLikeMixes tin frame ns p r
 alike_of tin frame ns p m =
-    let fit : length m.0 ≡ length ns = m.1 ∙ length-map ns (λ n. place frame (corner_at tin n)) in
-    (weighed m.0 (places tin (other frame) ns), mix-w tin (other frame) m.0 ns fit m.2, (m.0, fit, m.2, m.3, same_refl (weighed m.0 (places tin (other frame) ns))))
+    let fit : length m.0 ≡ length ns = m.1 ∙ length-map ns (λ n. place frame (corner_at tin n)) in (
+      weighed m.0 (places tin (other frame) ns),
+      mix-w tin (other frame) m.0 ns fit m.2,
+      (m.0, fit, m.2, m.3, same_refl (weighed m.0 (places tin (other frame) ns))),
+    )
 
 -- ---- in one triangle, any two images of a point are the same
-one_triangle : (tin : Triangulation) (frame : Frame) (a b c : ℕ) (ks ls : List ℕ) → length ks ≡ 3 → length ls ≡ 3 → 0 < sum ks → 0 < sum ls → pos 0 <ℤ turn_of_three (places tin frame (a ∷ b ∷ c ∷ []))
-    → Same (weighed ks (places tin frame (a ∷ b ∷ c ∷ []))) (weighed ls (places tin frame (a ∷ b ∷ c ∷ []))) → Same (weighed ks (places tin (other frame) (a ∷ b ∷ c ∷ []))) (weighed ls (places tin (other frame) (a ∷ b ∷ c ∷ [])))
+one_triangle : (tin : Triangulation) (frame : Frame) (a b c : ℕ) (ks ls : List ℕ) → length ks ≡ 3 → length ls ≡ 3
+    → 0 < sum ks → 0 < sum ls → pos 0 <ℤ turn_of_three (places tin frame (a ∷ b ∷ c ∷ []))
+    → Same (weighed ks (places tin frame (a ∷ b ∷ c ∷ []))) (weighed ls (places tin frame (a ∷ b ∷ c ∷ [])))
+    → Same (weighed ks (places tin (other frame) (a ∷ b ∷ c ∷ [])))
+    (weighed ls (places tin (other frame) (a ∷ b ∷ c ∷ [])))
 one_triangle tin frame a b c (k ∷ l ∷ m ∷ []) (r ∷ s ∷ t ∷ []) e f h i d same =
     image_unique (place frame (corner_at tin a)) (place frame (corner_at tin b)) (place frame (corner_at tin c))
-    (place (other frame) (corner_at tin a)) (place (other frame) (corner_at tin b)) (place (other frame) (corner_at tin c))
+    (place (other frame) (corner_at tin a)) (place (other frame) (corner_at tin b))
+    (place (other frame) (corner_at tin c))
     (pos k) (pos l) (pos m) (pos r) (pos s) (pos t) d
-    (mix-w tin frame (k ∷ l ∷ m ∷ []) (a ∷ b ∷ c ∷ []) refl h) (mix-w tin frame (r ∷ s ∷ t ∷ []) (a ∷ b ∷ c ∷ []) refl i) same
+    (mix-w tin frame (k ∷ l ∷ m ∷ []) (a ∷ b ∷ c ∷ []) refl h)
+    (mix-w tin frame (r ∷ s ∷ t ∷ []) (a ∷ b ∷ c ∷ []) refl i) same
 one_triangle tin frame a b c [] ls e f h i d same = absurd (omega arith)
 one_triangle tin frame a b c (k ∷ []) ls e f h i d same = absurd (omega arith)
 one_triangle tin frame a b c (k ∷ l ∷ []) ls e f h i d same = absurd (omega arith)
@@ -66,7 +80,9 @@ one_triangle tin frame a b c ks (k ∷ l ∷ m ∷ n ∷ ls) e f h i d same = ab
 not_zero : pos 0 <ℤ pos 0 → ⊥
 not_zero h = absurd h.lt
 
-pub alike_once : (tin : Triangulation) (frame : Frame) (ns : List ℕ) (p r s : Point) → pos 0 <ℤ p.w → pos 0 <ℤ turn_of_three (places tin frame ns) → AreLikeMixes tin frame ns p r → AreLikeMixes tin frame ns p s → Same r s
+pub alike_once : (tin : Triangulation) (frame : Frame) (ns : List ℕ) (p r s : Point) → pos 0 <ℤ p.w
+    → pos 0 <ℤ turn_of_three (places tin frame ns) → AreLikeMixes tin frame ns p r → AreLikeMixes tin frame ns p s
+    → Same r s
 alike_once tin frame [] p r s hp d m n = absurd (not_zero d)
 alike_once tin frame (a ∷ []) p r s hp d m n = absurd (not_zero d)
 alike_once tin frame (a ∷ b ∷ []) p r s hp d m n = absurd (not_zero d)
@@ -75,6 +91,7 @@ alike_once tin frame (a ∷ b ∷ c ∷ []) p r s hp d m n =
     let ns : List ℕ = a ∷ b ∷ c ∷ [] in
     let q = weighed m.0 (places tin frame ns) in let q' = weighed n.0 (places tin frame ns) in
     let u = weighed m.0 (places tin (other frame) ns) in let u' = weighed n.0 (places tin (other frame) ns) in
-    let same : Same u u' = one_triangle tin frame a b c m.0 n.0 m.1 n.1 m.2 n.2 d (same_trans q p q' hp (same_sym p q m.3) n.3) in
+    let same : Same u u' = one_triangle tin frame a b c m.0 n.0 m.1 n.1 m.2 n.2 d
+    (same_trans q p q' hp (same_sym p q m.3) n.3) in
     same_trans r u s (mix-w tin (other frame) m.0 ns m.1 m.2) m.4
     (same_trans u u' s (mix-w tin (other frame) n.0 ns n.1 n.2) same (same_sym s u' n.4))

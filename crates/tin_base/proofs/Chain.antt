@@ -1,11 +1,14 @@
 -- The pieces of a segment that is inside follow each other without a gap.
-use Rattle.std.proofs.Common.{◌≡◌, ◌≢◌, ◌⊎◌, inl, inr, ℕ, zero, suc, ◌+◌, ◌*◌, ◌<◌, ◌≤◌, pos, ◌<ℤ◌, List, length, sym, subst, arith}
+use Rattle.std.proofs.Common.{◌≡◌, ◌≢◌, ◌⊎◌, inl, inr, ℕ, zero, suc, ◌+◌, ◌*◌, ◌<◌, ◌≤◌, pos, ◌<ℤ◌, List, length, sym}
+use Rattle.std.proofs.Common.{subst, arith}
 use Rattle.plane_base.specs.declared.shapes.Pt.{Pt}
 use Rattle.tin_base.specs.declared.frames.Frame.TheVariants.{Source}
 use Rattle.tin_base.specs.Triangulation.{Triangulation, numbers_of, places}
 use Rattle.tin_base.specs.Soundness.{turn_of_three, IsSound}
-use Rattle.tin_base.specs.Segments.{Spot, at_a, at_b, IsBefore, IsNotAfter, IsSameSpot, IsInside, IsShared, IsPart, Part, part_at, ArePieces, AreChain, DoCover}
-use Rattle.tin_base.proofs.Ends.{IsSpot, before_or, not_both, no_later, no_later_trans, before_trans_left, before_trans_right, up_to_same, from_same, same_of}
+use Rattle.tin_base.specs.Segments.{Spot, at_a, at_b, IsBefore, IsNotAfter, IsSameSpot, IsInside, IsShared, IsPart}
+use Rattle.tin_base.specs.Segments.{Part, part_at, ArePieces, AreChain, DoCover}
+use Rattle.tin_base.proofs.Ends.{IsSpot, before_or, not_both, no_later, no_later_trans, before_trans_left}
+use Rattle.tin_base.proofs.Ends.{before_trans_right, up_to_same, from_same, same_of}
 use Rattle.tin_base.proofs.Parts.{between_in}
 use Rattle.tin_base.proofs.Overlap.{same_spots}
 use Rattle.tin_base.proofs.Further.{NextPart, next_part}
@@ -17,7 +20,8 @@ record Next (parts : List Part) (x : Spot) : Type 0 where
   from : IsNotAfter (part_at parts index).first x
   behind : IsBefore x (part_at parts index).last
 
-next : (tin : Triangulation) (a b : Pt) (parts : List Part) (x : Spot) → IsSound tin → IsInside tin a b → ArePieces tin a b parts → IsSpot x → 0 < x.of_a → Next parts x
+next : (tin : Triangulation) (a b : Pt) (parts : List Part) (x : Spot) → IsSound tin → IsInside tin a b
+    → ArePieces tin a b parts → IsSpot x → 0 < x.of_a → Next parts x
 next tin a b parts x sound inside pieces some more =
     go (next_part tin a b x sound inside some more)
   where
@@ -31,12 +35,15 @@ next tin a b parts x sound inside pieces some more =
         record {
           index = e.0;
           in_range = e.1;
-          from = no_later_trans (part_at parts e.0).first n.first x has_first.some (up_to_same (part_at parts e.0).first n.first e.2) n.from;
-          behind = before_trans_right x n.last (part_at parts e.0).last piece_last.some n.behind (from_same (part_at parts e.0).last n.last e.3);
+          from = no_later_trans (part_at parts e.0).first n.first x has_first.some
+              (up_to_same (part_at parts e.0).first n.first e.2) n.from;
+          behind = before_trans_right x n.last (part_at parts e.0).last piece_last.some n.behind
+              (from_same (part_at parts e.0).last n.last e.3);
         }
 
 -- ---- no part begins before one that begins earlier has ended
-pub parts_apart : (tin : Triangulation) (a b : Pt) (t u : ℕ) (f l f' l' : Spot) → IsSound tin → a ≢ b → IsPart tin a b t f l → IsPart tin a b u f' l' → IsBefore f f' → IsNotAfter l f'
+pub parts_apart : (tin : Triangulation) (a b : Pt) (t u : ℕ) (f l f' l' : Spot) → IsSound tin → a ≢ b
+    → IsPart tin a b t f l → IsPart tin a b u f' l' → IsBefore f f' → IsNotAfter l f'
 parts_apart tin a b t u f l f' l' sound differ p q before = go (before_or f' l)
   where
     steady_t : IsPart tin a b t f l → pos 0 <ℤ turn_of_three (places tin Source (numbers_of tin t))
@@ -46,23 +53,30 @@ parts_apart tin a b t u f l f' l' sound differ p q before = go (before_or f' l)
     steady_u q = sound.positive Source u q.in_range
 
     -- two common spots, r before s: then the first spot of the one part is in the other triangle
-    clash : (r s : Spot) → IsShared tin a b t r → IsShared tin a b t s → IsShared tin a b u r → IsShared tin a b u s → IsBefore r s → ⊥
+    clash : (r s : Spot) → IsShared tin a b t r → IsShared tin a b t s → IsShared tin a b u r → IsShared tin a b u s
+        → IsBefore r s → ⊥
     clash r s tr ts ur us order =
-        not_both f f' before (q.none_before f (same_spots tin a b t u r s f sound differ p.in_range q.in_range tr ts ur us order p.has_first))
+        not_both f f' before (q.none_before f (same_spots tin a b t u r s f sound differ p.in_range q.in_range tr ts ur
+        us order p.has_first))
 
     overlapping : IsBefore f' l → IsBefore l l' ⊎ IsNotAfter l' l → ⊥
     overlapping h which =
         let first = q.has_first in let last = p.has_last in let last' = q.has_last in
-        let in_t : IsShared tin a b t f' = between_in tin a b t f l f' (steady_t p) p.has_first p.has_last first.some (no_later f f' before) (no_later f' l h) in
+        let in_t : IsShared tin a b t f' = between_in tin a b t f l f' (steady_t p) p.has_first p.has_last first.some
+        (no_later f f' before) (no_later f' l h) in
         ends in_t which
       where
         ends : IsShared tin a b t f' → IsBefore l l' ⊎ IsNotAfter l' l → ⊥
         ends in_t (inl i) =
             let last = p.has_last in
-            clash f' l in_t p.has_last q.has_first (between_in tin a b u f' l' l (steady_u q) q.has_first q.has_last last.some (no_later f' l h) (no_later l l' i)) h
+            clash f' l in_t p.has_last q.has_first
+            (between_in tin a b u f' l' l (steady_u q) q.has_first q.has_last last.some (no_later f' l h)
+            (no_later l l' i)) h
         ends in_t (inr i) =
             let last' = q.has_last in let first' = q.has_first in
-            clash f' l' in_t (between_in tin a b t f l l' (steady_t p) p.has_first p.has_last last'.some (no_later_trans f f' l' first'.some (no_later f f' before) (no_later f' l' q.differ)) i) q.has_first q.has_last q.differ
+            clash f' l' in_t (between_in tin a b t f l l' (steady_t p) p.has_first p.has_last last'.some
+            (no_later_trans f f' l' first'.some (no_later f f' before) (no_later f' l' q.differ)) i) q.has_first
+            q.has_last q.differ
 
     go : IsBefore f' l ⊎ IsNotAfter l f' → IsNotAfter l f'
     go (inr h) = h
@@ -71,9 +85,11 @@ parts_apart tin a b t u f l f' l' sound differ p q before = go (before_or f' l)
 below_all : (i j n : ℕ) → i < j → j < n → i < n
 below_all i j n h k = omega arith
 
-no_overlap : (tin : Triangulation) (a b : Pt) (parts : List Part) (i j : ℕ) → IsSound tin → a ≢ b → ArePieces tin a b parts → i < j → j < length parts → IsNotAfter (part_at parts i).last (part_at parts j).first
+no_overlap : (tin : Triangulation) (a b : Pt) (parts : List Part) (i j : ℕ) → IsSound tin → a ≢ b
+    → ArePieces tin a b parts → i < j → j < length parts → IsNotAfter (part_at parts i).last (part_at parts j).first
 no_overlap tin a b parts i j sound differ pieces below hj =
-    parts_apart tin a b (part_at parts i).triangle (part_at parts j).triangle (part_at parts i).first (part_at parts i).last (part_at parts j).first (part_at parts j).last sound differ
+    parts_apart tin a b (part_at parts i).triangle (part_at parts j).triangle (part_at parts i).first
+    (part_at parts i).last (part_at parts j).first (part_at parts j).last sound differ
     (pieces.part i (below_all i j (length parts) below hj)) (pieces.part j hj) (pieces.in_order i j below hj)
 
 -- ---- a piece that ends behind the end of piece i comes later
@@ -83,21 +99,26 @@ not_itself s h = no (s.of_b * s.of_a) h
     no : (n : ℕ) → n < n → ⊥
     no n h = absurd (omega arith)
 
-not_sooner : (tin : Triangulation) (a b : Pt) (parts : List Part) (i j : ℕ) → IsSound tin → a ≢ b → ArePieces tin a b parts → i < length parts → IsBefore (part_at parts i).last (part_at parts j).last → j < i → ⊥
+not_sooner : (tin : Triangulation) (a b : Pt) (parts : List Part) (i j : ℕ) → IsSound tin → a ≢ b
+    → ArePieces tin a b parts → i < length parts → IsBefore (part_at parts i).last (part_at parts j).last → j < i → ⊥
 not_sooner tin a b parts i j sound differ pieces hi behind sooner =
     let p = pieces.part i hi in
     let first = p.has_first in
     not_both (part_at parts i).last (part_at parts j).last behind
-    (no_later_trans (part_at parts j).last (part_at parts i).first (part_at parts i).last first.some (no_overlap tin a b parts j i sound differ pieces sooner hi) (no_later (part_at parts i).first (part_at parts i).last p.differ))
+    (no_later_trans (part_at parts j).last (part_at parts i).first (part_at parts i).last first.some
+    (no_overlap tin a b parts j i sound differ pieces sooner hi)
+    (no_later (part_at parts i).first (part_at parts i).last p.differ))
 
 three_ways : (i j : ℕ) → (i ≡ j) ⊎ ((j < i) ⊎ (i < j))
 three_ways i j = grind arith
 
-later : (tin : Triangulation) (a b : Pt) (parts : List Part) (i j : ℕ) → IsSound tin → a ≢ b → ArePieces tin a b parts → i < length parts → IsBefore (part_at parts i).last (part_at parts j).last → i < j
+later : (tin : Triangulation) (a b : Pt) (parts : List Part) (i j : ℕ) → IsSound tin → a ≢ b → ArePieces tin a b parts
+    → i < length parts → IsBefore (part_at parts i).last (part_at parts j).last → i < j
 later tin a b parts i j sound differ pieces hi behind = go (three_ways i j)
   where
     go : (i ≡ j) ⊎ ((j < i) ⊎ (i < j)) → i < j
-    go (inl e) = absurd (not_itself (part_at parts i).last (subst (λ (n : ℕ). IsBefore (part_at parts i).last (part_at parts n).last) (sym e) behind))
+    go (inl e) = absurd (not_itself (part_at parts i).last
+        (subst (λ (n : ℕ). IsBefore (part_at parts i).last (part_at parts n).last) (sym e) behind))
     go (inr (inl h)) = absurd (not_sooner tin a b parts i j sound differ pieces hi behind h)
     go (inr (inr h)) = h
 
@@ -115,8 +136,10 @@ more_of_a s t h = positive (s.of_b * t.of_a) t.of_b s.of_a h
     positive : (m n k : ℕ) → m < n * k → 0 < k
     positive m n k h = grind arith
 
-begins_at_a : (tin : Triangulation) (a b : Pt) (parts : List Part) → IsSound tin → IsInside tin a b → ArePieces tin a b parts → (0 < length parts) × IsSameSpot (part_at parts 0).first at_a
-begins_at_a tin a b parts sound inside pieces = go (next tin a b parts at_a sound inside pieces (omega arith) (omega arith))
+begins_at_a : (tin : Triangulation) (a b : Pt) (parts : List Part) → IsSound tin → IsInside tin a b
+    → ArePieces tin a b parts → (0 < length parts) × IsSameSpot (part_at parts 0).first at_a
+begins_at_a tin a b parts sound inside pieces =
+    go (next tin a b parts at_a sound inside pieces (omega arith) (omega arith))
   where
     zero_or_more : (j : ℕ) → (j ≡ 0) ⊎ (0 < j)
     zero_or_more j = grind arith
@@ -124,15 +147,21 @@ begins_at_a tin a b parts sound inside pieces = go (next tin a b parts at_a soun
     some : (j n : ℕ) → j < n → 0 < n
     some j n h = omega arith
 
-    first : (j : ℕ) → j < length parts → IsNotAfter (part_at parts j).first at_a → (j ≡ 0) ⊎ (0 < j) → IsSameSpot (part_at parts 0).first at_a
-    first j hj h (inl e) = same_of (part_at parts 0).first at_a (subst (λ (n : ℕ). IsNotAfter (part_at parts n).first at_a) e h) (from_a (part_at parts 0).first)
-    first j hj h (inr more) = absurd (nothing_before_a (part_at parts 0).first (before_trans_right (part_at parts 0).first (part_at parts j).first at_a (omega arith) (pieces.in_order 0 j more hj) h))
+    first : (j : ℕ) → j < length parts → IsNotAfter (part_at parts j).first at_a → (j ≡ 0) ⊎ (0 < j)
+        → IsSameSpot (part_at parts 0).first at_a
+    first j hj h (inl e) = same_of (part_at parts 0).first at_a
+        (subst (λ (n : ℕ). IsNotAfter (part_at parts n).first at_a) e h) (from_a (part_at parts 0).first)
+    first j hj h (inr more) = absurd (nothing_before_a (part_at parts 0).first
+        (before_trans_right (part_at parts 0).first (part_at parts j).first at_a (omega arith)
+        (pieces.in_order 0 j more hj) h))
 
     go : Next parts at_a → (0 < length parts) × IsSameSpot (part_at parts 0).first at_a
     go n = (some n.index (length parts) n.in_range, first n.index n.in_range n.from (zero_or_more n.index))
 
-joined_at : (tin : Triangulation) (a b : Pt) (parts : List Part) (i : ℕ) → IsSound tin → a ≢ b → IsInside tin a b → ArePieces tin a b parts → i + 1 < length parts → IsSameSpot (part_at parts i).last (part_at parts (i + 1)).first
-joined_at tin a b parts i sound differ inside pieces h = go (pieces.part i (here i (length parts) h)) (pieces.part (i + 1) h)
+joined_at : (tin : Triangulation) (a b : Pt) (parts : List Part) (i : ℕ) → IsSound tin → a ≢ b → IsInside tin a b
+    → ArePieces tin a b parts → i + 1 < length parts → IsSameSpot (part_at parts i).last (part_at parts (i + 1)).first
+joined_at tin a b parts i sound differ inside pieces h =
+    go (pieces.part i (here i (length parts) h)) (pieces.part (i + 1) h)
   where
     here : (i n : ℕ) → i + 1 < n → i < n
     here i n h = omega arith
@@ -146,21 +175,32 @@ joined_at tin a b parts i sound differ inside pieces h = go (pieces.part i (here
     one_or_more : (i j : ℕ) → i < j → (j ≡ i + 1) ⊎ (i + 1 < j)
     one_or_more i j h = grind arith
 
-    meet : (j : ℕ) → j < length parts → IsNotAfter (part_at parts j).first (part_at parts i).last → IsSpot (part_at parts i).last → (j ≡ i + 1) ⊎ (i + 1 < j) → IsSameSpot (part_at parts i).last (part_at parts (i + 1)).first
-    meet j hj from some (inl e) = same_of (part_at parts i).last (part_at parts (i + 1)).first apart (subst (λ (n : ℕ). IsNotAfter (part_at parts n).first (part_at parts i).last) e from)
+    meet : (j : ℕ) → j < length parts → IsNotAfter (part_at parts j).first (part_at parts i).last
+        → IsSpot (part_at parts i).last → (j ≡ i + 1) ⊎ (i + 1 < j)
+        → IsSameSpot (part_at parts i).last (part_at parts (i + 1)).first
+    meet j hj from some (inl e) = same_of (part_at parts i).last (part_at parts (i + 1)).first apart
+        (subst (λ (n : ℕ). IsNotAfter (part_at parts n).first (part_at parts i).last) e from)
     meet j hj from some (inr more) =
         absurd (not_both (part_at parts (i + 1)).first (part_at parts j).first (pieces.in_order (i + 1) j more hj)
         (no_later_trans (part_at parts j).first (part_at parts i).last (part_at parts (i + 1)).first some from apart))
 
-    go : IsPart tin a b (part_at parts i).triangle (part_at parts i).first (part_at parts i).last → IsPart tin a b (part_at parts (i + 1)).triangle (part_at parts (i + 1)).first (part_at parts (i + 1)).last → IsSameSpot (part_at parts i).last (part_at parts (i + 1)).first
+    go : IsPart tin a b (part_at parts i).triangle (part_at parts i).first (part_at parts i).last
+        → IsPart tin a b (part_at parts (i + 1)).triangle (part_at parts (i + 1)).first (part_at parts (i + 1)).last
+        → IsSameSpot (part_at parts i).last (part_at parts (i + 1)).first
     go p q =
         let last = p.has_last in let first' = q.has_first in let last' = q.has_last in
-        let more = more_of_a (part_at parts i).last (part_at parts (i + 1)).last (before_trans_left (part_at parts i).last (part_at parts (i + 1)).first (part_at parts (i + 1)).last last.some apart q.differ) in
+        let more = more_of_a (part_at parts i).last (part_at parts (i + 1)).last
+        (before_trans_left (part_at parts i).last (part_at parts (i + 1)).first (part_at parts (i + 1)).last
+        last.some apart q.differ) in
         let n = next tin a b parts (part_at parts i).last sound inside pieces last.some more in
-        meet n.index n.in_range n.from last.some (one_or_more i n.index (later tin a b parts i n.index sound differ pieces (here i (length parts) h) n.behind))
+        meet n.index n.in_range n.from last.some
+        (one_or_more i n.index (later tin a b parts i n.index sound differ pieces (here i (length parts) h)
+        n.behind))
 
-ends_at_b : (tin : Triangulation) (a b : Pt) (parts : List Part) (i : ℕ) → IsSound tin → a ≢ b → IsInside tin a b → ArePieces tin a b parts → i + 1 ≡ length parts → IsSameSpot (part_at parts i).last at_b
-ends_at_b tin a b parts i sound differ inside pieces e = go (pieces.part i (last_in i (length parts) e)) (none_or_some (part_at parts i).last.of_a)
+ends_at_b : (tin : Triangulation) (a b : Pt) (parts : List Part) (i : ℕ) → IsSound tin → a ≢ b → IsInside tin a b
+    → ArePieces tin a b parts → i + 1 ≡ length parts → IsSameSpot (part_at parts i).last at_b
+ends_at_b tin a b parts i sound differ inside pieces e =
+    go (pieces.part i (last_in i (length parts) e)) (none_or_some (part_at parts i).last.of_a)
   where
     last_in : (i n : ℕ) → i + 1 ≡ n → i < n
     last_in i n e = omega arith
@@ -174,14 +214,17 @@ ends_at_b tin a b parts i sound differ inside pieces e = go (pieces.part i (last
     no_more : (i j n : ℕ) → i + 1 ≡ n → i < j → j < n → ⊥
     no_more i j n e h k = absurd (omega arith)
 
-    go : IsPart tin a b (part_at parts i).triangle (part_at parts i).first (part_at parts i).last → ((part_at parts i).last.of_a ≡ 0) ⊎ (0 < (part_at parts i).last.of_a) → IsSameSpot (part_at parts i).last at_b
+    go : IsPart tin a b (part_at parts i).triangle (part_at parts i).first (part_at parts i).last
+        → ((part_at parts i).last.of_a ≡ 0) ⊎ (0 < (part_at parts i).last.of_a) → IsSameSpot (part_at parts i).last at_b
     go p (inl z) = at_end (part_at parts i).last.of_b (part_at parts i).last.of_a z
     go p (inr more) =
         let last = p.has_last in
         let n = next tin a b parts (part_at parts i).last sound inside pieces last.some more in
-        absurd (no_more i n.index (length parts) e (later tin a b parts i n.index sound differ pieces (last_in i (length parts) e) n.behind) n.in_range)
+        absurd (no_more i n.index (length parts) e
+        (later tin a b parts i n.index sound differ pieces (last_in i (length parts) e) n.behind) n.in_range)
 
-pub chain : (tin : Triangulation) (a b : Pt) (parts : List Part) → IsSound tin → a ≢ b → IsInside tin a b → ArePieces tin a b parts → AreChain parts
+pub chain : (tin : Triangulation) (a b : Pt) (parts : List Part) → IsSound tin → a ≢ b → IsInside tin a b
+    → ArePieces tin a b parts → AreChain parts
 chain tin a b parts sound differ inside pieces =
     let first = begins_at_a tin a b parts sound inside pieces in
     record {
@@ -192,7 +235,8 @@ chain tin a b parts sound differ inside pieces =
     }
 
 -- ---- each spot is in a piece
-pub covered : (tin : Triangulation) (a b : Pt) (parts : List Part) → IsSound tin → a ≢ b → IsInside tin a b → ArePieces tin a b parts → DoCover parts
+pub covered : (tin : Triangulation) (a b : Pt) (parts : List Part) → IsSound tin → a ≢ b → IsInside tin a b
+    → ArePieces tin a b parts → DoCover parts
 covered tin a b parts sound differ inside pieces s some = go (none_or_some s.of_a)
   where
     none_or_some : (n : ℕ) → (n ≡ 0) ⊎ (0 < n)
@@ -211,14 +255,18 @@ covered tin a b parts sound differ inside pieces s some = go (none_or_some s.of_
     zero_of : (q r : ℕ) → q * 0 ≡ 1 * r → r ≡ 0
     zero_of q r e = omega arith
 
-    last : AreChain parts → s.of_a ≡ 0 → (i : ℕ) × (i + 1 ≡ length parts) → (i : ℕ) × (i < length parts) × IsNotAfter (part_at parts i).first s × IsNotAfter s (part_at parts i).last
+    last : AreChain parts → s.of_a ≡ 0 → (i : ℕ) × (i + 1 ≡ length parts)
+        → (i : ℕ) × (i < length parts) × IsNotAfter (part_at parts i).first s × IsNotAfter s (part_at parts i).last
     last c z i = (
       i.0,
       last_in i.0 (length parts) i.1,
       le_b (part_at parts i.0).first.of_b (s.of_b * (part_at parts i.0).first.of_a) s.of_a z,
-      le_b s.of_b ((part_at parts i.0).last.of_b * s.of_a) (part_at parts i.0).last.of_a (zero_of (part_at parts i.0).last.of_b (part_at parts i.0).last.of_a (c.ends i.0 i.1)),
+      le_b s.of_b ((part_at parts i.0).last.of_b * s.of_a) (part_at parts i.0).last.of_a
+          (zero_of (part_at parts i.0).last.of_b (part_at parts i.0).last.of_a (c.ends i.0 i.1)),
     )
 
-    go : (s.of_a ≡ 0) ⊎ (0 < s.of_a) → (i : ℕ) × (i < length parts) × IsNotAfter (part_at parts i).first s × IsNotAfter s (part_at parts i).last
+    go : (s.of_a ≡ 0) ⊎ (0 < s.of_a) → (i : ℕ) × (i < length parts) × IsNotAfter (part_at parts i).first s
+        × IsNotAfter s (part_at parts i).last
     go (inl z) = let c = chain tin a b parts sound differ inside pieces in last c z (pred (length parts) c.some)
-    go (inr more) = let n = next tin a b parts s sound inside pieces some more in (n.index, n.in_range, n.from, no_later s (part_at parts n.index).last n.behind)
+    go (inr more) = let n = next tin a b parts s sound inside pieces some
+        more in (n.index, n.in_range, n.from, no_later s (part_at parts n.index).last n.behind)

@@ -19,18 +19,25 @@ place-exchanged Target corner = refl
 pub corner_at-turned : (tin : Triangulation) (n : ℕ) → corner_at (turned_of tin) n ≡ exchanged (corner_at tin n)
 corner_at-turned tin n = get_or-map exchanged tin.corners n no_corner
 
-pub places-turned : (tin : Triangulation) (frame : Frame) (ns : List ℕ) → places (turned_of tin) frame ns ≡ places tin (other frame) ns
+pub places-turned : (tin : Triangulation) (frame : Frame) (ns : List ℕ)
+    → places (turned_of tin) frame ns ≡ places tin (other frame) ns
 places-turned tin frame [] = refl
-places-turned tin frame (n ∷ ns) = ap₂ (λ p ps. p ∷ ps) (ap (λ (corner : Corner). place frame corner) (corner_at-turned tin n) ∙ place-exchanged frame (corner_at tin n)) (places-turned tin frame ns)
+places-turned tin frame (n ∷ ns) = ap₂ (λ p ps. p ∷ ps)
+    (ap (λ (corner : Corner). place frame corner) (corner_at-turned tin n) ∙ place-exchanged frame (corner_at tin n))
+    (places-turned tin frame ns)
 
--- what holds of the places of some corners in the other frame, holds of their places in the frame of the turned triangulation
-turned_has : (P : List Point → Type 0) (tin : Triangulation) (frame : Frame) (ns : List ℕ) → P (places tin (other frame) ns) → P (places (turned_of tin) frame ns)
+-- what holds of the places of some corners in the other frame, holds of their places in the frame of the turned
+-- triangulation
+turned_has : (P : List Point → Type 0) (tin : Triangulation) (frame : Frame) (ns : List ℕ)
+    → P (places tin (other frame) ns) → P (places (turned_of tin) frame ns)
 turned_has P tin frame ns h = subst P (sym (places-turned tin frame ns)) h
 
-turned_had : (P : List Point → Type 0) (tin : Triangulation) (frame : Frame) (ns : List ℕ) → P (places (turned_of tin) frame ns) → P (places tin (other frame) ns)
+turned_had : (P : List Point → Type 0) (tin : Triangulation) (frame : Frame) (ns : List ℕ)
+    → P (places (turned_of tin) frame ns) → P (places tin (other frame) ns)
 turned_had P tin frame ns h = subst P (places-turned tin frame ns) h
 
-turned_fits : (tin : Triangulation) (frame : Frame) (t u : ℕ) → DoFit tin (other frame) t u → DoFit (turned_of tin) frame t u
+turned_fits : (tin : Triangulation) (frame : Frame) (t u : ℕ) → DoFit tin (other frame) t u
+    → DoFit (turned_of tin) frame t u
 turned_fits tin frame t u fit =
     record {
       two_common = fit.two_common;
@@ -44,12 +51,14 @@ turned_fits tin frame t u fit =
 pub turned_sound : (tin : Triangulation) → IsSound tin → IsSound (turned_of tin)
 turned_sound tin sound =
     record {
-      positive = λ frame t h. turned_has (λ (ps : List Point). pos 0 <ℤ turn_of_three ps) tin frame (numbers_of tin t) (sound.positive (other frame) t h);
+      positive = λ frame t h. turned_has (λ (ps : List Point). pos 0 <ℤ turn_of_three ps) tin frame (numbers_of tin t)
+          (sound.positive (other frame) t h);
       fit = λ frame t u differ ht hu. turned_fits tin frame t u (sound.fit (other frame) t u differ ht hu);
     }
 
 -- like mixes of the turned triangulation are those in the other direction
-alike_turned : (tin : Triangulation) (ns : List ℕ) (p r : Point) → AreLikeMixes tin Source ns p r → AreLikeMixes (turned_of tin) Source ns r p
+alike_turned : (tin : Triangulation) (ns : List ℕ) (p r : Point) → AreLikeMixes tin Source ns p r
+    → AreLikeMixes (turned_of tin) Source ns r p
 alike_turned tin ns p r m = (
   m.0,
   m.1,
@@ -58,7 +67,8 @@ alike_turned tin ns p r m = (
   turned_has (λ (ps : List Point). Same p (weighed m.0 ps)) tin Target ns m.3,
 )
 
-alike_unturned : (tin : Triangulation) (ns : List ℕ) (p r : Point) → AreLikeMixes (turned_of tin) Source ns r p → AreLikeMixes tin Source ns p r
+alike_unturned : (tin : Triangulation) (ns : List ℕ) (p r : Point) → AreLikeMixes (turned_of tin) Source ns r p
+    → AreLikeMixes tin Source ns p r
 alike_unturned tin ns p r m = (
   m.0,
   m.1,
@@ -68,7 +78,11 @@ alike_unturned tin ns p r m = (
 )
 
 pub converse : (tin : Triangulation) (p r : Point) → IsImage (turned_of tin) r p ↔ IsImage tin p r
-converse tin p r = (λ i. (i.0, i.1, alike_unturned tin (numbers_of tin i.0) p r i.2), λ i. (i.0, i.1, alike_turned tin (numbers_of tin i.0) p r i.2))
+converse tin p r = (
+  λ i. (i.0, i.1, alike_unturned tin (numbers_of tin i.0) p r i.2),
+  λ i.
+      (i.0, i.1, alike_turned tin (numbers_of tin i.0) p r i.2),
+)
 
 pub one_to_one : (tin : Triangulation) → IsSound tin → IsOneToOne tin
 one_to_one tin sound =

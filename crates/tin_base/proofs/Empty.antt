@@ -16,10 +16,12 @@ empty_sound tin e =
     }
 
 -- one triangle with positive turns is sound: there are no two
-pub one_sound : (tin : Triangulation) → length tin.triangles ≡ 1 → pos 0 <ℤ turn_in tin Source 0 → pos 0 <ℤ turn_in tin Target 0 → IsSound tin
+pub one_sound : (tin : Triangulation) → length tin.triangles ≡ 1 → pos 0 <ℤ turn_in tin Source 0
+    → pos 0 <ℤ turn_in tin Target 0 → IsSound tin
 one_sound tin one source target =
     record {
-      positive = λ frame t h. let first : 0 ≡ t = omega arith in subst (λ (n : ℕ). pos 0 <ℤ turn_in tin frame n) first (turned frame);
+      positive = λ frame t h. let first : 0 ≡ t =
+          omega arith in subst (λ (n : ℕ). pos 0 <ℤ turn_in tin frame n) first (turned frame);
       fit = λ frame t u differ h k. absurd (omega arith);
     }
   where

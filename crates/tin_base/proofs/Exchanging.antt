@@ -1,5 +1,6 @@
 -- Exchanging the frames of corners, one after another, and what this keeps of a triangulation's limits.
-use Rattle.std.proofs.Common.{◌≡◌, ◌<◌, ◌≤◌, ◌∙◌, ℕ, ◌+◌, List, [], ◌∷◌, ◌++◌, length, map, take, drop, get_or, set, sym, ap, subst, arith, append_assoc}
+use Rattle.std.proofs.Common.{◌≡◌, ◌<◌, ◌≤◌, ◌∙◌, ℕ, ◌+◌, List, [], ◌∷◌, ◌++◌, length, map, take, drop, get_or, set}
+use Rattle.std.proofs.Common.{sym, ap, subst, arith, append_assoc}
 use Rattle.std.proofs.Math.Seq.{set-append_seam, get_or-append_seam}
 use Rattle.std.proofs.lemmas.List.{length-map, length-take, drop_more, map_more}
 use Rattle.tin_base.specs.declared.corners.Corner.{Corner}
@@ -21,10 +22,12 @@ so_far xs i = map exchanged (take i xs) ++ drop i xs
 read_so_far : (xs : List Corner) (i : ℕ) (d : Corner) → i < length xs → get_or (so_far xs i) i d ≡ get_or xs i d
 read_so_far xs i d h =
     ap (λ (ys : List Corner). get_or (map exchanged (take i xs) ++ ys) i d) (drop_more xs i d h)
-    ∙ ap (λ (k : ℕ). get_or (map exchanged (take i xs) ++ get_or xs i d ∷ drop (i + 1) xs) k d) (sym (length_front xs i h))
+    ∙ ap (λ (k : ℕ). get_or (map exchanged (take i xs) ++ get_or xs i d ∷ drop (i + 1) xs) k d)
+    (sym (length_front xs i h))
     ∙ get_or-append_seam (map exchanged (take i xs)) (get_or xs i d) (drop (i + 1) xs) d
 
-pub one_exchanged : (xs : List Corner) (i : ℕ) (d v : Corner) → i < length xs → v ≡ exchanged (get_or (so_far xs i) i d) → set (so_far xs i) i v ≡ so_far xs (i + 1)
+pub one_exchanged : (xs : List Corner) (i : ℕ) (d v : Corner) → i < length xs → v ≡ exchanged (get_or (so_far xs i) i d)
+    → set (so_far xs i) i v ≡ so_far xs (i + 1)
 one_exchanged xs i d v h e =
     let front = map exchanged (take i xs) in
     let x = get_or xs i d in
@@ -37,11 +40,13 @@ one_exchanged xs i d v h e =
     ∙ ap (λ (ys : List Corner). ys ++ drop (i + 1) xs) (sym (map_more exchanged xs i d h))
 
 -- ---- the limits
-reach-exchanged : (frame : Frame) (corner : Corner) → IsCornerInReach (other frame) corner → IsCornerInReach frame (exchanged corner)
+reach-exchanged : (frame : Frame) (corner : Corner) → IsCornerInReach (other frame) corner
+    → IsCornerInReach frame (exchanged corner)
 reach-exchanged Source corner h = h
 reach-exchanged Target corner h = h
 
-near-exchanged : (frame : Frame) (c d : Corner) → IsNotFarBelow (other frame) c d → IsNotFarBelow frame (exchanged c) (exchanged d)
+near-exchanged : (frame : Frame) (c d : Corner) → IsNotFarBelow (other frame) c d
+    → IsNotFarBelow frame (exchanged c) (exchanged d)
 near-exchanged Source c d h = h
 near-exchanged Target c d h = h
 
@@ -55,23 +60,30 @@ turned_within tin h =
     let at = corner_at-turned tin in
     record {
       three = h.three;
-      in_range = λ t k. subst (λ (m : ℕ). (i : ℕ) (d : ℕ) → i < length (get_or tin.triangles t []) → get_or (get_or tin.triangles t []) i d < m) (sym count) (h.in_range t k);
-      in_reach = λ frame n k. subst (λ (corner : Corner). IsCornerInReach frame corner) (sym (at n)) (reach-exchanged frame (corner_at tin n) (h.in_reach (other frame) n (down n k)));
+      in_range = λ t k. subst (λ (m : ℕ). (i : ℕ) (d : ℕ) → i < length (get_or tin.triangles t [])
+          → get_or (get_or tin.triangles t []) i d < m) (sym count) (h.in_range t k);
+      in_reach = λ frame n k. subst (λ (corner : Corner). IsCornerInReach frame corner) (sym (at n))
+          (reach-exchanged frame (corner_at tin n) (h.in_reach (other frame) n (down n k)));
       near = λ frame m n j k.
           subst (λ (c : Corner). IsNotFarBelow frame c (corner_at (turned_of tin) n)) (sym (at m))
           (subst (λ (d : Corner). IsNotFarBelow frame (exchanged (corner_at tin m)) d) (sym (at n))
           (near-exchanged frame (corner_at tin m) (corner_at tin n) (h.near (other frame) m n (down m j) (down n k))));
-      different = λ m n j k e. h.different m n (down m j) (down n k) (same-exchanged (corner_at tin m) (corner_at tin n) (sym (at m) ∙ e ∙ at n));
+      different = λ m n j k e. h.different m n (down m j) (down n k)
+          (same-exchanged (corner_at tin m) (corner_at tin n) (sym (at m) ∙ e ∙ at n));
       corner_count = subst (λ (m : ℕ). m ≤ 1048576) (sym count) h.corner_count;
       triangle_count = h.triangle_count;
     }
 
 -- one step of the loop
-pub step : (xs ys : List Corner) (i : ℕ) (d v : Corner) → i < length xs → ys ≡ so_far xs i → v ≡ exchanged (get_or ys i d) → set ys i v ≡ so_far xs (i + 1)
+pub step : (xs ys : List Corner) (i : ℕ) (d v : Corner) → i < length xs → ys ≡ so_far xs i
+    → v ≡ exchanged (get_or ys i d) → set ys i v ≡ so_far xs (i + 1)
 step xs ys i d v h e f =
-    ap (λ (zs : List Corner). set zs i v) e ∙ one_exchanged xs i d v h (f ∙ ap (λ (zs : List Corner). exchanged (get_or zs i d)) e)
+    ap (λ (zs : List Corner). set zs i v) e ∙ one_exchanged xs i d v h
+    (f ∙ ap (λ (zs : List Corner). exchanged (get_or zs i d)) e)
 
 -- the limits, at corners that are the exchanged ones
-pub within_by : (tin : Triangulation) (cs ds : List Corner) → ds ≡ tin.corners → cs ≡ map exchanged ds → IsWithinLimits tin → IsWithinLimits (record tin { corners = cs })
+pub within_by : (tin : Triangulation) (cs ds : List Corner) → ds ≡ tin.corners → cs ≡ map exchanged ds
+    → IsWithinLimits tin → IsWithinLimits (record tin { corners = cs })
 within_by tin cs ds e f h =
-    subst (λ (zs : List Corner). IsWithinLimits (record tin { corners = zs })) (sym (f ∙ ap (λ (zs : List Corner). map exchanged zs) e)) (turned_within tin h)
+    subst (λ (zs : List Corner). IsWithinLimits (record tin { corners = zs }))
+    (sym (f ∙ ap (λ (zs : List Corner). map exchanged zs) e)) (turned_within tin h)

@@ -1,5 +1,6 @@
 -- It is enough to look at each two triangles in one order: where neither is flat, they fit together either way round.
-use Rattle.std.proofs.Common.{◌≡◌, ◌≢◌, ◌⊎◌, inl, inr, ℕ, ◌<◌, ◌≤◌, ℤ, pos, ◌<ℤ◌, Bool, true, false, ◌||◌, ◌&&◌, eqb, cond, List, [], ◌∷◌, length, sym, ◌∙◌, ap, ap₂, subst, refl, arith}
+use Rattle.std.proofs.Common.{◌≡◌, ◌≢◌, ◌⊎◌, inl, inr, ℕ, ◌<◌, ◌≤◌, ℤ, pos, ◌<ℤ◌, Bool, true, false, ◌||◌, ◌&&◌, eqb}
+use Rattle.std.proofs.Common.{cond, List, [], ◌∷◌, length, sym, ◌∙◌, ap, ap₂, subst, refl, arith}
 use Rattle.std.specs.List.{IsDistinct, AllByRecursion, filter, list_any}
 use Rattle.std.specs.Cmp.{nat_eq_equiv}
 use Rattle.std.proofs.lemmas.Bool.Decides.{eqb_tells}
@@ -28,7 +29,8 @@ same_test ns q x e = go (eqb_tells q x)
     go (inr f) = cc
 
 in_common : (ks ns : List ℕ) (q : ℕ) → list_any (eqb q) (common ks ns) ≡ (has ks q && has ns q)
-in_common ks ns q = is_member-filter nat_eq_equiv (has ns) q (λ x e. same_test ns q x e) ks ∙ ap (λ (b : Bool). b && has ns q) (sym (has_is_any ks q))
+in_common ks ns q = is_member-filter nat_eq_equiv (has ns) q (λ x e. same_test ns q x e) ks
+    ∙ ap (λ (b : Bool). b && has ns q) (sym (has_is_any ks q))
 
 either_order : (a b : Bool) → (a && b) ≡ (b && a)
 either_order true true = refl
@@ -56,7 +58,8 @@ none_kept : (test : ℕ → Bool) (ns : List ℕ) (k : ℕ) → has ns k ≡ fal
 none_kept test [] k e = refl
 none_kept test (n ∷ ns) k e = let h = or_parts (eqb n k) (has ns k) e in go (test n) h.0 (none_kept test ns k h.1)
   where
-    go : (b : Bool) → eqb n k ≡ false → has (filter test ns) k ≡ false → has (cond b (n ∷ filter test ns) (filter test ns)) k ≡ false
+    go : (b : Bool) → eqb n k ≡ false → has (filter test ns) k ≡ false
+        → has (cond b (n ∷ filter test ns) (filter test ns)) k ≡ false
     go true f g = ap (λ (b : Bool). b || has (filter test ns) k) f ∙ g
     go false f g = g
 
@@ -64,17 +67,24 @@ different_kept : (test : ℕ → Bool) (ns : List ℕ) → AreDifferent ns → A
 different_kept test [] h = tt
 different_kept test (n ∷ ns) h = go (test n) (none_kept test ns n h.0) (different_kept test ns h.1)
   where
-    go : (b : Bool) → has (filter test ns) n ≡ false → AreDifferent (filter test ns) → AreDifferent (cond b (n ∷ filter test ns) (filter test ns))
+    go : (b : Bool) → has (filter test ns) n ≡ false → AreDifferent (filter test ns)
+        → AreDifferent (cond b (n ∷ filter test ns) (filter test ns))
     go true f rest = (f, rest)
     go false f rest = rest
 
 same_count : (ks ns : List ℕ) → AreDifferent ks → AreDifferent ns → length (common ks ns) ≡ length (common ns ks)
 same_count ks ns d e =
-    length-from_same_keys nat_eq_equiv (common ks ns) (common ns ks) (distinct_of (common ks ns) (different_kept (has ns) ks d)) (distinct_of (common ns ks) (different_kept (has ks) ns e)) (common_exchanged ks ns)
+    length-from_same_keys nat_eq_equiv (common ks ns) (common ns ks)
+    (distinct_of (common ks ns) (different_kept (has ns) ks d))
+    (distinct_of (common ns ks) (different_kept (has ks) ns e)) (common_exchanged ks ns)
 
 has_all : (ns ks : List ℕ) → ((k : ℕ) → has ks k ≡ true → has ns k ≡ true) → HasAll ns ks
 has_all ns [] h = tt
-has_all ns (k ∷ ks) h = (h k (here (eqb k k) (has ks k) (eq-eqb k k refl)), has_all ns ks (λ j e. h j (further (eqb k j) (has ks j) e)))
+has_all ns (k ∷ ks) h = (
+  h k (here (eqb k k) (has ks k) (eq-eqb k k refl)),
+  has_all ns ks
+      (λ j e. h j (further (eqb k j) (has ks j) e)),
+)
   where
     here : (a b : Bool) → a ≡ true → (a || b) ≡ true
     here true b e = refl
@@ -85,7 +95,8 @@ has_all ns (k ∷ ks) h = (h k (here (eqb k k) (has ks k) (eq-eqb k k refl)), ha
     further false b e = e
 
 has_all_exchanged : (ks ns : List ℕ) → HasAll (common ns ks) (common ks ns)
-has_all_exchanged ks ns = has_all (common ns ks) (common ks ns) (λ k e. has_is_any (common ns ks) k ∙ sym (common_exchanged ks ns k) ∙ sym (has_is_any (common ks ns) k) ∙ e)
+has_all_exchanged ks ns = has_all (common ns ks) (common ks ns)
+    (λ k e. has_is_any (common ns ks) k ∙ sym (common_exchanged ks ns k) ∙ sym (has_is_any (common ks ns) k) ∙ e)
 
 -- ---- the corners of a triangle that is not flat are different
 not_flat : (z : ℤ) → z ≡ pos 0 → pos 0 <ℤ z → ⊥
@@ -95,7 +106,8 @@ no_twice : (at : ℕ → Point) (i j k : ℕ) → pos 0 <ℤ turn_of (at i) (at 
 no_twice at i j k h = go (eqb_tells j i)
   where
     go : ((eqb j i ≡ true) × (j ≡ i)) ⊎ ((eqb j i ≡ false) × (j ≡ i → ⊥)) → eqb j i ≡ false
-    go (inl e) = absurd (not_flat (turn_of (at i) (at j) (at k)) (ap (λ (n : ℕ). turn_of (at i) (at n) (at k)) e.1 ∙ turn_twice (at i) (at k)) h)
+    go (inl e) = absurd (not_flat (turn_of (at i) (at j) (at k))
+        (ap (λ (n : ℕ). turn_of (at i) (at n) (at k)) e.1 ∙ turn_twice (at i) (at k)) h)
     go (inr e) = e.0
 
 different : (at : ℕ → Point) (i j k : ℕ) → pos 0 <ℤ turn_of (at i) (at j) (at k) → AreDifferent (i ∷ j ∷ k ∷ [])
@@ -108,7 +120,8 @@ different at i j k h =
     neither : (a b : Bool) → a ≡ false → b ≡ false → (a || (b || false)) ≡ false
     neither a b e f = cc
 
-different_of_turn : (tin : Triangulation) (frame : Frame) (ns : List ℕ) → pos 0 <ℤ turn_of_three (places tin frame ns) → AreDifferent ns
+different_of_turn : (tin : Triangulation) (frame : Frame) (ns : List ℕ) → pos 0 <ℤ turn_of_three (places tin frame ns)
+    → AreDifferent ns
 different_of_turn tin frame [] h = tt
 different_of_turn tin frame (i ∷ []) h = (refl, tt)
 different_of_turn tin frame (i ∷ j ∷ []) h = absurd (not_flat (pos 0) refl h)
@@ -116,24 +129,37 @@ different_of_turn tin frame (i ∷ j ∷ k ∷ []) h = different (λ n. place fr
 different_of_turn tin frame (i ∷ j ∷ k ∷ l ∷ ns) h = absurd (not_flat (pos 0) refl h)
 
 -- ---- two triangles, the other way round
-mix_more : (tin : Triangulation) (frame : Frame) (ns ks : List ℕ) (p : Point) → HasAll ns ks → IsMix p (places tin frame ks) → IsMix p (places tin frame ns)
-mix_more tin frame ns ks p h m = let q = alike_of tin frame ks p m in alike_in tin frame ns p q.0 (alike_more tin frame ns ks p q.0 h q.2)
+mix_more : (tin : Triangulation) (frame : Frame) (ns ks : List ℕ) (p : Point) → HasAll ns ks
+    → IsMix p (places tin frame ks) → IsMix p (places tin frame ns)
+mix_more tin frame ns ks p h m = let q = alike_of tin frame ks p m in alike_in tin frame ns p q.0
+    (alike_more tin frame ns ks p q.0 h q.2)
 
-pub fit_exchanged : (tin : Triangulation) (frame : Frame) (t u : ℕ) → pos 0 <ℤ turn_in tin frame t → pos 0 <ℤ turn_in tin frame u → DoFit tin frame t u → DoFit tin frame u t
+pub fit_exchanged : (tin : Triangulation) (frame : Frame) (t u : ℕ) → pos 0 <ℤ turn_in tin frame t
+    → pos 0 <ℤ turn_in tin frame u → DoFit tin frame t u → DoFit tin frame u t
 fit_exchanged tin frame t u ht hu fit =
     let ts = numbers_of tin t in let us = numbers_of tin u in
     record {
-      two_common = subst (λ (n : ℕ). n ≤ 2) (same_count ts us (different_of_turn tin frame ts ht) (different_of_turn tin frame us hu)) fit.two_common;
-      meet = λ p hp in_u in_t. mix_more tin frame (common_of tin u t) (common_of tin t u) p (has_all_exchanged ts us) (fit.meet p hp in_t in_u);
+      two_common = subst (λ (n : ℕ). n ≤ 2) (same_count ts us (different_of_turn tin frame ts ht)
+          (different_of_turn tin frame us hu)) fit.two_common;
+      meet = λ p hp in_u in_t. mix_more tin frame (common_of tin u t) (common_of tin t u) p (has_all_exchanged ts us)
+          (fit.meet p hp in_t in_u);
     }
 
 -- it is enough to look at each pair once
-pub sound_of_pairs : (tin : Triangulation) → ((frame : Frame) (t : ℕ) → t < length tin.triangles → pos 0 <ℤ turn_in tin frame t) → ((frame : Frame) (t u : ℕ) → t < u → u < length tin.triangles → DoFit tin frame t u) → IsSound tin
-sound_of_pairs tin positive fit = record { positive = positive; fit = λ frame t u differ ht hu. go frame t u ht hu (first_or_second t u differ) }
+pub sound_of_pairs : (tin : Triangulation)
+    → ((frame : Frame) (t : ℕ) → t < length tin.triangles → pos 0 <ℤ turn_in tin frame t)
+    → ((frame : Frame) (t u : ℕ) → t < u → u < length tin.triangles → DoFit tin frame t u) → IsSound tin
+sound_of_pairs tin positive fit = record {
+  positive = positive;
+  fit =
+      λ frame t u differ ht hu. go frame t u ht hu (first_or_second t u differ);
+}
   where
     first_or_second : (t u : ℕ) → t ≢ u → (t < u) ⊎ (u < t)
     first_or_second t u differ = grind arith
 
-    go : (frame : Frame) (t u : ℕ) → t < length tin.triangles → u < length tin.triangles → (t < u) ⊎ (u < t) → DoFit tin frame t u
+    go : (frame : Frame) (t u : ℕ) → t < length tin.triangles → u < length tin.triangles → (t < u) ⊎ (u < t)
+        → DoFit tin frame t u
     go frame t u ht hu (inl below) = fit frame t u below hu
-    go frame t u ht hu (inr below) = fit_exchanged tin frame u t (positive frame u hu) (positive frame t ht) (fit frame u t below ht)
+    go frame t u ht hu (inr below) = fit_exchanged tin frame u t (positive frame u hu) (positive frame t ht)
+        (fit frame u t below ht)

@@ -11,7 +11,9 @@ one_of_three i j k c h = go (eqb_tells i c) (eqb_tells j c) (eqb_tells k c)
     none : (x y z : Bool) → x ≡ false → y ≡ false → z ≡ false → (x || (y || (z || false))) ≡ true → ⊥
     none x y z e f g h = cc
 
-    go : ((eqb i c ≡ true) × (i ≡ c)) ⊎ ((eqb i c ≡ false) × (i ≢ c)) → ((eqb j c ≡ true) × (j ≡ c)) ⊎ ((eqb j c ≡ false) × (j ≢ c)) → ((eqb k c ≡ true) × (k ≡ c)) ⊎ ((eqb k c ≡ false) × (k ≢ c)) → (i ≡ c) ⊎ ((j ≡ c) ⊎ (k ≡ c))
+    go : ((eqb i c ≡ true) × (i ≡ c)) ⊎ ((eqb i c ≡ false) × (i ≢ c))
+        → ((eqb j c ≡ true) × (j ≡ c)) ⊎ ((eqb j c ≡ false) × (j ≢ c))
+        → ((eqb k c ≡ true) × (k ≡ c)) ⊎ ((eqb k c ≡ false) × (k ≢ c)) → (i ≡ c) ⊎ ((j ≡ c) ⊎ (k ≡ c))
     go (inl e) y z = inl e.1
     go (inr e) (inl f) z = inr (inl f.1)
     go (inr e) (inr f) (inl g) = inr (inr g.1)

@@ -15,16 +15,26 @@ use Rattle.tin_base.proofs.Closeness.{near_inside}
 use Rattle.tin_base.proofs.Spots.{first_inside, last_inside}
 use Rattle.tin_base.proofs.TrianglePlaces.{moved_to}
 
-corner_axis : (a b c : ℤ) → a *ℤ (pos 1 *ℤ pos 1 +ℤ (pos 0 *ℤ pos 1 +ℤ (pos 0 *ℤ pos 1 +ℤ pos 0))) ≡ (pos 1 *ℤ a +ℤ (pos 0 *ℤ b +ℤ (pos 0 *ℤ c +ℤ pos 0))) *ℤ pos 1
-corner_axis = solve 3 (λ a b c. a ⊗ (num (pos 1) ⊗ num (pos 1) ⊕ (num (pos 0) ⊗ num (pos 1) ⊕ (num (pos 0) ⊗ num (pos 1) ⊕ num (pos 0)))) ≐ (num (pos 1) ⊗ a ⊕ (num (pos 0) ⊗ b ⊕ (num (pos 0) ⊗ c ⊕ num (pos 0)))) ⊗ num (pos 1)) tt
+corner_axis : (a b c : ℤ) → a *ℤ (pos 1 *ℤ pos 1 +ℤ (pos 0 *ℤ pos 1 +ℤ (pos 0 *ℤ pos 1 +ℤ pos 0)))
+    ≡ (pos 1 *ℤ a +ℤ (pos 0 *ℤ b +ℤ (pos 0 *ℤ c +ℤ pos 0))) *ℤ pos 1
+corner_axis = solve 3 (λ a b c. a ⊗ (num (pos 1) ⊗ num (pos 1)
+    ⊕ (num (pos 0) ⊗ num (pos 1) ⊕ (num (pos 0) ⊗ num (pos 1) ⊕ num (pos 0))))
+    ≐ (num (pos 1) ⊗ a ⊕ (num (pos 0) ⊗ b ⊕ (num (pos 0) ⊗ c ⊕ num (pos 0)))) ⊗ num (pos 1)) tt
 
-second_axis : (a b c : ℤ) → b *ℤ (pos 0 *ℤ pos 1 +ℤ (pos 1 *ℤ pos 1 +ℤ (pos 0 *ℤ pos 1 +ℤ pos 0))) ≡ (pos 0 *ℤ a +ℤ (pos 1 *ℤ b +ℤ (pos 0 *ℤ c +ℤ pos 0))) *ℤ pos 1
-second_axis = solve 3 (λ a b c. b ⊗ (num (pos 0) ⊗ num (pos 1) ⊕ (num (pos 1) ⊗ num (pos 1) ⊕ (num (pos 0) ⊗ num (pos 1) ⊕ num (pos 0)))) ≐ (num (pos 0) ⊗ a ⊕ (num (pos 1) ⊗ b ⊕ (num (pos 0) ⊗ c ⊕ num (pos 0)))) ⊗ num (pos 1)) tt
+second_axis : (a b c : ℤ) → b *ℤ (pos 0 *ℤ pos 1 +ℤ (pos 1 *ℤ pos 1 +ℤ (pos 0 *ℤ pos 1 +ℤ pos 0)))
+    ≡ (pos 0 *ℤ a +ℤ (pos 1 *ℤ b +ℤ (pos 0 *ℤ c +ℤ pos 0))) *ℤ pos 1
+second_axis = solve 3 (λ a b c. b ⊗ (num (pos 0) ⊗ num (pos 1)
+    ⊕ (num (pos 1) ⊗ num (pos 1) ⊕ (num (pos 0) ⊗ num (pos 1) ⊕ num (pos 0))))
+    ≐ (num (pos 0) ⊗ a ⊕ (num (pos 1) ⊗ b ⊕ (num (pos 0) ⊗ c ⊕ num (pos 0)))) ⊗ num (pos 1)) tt
 
-third_axis : (a b c : ℤ) → c *ℤ (pos 0 *ℤ pos 1 +ℤ (pos 0 *ℤ pos 1 +ℤ (pos 1 *ℤ pos 1 +ℤ pos 0))) ≡ (pos 0 *ℤ a +ℤ (pos 0 *ℤ b +ℤ (pos 1 *ℤ c +ℤ pos 0))) *ℤ pos 1
-third_axis = solve 3 (λ a b c. c ⊗ (num (pos 0) ⊗ num (pos 1) ⊕ (num (pos 0) ⊗ num (pos 1) ⊕ (num (pos 1) ⊗ num (pos 1) ⊕ num (pos 0)))) ≐ (num (pos 0) ⊗ a ⊕ (num (pos 0) ⊗ b ⊕ (num (pos 1) ⊗ c ⊕ num (pos 0)))) ⊗ num (pos 1)) tt
+third_axis : (a b c : ℤ) → c *ℤ (pos 0 *ℤ pos 1 +ℤ (pos 0 *ℤ pos 1 +ℤ (pos 1 *ℤ pos 1 +ℤ pos 0)))
+    ≡ (pos 0 *ℤ a +ℤ (pos 0 *ℤ b +ℤ (pos 1 *ℤ c +ℤ pos 0))) *ℤ pos 1
+third_axis = solve 3 (λ a b c. c ⊗ (num (pos 0) ⊗ num (pos 1)
+    ⊕ (num (pos 0) ⊗ num (pos 1) ⊕ (num (pos 1) ⊗ num (pos 1) ⊕ num (pos 0))))
+    ≐ (num (pos 0) ⊗ a ⊕ (num (pos 0) ⊗ b ⊕ (num (pos 1) ⊗ c ⊕ num (pos 0)))) ⊗ num (pos 1)) tt
 
-pub ends_near : (tin : Triangulation) (a b : Pt) (t : ℕ) → IsWithinLimits tin → t < length tin.triangles → IsInside tin a b → AreNearTriangle tin a b t
+pub ends_near : (tin : Triangulation) (a b : Pt) (t : ℕ) → IsWithinLimits tin → t < length tin.triangles
+    → IsInside tin a b → AreNearTriangle tin a b t
 ends_near tin a b t limits ht inside r stands = (near a has_a, near b has_b, near_inside tin a b limits has_a has_b)
   where
     has_a : IsInSome tin Source (whole a)
@@ -38,11 +48,31 @@ ends_near tin a b t limits ht inside r stands = (near a has_a, near b has_b, nea
 
     near : (p : Pt) → IsInSome tin Source (whole p) → IsNearTri r p
     near p has = (
-      near_inside tin r.a p limits (in_t r.a (1 ∷ 0 ∷ 0 ∷ [], refl, omega arith, (corner_axis r.a.x r.b.x r.c.x, corner_axis r.a.y r.b.y r.c.y))) has,
-      near_inside tin r.b p limits (in_t r.b (0 ∷ 1 ∷ 0 ∷ [], refl, omega arith, (second_axis r.a.x r.b.x r.c.x, second_axis r.a.y r.b.y r.c.y))) has,
-      near_inside tin r.c p limits (in_t r.c (0 ∷ 0 ∷ 1 ∷ [], refl, omega arith, (third_axis r.a.x r.b.x r.c.x, third_axis r.a.y r.b.y r.c.y))) has,
+      near_inside tin r.a p limits (in_t r.a (
+        1 ∷ 0 ∷ 0
+            ∷ [],
+        refl,
+        omega arith,
+        (corner_axis r.a.x r.b.x r.c.x, corner_axis r.a.y r.b.y r.c.y),
+      )) has,
+      near_inside tin r.b p limits (in_t r.b (
+        0 ∷ 1 ∷ 0
+            ∷ [],
+        refl,
+        omega arith,
+        (second_axis r.a.x r.b.x r.c.x, second_axis r.a.y r.b.y r.c.y),
+      )) has,
+      near_inside tin r.c p limits (in_t r.c (
+        0 ∷ 0 ∷ 1
+            ∷ [],
+        refl,
+        omega arith,
+        (third_axis r.a.x r.b.x r.c.x, third_axis r.a.y r.b.y r.c.y),
+      )) has,
     )
 
 -- a triangle that stands where triangle t does
-pub near_told : (tin : Triangulation) (a b : Pt) (t : ℕ) (r : Tri) → corners r ≡ places tin Source (numbers_of tin t) → IsNearTri r a × IsNearTri r b × IsNear a b → AreNearTriangle tin a b t
-near_told tin a b t r is near s stands = moved_to (λ (v : Tri). IsNearTri v a × IsNearTri v b × IsNear a b) r s (is ∙ sym stands) near
+pub near_told : (tin : Triangulation) (a b : Pt) (t : ℕ) (r : Tri) → corners r ≡ places tin Source (numbers_of tin t)
+    → IsNearTri r a × IsNearTri r b × IsNear a b → AreNearTriangle tin a b t
+near_told tin a b t r is near s stands = moved_to (λ (v : Tri). IsNearTri v a × IsNearTri v b × IsNear a b) r s
+    (is ∙ sym stands) near

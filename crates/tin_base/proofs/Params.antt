@@ -36,13 +36,17 @@ spot_is f s h =
 
 -- ---- orders
 same_z : (n d m e k l s t : ℤ) → n ≡ k → d -ℤ n ≡ l → m ≡ t → e -ℤ m ≡ s → n *ℤ e ≡ m *ℤ d → k *ℤ s ≡ t *ℤ l
-same_z = follows 8 (λ n d m e k l s t. n ≐ k ⇒ d ⊖ n ≐ l ⇒ m ≐ t ⇒ e ⊖ m ≐ s ⇒ n ⊗ e ≐ m ⊗ d ⇒ k ⊗ s ≐ t ⊗ l because eqn 4 (num (pos 1)) ⊞ eqn 0 (neg (e ⊖ m)) ⊞ eqn 3 (neg k) ⊞ eqn 2 (d ⊖ n) ⊞ eqn 1 t) tt
+same_z = follows 8 (λ n d m e k l s t. n ≐ k ⇒ d ⊖ n ≐ l ⇒ m ≐ t ⇒ e ⊖ m ≐ s ⇒ n ⊗ e ≐ m ⊗ d ⇒ k ⊗ s ≐ t
+    ⊗ l because eqn 4 (num (pos 1)) ⊞ eqn 0 (neg (e ⊖ m)) ⊞ eqn 3 (neg k) ⊞ eqn 2 (d ⊖ n) ⊞ eqn 1 t) tt
 
 back_same_z : (n d m e k l s t : ℤ) → n ≡ k → d -ℤ n ≡ l → m ≡ t → e -ℤ m ≡ s → k *ℤ s ≡ t *ℤ l → n *ℤ e ≡ m *ℤ d
-back_same_z = follows 8 (λ n d m e k l s t. n ≐ k ⇒ d ⊖ n ≐ l ⇒ m ≐ t ⇒ e ⊖ m ≐ s ⇒ k ⊗ s ≐ t ⊗ l ⇒ n ⊗ e ≐ m ⊗ d because eqn 4 (num (pos 1)) ⊞ eqn 0 (e ⊖ m) ⊞ eqn 3 k ⊞ eqn 2 (neg (d ⊖ n)) ⊞ eqn 1 (neg t)) tt
+back_same_z = follows 8 (λ n d m e k l s t. n ≐ k ⇒ d ⊖ n ≐ l ⇒ m ≐ t ⇒ e ⊖ m ≐ s ⇒ k ⊗ s ≐ t ⊗ l ⇒ n ⊗ e ≐ m
+    ⊗ d because eqn 4 (num (pos 1)) ⊞ eqn 0 (e ⊖ m) ⊞ eqn 3 k ⊞ eqn 2 (neg (d ⊖ n)) ⊞ eqn 1 (neg t)) tt
 
-back_less_z : (n d m e k l s t : ℤ) → n ≡ k → d -ℤ n ≡ l → m ≡ t → e -ℤ m ≡ s → (k *ℤ s) <ℤ (t *ℤ l) → (n *ℤ e) <ℤ (m *ℤ d)
-back_less_z = follows 8 (λ n d m e k l s t. n ≐ k ⇒ d ⊖ n ≐ l ⇒ m ≐ t ⇒ e ⊖ m ≐ s ⇒ k ⊗ s ≺ t ⊗ l ⇒ n ⊗ e ≺ m ⊗ d because over 4 ⊞ eqn 0 (e ⊖ m) ⊞ eqn 3 k ⊞ eqn 2 (neg (d ⊖ n)) ⊞ eqn 1 (neg t)) tt
+back_less_z : (n d m e k l s t : ℤ) → n ≡ k → d -ℤ n ≡ l → m ≡ t → e -ℤ m ≡ s → (k *ℤ s) <ℤ (t *ℤ l)
+    → (n *ℤ e) <ℤ (m *ℤ d)
+back_less_z = follows 8 (λ n d m e k l s t. n ≐ k ⇒ d ⊖ n ≐ l ⇒ m ≐ t ⇒ e ⊖ m ≐ s ⇒ k ⊗ s ≺ t ⊗ l ⇒ n ⊗ e ≺ m
+    ⊗ d because over 4 ⊞ eqn 0 (e ⊖ m) ⊞ eqn 3 k ⊞ eqn 2 (neg (d ⊖ n)) ⊞ eqn 1 (neg t)) tt
 
 out_same : (m n : ℕ) → pos m ≡ pos n → m ≡ n
 out_same m n e = omega (arith, ints)
@@ -50,19 +54,24 @@ out_same m n e = omega (arith, ints)
 less_in : (m n : ℕ) → m < n → pos m <ℤ pos n
 less_in m n h = omega (arith, ints)
 
-pub same_spot : (f g : Frac) → IsParam f.num f.den → IsParam g.num g.den → IsSameValue f g → IsSameSpot (spot_of f) (spot_of g)
+pub same_spot : (f g : Frac) → IsParam f.num f.den → IsParam g.num g.den → IsSameValue f g
+    → IsSameSpot (spot_of f) (spot_of g)
 same_spot f g hf hg e =
     let s = at_spot f hf in let t = at_spot g hg in
     out_same ((spot_of f).of_b * (spot_of g).of_a) ((spot_of g).of_b * (spot_of f).of_a)
-    (same_z f.num f.den g.num g.den (pos (spot_of f).of_b) (pos (spot_of f).of_a) (pos (spot_of g).of_a) (pos (spot_of g).of_b) s.share s.rest t.share t.rest e)
+    (same_z f.num f.den g.num g.den (pos (spot_of f).of_b) (pos (spot_of f).of_a) (pos (spot_of g).of_a)
+    (pos (spot_of g).of_b) s.share s.rest t.share t.rest e)
 
-pub same_value : (f g : Frac) → IsParam f.num f.den → IsParam g.num g.den → IsSameSpot (spot_of f) (spot_of g) → IsSameValue f g
+pub same_value : (f g : Frac) → IsParam f.num f.den → IsParam g.num g.den → IsSameSpot (spot_of f) (spot_of g)
+    → IsSameValue f g
 same_value f g hf hg e =
     let s = at_spot f hf in let t = at_spot g hg in
-    back_same_z f.num f.den g.num g.den (pos (spot_of f).of_b) (pos (spot_of f).of_a) (pos (spot_of g).of_a) (pos (spot_of g).of_b) s.share s.rest t.share t.rest (ap pos e)
+    back_same_z f.num f.den g.num g.den (pos (spot_of f).of_b) (pos (spot_of f).of_a) (pos (spot_of g).of_a)
+    (pos (spot_of g).of_b) s.share s.rest t.share t.rest (ap pos e)
 
 pub below : (f g : Frac) → IsParam f.num f.den → IsParam g.num g.den → IsBefore (spot_of f) (spot_of g) → IsBelow f g
 below f g hf hg h =
     let s = at_spot f hf in let t = at_spot g hg in
-    back_less_z f.num f.den g.num g.den (pos (spot_of f).of_b) (pos (spot_of f).of_a) (pos (spot_of g).of_a) (pos (spot_of g).of_b) s.share s.rest t.share t.rest
+    back_less_z f.num f.den g.num g.den (pos (spot_of f).of_b) (pos (spot_of f).of_a) (pos (spot_of g).of_a)
+    (pos (spot_of g).of_b) s.share s.rest t.share t.rest
     (less_in ((spot_of f).of_b * (spot_of g).of_a) ((spot_of g).of_b * (spot_of f).of_a) h)

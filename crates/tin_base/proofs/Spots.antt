@@ -17,13 +17,18 @@ pub one : pos 0 <ℤ pos 1
 one = lt_z_yes tt
 
 pub spot-w : (a b : Pt) (s : Spot) → IsSpot s → pos 0 <ℤ (spot_at a b s).w
-spot-w a b s some = between-w (whole a) (whole b) (spot_at a b s) (record { k = s.of_a; l = s.of_b; some = some; same = same_refl (spot_at a b s) }) one one
+spot-w a b s some = between-w (whole a) (whole b) (spot_at a b s)
+    (record { k = s.of_a; l = s.of_b; some = some; same = same_refl (spot_at a b s) }) one one
 
-first_axis : (a b : ℤ) → (pos 1 *ℤ a +ℤ (pos 0 *ℤ b +ℤ pos 0)) *ℤ pos 1 ≡ a *ℤ (pos 1 *ℤ pos 1 +ℤ (pos 0 *ℤ pos 1 +ℤ pos 0))
-first_axis = solve 2 (λ a b. (num (pos 1) ⊗ a ⊕ (num (pos 0) ⊗ b ⊕ num (pos 0))) ⊗ num (pos 1) ≐ a ⊗ (num (pos 1) ⊗ num (pos 1) ⊕ (num (pos 0) ⊗ num (pos 1) ⊕ num (pos 0)))) tt
+first_axis : (a b : ℤ) → (pos 1 *ℤ a +ℤ (pos 0 *ℤ b +ℤ pos 0)) *ℤ pos 1 ≡ a
+    *ℤ (pos 1 *ℤ pos 1 +ℤ (pos 0 *ℤ pos 1 +ℤ pos 0))
+first_axis = solve 2 (λ a b. (num (pos 1) ⊗ a ⊕ (num (pos 0) ⊗ b ⊕ num (pos 0))) ⊗ num (pos 1) ≐ a
+    ⊗ (num (pos 1) ⊗ num (pos 1) ⊕ (num (pos 0) ⊗ num (pos 1) ⊕ num (pos 0)))) tt
 
-last_axis : (a b : ℤ) → (pos 0 *ℤ a +ℤ (pos 1 *ℤ b +ℤ pos 0)) *ℤ pos 1 ≡ b *ℤ (pos 0 *ℤ pos 1 +ℤ (pos 1 *ℤ pos 1 +ℤ pos 0))
-last_axis = solve 2 (λ a b. (num (pos 0) ⊗ a ⊕ (num (pos 1) ⊗ b ⊕ num (pos 0))) ⊗ num (pos 1) ≐ b ⊗ (num (pos 0) ⊗ num (pos 1) ⊕ (num (pos 1) ⊗ num (pos 1) ⊕ num (pos 0)))) tt
+last_axis : (a b : ℤ) → (pos 0 *ℤ a +ℤ (pos 1 *ℤ b +ℤ pos 0)) *ℤ pos 1 ≡ b
+    *ℤ (pos 0 *ℤ pos 1 +ℤ (pos 1 *ℤ pos 1 +ℤ pos 0))
+last_axis = solve 2 (λ a b. (num (pos 0) ⊗ a ⊕ (num (pos 1) ⊗ b ⊕ num (pos 0))) ⊗ num (pos 1) ≐ b
+    ⊗ (num (pos 0) ⊗ num (pos 1) ⊕ (num (pos 1) ⊗ num (pos 1) ⊕ num (pos 0)))) tt
 
 pub spot_first : (a b : Pt) → Same (spot_at a b at_a) (whole a)
 spot_first a b = (first_axis a.x b.x, first_axis a.y b.y)
@@ -37,10 +42,14 @@ spot_of_point a s = (same_axis (pos s.of_a) (pos s.of_b) a.x, same_axis (pos s.o
 
 -- the ends of a segment that is inside are in triangles
 pub first_inside : (tin : Triangulation) (a b : Pt) → IsInside tin a b → IsInSome tin Source (whole a)
-first_inside tin a b inside = inside (whole a) one (weights_between (whole a) (whole b) (whole a) (record { k = 1; l = 0; some = omega arith; same = let e = spot_first a b in (sym e.0, sym e.1) }))
+first_inside tin a b inside = inside (whole a) one
+    (weights_between (whole a) (whole b) (whole a)
+    (record { k = 1; l = 0; some = omega arith; same = let e = spot_first a b in (sym e.0, sym e.1) }))
 
 pub last_inside : (tin : Triangulation) (a b : Pt) → IsInside tin a b → IsInSome tin Source (whole b)
-last_inside tin a b inside = inside (whole b) one (weights_between (whole a) (whole b) (whole b) (record { k = 0; l = 1; some = omega arith; same = let e = spot_last a b in (sym e.0, sym e.1) }))
+last_inside tin a b inside = inside (whole b) one
+    (weights_between (whole a) (whole b) (whole b)
+    (record { k = 0; l = 1; some = omega arith; same = let e = spot_last a b in (sym e.0, sym e.1) }))
 
 pub point_inside : (tin : Triangulation) (p : Pt) → IsInSome tin Source (whole p) → IsInside tin p p
 point_inside tin p has q hq m =

@@ -10,7 +10,9 @@ use Rattle.tin_base.specs.Triangulation.{Triangulation, x_in, y_in, place, no_co
 use Rattle.tin_base.specs.Limits.{IsWithinLimits}
 
 -- two corners, as points
-pub near_points : (tin : Triangulation) (frame : Frame) (m n : ℕ) (p q : Pt) → IsWithinLimits tin → m < length tin.corners → n < length tin.corners → whole p ≡ place frame (corner_at tin m) → whole q ≡ place frame (corner_at tin n) → IsNear p q
+pub near_points : (tin : Triangulation) (frame : Frame) (m n : ℕ) (p q : Pt) → IsWithinLimits tin
+    → m < length tin.corners → n < length tin.corners → whole p ≡ place frame (corner_at tin m)
+    → whole q ≡ place frame (corner_at tin n) → IsNear p q
 near_points tin frame m n p q limits hm hn e f =
     let there = limits.near frame m n hm hn in
     let back = limits.near frame n m hn hm in
@@ -31,18 +33,25 @@ near_points tin frame m n p q limits hm hn e f =
 abbrev pub IsRead : {X : Type 0} → List X → ℕ → X → Type 0
 IsRead xs i x = x ≡ get_or xs i x
 
-number_below : (tin : Triangulation) (t k : ℕ) (numbers : List ℕ) → IsWithinLimits tin → t < length tin.triangles → k < 3 → IsRead tin.triangles t numbers → get_or numbers k 0 < length tin.corners
+number_below : (tin : Triangulation) (t k : ℕ) (numbers : List ℕ) → IsWithinLimits tin → t < length tin.triangles
+    → k < 3 → IsRead tin.triangles t numbers → get_or numbers k 0 < length tin.corners
 number_below tin t k numbers limits ht hk read =
     let same : numbers ≡ numbers_of tin t = read ∙ get_or_default tin.triangles t numbers [] ht in
     let three : length (numbers_of tin t) ≡ 3 = limits.three t ht in
     subst (λ (ns : List ℕ). get_or ns k 0 < length tin.corners) (sym same) (limits.in_range t ht k 0 (omega arith))
 
-place_read : (tin : Triangulation) (frame : Frame) (n : ℕ) (corner : Corner) (p : Pt) → n < length tin.corners → IsRead tin.corners n corner → whole p ≡ place frame corner → whole p ≡ place frame (corner_at tin n)
-place_read tin frame n corner p hn read is = is ∙ ap (λ (c : Corner). place frame c) (read ∙ get_or_default tin.corners n corner no_corner hn)
+place_read : (tin : Triangulation) (frame : Frame) (n : ℕ) (corner : Corner) (p : Pt) → n < length tin.corners
+    → IsRead tin.corners n corner → whole p ≡ place frame corner → whole p ≡ place frame (corner_at tin n)
+place_read tin frame n corner p hn read is = is
+    ∙ ap (λ (c : Corner). place frame c) (read ∙ get_or_default tin.corners n corner no_corner hn)
 
-pub near_reads : (tin : Triangulation) (frame : Frame) (t j k : ℕ) (numbers : List ℕ) (c d : Corner) (p q : Pt) → IsWithinLimits tin → t < length tin.triangles → j < 3 → k < 3 → IsRead tin.triangles t numbers
-    → IsRead tin.corners (get_or numbers j 0) c → IsRead tin.corners (get_or numbers k 0) d → whole p ≡ place frame c → whole q ≡ place frame d → IsNear p q
+pub near_reads : (tin : Triangulation) (frame : Frame) (t j k : ℕ) (numbers : List ℕ) (c d : Corner) (p q : Pt)
+    → IsWithinLimits tin → t < length tin.triangles → j < 3 → k < 3 → IsRead tin.triangles t numbers
+    → IsRead tin.corners (get_or numbers j 0) c → IsRead tin.corners (get_or numbers k 0) d → whole p ≡ place frame c
+    → whole q ≡ place frame d → IsNear p q
 near_reads tin frame t j k numbers c d p q limits ht hj hk read read_c read_d is_p is_q =
     let hm = number_below tin t j numbers limits ht hj read in
     let hn = number_below tin t k numbers limits ht hk read in
-    near_points tin frame (get_or numbers j 0) (get_or numbers k 0) p q limits hm hn (place_read tin frame (get_or numbers j 0) c p hm read_c is_p) (place_read tin frame (get_or numbers k 0) d q hn read_d is_q)
+    near_points tin frame (get_or numbers j 0) (get_or numbers k 0) p q limits hm hn
+    (place_read tin frame (get_or numbers j 0) c p hm read_c is_p)
+    (place_read tin frame (get_or numbers k 0) d q hn read_d is_q)

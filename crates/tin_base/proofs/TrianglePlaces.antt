@@ -19,7 +19,12 @@ abbrev point_of : Point → Pt
 point_of p = record { x = p.x; y = p.y }
 
 abbrev tri_of : List Point → Tri
-tri_of ps = record { a = point_of (get_or ps 0 nowhere); b = point_of (get_or ps 1 nowhere); c = point_of (get_or ps 2 nowhere) }
+tri_of ps = record {
+  a = point_of (get_or ps 0 nowhere);
+  b = point_of (get_or ps 1 nowhere);
+  c =
+      point_of (get_or ps 2 nowhere);
+}
 
 same_tri : (r s : Tri) → corners r ≡ corners s → r ≡ s
 same_tri r s e = ap tri_of e
@@ -28,7 +33,8 @@ pub moved_to : (P : Tri → Type 0) (r s : Tri) → corners r ≡ corners s → 
 moved_to P r s e p = subst P (same_tri r s e) p
 
 -- ---- each triangle stands somewhere
-pub stands : (tin : Triangulation) (t : ℕ) → IsWithinLimits tin → t < length tin.triangles → (r : Tri) × (corners r ≡ places tin Source (numbers_of tin t))
+pub stands : (tin : Triangulation) (t : ℕ) → IsWithinLimits tin → t < length tin.triangles
+    → (r : Tri) × (corners r ≡ places tin Source (numbers_of tin t))
 stands tin t limits ht = go (numbers_of tin t) (limits.three t ht)
   where
     go : (ns : List ℕ) → length ns ≡ 3 → (r : Tri) × (corners r ≡ places tin Source ns)

@@ -1,5 +1,6 @@
 -- The pieces up to a spot, one after the other.
-use Rattle.std.proofs.Common.{◌≡◌, ◌≢◌, ◌⊎◌, inl, inr, ℕ, ◌+◌, ◌*◌, ◌<◌, ◌≤◌, List, [], ◌∷◌, ◌++◌, length, sym, subst, refl, arith}
+use Rattle.std.proofs.Common.{◌≡◌, ◌≢◌, ◌⊎◌, inl, inr, ℕ, ◌+◌, ◌*◌, ◌<◌, ◌≤◌, List, [], ◌∷◌, ◌++◌, length, sym, subst}
+use Rattle.std.proofs.Common.{refl, arith}
 use Rattle.std.proofs.lemmas.List.{get_or_append_left, get_or_push, length-append}
 use lib.Signed.{lt_z_yes}
 use Rattle.plane_base.specs.Plane.{whole}
@@ -9,8 +10,10 @@ use Rattle.tin_base.specs.declared.frames.Frame.TheVariants.{Source}
 use Rattle.tin_base.specs.Triangulation.{Triangulation, numbers_of, places}
 use Rattle.tin_base.specs.Images.{IsInSome}
 use Rattle.tin_base.specs.Soundness.{IsSound}
-use Rattle.tin_base.specs.Segments.{Spot, spot_at, at_a, IsBefore, IsNotAfter, IsSameSpot, IsInside, IsShared, IsPart, Part, no_part, part_at, ArePieces}
-use Rattle.tin_base.proofs.Ends.{IsSpot, before_or, not_both, no_later, no_later_trans, before_trans_left, before_trans_right, up_to_same, from_same, same_of}
+use Rattle.tin_base.specs.Segments.{Spot, spot_at, at_a, IsBefore, IsNotAfter, IsSameSpot, IsInside, IsShared, IsPart}
+use Rattle.tin_base.specs.Segments.{Part, no_part, part_at, ArePieces}
+use Rattle.tin_base.proofs.Ends.{IsSpot, before_or, not_both, no_later, no_later_trans, before_trans_left}
+use Rattle.tin_base.proofs.Ends.{before_trans_right, up_to_same, from_same, same_of}
 use Rattle.tin_base.proofs.Parts.{between_in}
 use Rattle.tin_base.proofs.Apart.{apart, same_last}
 use Rattle.tin_base.proofs.Spots.{spot-w}
@@ -26,8 +29,10 @@ pub record Has (parts : List Part) (first last : Spot) : Type 0 where
 -- these are the pieces up to x, and each point up to x is in some triangle
 pub record IsWalked (tin : Triangulation) (a b : Pt) (parts : List Part) (x : Spot) : Type 0 where
   pub some : IsSpot x
-  pub part : (i : ℕ) → i < length parts → IsPart tin a b (part_at parts i).triangle (part_at parts i).first (part_at parts i).last
-  pub least : (i u : ℕ) → i < length parts → u < (part_at parts i).triangle → IsPart tin a b u (part_at parts i).first (part_at parts i).last → ⊥
+  pub part : (i : ℕ) → i < length parts → IsPart tin a b (part_at parts i).triangle (part_at parts i).first
+      (part_at parts i).last
+  pub least : (i u : ℕ) → i < length parts → u < (part_at parts i).triangle
+      → IsPart tin a b u (part_at parts i).first (part_at parts i).last → ⊥
   pub in_order : (i j : ℕ) → i < j → j < length parts → IsBefore (part_at parts i).first (part_at parts j).first
   pub upto : (i : ℕ) → i < length parts → IsNotAfter (part_at parts i).last x
   pub every : (t : ℕ) (first last : Spot) → IsPart tin a b t first last → IsBefore first x → Has parts first last
@@ -43,7 +48,12 @@ start tin a b has_a =
       in_order = λ i j h k. absurd (omega arith);
       upto = λ i h. absurd (omega arith);
       every = λ t first last p before. absurd (none first before);
-      inside = λ s some h. (has_a.0, has_a.1, mix_moved (whole a) (spot_at a b s) (places tin Source (numbers_of tin has_a.0)) (lt_z_yes tt) (start_is a b s (none_of_b s h)) has_a.2);
+      inside = λ s some h. (
+        has_a.0,
+        has_a.1,
+        mix_moved (whole a) (spot_at a b s)
+            (places tin Source (numbers_of tin has_a.0)) (lt_z_yes tt) (start_is a b s (none_of_b s h)) has_a.2,
+      );
     }
   where
     none : (s : Spot) → IsBefore s at_a → ⊥
@@ -53,13 +63,15 @@ start tin a b has_a =
     none_of_b s h = omega arith
 
 -- ---- no part goes past x but those that begin there
-pub not_past : (tin : Triangulation) (a b : Pt) (parts : List Part) (x : Spot) (t : ℕ) (f l : Spot) → IsWalked tin a b parts x → IsPart tin a b t f l → IsBefore f x → IsNotAfter l x
+pub not_past : (tin : Triangulation) (a b : Pt) (parts : List Part) (x : Spot) (t : ℕ) (f l : Spot)
+    → IsWalked tin a b parts x → IsPart tin a b t f l → IsBefore f x → IsNotAfter l x
 not_past tin a b parts x t f l walked p before = go (walked.every t f l p before)
   where
     go : Has parts f l → IsNotAfter l x
     go h =
         let q = walked.part h.index h.in_range in let last = q.has_last in
-        no_later_trans l (part_at parts h.index).last x last.some (from_same (part_at parts h.index).last l h.last_same) (walked.upto h.index h.in_range)
+        no_later_trans l (part_at parts h.index).last x last.some (from_same (part_at parts h.index).last l h.last_same)
+        (walked.upto h.index h.in_range)
 
 -- ---- one piece more
 new_or_old : (i n m : ℕ) → m ≡ n + 1 → i < m → (i < n) ⊎ (i ≡ n)
@@ -75,7 +87,8 @@ at_new : (parts : List Part) (p : Part) (i : ℕ) → i ≡ length parts → par
 at_new parts p i e = get_or_push parts p no_part i (sym e)
 
 -- what holds of each old piece and of the new one holds of each
-each : (P : Part → Type 0) (parts : List Part) (p : Part) → ((i : ℕ) → i < length parts → P (part_at parts i)) → P p → (i : ℕ) → i < length (parts ++ p ∷ []) → P (part_at (parts ++ p ∷ []) i)
+each : (P : Part → Type 0) (parts : List Part) (p : Part) → ((i : ℕ) → i < length parts → P (part_at parts i)) → P p
+    → (i : ℕ) → i < length (parts ++ p ∷ []) → P (part_at (parts ++ p ∷ []) i)
 each P parts p old new i h = go (new_or_old i (length parts) (length (parts ++ p ∷ [])) (more_long parts p) h)
   where
     go : (i < length parts) ⊎ (i ≡ length parts) → P (part_at (parts ++ p ∷ []) i)
@@ -88,7 +101,8 @@ pub record Follows (tin : Triangulation) (a b : Pt) (x : Spot) (p : Part) : Type
   pub begins : IsSameSpot p.first x
   pub least : (u : ℕ) → u < p.triangle → IsPart tin a b u p.first p.last → ⊥
 
-pub more : (tin : Triangulation) (a b : Pt) (parts : List Part) (x : Spot) (p : Part) → IsSound tin → a ≢ b → IsWalked tin a b parts x → Follows tin a b x p → IsWalked tin a b (parts ++ p ∷ []) p.last
+pub more : (tin : Triangulation) (a b : Pt) (parts : List Part) (x : Spot) (p : Part) → IsSound tin → a ≢ b
+    → IsWalked tin a b parts x → Follows tin a b x p → IsWalked tin a b (parts ++ p ∷ []) p.last
 more tin a b parts x p sound differ walked new = go new.part
   where
     first_x : IsNotAfter p.first x
@@ -126,31 +140,42 @@ more tin a b parts x p sound differ walked new = go new.part
           last_same = subst (λ (q : Part). IsSameSpot q.last l) e hl;
         }
 
-    begins_at_x : (t : ℕ) (f l : Spot) → IsPart tin a b t f l → IsBefore f p.last → IsNotAfter x f → IsBefore x f ⊎ IsNotAfter f x → Has (parts ++ p ∷ []) f l
+    begins_at_x : (t : ℕ) (f l : Spot) → IsPart tin a b t f l → IsBefore f p.last → IsNotAfter x f
+        → IsBefore x f ⊎ IsNotAfter f x → Has (parts ++ p ∷ []) f l
     begins_at_x t f l q before from (inl h) =
         let first = q.has_first in
-        absurd (not_both f p.last before (apart tin a b p.triangle t p.first p.last f l sound differ new.part q (before_trans_left p.first x f new.part.has_first.some first_x h)))
+        absurd (not_both f p.last before (apart tin a b p.triangle t p.first p.last f l sound differ new.part q
+        (before_trans_left p.first x f new.part.has_first.some first_x h)))
     begins_at_x t f l q before from (inr h) =
-        let same = same_of p.first f (no_later_trans p.first x f walked.some first_x from) (no_later_trans f x p.first walked.some h x_first) in
+        let same = same_of p.first f (no_later_trans p.first x f walked.some first_x from)
+        (no_later_trans f x p.first walked.some h x_first) in
         new_has f l same (same_last tin a b p.triangle t p.first p.last f l sound differ new.part q same)
 
-    has_each : (t : ℕ) (f l : Spot) → IsPart tin a b t f l → IsBefore f p.last → IsBefore f x ⊎ IsNotAfter x f → Has (parts ++ p ∷ []) f l
+    has_each : (t : ℕ) (f l : Spot) → IsPart tin a b t f l → IsBefore f p.last → IsBefore f x ⊎ IsNotAfter x f
+        → Has (parts ++ p ∷ []) f l
     has_each t f l q before (inl h) = old_has f l (walked.every t f l q h)
     has_each t f l q before (inr h) = begins_at_x t f l q before h (before_or x f)
 
-    order : (i j : ℕ) → i < j → (j < length parts) ⊎ (j ≡ length parts) → IsBefore (part_at (parts ++ p ∷ []) i).first (part_at (parts ++ p ∷ []) j).first
+    order : (i j : ℕ) → i < j → (j < length parts) ⊎ (j ≡ length parts)
+        → IsBefore (part_at (parts ++ p ∷ []) i).first (part_at (parts ++ p ∷ []) j).first
     order i j h (inl k) =
-        subst (λ (q : Part). IsBefore q.first (part_at (parts ++ p ∷ []) j).first) (sym (at_old parts p i (omega arith)))
-        (subst (λ (q : Part). IsBefore (part_at parts i).first q.first) (sym (at_old parts p j k)) (walked.in_order i j h k))
+        subst (λ (q : Part). IsBefore q.first (part_at (parts ++ p ∷ []) j).first)
+        (sym (at_old parts p i (omega arith)))
+        (subst (λ (q : Part). IsBefore (part_at parts i).first q.first) (sym (at_old parts p j k))
+        (walked.in_order i j h k))
     order i j h (inr e) =
-        subst (λ (q : Part). IsBefore q.first (part_at (parts ++ p ∷ []) j).first) (sym (at_old parts p i (omega arith)))
-        (subst (λ (q : Part). IsBefore (part_at parts i).first q.first) (sym (at_new parts p j e)) (old_before i (omega arith)))
+        subst (λ (q : Part). IsBefore q.first (part_at (parts ++ p ∷ []) j).first)
+        (sym (at_old parts p i (omega arith)))
+        (subst (λ (q : Part). IsBefore (part_at parts i).first q.first) (sym (at_new parts p j e))
+        (old_before i (omega arith)))
 
-    within : (s : Spot) → IsSpot s → IsNotAfter s p.last → IsBefore s x ⊎ IsNotAfter x s → IsInSome tin Source (spot_at a b s)
+    within : (s : Spot) → IsSpot s → IsNotAfter s p.last → IsBefore s x ⊎ IsNotAfter x s
+        → IsInSome tin Source (spot_at a b s)
     within s some h (inl k) = walked.inside s some (no_later s x k)
     within s some h (inr k) =
         let q = new.part in
-        let i = between_in tin a b p.triangle p.first p.last s (sound.positive Source p.triangle q.in_range) q.has_first q.has_last some (no_later_trans p.first x s walked.some first_x k) h in
+        let i = between_in tin a b p.triangle p.first p.last s (sound.positive Source p.triangle q.in_range) q.has_first
+        q.has_last some (no_later_trans p.first x s walked.some first_x k) h in
         (p.triangle, q.in_range, i.inside)
 
     go : IsPart tin a b p.triangle p.first p.last → IsWalked tin a b (parts ++ p ∷ []) p.last
@@ -159,16 +184,22 @@ more tin a b parts x p sound differ walked new = go new.part
         record {
           some = last.some;
           part = each (λ (r : Part). IsPart tin a b r.triangle r.first r.last) parts p walked.part q;
-          least = λ i u h. each (λ (r : Part). (u : ℕ) → u < r.triangle → IsPart tin a b u r.first r.last → ⊥) parts p (λ j k v. walked.least j v k) new.least i h u;
-          in_order = λ i j h k. order i j h (new_or_old j (length parts) (length (parts ++ p ∷ [])) (more_long parts p) k);
-          upto = each (λ (r : Part). IsNotAfter r.last p.last) parts p (λ i h. no_later_trans (part_at parts i).last x p.last walked.some (walked.upto i h) (no_later x p.last (x_last q))) (up_to_same p.last p.last refl);
+          least = λ i u h. each (λ (r : Part). (u : ℕ) → u < r.triangle → IsPart tin a b u r.first r.last → ⊥) parts p
+              (λ j k v. walked.least j v k) new.least i h u;
+          in_order = λ i j h k. order i j h (new_or_old j (length parts) (length (parts ++ p ∷ [])) (more_long parts p)
+              k);
+          upto = each (λ (r : Part). IsNotAfter r.last p.last) parts p
+              (λ i h. no_later_trans (part_at parts i).last x p.last walked.some (walked.upto i h)
+              (no_later x p.last (x_last q))) (up_to_same p.last p.last refl);
           every = λ t f l r before. has_each t f l r before (before_or f x);
           inside = λ s some h. within s some h (before_or s x);
         }
 
 -- ---- the end
 before_end : (x f l : Spot) → IsSpot x → x.of_a ≡ 0 → IsBefore f l → IsBefore f x
-before_end x f l some e h = subst (λ (n : ℕ). f.of_b * n < x.of_b * f.of_a) (sym e) (above f.of_b (x.of_b * f.of_a) (product x.of_b f.of_a (share x.of_a x.of_b e some) (positive (f.of_b * l.of_a) l.of_b f.of_a h)))
+before_end x f l some e h = subst (λ (n : ℕ). f.of_b * n < x.of_b * f.of_a) (sym e)
+    (above f.of_b (x.of_b * f.of_a) (product x.of_b f.of_a (share x.of_a x.of_b e some)
+    (positive (f.of_b * l.of_a) l.of_b f.of_a h)))
   where
     positive : (m n k : ℕ) → m < n * k → 0 < k
     positive m n k h = grind arith
@@ -182,7 +213,8 @@ before_end x f l some e h = subst (λ (n : ℕ). f.of_b * n < x.of_b * f.of_a) (
     above : (m n : ℕ) → 0 < n → m * 0 < n
     above m n h = omega arith
 
-pub all_walked : (tin : Triangulation) (a b : Pt) (parts : List Part) (x : Spot) → x.of_a ≡ 0 → IsWalked tin a b parts x → ArePieces tin a b parts
+pub all_walked : (tin : Triangulation) (a b : Pt) (parts : List Part) (x : Spot) → x.of_a ≡ 0 → IsWalked tin a b parts x
+    → ArePieces tin a b parts
 all_walked tin a b parts x e walked =
     record {
       part = walked.part;
@@ -191,21 +223,29 @@ all_walked tin a b parts x e walked =
       in_order = walked.in_order;
     }
   where
-    found : (f l : Spot) → Has parts f l → (i : ℕ) × (i < length parts) × IsSameSpot (part_at parts i).first f × IsSameSpot (part_at parts i).last l
+    found : (f l : Spot) → Has parts f l → (i : ℕ) × (i < length parts) × IsSameSpot (part_at parts i).first f
+        × IsSameSpot (part_at parts i).last l
     found f l h = (h.index, h.in_range, h.first_same, h.last_same)
 
 up_to_end : (x s : Spot) → x.of_a ≡ 0 → IsNotAfter s x
 up_to_end x s e = subst (λ (n : ℕ). s.of_b * n ≤ x.of_b * s.of_a) (sym e) (omega arith)
 
-pub all_inside : (tin : Triangulation) (a b : Pt) (parts : List Part) (x : Spot) → x.of_a ≡ 0 → IsWalked tin a b parts x → IsInside tin a b
+pub all_inside : (tin : Triangulation) (a b : Pt) (parts : List Part) (x : Spot) → x.of_a ≡ 0 → IsWalked tin a b parts x
+    → IsInside tin a b
 all_inside tin a b parts x e walked p hp m =
     let i = between_weights (whole a) (whole b) p m in
     let s : Spot = record { of_a = i.k; of_b = i.l } in
-    let has = walked.inside s i.some (up_to_end x s e) in
-    (has.0, has.1, mix_moved (spot_at a b s) p (places tin Source (numbers_of tin has.0)) (spot-w a b s i.some) i.same has.2)
+    let has = walked.inside s i.some (up_to_end x s e) in (
+      has.0,
+      has.1,
+      mix_moved (spot_at a b s) p (places tin Source (numbers_of tin has.0)) (spot-w a b s i.some) i.same
+          has.2,
+    )
 
 -- ---- where no part begins at x, a point behind x is in no triangle
-pub stuck : (tin : Triangulation) (a b : Pt) (parts : List Part) (x : Spot) → IsSound tin → 0 < x.of_a → IsWalked tin a b parts x → ((u : ℕ) (f l : Spot) → u < length tin.triangles → IsPart tin a b u f l → IsSameSpot f x → ⊥) → IsInside tin a b → ⊥
+pub stuck : (tin : Triangulation) (a b : Pt) (parts : List Part) (x : Spot) → IsSound tin → 0 < x.of_a
+    → IsWalked tin a b parts x → ((u : ℕ) (f l : Spot) → u < length tin.triangles → IsPart tin a b u f l
+    → IsSameSpot f x → ⊥) → IsInside tin a b → ⊥
 stuck tin a b parts x sound more walked none inside = go (next_part tin a b x sound inside walked.some more)
   where
     go : NextPart tin a b x → ⊥
@@ -216,10 +256,12 @@ stuck tin a b parts x sound more walked none inside = go (next_part tin a b x so
         pick (inr h) = let p = n.part in none n.triangle n.first n.last p.in_range n.part (same_of n.first x n.from h)
 
 -- ---- a piece that follows is of a new triangle
-pub not_again : (tin : Triangulation) (a b : Pt) (parts : List Part) (x : Spot) (p : Part) → IsWalked tin a b parts x → Follows tin a b x p → (i : ℕ) → i < length parts → (part_at parts i).triangle ≡ p.triangle → ⊥
+pub not_again : (tin : Triangulation) (a b : Pt) (parts : List Part) (x : Spot) (p : Part) → IsWalked tin a b parts x
+    → Follows tin a b x p → (i : ℕ) → i < length parts → (part_at parts i).triangle ≡ p.triangle → ⊥
 not_again tin a b parts x p walked new i h e = go (walked.part i h) new.part
   where
-    go : IsPart tin a b (part_at parts i).triangle (part_at parts i).first (part_at parts i).last → IsPart tin a b p.triangle p.first p.last → ⊥
+    go : IsPart tin a b (part_at parts i).triangle (part_at parts i).first (part_at parts i).last
+        → IsPart tin a b p.triangle p.first p.last → ⊥
     go q r =
         let last = q.has_last in
         let has = subst (λ (t : ℕ). IsShared tin a b t p.last) (sym e) r.has_last in

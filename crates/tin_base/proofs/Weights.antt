@@ -1,5 +1,6 @@
 -- Weights of some corners, written as weights of more corners: one list of weights serves in both frames.
-use Rattle.std.proofs.Common.{◌≡◌, ◌⊎◌, inl, inr, ℕ, ◌+◌, ℤ, pos, ◌+ℤ◌, ◌*ℤ◌, Bool, true, false, ◌||◌, eqb, cond, List, [], ◌∷◌, length, map, sum, sym, ◌∙◌, ap, subst, refl, arith}
+use Rattle.std.proofs.Common.{◌≡◌, ◌⊎◌, inl, inr, ℕ, ◌+◌, ℤ, pos, ◌+ℤ◌, ◌*ℤ◌, Bool, true, false, ◌||◌, eqb, cond, List}
+use Rattle.std.proofs.Common.{[], ◌∷◌, length, map, sum, sym, ◌∙◌, ap, subst, refl, arith}
 use Rattle.std.proofs.lemmas.Int.{ints}
 use Rattle.std.proofs.lemmas.Bool.{eq-eqb, or_left, or_right}
 use Rattle.std.proofs.lemmas.Bool.Decides.{eqb_tells}
@@ -37,7 +38,8 @@ one_more w z s e = omega (arith, ints)
 pub total-ones : (ws ns : List ℕ) → length ws ≡ length ns → total (λ _. pos 1) ws ns ≡ pos (sum ws)
 total-ones [] ns e = refl
 total-ones (w ∷ ws) [] e = absurd (omega arith)
-total-ones (w ∷ ws) (n ∷ ns) e = one_more w (total (λ _. pos 1) ws ns) (sum ws) (total-ones ws ns (omega arith)) ∙ ap (λ (k : ℕ). pos k) (sym (sum-cons w ws))
+total-ones (w ∷ ws) (n ∷ ns) e = one_more w (total (λ _. pos 1) ws ns) (sum ws) (total-ones ws ns (omega arith))
+    ∙ ap (λ (k : ℕ). pos k) (sym (sum-cons w ws))
 
 -- ---- each of some numbers is in a list
 abbrev pub HasAll : List ℕ → List ℕ → Type 0
@@ -77,13 +79,16 @@ gathered = follows 4 (λ m w v t. (m ⊕ w) ⊗ v ⊕ t ≐ m ⊗ v ⊕ (w ⊗ v
 passed : (w v m u s t : ℤ) → s ≡ m *ℤ u +ℤ t → w *ℤ v +ℤ s ≡ m *ℤ u +ℤ (w *ℤ v +ℤ t)
 passed = follows 6 (λ w v m u s t. s ≐ m ⊗ u ⊕ t ⇒ w ⊗ v ⊕ s ≐ m ⊗ u ⊕ (w ⊗ v ⊕ t) because eqn 0 (num (pos 1))) tt
 
-added_here : (n : ℕ) (ns : List ℕ) (k m w : ℕ) (ws : List ℕ) → length ws ≡ length ns → n ≡ k → Added (n ∷ ns) k m (w ∷ ws)
+added_here : (n : ℕ) (ns : List ℕ) (k m w : ℕ) (ws : List ℕ) → length ws ≡ length ns → n ≡ k
+    → Added (n ∷ ns) k m (w ∷ ws)
 added_here n ns k m w ws e same =
     record {
       weights = (m + w) ∷ ws;
       fit = omega arith;
       all = omega (arith, sum-cons (m + w) ws, sum-cons w ws);
-      totals = λ value. ap (λ (j : ℕ). pos (m + w) *ℤ value j +ℤ total value ws ns) same ∙ gathered (pos m) (pos w) (value k) (total value ws ns) ∙ ap (λ (j : ℕ). pos m *ℤ value k +ℤ (pos w *ℤ value j +ℤ total value ws ns)) (sym same);
+      totals = λ value. ap (λ (j : ℕ). pos (m + w) *ℤ value j +ℤ total value ws ns) same
+          ∙ gathered (pos m) (pos w) (value k) (total value ws ns)
+          ∙ ap (λ (j : ℕ). pos m *ℤ value k +ℤ (pos w *ℤ value j +ℤ total value ws ns)) (sym same);
     }
 
 added_later : (n : ℕ) (ns : List ℕ) (k m w : ℕ) (ws : List ℕ) → Added ns k m ws → Added (n ∷ ns) k m (w ∷ ws)
@@ -92,7 +97,8 @@ added_later n ns k m w ws a =
       weights = w ∷ a.weights;
       fit = let e : length a.weights ≡ length ns = a.fit in omega arith;
       all = let e : sum a.weights ≡ m + sum ws = a.all in omega (arith, sum-cons w a.weights, sum-cons w ws);
-      totals = λ value. passed (pos w) (value n) (pos m) (value k) (total value a.weights ns) (total value ws ns) (a.totals value);
+      totals = λ value. passed (pos w) (value n) (pos m) (value k) (total value a.weights ns) (total value ws ns)
+          (a.totals value);
     }
 
 added : (ns : List ℕ) (k m : ℕ) (ws : List ℕ) → length ws ≡ length ns → has ns k ≡ true → Added ns k m ws
@@ -100,7 +106,8 @@ added [] k m ws e h = absurd (cc)
 added (n ∷ ns) k m [] e h = absurd (omega arith)
 added (n ∷ ns) k m (w ∷ ws) e h = go (eqb_tells n k) (λ rest. added ns k m ws (omega arith) rest)
   where
-    go : ((eqb n k ≡ true) × (n ≡ k)) ⊎ ((eqb n k ≡ false) × (n ≡ k → ⊥)) → (has ns k ≡ true → Added ns k m ws) → Added (n ∷ ns) k m (w ∷ ws)
+    go : ((eqb n k ≡ true) × (n ≡ k)) ⊎ ((eqb n k ≡ false) × (n ≡ k → ⊥)) → (has ns k ≡ true → Added ns k m ws)
+        → Added (n ∷ ns) k m (w ∷ ws)
     go (inl q) later = added_here n ns k m w ws (omega arith) q.1
     go (inr q) later = added_later n ns k m w ws (later (subst (λ (b : Bool). (b || has ns k) ≡ true) q.0 h))
 
@@ -119,16 +126,19 @@ nothing_spread (n ∷ ns) =
       weights = 0 ∷ rest.weights;
       fit = let e : length rest.weights ≡ length ns = rest.fit in omega arith;
       all = let e : sum rest.weights ≡ 0 = rest.all in omega (arith, sum-cons 0 rest.weights);
-      totals = λ value. follows 2 (λ v t. t ≐ num (pos 0) ⇒ num (pos 0) ⊗ v ⊕ t ≐ num (pos 0) because eqn 0 (num (pos 1))) tt (value n) (total value rest.weights ns) (rest.totals value);
+      totals = λ value. follows 2 (λ v t. t ≐ num (pos 0) ⇒ num (pos 0) ⊗ v ⊕ t
+          ≐ num (pos 0) because eqn 0 (num (pos 1))) tt (value n) (total value rest.weights ns) (rest.totals value);
     }
 
-spread_more : (ns : List ℕ) (k : ℕ) (ks : List ℕ) (w : ℕ) (ws : List ℕ) → has ns k ≡ true → Spread ns ks ws → Spread ns (k ∷ ks) (w ∷ ws)
+spread_more : (ns : List ℕ) (k : ℕ) (ks : List ℕ) (w : ℕ) (ws : List ℕ) → has ns k ≡ true → Spread ns ks ws
+    → Spread ns (k ∷ ks) (w ∷ ws)
 spread_more ns k ks w ws h s =
     let a = added ns k w s.weights s.fit h in
     record {
       weights = a.weights;
       fit = a.fit;
-      all = let e : sum a.weights ≡ w + sum s.weights = a.all in let f : sum s.weights ≡ sum ws = s.all in omega (arith, sum-cons w ws);
+      all = let e : sum a.weights ≡ w + sum s.weights = a.all in let f : sum s.weights ≡ sum ws =
+          s.all in omega (arith, sum-cons w ws);
       totals = λ value. a.totals value ∙ ap (λ (z : ℤ). pos w *ℤ value k +ℤ z) (s.totals value);
     }
 

@@ -8,7 +8,9 @@ use Rattle.tin_base.specs.Triangulation.{Triangulation, other, numbers_of, place
 -- with some weights, p is the mix of the corners of these numbers in the frame, and r in the other frame
 abbrev pub AreLikeMixes : Triangulation → Frame → List ℕ → Point → Point → Type 0
 AreLikeMixes tin frame numbers p r =
-    (weights : List ℕ) × (length weights ≡ length numbers) × (0 < sum weights) × Same p (weighed weights (places tin frame numbers)) × Same r (weighed weights (places tin (other frame) numbers))
+    (weights : List ℕ) × (length weights ≡ length numbers) × (0 < sum weights)
+    × Same p (weighed weights (places tin frame numbers))
+    × Same r (weighed weights (places tin (other frame) numbers))
 
 -- from one of the frames to the other
 abbrev pub IsImageFrom : Triangulation → Frame → Point → Point → Type 0

@@ -16,21 +16,25 @@ EachHasImage tin = (p : Point) → pos 0 <ℤ p.w → IsInSome tin Source p → 
 
 -- any two images of a point are the same
 abbrev pub ImagesAgree : Triangulation → Type 0
-ImagesAgree tin = (p r s : Point) → pos 0 <ℤ p.w → pos 0 <ℤ r.w → pos 0 <ℤ s.w → IsImage tin p r → IsImage tin p s → Same r s
+ImagesAgree tin = (p r s : Point) → pos 0 <ℤ p.w → pos 0 <ℤ r.w → pos 0 <ℤ s.w → IsImage tin p r → IsImage tin p s
+    → Same r s
 
 -- points that have the same image are the same
 abbrev pub ImagesDiffer : Triangulation → Type 0
-ImagesDiffer tin = (p q r s : Point) → pos 0 <ℤ p.w → pos 0 <ℤ q.w → pos 0 <ℤ r.w → pos 0 <ℤ s.w → IsImage tin p r → IsImage tin q s → Same r s → Same p q
+ImagesDiffer tin = (p q r s : Point) → pos 0 <ℤ p.w → pos 0 <ℤ q.w → pos 0 <ℤ r.w → pos 0 <ℤ s.w → IsImage tin p r
+    → IsImage tin q s → Same r s → Same p q
 
 -- each point in some target triangle is the image of a point in a source triangle
 abbrev pub EachIsImage : Triangulation → Type 0
-EachIsImage tin = (r : Point) → pos 0 <ℤ r.w → IsInSome tin Target r → (p : Point) × (pos 0 <ℤ p.w) × IsInSome tin Source p × IsImage tin p r
+EachIsImage tin = (r : Point) → pos 0 <ℤ r.w → IsInSome tin Target r
+    → (p : Point) × (pos 0 <ℤ p.w) × IsInSome tin Source p × IsImage tin p r
 
 -- the images of the turned triangulation are the converse
 abbrev pub TurnedIsConverse : Triangulation → Type 0
 TurnedIsConverse tin = (p r : Point) → IsImage (turned_of tin) r p ↔ IsImage tin p r
 
--- from the points of the source triangles to the points of the target triangles, images are a map, one to one and onto, and turned it goes back
+-- from the points of the source triangles to the points of the target triangles, images are a map, one to one and onto,
+-- and turned it goes back
 pub record IsOneToOne (tin : Triangulation) : Type 0 where
   pub has_image : EachHasImage tin
   pub one_image : ImagesAgree tin
@@ -67,7 +71,8 @@ EachPairOnceIsEnough =
 
 -- a triangulation of one triangle that is neither flat nor turned over is sound
 abbrev pub OneTriangleIsSound : Type 0
-OneTriangleIsSound = (tin : Triangulation) → length tin.triangles ≡ 1 → pos 0 <ℤ turn_in tin Source 0 → pos 0 <ℤ turn_in tin Target 0 → IsSound tin
+OneTriangleIsSound = (tin : Triangulation) → length tin.triangles ≡ 1 → pos 0 <ℤ turn_in tin Source 0
+    → pos 0 <ℤ turn_in tin Target 0 → IsSound tin
 
 -- all of these laws in one, for a call that answers a sound triangulation
 abbrev pub SoundIsOneToOne : Type 0
@@ -75,4 +80,5 @@ SoundIsOneToOne = (tin : Triangulation) → IsSound tin → IsOneToOne tin
 
 -- whole points that are in source triangles are near each other, as the corners are
 abbrev pub PointsInsideAreNear : Type 0
-PointsInsideAreNear = (tin : Triangulation) → IsWithinLimits tin → (p q : Pt) → IsInSome tin Source (whole p) → IsInSome tin Source (whole q) → IsNear p q
+PointsInsideAreNear = (tin : Triangulation) → IsWithinLimits tin → (p q : Pt) → IsInSome tin Source (whole p)
+    → IsInSome tin Source (whole q) → IsNear p q

@@ -1,4 +1,5 @@
--- What each triangulation keeps, sound or not: its numbers are those of corners, and its corners are few, different and near each other.
+-- What each triangulation keeps, sound or not: its numbers are those of corners, and its corners are few, different and
+-- near each other.
 use Rattle.std.specs.Prelude.{◌≡◌, ℕ, ◌<◌, ◌≤◌, ℤ, neg_ℤ, ◌-ℤ◌, ◌≤ℤ◌, ◌<ℤ◌, length, All}
 use Rattle.plane_base.specs.declared.shapes.TheConstants.{SPAN}
 use Rattle.tin_base.specs.declared.corners.Corner.{Corner}
@@ -24,7 +25,9 @@ pub record IsWithinLimits (tin : Triangulation) : Type 0 where
   pub in_range : (t : ℕ) → t < length tin.triangles → All (λ n. n < length tin.corners) (numbers_of tin t)
   pub in_reach : (frame : Frame) (n : ℕ) → n < length tin.corners → IsCornerInReach frame (corner_at tin n)
   -- so each span is below SPAN
-  pub near : (frame : Frame) (m n : ℕ) → m < length tin.corners → n < length tin.corners → IsNotFarBelow frame (corner_at tin m) (corner_at tin n)
-  pub different : (m n : ℕ) → m < length tin.corners → n < length tin.corners → corner_at tin m ≡ corner_at tin n → m ≡ n
+  pub near : (frame : Frame) (m n : ℕ) → m < length tin.corners → n < length tin.corners
+      → IsNotFarBelow frame (corner_at tin m) (corner_at tin n)
+  pub different : (m n : ℕ) → m < length tin.corners → n < length tin.corners → corner_at tin m ≡ corner_at tin n
+      → m ≡ n
   pub corner_count : length tin.corners ≤ MOST_CORNERS
   pub triangle_count : length tin.triangles ≤ MOST_TRIANGLES

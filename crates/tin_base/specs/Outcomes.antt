@@ -7,4 +7,5 @@ use Rattle.tin_base.specs.Segments.{Part, IsInside, ArePiecesOf}
 
 -- Of each sound triangulation
 abbrev pub OutcomeExists : Type 0
-OutcomeExists = (tin : Triangulation) → IsSound tin → (a b : Pt) → ((parts : List Part) × ArePiecesOf tin a b parts × IsInside tin a b) ⊎ (IsInside tin a b → ⊥)
+OutcomeExists = (tin : Triangulation) → IsSound tin → (a b : Pt)
+    → ((parts : List Part) × ArePiecesOf tin a b parts × IsInside tin a b) ⊎ (IsInside tin a b → ⊥)

@@ -1,4 +1,5 @@
--- The pieces of segments as a run lists them: each with its segment's ends, its triangle, and the rounded images of its own ends.
+-- The pieces of segments as a run lists them: each with its segment's ends, its triangle, and the rounded images of its
+-- own ends.
 use Rattle.std.specs.Prelude.{◌≡◌, ◌≢◌, ◌<◌, length}
 use Rattle.plane_base.specs.Plane.{Point, whole}
 use Rattle.tin_base.specs.declared.frames.Frame.TheVariants.{Source}

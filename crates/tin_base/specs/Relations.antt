@@ -22,9 +22,11 @@ IsOnlyCommonPoint p q e f r = IsCommonPoint p q e f r × ((s : Point) → IsComm
 abbrev pub IsAnEnd : Point → Point → Point → Point → Point → Type 0
 IsAnEnd p q e f r = Same r p ⊎ (Same r q ⊎ (Same r e ⊎ Same r f))
 
--- the segments from p to q and from e to f have no common point, one that is an end, one that is no end, or two different ones
+-- the segments from p to q and from e to f have no common point, one that is an end, one that is no end, or two
+-- different ones
 abbrev pub HaveRelation : Rel → Point → Point → Point → Point → Type 0
 HaveRelation Apart p q e f = (r : Point) → IsCommonPoint p q e f r → ⊥
 HaveRelation Touching p q e f = (r : Point) × IsOnlyCommonPoint p q e f r × IsAnEnd p q e f r
 HaveRelation Crossing p q e f = (r : Point) × IsOnlyCommonPoint p q e f r × (IsAnEnd p q e f r → ⊥)
-HaveRelation Overlapping p q e f = (r : Point) × (s : Point) × IsCommonPoint p q e f r × IsCommonPoint p q e f s × (Same r s → ⊥)
+HaveRelation Overlapping p q e f = (r : Point) × (s : Point) × IsCommonPoint p q e f r × IsCommonPoint p q e f s
+    × (Same r s → ⊥)

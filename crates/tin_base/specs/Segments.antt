@@ -67,18 +67,25 @@ no_part = record { triangle = 0; first = at_a; last = at_a }
 abbrev pub part_at : List Part → ℕ → Part
 part_at parts i = slice_index_or parts i no_part
 
--- the pieces of a segment of two different ends: every part once, with the least triangle that has it, in order from a to b
+-- the pieces of a segment of two different ends: every part once, with the least triangle that has it, in order from a
+-- to b
 pub record ArePieces (tin : Triangulation) (a b : Pt) (parts : List Part) : Type 0 where
-  pub part : (i : ℕ) → i < length parts → IsPart tin a b (part_at parts i).triangle (part_at parts i).first (part_at parts i).last
-  pub least : (i u : ℕ) → i < length parts → u < (part_at parts i).triangle → IsPart tin a b u (part_at parts i).first (part_at parts i).last → ⊥
-  pub every : (t : ℕ) (first last : Spot) → IsPart tin a b t first last → (i : ℕ) × (i < length parts) × IsSameSpot (part_at parts i).first first × IsSameSpot (part_at parts i).last last
+  pub part : (i : ℕ) → i < length parts → IsPart tin a b (part_at parts i).triangle (part_at parts i).first
+      (part_at parts i).last
+  pub least : (i u : ℕ) → i < length parts → u < (part_at parts i).triangle
+      → IsPart tin a b u (part_at parts i).first (part_at parts i).last → ⊥
+  pub every : (t : ℕ) (first last : Spot) → IsPart tin a b t first last
+      → (i : ℕ) × (i < length parts) × IsSameSpot (part_at parts i).first first × IsSameSpot (part_at parts i).last last
   pub in_order : (i j : ℕ) → i < j → j < length parts → IsBefore (part_at parts i).first (part_at parts j).first
 
--- the pieces of a segment from a point to itself: the point, with the least triangle that has it, or none where no triangle has it
+-- the pieces of a segment from a point to itself: the point, with the least triangle that has it, or none where no
+-- triangle has it
 abbrev pub ArePiecesAt : Triangulation → Pt → List Part → Type 0
 ArePiecesAt tin a [] = IsInSome tin Source (whole a) → ⊥
 ArePiecesAt tin a (part ∷ []) =
-    (part.triangle < length tin.triangles) × IsInTriangle tin Source part.triangle (whole a) × ((u : ℕ) → u < part.triangle → IsInTriangle tin Source u (whole a) → ⊥) × (part.first ≡ at_a) × (part.last ≡ at_a)
+    (part.triangle < length tin.triangles) × IsInTriangle tin Source part.triangle (whole a)
+    × ((u : ℕ) → u < part.triangle → IsInTriangle tin Source u (whole a) → ⊥) × (part.first ≡ at_a)
+    × (part.last ≡ at_a)
 ArePiecesAt tin a parts = ⊥
 
 -- the pieces of any segment
@@ -94,4 +101,5 @@ pub record AreChain (parts : List Part) : Type 0 where
 
 -- each spot of the segment is in some part
 abbrev pub DoCover : List Part → Type 0
-DoCover parts = (s : Spot) → 0 < s.of_a + s.of_b → (i : ℕ) × (i < length parts) × IsNotAfter (part_at parts i).first s × IsNotAfter s (part_at parts i).last
+DoCover parts = (s : Spot) → 0 < s.of_a + s.of_b
+    → (i : ℕ) × (i < length parts) × IsNotAfter (part_at parts i).first s × IsNotAfter s (part_at parts i).last

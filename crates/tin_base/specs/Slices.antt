@@ -19,8 +19,10 @@ spot_of f = spot_by f.num f.den
 
 -- the stretch is the part of the segment in triangle t, wherever the triangle stands
 abbrev pub IsSliceIn : Triangulation → Pt → Pt → ℕ → Stretch → Type 0
-IsSliceIn tin a b t slice = (r : Tri) → corners r ≡ places tin Source (numbers_of tin t) → IsCommon a b r slice × AreEnds a b r slice × (a ≡ b → IsWholeWay slice)
+IsSliceIn tin a b t slice = (r : Tri) → corners r ≡ places tin Source (numbers_of tin t)
+    → IsCommon a b r slice × AreEnds a b r slice × (a ≡ b → IsWholeWay slice)
 
 -- both ends of the segment are near each corner of triangle t, wherever it stands, and near each other
 abbrev pub AreNearTriangle : Triangulation → Pt → Pt → ℕ → Type 0
-AreNearTriangle tin a b t = (r : Tri) → corners r ≡ places tin Source (numbers_of tin t) → IsNearTri r a × IsNearTri r b × IsNear a b
+AreNearTriangle tin a b t = (r : Tri) → corners r ≡ places tin Source (numbers_of tin t)
+    → IsNearTri r a × IsNearTri r b × IsNear a b

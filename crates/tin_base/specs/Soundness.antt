@@ -1,4 +1,5 @@
--- What makes a triangulation sound: in both frames no triangle is flat or turned over, and any two of them meet in their common corners and in what those span.
+-- What makes a triangulation sound: in both frames no triangle is flat or turned over, and any two of them meet in
+-- their common corners and in what those span.
 use Rattle.std.specs.Prelude.{◌≢◌, ℕ, ◌<◌, ◌≤◌, ℤ, pos, ◌<ℤ◌, Bool, ◌==◌, List, [], ◌∷◌, length, filter}
 use Rattle.std.specs.List.{list_any}
 use Rattle.plane_base.specs.Plane.{Point, turn_of, IsMix}
@@ -29,7 +30,8 @@ common_of tin t u = common (numbers_of tin t) (numbers_of tin u)
 -- each point in both triangles is a mix of their common corners; where they have none, no point is in both
 abbrev pub MeetInCommon : Triangulation → Frame → ℕ → ℕ → Type 0
 MeetInCommon tin frame t u =
-    (p : Point) → pos 0 <ℤ p.w → IsInTriangle tin frame t p → IsInTriangle tin frame u p → IsMix p (places tin frame (common_of tin t u))
+    (p : Point) → pos 0 <ℤ p.w → IsInTriangle tin frame t p → IsInTriangle tin frame u p
+    → IsMix p (places tin frame (common_of tin t u))
 
 -- two triangles fit together in a frame
 pub record DoFit (tin : Triangulation) (frame : Frame) (t u : ℕ) : Type 0 where
@@ -39,4 +41,5 @@ pub record DoFit (tin : Triangulation) (frame : Frame) (t u : ℕ) : Type 0 wher
 -- each triangle has a positive turn in both frames, and any two at different places of the list fit together in both
 pub record IsSound (tin : Triangulation) : Type 0 where
   pub positive : (frame : Frame) (t : ℕ) → t < length tin.triangles → pos 0 <ℤ turn_in tin frame t
-  pub fit : (frame : Frame) (t u : ℕ) → t ≢ u → t < length tin.triangles → u < length tin.triangles → DoFit tin frame t u
+  pub fit : (frame : Frame) (t u : ℕ) → t ≢ u → t < length tin.triangles → u < length tin.triangles
+      → DoFit tin frame t u

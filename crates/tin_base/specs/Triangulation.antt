@@ -1,4 +1,5 @@
--- A triangulation as contracts see it: corners with a place in each of two frames, and triangles by the numbers of their corners.
+-- A triangulation as contracts see it: corners with a place in each of two frames, and triangles by the numbers of
+-- their corners.
 use Rattle.std.specs.Prelude.{ℕ, ℤ, pos, List, [], map, slice_index_or}
 use Rattle.plane_base.specs.Plane.{Point, IsMix}
 use Rattle.tin_base.specs.declared.corners.Corner.{Corner}

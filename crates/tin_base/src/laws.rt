@@ -1,9 +1,12 @@
 //! Laws of sound triangulations: images are one-to-one, segments and relations are kept, and pieces follow.
 
-ghost use Rattle.tin_base.specs.Laws.{EachPairOnceIsEnough, NoTrianglesAreSound, OneTriangleIsSound, PointsHaveOneImage, PointsInsideAreNear, DifferentPointsDiffer, TargetPointsAreImages, ConverseIsSound, SoundIsOneToOne};
+ghost use Rattle.tin_base.specs.Laws.{EachPairOnceIsEnough, NoTrianglesAreSound, OneTriangleIsSound};
+ghost use Rattle.tin_base.specs.Laws.{PointsHaveOneImage, PointsInsideAreNear, DifferentPointsDiffer};
+ghost use Rattle.tin_base.specs.Laws.{TargetPointsAreImages, ConverseIsSound, SoundIsOneToOne};
 ghost use Rattle.tin_base.specs.Carried.{SegmentsGoToSegments, RelationsAreKept, PiecesFollow};
 
-/// A law: each point in some source triangle of a sound triangulation has an image, and any two images of it are the same.
+/// A law: each point in some source triangle of a sound triangulation has an image, and any two images of it are the
+/// same.
 pub fn points_have_one_image()
     ensures { PointsHaveOneImage }
 {}
@@ -28,7 +31,8 @@ pub fn sound_is_one_to_one()
     ensures { SoundIsOneToOne }
 {}
 
-/// A law: the images of the points of a segment in one triangle of a sound triangulation are exactly the points between the images of its ends.
+/// A law: the images of the points of a segment in one triangle of a sound triangulation are exactly the points between
+/// the images of its ends.
 pub fn segments_go_to_segments()
     ensures { SegmentsGoToSegments }
 {}
@@ -38,7 +42,8 @@ pub fn relations_are_kept()
     ensures { RelationsAreKept }
 {}
 
-/// A law: the pieces of a segment that is inside a sound triangulation follow each other from its one end to the other, and have all its points.
+/// A law: the pieces of a segment that is inside a sound triangulation follow each other from its one end to the other,
+/// and have all its points.
 pub fn pieces_follow()
     ensures { PiecesFollow }
 {}
@@ -53,7 +58,8 @@ pub fn one_triangle_is_sound()
     ensures { OneTriangleIsSound }
 {}
 
-/// A law: a triangulation whose turns are positive is sound where each two triangles fit together in one order, the lower number first.
+/// A law: a triangulation whose turns are positive is sound where each two triangles fit together in one order, the
+/// lower number first.
 pub fn each_pair_once_is_enough()
     ensures { EachPairOnceIsEnough }
 {}

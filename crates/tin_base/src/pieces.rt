@@ -13,8 +13,8 @@ pub struct Place {
     pub piece: u32,
 }
 
-/// A piece of a segment: the part of the segment from `a` to `b` that is in the source triangle `tri`. `ia` and `ib` are
-/// the rounded images of the piece's own ends, in millimetres.
+/// A piece of a segment: the part of the segment from `a` to `b` that is in the source triangle `tri`. `ia` and `ib`
+/// are the rounded images of the piece's own ends, in millimetres.
 #[derive(Clone, Copy, PartialEq, Eq, Debug)]
 pub struct Piece {
     pub a: Pt,

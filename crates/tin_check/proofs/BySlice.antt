@@ -10,7 +10,8 @@ use Rattle.plane_base.proofs.Along.{along-w}
 use Rattle.tin_check.specs.Meeting.{HaveCommonPoint}
 use Rattle.tin_check.proofs.Places.{side_along, along_side}
 
-tells : (a b : Pt) (t : Tri) (r : Option Stretch) → slice_of a b t r → IsTrue (is_some r) ↔ HaveCommonPoint (whole a ∷ whole b ∷ []) (corners t)
+tells : (a b : Pt) (t : Tri) (r : Option Stretch) → slice_of a b t r
+    → IsTrue (is_some r) ↔ HaveCommonPoint (whole a ∷ whole b ∷ []) (corners t)
 tells a b t None none = (λ h. cc, λ h. absurd (none_met h))
   where
     none_met : HaveCommonPoint (whole a ∷ whole b ∷ []) (corners t) → ⊥
@@ -29,5 +30,7 @@ tells a b t (Some s) both = (
   λ h. refl,
 )
 
-pub slice_tells : (a b : Pt) (t : Tri) (r : Option Stretch) (found : Bool) → slice_of a b t r → found ≡ is_some r → IsTrue found ↔ HaveCommonPoint (whole a ∷ whole b ∷ []) (corners t)
-slice_tells a b t r found h e = subst (λ (x : Bool). IsTrue x ↔ HaveCommonPoint (whole a ∷ whole b ∷ []) (corners t)) (sym e) (tells a b t r h)
+pub slice_tells : (a b : Pt) (t : Tri) (r : Option Stretch) (found : Bool) → slice_of a b t r → found ≡ is_some r
+    → IsTrue found ↔ HaveCommonPoint (whole a ∷ whole b ∷ []) (corners t)
+slice_tells a b t r found h e = subst (λ (x : Bool). IsTrue x ↔ HaveCommonPoint (whole a ∷ whole b ∷ []) (corners t))
+    (sym e) (tells a b t r h)

@@ -1,5 +1,6 @@
 -- A triangle counted from another corner is the same triangle; and what marked corners are.
-use Rattle.std.proofs.Common.{◌≡◌, ◌⊎◌, ◌↔◌, inl, inr, ◌≤◌, ℤ, pos, ◌<ℤ◌, Bool, true, false, IsTrue, List, [], ◌∷◌, ◌++◌, length, map, refl, sym, subst, arith}
+use Rattle.std.proofs.Common.{◌≡◌, ◌⊎◌, ◌↔◌, inl, inr, ◌≤◌, ℤ, pos, ◌<ℤ◌, Bool, true, false, IsTrue, List, [], ◌∷◌}
+use Rattle.std.proofs.Common.{◌++◌, length, map, refl, sym, subst, arith}
 use Rattle.plane_base.specs.Plane.{Point, IsMix, whole, corners}
 use Rattle.plane_base.specs.declared.shapes.Pt.{Pt}
 use Rattle.plane_base.specs.declared.shapes.Tri.{Tri}
@@ -47,7 +48,8 @@ after t r s f g =
 pub counted_same : (t r : Tri) → IsCounted t r → IsSameTriangle t r
 counted_same t r (inl e) = subst (λ (s : Tri). IsSameTriangle t s) (sym e) (itself t)
 counted_same t r (inr (inl e)) = subst (λ (s : Tri). IsSameTriangle t s) (sym e) (next_same t)
-counted_same t r (inr (inr e)) = subst (λ (s : Tri). IsSameTriangle t s) (sym e) (after t (next_of t) (next_of (next_of t)) (next_same t) (next_same (next_of t)))
+counted_same t r (inr (inr e)) = subst (λ (s : Tri). IsSameTriangle t s) (sym e)
+    (after t (next_of t) (next_of (next_of t)) (next_same t) (next_same (next_of t)))
 
 -- ---- what holds of two triangles, when one of them is counted from another corner
 split : (ps qs : List Pt) (p : Pt) → IsAmong (ps ++ qs) p → IsAmong ps p ⊎ IsAmong qs p
@@ -68,7 +70,8 @@ in_right : (ps qs : List Pt) (p : Pt) → IsAmong qs p → IsAmong (ps ++ qs) p
 in_right [] qs p h = h
 in_right (q ∷ ps) qs p h = inr (in_right ps qs p h)
 
-still_among : (t r u s : Tri) → IsSameTriangle t r → IsSameTriangle u s → (p : Pt) → IsAmong (points_of r ++ points_of s) p → IsAmong (points_of t ++ points_of u) p
+still_among : (t r u s : Tri) → IsSameTriangle t r → IsSameTriangle u s → (p : Pt)
+    → IsAmong (points_of r ++ points_of s) p → IsAmong (points_of t ++ points_of u) p
 still_among t r u s f g p h = go (split (points_of r) (points_of s) p h)
   where
     go : IsAmong (points_of r) p ⊎ IsAmong (points_of s) p → IsAmong (points_of t ++ points_of u) p
@@ -84,14 +87,16 @@ first_near t r u h near = still_near t r u u (counted_same t r h) (itself u) nea
 pub second_near : (t u s : Tri) → IsCounted u s → AreNearTris t u → AreNearTris t s
 second_near t u s h near = still_near t t u s (itself t) (counted_same u s h) near
 
-pub first_meet : (t r u : Tri) (ps : List Point) → IsCounted t r → MeetOnlyIn (corners r) (corners u) ps ↔ MeetOnlyIn (corners t) (corners u) ps
+pub first_meet : (t r u : Tri) (ps : List Point) → IsCounted t r
+    → MeetOnlyIn (corners r) (corners u) ps ↔ MeetOnlyIn (corners t) (corners u) ps
 first_meet t r u ps h =
     let same = counted_same t r h in (
       λ only p hp in_t in_u. only p hp (same.into p in_t) in_u,
       λ only p hp in_r in_u. only p hp (same.back p in_r) in_u,
     )
 
-pub second_meet : (t u s : Tri) (ps : List Point) → IsCounted u s → MeetOnlyIn (corners t) (corners s) ps ↔ MeetOnlyIn (corners t) (corners u) ps
+pub second_meet : (t u s : Tri) (ps : List Point) → IsCounted u s
+    → MeetOnlyIn (corners t) (corners s) ps ↔ MeetOnlyIn (corners t) (corners u) ps
 second_meet t u s ps h =
     let same = counted_same u s h in (
       λ only p hp in_t in_u. only p hp in_t (same.into p in_u),
@@ -102,7 +107,8 @@ pub through : {P Q R : Type 0} → P ↔ Q → Q ↔ R → P ↔ R
 through i j = (λ p. j.0 (i.0 p), λ r. i.1 (j.1 r))
 
 -- ---- marked corners are corners
-pub marked_among : (marks : List Bool) (points : List Pt) (p : Pt) → IsAmong (marked_of marks points) p → IsAmong points p
+pub marked_among : (marks : List Bool) (points : List Pt) (p : Pt) → IsAmong (marked_of marks points) p
+    → IsAmong points p
 marked_among [] points p h = absurd h
 marked_among (m ∷ marks) [] p h = absurd h
 marked_among (true ∷ marks) (q ∷ points) p (inl h) = inl h
@@ -110,7 +116,8 @@ marked_among (true ∷ marks) (q ∷ points) p (inr h) = inr (marked_among marks
 marked_among (false ∷ marks) (q ∷ points) p h = inr (marked_among marks points p h)
 
 -- a marked corner of the one triangle is a corner of the other
-pub common_among : (ps : List Pt) (marks : List Bool) (u : Tri) (p : Pt) → HaveSamePoints ps (marked_of marks (points_of u)) → IsAmong ps p → IsAmong (points_of u) p
+pub common_among : (ps : List Pt) (marks : List Bool) (u : Tri) (p : Pt)
+    → HaveSamePoints ps (marked_of marks (points_of u)) → IsAmong ps p → IsAmong (points_of u) p
 common_among ps marks u p same h = marked_among marks (points_of u) p ((same p).0 h)
 
 abbrev pub IsSide : List Pt → Tri → Type 0
@@ -134,18 +141,22 @@ FitsIn t u ps = (length ps ≤ 2) × MeetOnlyIn (corners t) (corners u) (map who
 few : (ps qs : List Pt) → ps ≡ qs → length qs ≤ 2 → length ps ≤ 2
 few ps qs e h = subst (λ (xs : List Pt). length xs ≤ 2) (sym e) h
 
-pub fits_by : (t u : Tri) (ps qs : List Pt) (found : Bool) → ps ≡ qs → length qs ≤ 2 → IsTrue found ↔ MeetOnlyIn (corners t) (corners u) (map whole qs) → IsTrue found ↔ FitsIn t u ps
+pub fits_by : (t u : Tri) (ps qs : List Pt) (found : Bool) → ps ≡ qs → length qs ≤ 2
+    → IsTrue found ↔ MeetOnlyIn (corners t) (corners u) (map whole qs) → IsTrue found ↔ FitsIn t u ps
 fits_by t u ps qs found e h i = (
   λ yes. (few ps qs e h, subst (λ (xs : List Pt). MeetOnlyIn (corners t) (corners u) (map whole xs)) (sym e) (i.0 yes)),
   λ fit. i.1 (subst (λ (xs : List Pt). MeetOnlyIn (corners t) (corners u) (map whole xs)) e fit.1),
 )
 
-swapped : (t u : Tri) (p q : Pt) → MeetOnlyIn (corners t) (corners u) (whole p ∷ whole q ∷ []) ↔ MeetOnlyIn (corners t) (corners u) (whole q ∷ whole p ∷ [])
+swapped : (t u : Tri) (p q : Pt) → MeetOnlyIn (corners t) (corners u) (whole p ∷ whole q ∷ [])
+    ↔ MeetOnlyIn (corners t) (corners u) (whole q ∷ whole p ∷ [])
 swapped t u p q = (
   λ only x hx in_t in_u. mix_swapped x (whole p) (whole q) (only x hx in_t in_u),
   λ only x hx in_t in_u. mix_swapped x (whole q) (whole p) (only x hx in_t in_u),
 )
 
-pub fits_at_side : (t u r : Tri) (ps : List Pt) (found : Bool) → IsSide ps r → IsTrue found ↔ MeetOnlyIn (corners t) (corners u) (whole r.a ∷ whole r.b ∷ []) → IsTrue found ↔ FitsIn t u ps
+pub fits_at_side : (t u r : Tri) (ps : List Pt) (found : Bool) → IsSide ps r
+    → IsTrue found ↔ MeetOnlyIn (corners t) (corners u) (whole r.a ∷ whole r.b ∷ []) → IsTrue found ↔ FitsIn t u ps
 fits_at_side t u r ps found (inl e) i = fits_by t u ps (r.a ∷ r.b ∷ []) found e (omega arith) i
-fits_at_side t u r ps found (inr e) i = fits_by t u ps (r.b ∷ r.a ∷ []) found e (omega arith) (through i (swapped t u r.a r.b))
+fits_at_side t u r ps found (inr e) i = fits_by t u ps (r.b ∷ r.a ∷ []) found e (omega arith)
+    (through i (swapped t u r.a r.b))

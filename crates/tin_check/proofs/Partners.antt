@@ -19,7 +19,8 @@ use Rattle.tin_check.proofs.Apart.{apart_fit}
 
 -- ---- a triangle whose box is not near fits
 -- a triangle is among those of a list that has each box that shares a point, or it fits
-shared_or_fit : (tin : Triangulation) (frame : Frame) (t u : ℕ) (p q : Rect) → ShareAPointOrAreApart → IsBoxIn tin frame t p → IsBoxIn tin frame u q → ShareAPoint p q ⊎ DoFit tin frame t u
+shared_or_fit : (tin : Triangulation) (frame : Frame) (t u : ℕ) (p q : Rect) → ShareAPointOrAreApart
+    → IsBoxIn tin frame t p → IsBoxIn tin frame u q → ShareAPoint p q ⊎ DoFit tin frame t u
 shared_or_fit tin frame t u p q law hp hq = go (apart_or_not p q)
   where
     go : AreApart p q ⊎ (AreApart p q → ⊥) → ShareAPoint p q ⊎ DoFit tin frame t u
@@ -29,52 +30,77 @@ shared_or_fit tin frame t u p q law hp hq = go (apart_or_not p q)
 turned : (p q : Rect) → ShareAPoint p q → ShareAPoint q p
 turned p q shared = (shared.0, shared.2, shared.1)
 
-pub others_fit : (tin : Triangulation) (frame : Frame) (boxes : List Rect) (first : ℕ) (box : Rect) (seconds listed : List ℕ) → ShareAPointOrAreApart → AreBoxesIn tin frame (length tin.triangles) boxes → IsBoxIn tin frame first box → IsNearList boxes box seconds → listed ≡ seconds
+pub others_fit : (tin : Triangulation) (frame : Frame) (boxes : List Rect) (first : ℕ) (box : Rect)
+    (seconds listed : List ℕ) → ShareAPointOrAreApart → AreBoxesIn tin frame (length tin.triangles) boxes
+    → IsBoxIn tin frame first box → IsNearList boxes box seconds → listed ≡ seconds
     → DoOthersFit tin frame first listed
-others_fit tin frame boxes first box seconds listed law are is near same u after hu = go (shared_or_fit tin frame first u box (box_at boxes u) law is (are.each u hu))
+others_fit tin frame boxes first box seconds listed law are is near same u after hu =
+    go (shared_or_fit tin frame first u box (box_at boxes u) law is (are.each u hu))
   where
     go : ShareAPoint box (box_at boxes u) ⊎ DoFit tin frame first u → Contains listed u ⊎ DoFit tin frame first u
     go (inr fit) = inr fit
-    go (inl shared) = inl (subst (λ (ns : List ℕ). Contains ns u) (sym same) ((near.exact u).1 (omega (arith, are.count), turned box (box_at boxes u) shared)))
+    go (inl shared) = inl (subst (λ (ns : List ℕ). Contains ns u) (sym same)
+        ((near.exact u).1 (omega (arith, are.count), turned box (box_at boxes u) shared)))
 
-pub near_in_range : (tin : Triangulation) (frame : Frame) (boxes : List Rect) (box : Rect) (seconds listed : List ℕ) → AreBoxesIn tin frame (length tin.triangles) boxes → IsNearList boxes box seconds → listed ≡ seconds → All (λ second. second < length tin.triangles) listed
+pub near_in_range : (tin : Triangulation) (frame : Frame) (boxes : List Rect) (box : Rect) (seconds listed : List ℕ)
+    → AreBoxesIn tin frame (length tin.triangles) boxes → IsNearList boxes box seconds → listed ≡ seconds
+    → All (λ second. second < length tin.triangles) listed
 near_in_range tin frame boxes box seconds listed are near same k d within =
-    let h = ((near.exact (get_or listed k d)).0 (subst (λ (ns : List ℕ). Contains ns (get_or listed k d)) same (Contains-get_or listed k d within))).0 in
+    let h = ((near.exact (get_or listed k d)).0
+    (subst (λ (ns : List ℕ). Contains ns (get_or listed k d)) same (Contains-get_or listed k d within))).0 in
     omega (arith, are.count)
 
 -- ---- the same, where each pair of boxes that share a point is told for one of the two
-pub partners_in_range : (tin : Triangulation) (frame : Frame) (boxes : List Rect) (t : ℕ) (found listed : List ℕ) → AreBoxesIn tin frame (length tin.triangles) boxes → ArePartners boxes t found → listed ≡ found → All (λ other. other < length tin.triangles) listed
+pub partners_in_range : (tin : Triangulation) (frame : Frame) (boxes : List Rect) (t : ℕ) (found listed : List ℕ)
+    → AreBoxesIn tin frame (length tin.triangles) boxes → ArePartners boxes t found → listed ≡ found
+    → All (λ other. other < length tin.triangles) listed
 partners_in_range tin frame boxes t found listed are partners same k d within =
-    let h = ((partners.exact (get_or listed k d)).0 (subst (λ (ns : List ℕ). Contains ns (get_or listed k d)) same (Contains-get_or listed k d within))).0.0 in
+    let h = ((partners.exact (get_or listed k d)).0
+    (subst (λ (ns : List ℕ). Contains ns (get_or listed k d)) same (Contains-get_or listed k d within))).0.0 in
     omega (arith, are.count)
 
 -- the first n triangles fit with their partners
 abbrev pub DoPartnersFit : Triangulation → Frame → List Rect → ℕ → Type 0
 DoPartnersFit tin frame boxes n = (t u : ℕ) → t < n → IsPartner boxes t u → DoFit tin frame t u
 
-pub more_partners : (tin : Triangulation) (frame : Frame) (boxes : List Rect) (n : ℕ) (found listed : List ℕ) → DoPartnersFit tin frame boxes n → ArePartners boxes n found → listed ≡ found → All (λ other. DoFit tin frame n other) listed → DoPartnersFit tin frame boxes (n + 1)
-more_partners tin frame boxes n found listed before partners same fit t u h is = below_more (λ k. (u : ℕ) → IsPartner boxes k u → DoFit tin frame k u) n (λ k less v of. before k v less of) here t h u is
+pub more_partners : (tin : Triangulation) (frame : Frame) (boxes : List Rect) (n : ℕ) (found listed : List ℕ)
+    → DoPartnersFit tin frame boxes n → ArePartners boxes n found → listed ≡ found
+    → All (λ other. DoFit tin frame n other) listed → DoPartnersFit tin frame boxes (n + 1)
+more_partners tin frame boxes n found listed before partners same fit t u h is =
+    below_more (λ k. (u : ℕ) → IsPartner boxes k u → DoFit tin frame k u) n (λ k less v of. before k v less of) here t h
+    u is
   where
     here : (u : ℕ) → IsPartner boxes n u → DoFit tin frame n u
-    here u is = All-contains (λ other. DoFit tin frame n other) listed u fit (subst (λ (ns : List ℕ). Contains ns u) (sym same) ((partners.exact u).1 is))
+    here u is = All-contains (λ other. DoFit tin frame n other) listed u fit
+        (subst (λ (ns : List ℕ). Contains ns u) (sym same) ((partners.exact u).1 is))
 
-pub all_partners_fit : (tin : Triangulation) (frame : Frame) (boxes : List Rect) (n : ℕ) → ShareAPointOrAreApart → EachPairIsToldOnce → ArePositive tin (length tin.triangles) → AreBoxesIn tin frame (length tin.triangles) boxes → length tin.triangles ≤ n → DoPartnersFit tin frame boxes n → DoAllFit tin frame
-all_partners_fit tin frame boxes n law once positive are past fit t u order within = go (shared_or_fit tin frame t u (box_at boxes t) (box_at boxes u) law (are.each t (omega arith)) (are.each u within))
+pub all_partners_fit : (tin : Triangulation) (frame : Frame) (boxes : List Rect) (n : ℕ) → ShareAPointOrAreApart
+    → EachPairIsToldOnce → ArePositive tin (length tin.triangles) → AreBoxesIn tin frame (length tin.triangles) boxes
+    → length tin.triangles ≤ n → DoPartnersFit tin frame boxes n → DoAllFit tin frame
+all_partners_fit tin frame boxes n law once positive are past fit t u order within =
+    go (shared_or_fit tin frame t u (box_at boxes t) (box_at boxes u) law (are.each t (omega arith))
+    (are.each u within))
   where
     told_for : IsToldFor boxes t u ⊎ IsToldFor boxes u t → DoFit tin frame t u
     told_for (inl h) = fit t u (omega arith) h.0
-    told_for (inr h) = fit_exchanged tin frame u t (positive frame u within) (positive frame t (omega arith)) (fit u t (omega arith) h.0)
+    told_for (inr h) = fit_exchanged tin frame u t (positive frame u within) (positive frame t (omega arith))
+        (fit u t (omega arith) h.0)
 
     go : ShareAPoint (box_at boxes t) (box_at boxes u) ⊎ DoFit tin frame t u → DoFit tin frame t u
     go (inr done) = done
-    go (inl shared) = told_for (once boxes t u (omega (arith, are.count)) (omega (arith, are.count)) (λ same. absurd (omega arith)) shared)
+    go (inl shared) = told_for (once boxes t u (omega (arith, are.count)) (omega (arith, are.count))
+        (λ same. absurd (omega arith)) shared)
 
 -- ---- along a list
 abbrev pub DoFirstOthersFit : Triangulation → Frame → ℕ → List ℕ → ℕ → Type 0
 DoFirstOthersFit tin frame t others n = (k : ℕ) → k < n → DoFit tin frame t (get_or others k 0)
 
-pub one_more_other : (tin : Triangulation) (frame : Frame) (t : ℕ) (others : List ℕ) (n : ℕ) → DoFirstOthersFit tin frame t others n → DoFit tin frame t (get_or others n 0) → DoFirstOthersFit tin frame t others (n + 1)
+pub one_more_other : (tin : Triangulation) (frame : Frame) (t : ℕ) (others : List ℕ) (n : ℕ)
+    → DoFirstOthersFit tin frame t others n → DoFit tin frame t (get_or others n 0)
+    → DoFirstOthersFit tin frame t others (n + 1)
 one_more_other tin frame t others n before here = below_more (λ k. DoFit tin frame t (get_or others k 0)) n before here
 
-pub all_others : (tin : Triangulation) (frame : Frame) (t : ℕ) (others : List ℕ) (n : ℕ) → length others ≤ n → DoFirstOthersFit tin frame t others n → All (λ other. DoFit tin frame t other) others
-all_others tin frame t others n past fit k d within = subst (λ (u : ℕ). DoFit tin frame t u) (get_or_default others k 0 d within) (fit k (omega arith))
+pub all_others : (tin : Triangulation) (frame : Frame) (t : ℕ) (others : List ℕ) (n : ℕ) → length others ≤ n
+    → DoFirstOthersFit tin frame t others n → All (λ other. DoFit tin frame t other) others
+all_others tin frame t others n past fit k d within =
+    subst (λ (u : ℕ). DoFit tin frame t u) (get_or_default others k 0 d within) (fit k (omega arith))

@@ -1,5 +1,6 @@
 -- Mixes of some corners as mixes of more, and the points of a side by their parameter.
-use Rattle.std.proofs.Common.{◌≡◌, ℕ, ◌+◌, ◌<◌, ℤ, pos, ◌+ℤ◌, ◌-ℤ◌, ◌*ℤ◌, ◌<ℤ◌, List, [], ◌∷◌, length, sum, subst, refl, arith}
+use Rattle.std.proofs.Common.{◌≡◌, ℕ, ◌+◌, ◌<◌, ℤ, pos, ◌+ℤ◌, ◌-ℤ◌, ◌*ℤ◌, ◌<ℤ◌, List, [], ◌∷◌, length, sum, subst, refl}
+use Rattle.std.proofs.Common.{arith}
 use Rattle.std.proofs.lemmas.Int.{ints}
 use Rattle.integer_ring.proofs.Ring.{num, ◌⊕◌, ◌⊖◌, ◌⊗◌}
 use Rattle.integer_ring.proofs.Claims.{◌≐◌, eqn, ◌⊞◌, ◌because◌, ◌⇒◌, follows, solve}
@@ -24,7 +25,8 @@ side_ab_in p a b c m =
       s.k ∷ s.l ∷ 0 ∷ [],
       refl,
       omega arith,
-      same_moved p (weighed (s.k ∷ s.l ∷ []) (a ∷ b ∷ [])) (weighed (s.k ∷ s.l ∷ 0 ∷ []) (a ∷ b ∷ c ∷ [])) (no_third k l a.x b.x c.x) (no_third k l a.y b.y c.y) (no_third k l a.w b.w c.w) s.same,
+      same_moved p (weighed (s.k ∷ s.l ∷ []) (a ∷ b ∷ [])) (weighed (s.k ∷ s.l ∷ 0 ∷ []) (a ∷ b ∷ c ∷ []))
+          (no_third k l a.x b.x c.x) (no_third k l a.y b.y c.y) (no_third k l a.w b.w c.w) s.same,
     )
 
 pub side_bc_in : (p a b c : Point) → IsMix p (b ∷ c ∷ []) → IsMix p (a ∷ b ∷ c ∷ [])
@@ -35,12 +37,14 @@ side_bc_in p a b c m =
       0 ∷ s.k ∷ s.l ∷ [],
       refl,
       omega arith,
-      same_moved p (weighed (s.k ∷ s.l ∷ []) (b ∷ c ∷ [])) (weighed (0 ∷ s.k ∷ s.l ∷ []) (a ∷ b ∷ c ∷ [])) (no_first k l a.x b.x c.x) (no_first k l a.y b.y c.y) (no_first k l a.w b.w c.w) s.same,
+      same_moved p (weighed (s.k ∷ s.l ∷ []) (b ∷ c ∷ [])) (weighed (0 ∷ s.k ∷ s.l ∷ []) (a ∷ b ∷ c ∷ []))
+          (no_first k l a.x b.x c.x) (no_first k l a.y b.y c.y) (no_first k l a.w b.w c.w) s.same,
     )
 
 -- a triangle's corners may be counted from the next one on
 next_first : (k l m a b c : ℤ) → k *ℤ a +ℤ (l *ℤ b +ℤ (m *ℤ c +ℤ pos 0)) ≡ l *ℤ b +ℤ (m *ℤ c +ℤ (k *ℤ a +ℤ pos 0))
-next_first = solve 6 (λ k l m a b c. k ⊗ a ⊕ (l ⊗ b ⊕ (m ⊗ c ⊕ num (pos 0))) ≐ l ⊗ b ⊕ (m ⊗ c ⊕ (k ⊗ a ⊕ num (pos 0)))) tt
+next_first = solve 6 (λ k l m a b c. k ⊗ a ⊕ (l ⊗ b ⊕ (m ⊗ c ⊕ num (pos 0))) ≐ l ⊗ b ⊕ (m ⊗ c ⊕ (k ⊗ a ⊕ num (pos 0))))
+    tt
 
 pub data Three (ks : List ℕ) : Type 0 where
   three : (k l m : ℕ) → ks ≡ k ∷ l ∷ m ∷ [] → Three ks
@@ -58,12 +62,14 @@ mix_next p a b c m = go m.0 (three_weights m.0 m.1) m.2 m.3
     go : (ks : List ℕ) → Three ks → 0 < sum ks → Same p (weighed ks (a ∷ b ∷ c ∷ [])) → IsMix p (b ∷ c ∷ a ∷ [])
     go ks (three k l n e) h s =
         let h' : 0 < sum (k ∷ l ∷ n ∷ []) = subst (λ (xs : List ℕ). 0 < sum xs) e h in
-        let s' : Same p (weighed (k ∷ l ∷ n ∷ []) (a ∷ b ∷ c ∷ [])) = subst (λ (xs : List ℕ). Same p (weighed xs (a ∷ b ∷ c ∷ []))) e s in (
+        let s' : Same p (weighed (k ∷ l ∷ n ∷ []) (a ∷ b ∷ c ∷ [])) =
+        subst (λ (xs : List ℕ). Same p (weighed xs (a ∷ b ∷ c ∷ []))) e s in (
           l ∷ n ∷ k ∷ [],
           refl,
           omega arith,
           same_moved p (weighed (k ∷ l ∷ n ∷ []) (a ∷ b ∷ c ∷ [])) (weighed (l ∷ n ∷ k ∷ []) (b ∷ c ∷ a ∷ []))
-              (next_first (pos k) (pos l) (pos n) a.x b.x c.x) (next_first (pos k) (pos l) (pos n) a.y b.y c.y) (next_first (pos k) (pos l) (pos n) a.w b.w c.w) s',
+              (next_first (pos k) (pos l) (pos n) a.x b.x c.x) (next_first (pos k) (pos l) (pos n) a.y b.y c.y)
+              (next_first (pos k) (pos l) (pos n) a.w b.w c.w) s',
         )
 
 pub side_ca_in : (p a b c : Point) → IsMix p (c ∷ a ∷ []) → IsMix p (a ∷ b ∷ c ∷ [])
@@ -76,8 +82,10 @@ first_in a b c = (
   refl,
   omega arith,
   (
-    solve_at 3 0 (λ a b c. a.x ⊗ (plus (num (pos 1)) a (plus (num (pos 0)) b (plus (num (pos 0)) c nothing))).w ≐ (plus (num (pos 1)) a (plus (num (pos 0)) b (plus (num (pos 0)) c nothing))).x ⊗ a.w) tt a b c,
-    solve_at 3 0 (λ a b c. a.y ⊗ (plus (num (pos 1)) a (plus (num (pos 0)) b (plus (num (pos 0)) c nothing))).w ≐ (plus (num (pos 1)) a (plus (num (pos 0)) b (plus (num (pos 0)) c nothing))).y ⊗ a.w) tt a b c,
+    solve_at 3 0 (λ a b c. a.x ⊗ (plus (num (pos 1)) a (plus (num (pos 0)) b (plus (num (pos 0)) c nothing))).w
+        ≐ (plus (num (pos 1)) a (plus (num (pos 0)) b (plus (num (pos 0)) c nothing))).x ⊗ a.w) tt a b c,
+    solve_at 3 0 (λ a b c. a.y ⊗ (plus (num (pos 1)) a (plus (num (pos 0)) b (plus (num (pos 0)) c nothing))).w
+        ≐ (plus (num (pos 1)) a (plus (num (pos 0)) b (plus (num (pos 0)) c nothing))).y ⊗ a.w) tt a b c,
   ),
 )
 
@@ -89,19 +97,24 @@ param_of : (k l : ℕ) → 0 < k + l → IsParam (pos l) (pos k +ℤ pos l)
 param_of k l h = (omega (arith, ints), omega (arith, ints), omega (arith, ints))
 
 -- a point of a segment is the one at some parameter
-pub side_along : (p a b : Point) (s : Between a b p) → IsParam (pos s.l) (pos s.k +ℤ pos s.l) × Same p (along a b (pos s.l) (pos s.k +ℤ pos s.l))
+pub side_along : (p a b : Point) (s : Between a b p)
+    → IsParam (pos s.l) (pos s.k +ℤ pos s.l) × Same p (along a b (pos s.l) (pos s.k +ℤ pos s.l))
 side_along p a b s =
     let k = pos s.k in let l = pos s.l in (
       param_of s.k s.l s.some,
-      same_moved p (weighed (s.k ∷ s.l ∷ []) (a ∷ b ∷ [])) (along a b l (k +ℤ l)) (by_parameter k l a.x b.x) (by_parameter k l a.y b.y) (by_parameter k l a.w b.w) s.same,
+      same_moved p (weighed (s.k ∷ s.l ∷ []) (a ∷ b ∷ [])) (along a b l (k +ℤ l)) (by_parameter k l a.x b.x)
+          (by_parameter k l a.y b.y) (by_parameter k l a.w b.w) s.same,
     )
 
 some_part : (k l : ℕ) (n d : ℤ) → d -ℤ n ≡ pos k → n ≡ pos l → pos 0 <ℤ d → 0 < k + l
 some_part k l n d e f h = omega (arith, ints)
 
-by_weights : (k l a b n d v w : ℤ) → d -ℤ n ≡ k → n ≡ l → ((d -ℤ n) *ℤ a +ℤ n *ℤ b) *ℤ (k *ℤ v +ℤ (l *ℤ w +ℤ pos 0)) ≡ (k *ℤ a +ℤ (l *ℤ b +ℤ pos 0)) *ℤ ((d -ℤ n) *ℤ v +ℤ n *ℤ w)
+by_weights : (k l a b n d v w : ℤ) → d -ℤ n ≡ k → n ≡ l
+    → ((d -ℤ n) *ℤ a +ℤ n *ℤ b) *ℤ (k *ℤ v +ℤ (l *ℤ w +ℤ pos 0)) ≡ (k *ℤ a +ℤ (l *ℤ b +ℤ pos 0))
+    *ℤ ((d -ℤ n) *ℤ v +ℤ n *ℤ w)
 by_weights =
-    follows 8 (λ k l a b n d v w. d ⊖ n ≐ k ⇒ n ≐ l ⇒ ((d ⊖ n) ⊗ a ⊕ n ⊗ b) ⊗ (k ⊗ v ⊕ (l ⊗ w ⊕ num (pos 0))) ≐ (k ⊗ a ⊕ (l ⊗ b ⊕ num (pos 0))) ⊗ ((d ⊖ n) ⊗ v ⊕ n ⊗ w)
+    follows 8 (λ k l a b n d v w. d ⊖ n ≐ k ⇒ n ≐ l ⇒ ((d ⊖ n) ⊗ a ⊕ n ⊗ b) ⊗ (k ⊗ v ⊕ (l ⊗ w ⊕ num (pos 0)))
+    ≐ (k ⊗ a ⊕ (l ⊗ b ⊕ num (pos 0))) ⊗ ((d ⊖ n) ⊗ v ⊕ n ⊗ w)
     because eqn 0 (n ⊗ (a ⊗ w ⊖ b ⊗ v)) ⊞ eqn 1 ((d ⊖ n) ⊗ (b ⊗ v ⊖ a ⊗ w))) tt
 
 pub along_side : (a b : Point) (n d : ℤ) → IsParam n d → IsMix (along a b n d) (a ∷ b ∷ [])
@@ -113,5 +126,9 @@ along_side a b n d h = go (to_nat (d -ℤ n) (≤-to-nonneg n d h.2)) (to_nat n 
           k = k.0;
           l = l.0;
           some = some_part k.0 l.0 n d k.1 l.1 h.0;
-          same = (by_weights (pos k.0) (pos l.0) a.x b.x n d a.w b.w k.1 l.1, by_weights (pos k.0) (pos l.0) a.y b.y n d a.w b.w k.1 l.1);
+          same = (
+            by_weights (pos k.0) (pos l.0) a.x b.x n d a.w b.w k.1 l.1,
+            by_weights (pos k.0) (pos l.0) a.y b.y n d
+                a.w b.w k.1 l.1,
+          );
         })

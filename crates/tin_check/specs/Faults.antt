@@ -7,11 +7,13 @@ use Rattle.tin_base.specs.Soundness.{turn_in, DoFit, IsSound}
 use Rattle.tin_check.specs.declared.faults.CheckFault.{CheckFault}
 use Rattle.tin_check.specs.declared.faults.CheckFault.TheVariants.{Flat, TurnsOver, Meets, NoMemory}
 
--- what each fault says of a triangulation; want of memory is none
+-- what each fault says of a triangulation; running out of memory is no such fault
 abbrev pub IsFault : Triangulation → CheckFault → Type 0
 IsFault tin (Flat triangle frame) = (triangle < length tin.triangles) × (turn_in tin frame triangle ≡ pos 0)
-IsFault tin (TurnsOver triangle) = (triangle < length tin.triangles) × ((turn_in tin Source triangle <ℤ pos 0) ⊎ (turn_in tin Target triangle <ℤ pos 0))
-IsFault tin (Meets first second frame) = (first < second) × (second < length tin.triangles) × (DoFit tin frame first second → ⊥)
+IsFault tin (TurnsOver triangle) = (triangle < length tin.triangles)
+    × ((turn_in tin Source triangle <ℤ pos 0) ⊎ (turn_in tin Target triangle <ℤ pos 0))
+IsFault tin (Meets first second frame) = (first < second) × (second < length tin.triangles)
+    × (DoFit tin frame first second → ⊥)
 IsFault tin NoMemory = ⊥
 
 -- the source before the target
@@ -19,7 +21,8 @@ abbrev pub frame_rank : Frame → ℕ
 frame_rank Source = 0
 frame_rank Target = 1
 
--- where a fault stands in the order: triangles before pairs; of one triangle flat in the source, flat in the target, turned over; of one pair the source before the target
+-- where a fault stands in the order: triangles before pairs; of one triangle flat in the source, flat in the target,
+-- turned over; of one pair the source before the target
 abbrev pub rank : CheckFault → List ℕ
 rank (Flat triangle frame) = 0 ∷ triangle ∷ frame_rank frame ∷ []
 rank (TurnsOver triangle) = 0 ∷ triangle ∷ 2 ∷ []
@@ -37,7 +40,7 @@ pub record IsFirstFault (tin : Triangulation) (fault : CheckFault) : Type 0 wher
   pub is_one : IsFault tin fault
   pub none_before : (other : CheckFault) → IsBefore (rank other) (rank fault) → IsFault tin other → ⊥
 
--- what a refusal says: the first fault; want of memory says nothing
+-- what a refusal says: the first fault; running out of memory says nothing
 abbrev pub IsCause : Triangulation → CheckFault → Type 0
 IsCause tin (Flat triangle frame) = IsFirstFault tin (Flat triangle frame)
 IsCause tin (TurnsOver triangle) = IsFirstFault tin (TurnsOver triangle)
@@ -46,7 +49,8 @@ IsCause tin NoMemory = Unit {0}
 
 -- a triangulation has one first fault at most
 abbrev pub FirstFaultIsOne : Type 0
-FirstFaultIsOne = (tin : Triangulation) (fault other : CheckFault) → IsFirstFault tin fault → IsFirstFault tin other → fault ≡ other
+FirstFaultIsOne = (tin : Triangulation) (fault other : CheckFault) → IsFirstFault tin fault → IsFirstFault tin other
+    → fault ≡ other
 
 -- and it has one only where it is not sound
 abbrev pub FaultsAreUnsound : Type 0

@@ -45,4 +45,5 @@ IsFirstSecond tin frame first (Some second) = IsFirstPair tin frame first second
 
 -- each later triangle is one of the list, or fits together with the first one
 abbrev pub DoOthersFit : Triangulation → Frame → ℕ → List ℕ → Type 0
-DoOthersFit tin frame first seconds = (u : ℕ) → first < u → u < length tin.triangles → Contains seconds u ⊎ DoFit tin frame first u
+DoOthersFit tin frame first seconds = (u : ℕ) → first < u → u < length tin.triangles
+    → Contains seconds u ⊎ DoFit tin frame first u

@@ -15,9 +15,9 @@ use plane_base::turn;
 use std::alloc::Global;
 use tin_base::{Frame, SoundTin, Tin};
 
-/// The triangulation if it is sound, or else its first fault. Of the triangles, in order: flat in the source, flat in the
-/// target, turned over. Then of the pairs, in order of the first and of the second number: those that do not fit in the
-/// source, and in the target.
+/// The triangulation if it is sound, or else its first fault. Of the triangles, in order: flat in the source, flat in
+/// the target, turned over. Then of the pairs, in order of the first and of the second number: those that do not fit in
+/// the source, and in the target.
 pub fn check_tin(alloc: Global, tin: Tin) -> Result<SoundTin, CheckFault>
     ensures same { IfOk result (λ sound. sound ≡ tin) }
     ensures sound { OnOk result (IsSound tin) }
@@ -85,7 +85,8 @@ fn check_pairs(alloc: Global, tin: &Tin) -> Result<(), CheckFault>
     }
 }
 
-/// The first fault where this pair is the first that does not fit in the source. In the target only pairs up to it matter.
+/// The first fault where this pair is the first that does not fit in the source. In the target only pairs up to it
+/// matter.
 fn first_meeting(alloc: Global, tin: &Tin, source: Pair) -> CheckFault
     requires positive { ArePositive tin.now (length tin.now.triangles) }
     requires source { IsFirstPair tin.now Source source.first source.second }
@@ -98,7 +99,8 @@ fn first_meeting(alloc: Global, tin: &Tin, source: Pair) -> CheckFault
     }
 }
 
-/// The first fault where each frame has a first pair: that of the earlier pair, and the source's where they are one pair.
+/// The first fault where each frame has a first pair: that of the earlier pair, and the source's where they are one
+/// pair.
 fn earlier(tin: &Tin, source: Pair, target: Pair) -> CheckFault
     requires positive { ArePositive tin.now (length tin.now.triangles) }
     requires source { IsFirstPair tin.now Source source.first source.second }

@@ -74,8 +74,8 @@ fn meet_at_corner(t: &Tri, u: &Tri) -> bool
     !meets_side(u.b, u.c, t)
 }
 
-/// Whether two triangles have only a side in common. The second one begins at the second corner of the first, and has the
-/// first one's first corner too: the side between these corners. It is all where it runs in opposite directions.
+/// Whether two triangles have only a side in common. The second one begins at the second corner of the first, and has
+/// the first one's first corner too: the side between these corners. It is all where it runs in opposite directions.
 fn meet_at_side(t: &Tri, u: &Tri) -> bool
     requires t_positive { pos 0 <ℤ turn_of (whole t.now.a) (whole t.now.b) (whole t.now.c) }
     requires u_positive { pos 0 <ℤ turn_of (whole u.now.a) (whole u.now.b) (whole u.now.c) }

@@ -1,5 +1,5 @@
-//! Whether a triangulation is sound: whether two triangles meet in their common corners and nowhere else, and the first fault
-//! of a triangulation. A sound one is handed on as a type that keeps this fact.
+//! Whether a triangulation is sound: whether two triangles meet in their common corners and nowhere else, and the first
+//! fault of a triangulation. A sound one is handed on as a type that keeps this fact.
 #![tactic(auto)]
 
 mod boxes;

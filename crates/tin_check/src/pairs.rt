@@ -151,8 +151,8 @@ fn tri_at(tin: &Tin, corners: Corners, frame: Frame) -> Tri
     }
 }
 
-/// Whether turns at the first corner, which two triangles have in common, show that they meet nowhere else. `false` shows
-/// nothing.
+/// Whether turns at the first corner, which two triangles have in common, show that they meet nowhere else. `false`
+/// shows nothing.
 fn part_at(tin: &Tin, t: u32, u: u32, frame: Frame, corners: Corners, others: Corners) -> bool
     requires t_in_range { t < length tin.now.triangles }
     requires u_in_range { u < length tin.now.triangles }

@@ -9,7 +9,8 @@ ghost use Rattle.tin_check.specs.Parting.{IsParted, AreRight};
 use plane_base::{Pt, Tri, turn};
 
 /// Whether the turns at the common first corner of two triangles show that they have no other common point.
-/// They always do where a line through the corner has the one on its left and the other on its right. `false` shows nothing.
+/// They always do where a line through the corner has the one on its left and the other on its right. `false` shows
+/// nothing.
 pub(crate) fn are_parted(t: &Tri, u: &Tri) -> bool
     requires near { AreNearTris t.now u.now }
     requires t_positive { pos 0 <ℤ turn_of (whole t.now.a) (whole t.now.b) (whole t.now.c) }

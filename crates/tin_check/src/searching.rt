@@ -4,7 +4,8 @@ ghost use Rattle.std.specs.Prelude.{◌≡◌, ◌+◌, ◌<◌, ◌≤◌, fals
 ghost use Rattle.std.specs.List.Sorted.{IsStrictlyIncreasing};
 ghost use Rattle.tin_base.specs.Soundness.{DoFit};
 ghost use Rattle.tin_check.specs.Boxes.{AreBoxesIn};
-ghost use Rattle.tin_check.specs.Progress.{ArePositive, DoFitBefore, DoAllFit, IsFirstFound, IsFirstFoundBelow, IsFirstSecond, DoOthersFit};
+ghost use Rattle.tin_check.specs.Progress.{ArePositive, DoFitBefore, DoAllFit, IsFirstFound, IsFirstFoundBelow};
+ghost use Rattle.tin_check.specs.Progress.{IsFirstSecond, DoOthersFit};
 
 use crate::boxes::{box_in, grid_in};
 use crate::pairs::{Pair, pair_fits};
@@ -13,8 +14,8 @@ use plane_base::boxes_share_a_point_or_are_apart;
 use std::alloc::{AllocError, Global};
 use tin_base::{Frame, Tin};
 
-/// The first pair of triangles, in order, that does not fit together in the frame. Only pairs whose boxes share a point are
-/// looked at: once in any order, and in their order where one of them does not fit.
+/// The first pair of triangles, in order, that does not fit together in the frame. Only pairs whose boxes share a point
+/// are looked at: once in any order, and in their order where one of them does not fit.
 pub(crate) fn first_unfit_pair(
     alloc: Global,
     tin: &Tin,
@@ -103,8 +104,8 @@ fn first_in_order(
     Ok(None)
 }
 
-/// Of some triangles, in order, the first one after `first` that does not fit it in the frame. All pairs of a lower first
-/// triangle fit, and so do the triangles after `first` that are left out.
+/// Of some triangles, in order, the first one after `first` that does not fit it in the frame. All pairs of a lower
+/// first triangle fit, and so do the triangles after `first` that are left out.
 fn first_unfit(tin: &Tin, frame: Frame, first: u32, seconds: &[u32]) -> Option<u32>
     requires first { first < length tin.now.triangles }
     requires positive { ArePositive tin.now (length tin.now.triangles) }

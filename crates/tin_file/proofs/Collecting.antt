@@ -14,7 +14,8 @@ use Rattle.tin_file.specs.declared.vertices.Vertices.{Vertices}
 use Rattle.tin_file.specs.contracts.vertices.NumbersPartialEq.TheImpl as equality
 use Rattle.tin_file.proofs.Keyed.{any_key, place_key, corners_have, corners_push, numbers_push}
 
-module _ {S : Type 0} (old new : Vertices) (seen seen' : IndexSet Numbers S) (rows : List Vertex) (vertex : Vertex) (h : AreCollected old seen rows) where
+module _ {S : Type 0} (old new : Vertices) (seen seen' : IndexSet Numbers S) (rows : List Vertex) (vertex : Vertex)
+    (h : AreCollected old seen rows) where
   abbrev row : Corner
   row = vertex.corner
 
@@ -28,16 +29,21 @@ module _ {S : Type 0} (old new : Vertices) (seen seen' : IndexSet Numbers S) (ro
   keys_are = h.keys ∙ ap (map numbers_in) h.gathered.corners
 
   was_there : list_any ((equality.eq-value).it (numbers_in row)) seen.keys ≡ list_any (is_same row) before
-  was_there = ap (list_any ((equality.eq-value).it (numbers_in row))) keys_are ∙ any_key row (corners_of before) ∙ corners_have row before
+  was_there = ap (list_any ((equality.eq-value).it (numbers_in row))) keys_are ∙ any_key row (corners_of before)
+      ∙ corners_have row before
 
-  number_is : position_or_len ((equality.eq-value).it (numbers_in row)) seen.keys ≡ corner_number (corners_of before) row
-  number_is = ap (position_or_len ((equality.eq-value).it (numbers_in row))) keys_are ∙ place_key row (corners_of before)
+  number_is : position_or_len ((equality.eq-value).it (numbers_in row)) seen.keys
+      ≡ corner_number (corners_of before) row
+  number_is = ap (position_or_len ((equality.eq-value).it (numbers_in row))) keys_are
+      ∙ place_key row (corners_of before)
 
-  pushed : (test : Bool) (cs : List Corner) → (if not test then cs ++ row ∷ [] else cs) ≡ cs ++ (if test then [] else row ∷ [])
+  pushed : (test : Bool) (cs : List Corner) → (if not test then cs ++ row ∷ [] else cs) ≡ cs
+      ++ (if test then [] else row ∷ [])
   pushed true cs = sym (append-nil cs)
   pushed false cs = refl
 
-  mapped : (test : Bool) (cs : List Corner) → (if test then map numbers_in cs else map numbers_in cs ++ numbers_in row ∷ []) ≡ map numbers_in (cs ++ (if test then [] else row ∷ []))
+  mapped : (test : Bool) (cs : List Corner) → (if test then map numbers_in cs else map numbers_in cs ++ numbers_in row
+      ∷ []) ≡ map numbers_in (cs ++ (if test then [] else row ∷ []))
   mapped true cs = ap (map numbers_in) (sym (append-nil cs))
   mapped false cs = sym (map-append numbers_in cs (row ∷ []))
 
@@ -54,18 +60,25 @@ module _ {S : Type 0} (old new : Vertices) (seen seen' : IndexSet Numbers S) (ro
       by_test : (test : Bool) → list_any (is_same row) before ≡ test → AreCollected new seen' (rows ++ vertex ∷ [])
       by_test test t =
           let not_new : fresh ≡ not test = is_new ∙ ap not (was_there ∙ t) in
-          let all : corners_of (corners_in (rows ++ vertex ∷ [])) ≡ corners_of before ++ (if test then [] else row ∷ []) =
-          ap corners_of corners_after ∙ corners_push before row ∙ ap (λ b. corners_of before ++ (if b then [] else row ∷ [])) t in
+          let all : corners_of (corners_in (rows ++ vertex ∷ [])) ≡ corners_of before
+          ++ (if test then [] else row ∷ []) =
+          ap corners_of corners_after ∙ corners_push before row
+          ∙ ap (λ b. corners_of before ++ (if b then [] else row ∷ [])) t in
           let made : new.corners.items ≡ corners_of before ++ (if test then [] else row ∷ []) =
-          corners ∙ ap (λ b. if b then old.corners.items ++ row ∷ [] else old.corners.items) not_new ∙ ap (λ cs. if not test then cs ++ row ∷ [] else cs) h.gathered.corners
+          corners ∙ ap (λ b. if b then old.corners.items ++ row ∷ [] else old.corners.items) not_new
+          ∙ ap (λ cs. if not test then cs ++ row ∷ [] else cs) h.gathered.corners
           ∙ pushed test (corners_of before) in
           record {
             gathered = record {
               corners = made ∙ sym all;
-              numbers = numbers ∙ ap (λ n. old.numbers.items ++ n ∷ []) (is ∙ number_is) ∙ ap (λ ns. ns ++ corner_number (corners_of before) row ∷ []) h.gathered.numbers
-                  ∙ sym (numbers_push before row) ∙ ap (λ cs. map (corner_number (corners_of cs)) cs) (sym corners_after);
-              inexact = inexact ∙ ap (λ n. n + vertex.inexact) h.gathered.inexact ∙ sym (sum_by_push (λ (v : Vertex). v.inexact) rows vertex);
+              numbers = numbers ∙ ap (λ n. old.numbers.items ++ n ∷ []) (is ∙ number_is)
+                  ∙ ap (λ ns. ns ++ corner_number (corners_of before) row ∷ []) h.gathered.numbers
+                  ∙ sym (numbers_push before row) ∙ ap (λ cs. map (corner_number (corners_of cs)) cs)
+                  (sym corners_after);
+              inexact = inexact ∙ ap (λ n. n + vertex.inexact) h.gathered.inexact
+                  ∙ sym (sum_by_push (λ (v : Vertex). v.inexact) rows vertex);
             };
             keys = keys ∙ ap (λ b. if b then seen.keys else seen.keys ++ numbers_in row ∷ []) (was_there ∙ t)
-                ∙ ap (λ ks. if test then ks else ks ++ numbers_in row ∷ []) keys_are ∙ mapped test (corners_of before) ∙ ap (map numbers_in) (sym made);
+                ∙ ap (λ ks. if test then ks else ks ++ numbers_in row ∷ []) keys_are ∙ mapped test (corners_of before)
+                ∙ ap (map numbers_in) (sym made);
           }

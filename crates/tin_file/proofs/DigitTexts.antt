@@ -1,5 +1,6 @@
 -- Texts of digits, digit by digit, and the number that they write.
-use Rattle.std.proofs.Common.{◌≡◌, ℕ, ◌+◌, ◌-◌, ◌*◌, ◌<◌, ◌≤◌, List, [], ◌∷◌, length, get_or, take, drop, true, refl, sym, ap, ◌∙◌, arith, add-one}
+use Rattle.std.proofs.Common.{◌≡◌, ℕ, ◌+◌, ◌-◌, ◌*◌, ◌<◌, ◌≤◌, List, [], ◌∷◌, length, get_or, take, drop, true, refl}
+use Rattle.std.proofs.Common.{sym, ap, ◌∙◌, arith, add-one}
 use Rattle.std.specs.Prelude.{min, Some}
 use Rattle.std.specs.Char.{is_ascii_digit}
 use Rattle.std.specs.List.{list_all}
@@ -12,7 +13,8 @@ use Rattle.tin_file.specs.Triangles.{whole_number}
 use Rattle.tin_file.specs.Gathered.{at_most}
 
 module _ (text : List ℕ) (i : ℕ) where
-  pub digits_on : i < length text → is_ascii_digit (get_or text i 0) ≡ true → list_all is_ascii_digit (drop i text) ≡ list_all is_ascii_digit (drop (i + 1) text)
+  pub digits_on : i < length text → is_ascii_digit (get_or text i 0) ≡ true
+      → list_all is_ascii_digit (drop i text) ≡ list_all is_ascii_digit (drop (i + 1) text)
   digits_on within h =
       let cut : drop i text ≡ get_or text i 0 ∷ drop (i + 1) text = rw (add-one, drop-cons text i 0) refl in
       rw (cut, h) refl
@@ -24,11 +26,14 @@ module _ (text : List ℕ) (i : ℕ) where
       → min (number * 10 + (get_or text i 0 - 48)) MOST_CORNERS ≡ min (number_after 0 (take (i + 1) text)) MOST_CORNERS
   number_more number within is =
       limited (number_after 0 (take i text)) number (get_or text i 0 - 48) MOST_CORNERS is
-      ∙ ap (λ n. min n MOST_CORNERS) (sym (ap (number_after 0) (take_more text i 0 within) ∙ number_after-append 0 (take i text) (get_or text i 0 ∷ [])))
+      ∙ ap (λ n. min n MOST_CORNERS) (sym (ap (number_after 0) (take_more text i 0 within)
+      ∙ number_after-append 0 (take i text) (get_or text i 0 ∷ [])))
 
-  pub number_whole : (number : ℕ) → length text ≤ i → list_all is_ascii_digit text ≡ list_all is_ascii_digit (drop i text)
+  pub number_whole : (number : ℕ) → length text ≤ i
+      → list_all is_ascii_digit text ≡ list_all is_ascii_digit (drop i text)
       → number ≡ min (number_after 0 (take i text)) MOST_CORNERS → Some number ≡ at_most (whole_number text)
   number_whole number behind digits is =
       let all : list_all is_ascii_digit text ≡ true = digits ∙ ap (list_all is_ascii_digit) (drop_all i text behind) in
-      let worth : number_after 0 (take i text) ≡ number_of text = ap (number_after 0) (take_all i text behind) ∙ number_after-none text in
+      let worth : number_after 0 (take i text) ≡ number_of text = ap (number_after 0) (take_all i text behind)
+      ∙ number_after-none text in
       rw (all) (ap Some (is ∙ ap (λ n. min n MOST_CORNERS) worth))

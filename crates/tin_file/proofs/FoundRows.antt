@@ -13,17 +13,20 @@ use Rattle.tin_file.specs.declared.faults.TinFault.TheVariants.{TooMany}
 use Rattle.tin_file.proofs.There.{as_many}
 
 module _ (nodes : List Node) (bytes : List ℕ) (list : Rows) (most : ℕ) (numbers : List ℕ) where
-  pub few_pass : (r : Result (List Json) TinFault) → Gives {A = Unit {0}} (λ _ values. AreThere nodes bytes numbers values) (Ok tt) r → length numbers ≤ most
+  pub few_pass : (r : Result (List Json) TinFault)
+      → Gives {A = Unit {0}} (λ _ values. AreThere nodes bytes numbers values) (Ok tt) r → length numbers ≤ most
       → Gives {A = Unit {0}} (λ _ values. AreThere nodes bytes numbers values) (Ok tt) (and_then (few list most) r)
   few_pass (Err fault) h small = absurd h
   few_pass (Ok values) h small = by_test (nat_lt most (length values)) refl
     where
       by_test : (test : Bool) → nat_lt most (length values) ≡ test
-          → Gives {A = Unit {0}} (λ _ all. AreThere nodes bytes numbers all) (Ok tt) (if test then Err (TooMany list) else Ok values)
+          → Gives {A = Unit {0}} (λ _ all. AreThere nodes bytes numbers all) (Ok tt)
+          (if test then Err (TooMany list) else Ok values)
       by_test false t = h
       by_test true t = absurd (omega (arith, ltb-true most (length values) t, as_many nodes bytes numbers values h))
 
-  pub too_many : (r : Result (List Json) TinFault) → Gives {A = Unit {0}} (λ _ values. AreThere nodes bytes numbers values) (Ok tt) r → most < length numbers
+  pub too_many : (r : Result (List Json) TinFault)
+      → Gives {A = Unit {0}} (λ _ values. AreThere nodes bytes numbers values) (Ok tt) r → most < length numbers
       → Err (TooMany list) ≡ and_then (few list most) r
   too_many (Err fault) h large = absurd h
   too_many (Ok values) h large =
@@ -37,6 +40,7 @@ with_rows nodes bytes rows (Ok values) h = h
 with_rows nodes bytes rows (Err fault) h = absurd h
 
 pub rows_found : (nodes : List Node) (bytes : List ℕ) (rows : Vec ℕ Global) (r : Result (List Json) TinFault)
-    → Gives {A = Vec ℕ Global} (λ found values. AreThere nodes bytes found.items values) (Ok rows) r → AreNodes nodes bytes rows.items
+    → Gives {A = Vec ℕ Global} (λ found values. AreThere nodes bytes found.items values) (Ok rows) r
+    → AreNodes nodes bytes rows.items
 rows_found nodes bytes rows (Ok values) h = (values, h)
 rows_found nodes bytes rows (Err fault) h = absurd h

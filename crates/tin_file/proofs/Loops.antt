@@ -1,5 +1,6 @@
 -- Tests of values one by one, from each place on.
-use Rattle.std.proofs.Common.{◌≡◌, ℕ, ◌+◌, ◌<◌, ◌≤◌, List, [], ◌∷◌, length, get_or, drop, Bool, true, false, refl, arith, add-one}
+use Rattle.std.proofs.Common.{◌≡◌, ℕ, ◌+◌, ◌<◌, ◌≤◌, List, [], ◌∷◌, length, get_or, drop, Bool, true, false, refl}
+use Rattle.std.proofs.Common.{arith, add-one}
 use Rattle.std.specs.Prelude.{Option, Some, None}
 use Rattle.std.specs.List.{list_all, list_any}
 use Rattle.std.proofs.Math.Seq.{drop-cons}
@@ -11,7 +12,8 @@ use Rattle.tin_file.specs.Headings.{places_of, the_place}
 use Rattle.tin_file.specs.Standing.{AreThere}
 use Rattle.tin_file.proofs.There.{as_many}
 
-module _ (nodes : List Node) (bytes : List ℕ) (numbers : List ℕ) (values : List Json) (are : AreThere nodes bytes numbers values) where
+module _ (nodes : List Node) (bytes : List ℕ) (numbers : List ℕ) (values : List Json)
+    (are : AreThere nodes bytes numbers values) where
   -- the values from a place on
   pub values_on : (i : ℕ) → i < length numbers → drop i values ≡ get_or values i null ∷ drop (i + 1) values
   values_on i within =
@@ -22,16 +24,20 @@ module _ (nodes : List Node) (bytes : List ℕ) (numbers : List ℕ) (values : L
   values_done i behind = drop_all i values (omega (arith, behind, as_many nodes bytes numbers values are))
 
   module _ (test : Json → Bool) where
-    pub all_on : (i : ℕ) → i < length numbers → test (get_or values i null) ≡ true → list_all test (drop i values) ≡ list_all test (drop (i + 1) values)
+    pub all_on : (i : ℕ) → i < length numbers → test (get_or values i null) ≡ true
+        → list_all test (drop i values) ≡ list_all test (drop (i + 1) values)
     all_on i within h = rw (values_on i within, h) refl
 
-    pub all_off : (i : ℕ) → i < length numbers → test (get_or values i null) ≡ false → list_all test (drop i values) ≡ false
+    pub all_off : (i : ℕ) → i < length numbers → test (get_or values i null) ≡ false
+        → list_all test (drop i values) ≡ false
     all_off i within h = rw (values_on i within, h) refl
 
-    pub any_on : (i : ℕ) → i < length numbers → test (get_or values i null) ≡ false → list_any test (drop i values) ≡ list_any test (drop (i + 1) values)
+    pub any_on : (i : ℕ) → i < length numbers → test (get_or values i null) ≡ false
+        → list_any test (drop i values) ≡ list_any test (drop (i + 1) values)
     any_on i within h = rw (values_on i within, h) refl
 
-    pub any_off : (i : ℕ) → i < length numbers → test (get_or values i null) ≡ true → list_any test (drop i values) ≡ true
+    pub any_off : (i : ℕ) → i < length numbers → test (get_or values i null) ≡ true
+        → list_any test (drop i values) ≡ true
     any_off i within h = rw (values_on i within, h) refl
 
     pub all_done : (i : ℕ) → length numbers ≤ i → list_all test (drop i values) ≡ true

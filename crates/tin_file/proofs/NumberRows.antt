@@ -20,11 +20,13 @@ number_so how row value text spelled is =
     let (digits, value_is) = numeral_of value (sym is) in
     rw (value_is, spelled ∙ ap spelling value_is) refl
 
-pub not_number_so : (how : How) (row : ℕ) (value : Json) → false ≡ is_number value → Err (Row lists.Vertices row) ≡ number_in how row value
+pub not_number_so : (how : How) (row : ℕ) (value : Json) → false ≡ is_number value
+    → Err (Row lists.Vertices row) ≡ number_in how row value
 not_number_so how row (numeral text) is = cc
 not_number_so how row value is = refl
 
-pub row_number_so : (value : Json) (text : List ℕ) → text ≡ spelling value → true ≡ is_number value → whole_number text ≡ row_number value
+pub row_number_so : (value : Json) (text : List ℕ) → text ≡ spelling value → true ≡ is_number value
+    → whole_number text ≡ row_number value
 row_number_so value text spelled is =
     let (digits, value_is) = numeral_of value (sym is) in
     rw (value_is, spelled ∙ ap spelling value_is) refl
@@ -35,25 +37,30 @@ not_row_number_so value is = refl
 
 module _ (how : How) (columns : VertexColumns) (row : ℕ) (all : List Json) where
   pub vertex_in_so : length all ≡ columns.count
-      → vertex_from (number_at how row all columns.source_x) (number_at how row all columns.source_y) (number_at how row all columns.target_x) (number_at how row all columns.target_y)
+      → vertex_from (number_at how row all columns.source_x) (number_at how row all columns.source_y)
+      (number_at how row all columns.target_x) (number_at how row all columns.target_y)
       ≡ vertex_in how columns row all
   vertex_in_so many = rw (eq-eqb (length all) columns.count many) refl
 
   pub not_vertex_in_so : (length all ≡ columns.count → ⊥) → Err (Row lists.Vertices row) ≡ vertex_in how columns row all
   not_vertex_in_so other = split (length all == columns.count) refl
     where
-      split : (test : Bool) → (length all == columns.count) ≡ test → Err (Row lists.Vertices row) ≡ vertex_in how columns row all
+      split : (test : Bool) → (length all == columns.count) ≡ test
+          → Err (Row lists.Vertices row) ≡ vertex_in how columns row all
       split true is = absurd (other (eqb-true (length all) columns.count is))
       split false is = rw is refl
 
 module _ (columns : TriangleColumns) (rows triangle : ℕ) (all : List Json) where
   pub triangle_in_so : length all ≡ columns.count
-      → triangle_from rows triangle (row_number_at all columns.first) (row_number_at all columns.second) (row_number_at all columns.third) ≡ triangle_in columns rows triangle all
+      → triangle_from rows triangle (row_number_at all columns.first) (row_number_at all columns.second)
+      (row_number_at all columns.third) ≡ triangle_in columns rows triangle all
   triangle_in_so many = rw (eq-eqb (length all) columns.count many) refl
 
-  pub not_triangle_in_so : (length all ≡ columns.count → ⊥) → Err (Row lists.Triangles triangle) ≡ triangle_in columns rows triangle all
+  pub not_triangle_in_so : (length all ≡ columns.count → ⊥)
+      → Err (Row lists.Triangles triangle) ≡ triangle_in columns rows triangle all
   not_triangle_in_so other = split (length all == columns.count) refl
     where
-      split : (test : Bool) → (length all == columns.count) ≡ test → Err (Row lists.Triangles triangle) ≡ triangle_in columns rows triangle all
+      split : (test : Bool) → (length all == columns.count) ≡ test
+          → Err (Row lists.Triangles triangle) ≡ triangle_in columns rows triangle all
       split true is = absurd (other (eqb-true (length all) columns.count is))
       split false is = rw is refl

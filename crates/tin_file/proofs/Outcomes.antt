@@ -28,7 +28,11 @@ outcome how bytes = by (texts.outcome bytes)
     by : HasOutcome bytes → Outcome how bytes
     by (inl (whole, is)) =
         let wanted = reading how whole.value in
-        let good = good_reading how whole.value in
-        (wanted, answer_by how bytes wanted wanted good (equal wanted) (λ answer read. (whole, is, read)), not_memory wanted good)
+        let good = good_reading how whole.value in (
+          wanted,
+          answer_by how bytes wanted wanted good (equal wanted) (λ answer read. (whole, is, read)),
+          not_memory
+              wanted good,
+        )
     by (inr (inl (at, is))) = (Err (faults.Json at), is, λ same. cc)
     by (inr (inr (at, is))) = (Err (faults.Deep at), is, λ same. cc)

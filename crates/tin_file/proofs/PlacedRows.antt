@@ -16,14 +16,17 @@ module _ (numbers : List ℕ) where
   same_gives (Err NoMemory) = tt
   same_gives (Err fault) = refl
 
-  pub placed_gives : (result wanted : Result (List ℕ) TinFault) → result ≡ placed_or_fault numbers wanted → Gives IsPlaced result wanted
+  pub placed_gives : (result wanted : Result (List ℕ) TinFault) → result ≡ placed_or_fault numbers wanted
+      → Gives IsPlaced result wanted
   placed_gives result wanted is = subst (λ r. Gives IsPlaced r wanted) (sym is) (same_gives wanted)
 
-  pub placed_ok : (one : List ℕ) (wanted : Result (List ℕ) TinFault) → Gives IsPlaced (Ok one) wanted → (face : List ℕ) × (wanted ≡ Ok face) × (one ≡ placed numbers face)
+  pub placed_ok : (one : List ℕ) (wanted : Result (List ℕ) TinFault) → Gives IsPlaced (Ok one) wanted
+      → (face : List ℕ) × (wanted ≡ Ok face) × (one ≡ placed numbers face)
   placed_ok one (Ok face) h = (face, refl, h)
   placed_ok one (Err fault) h = absurd h
 
-  pub fault_of_face : {B C : Type 0} (R : B → C → Type 0) (fault : TinFault) (part : Result (List ℕ) TinFault) (whole : Result C TinFault)
+  pub fault_of_face : {B C : Type 0} (R : B → C → Type 0) (fault : TinFault) (part : Result (List ℕ) TinFault)
+      (whole : Result C TinFault)
       → Gives IsPlaced (Err fault) part → (part ≡ Err fault → whole ≡ Err fault) → Gives R (Err fault) whole
   fault_of_face R NoMemory part whole h on = tt
   fault_of_face R fault part whole h on = sym (on (sym h))

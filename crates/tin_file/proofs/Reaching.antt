@@ -1,5 +1,6 @@
 -- The least and the greatest of the corners' numbers on an axis.
-use Rattle.std.proofs.Common.{◌≡◌, ℕ, suc, zero, ◌+◌, ◌<◌, ◌≤◌, List, [], ◌∷◌, length, get_or, Bool, true, false, refl, sym, ◌∙◌, subst, arith, cond, ◌⊎◌, inl, inr}
+use Rattle.std.proofs.Common.{◌≡◌, ℕ, suc, zero, ◌+◌, ◌<◌, ◌≤◌, List, [], ◌∷◌, length, get_or, Bool, true, false, refl}
+use Rattle.std.proofs.Common.{sym, ◌∙◌, subst, arith, cond, ◌⊎◌, inl, inr}
 use Rattle.std.proofs.lemmas.Bool.{or_right}
 use Rattle.std.proofs.lemmas.Int.{ints, int_min_is, int_max_is}
 use Rattle.std.specs.Int.Signed.{le_z_yes}
@@ -47,14 +48,21 @@ max_second : (x y : ℤ) → y ≤ℤ int_max x y
 max_second x y = omega (arith, ints, int_max_is x y)
 
 module _ (coordinate : Corner → ℤ) (corners : List Corner) where
-  pub reach_goes_on : (i : ℕ) (least greatest here : ℤ) → IsReached coordinate corners i least greatest → i < length corners → here ≡ coordinate (at corners i)
+  pub reach_goes_on : (i : ℕ) (least greatest here : ℤ) → IsReached coordinate corners i least greatest
+      → i < length corners → here ≡ coordinate (at corners i)
       → IsReached coordinate corners (i + 1) (int_min least here) (int_max greatest here)
   reach_goes_on i least greatest here h within is = record {
     below = λ k below. elim (last k below) [
-      | inl earlier ↦ (omega (arith, ints, (h.below k earlier).0, min_first least here), omega (arith, ints, (h.below k earlier).1, max_first greatest here))
+      | inl earlier ↦ (
+        omega (arith, ints, (h.below k earlier).0, min_first least here),
+        omega
+            (arith, ints, (h.below k earlier).1, max_first greatest here),
+      )
       | inr same ↦ (
-        subst (λ n. int_min least here ≤ℤ coordinate (at corners n)) (sym same) (subst (λ z. int_min least here ≤ℤ z) is (min_second least here)),
-        subst (λ n. coordinate (at corners n) ≤ℤ int_max greatest here) (sym same) (subst (λ z. z ≤ℤ int_max greatest here) is (max_second greatest here)),
+        subst (λ n. int_min least here ≤ℤ coordinate (at corners n)) (sym same)
+            (subst (λ z. int_min least here ≤ℤ z) is (min_second least here)),
+        subst (λ n. coordinate (at corners n) ≤ℤ int_max greatest here) (sym same)
+            (subst (λ z. z ≤ℤ int_max greatest here) is (max_second greatest here)),
       )
     ];
     low = elim (one_of (int_lt here least) here least) [
@@ -70,14 +78,17 @@ module _ (coordinate : Corner → ℤ) (corners : List Corner) where
       last : (k : ℕ) → k < i + 1 → (k < i) ⊎ (k ≡ i)
       last k below = grind arith
 
-any_at : {A : Type 0} (p : A → Bool) (xs : List A) (i : ℕ) (d : A) → i < length xs → p (get_or xs i d) ≡ true → list_any p xs ≡ true
+any_at : {A : Type 0} (p : A → Bool) (xs : List A) (i : ℕ) (d : A) → i < length xs → p (get_or xs i d) ≡ true
+    → list_any p xs ≡ true
 any_at p [] i d within h = absurd (omega (arith, within))
 any_at p (x ∷ xs) zero d within h = rw h refl
 any_at p (x ∷ xs) (suc i) d within h = or_right (p x) (list_any p xs) (any_at p xs i d (omega (arith, within)) h)
 
-none_at : {A : Type 0} (p : A → Bool) (xs : List A) (d : A) → ((i : ℕ) → i < length xs → p (get_or xs i d) ≡ false) → list_any p xs ≡ false
+none_at : {A : Type 0} (p : A → Bool) (xs : List A) (d : A) → ((i : ℕ) → i < length xs → p (get_or xs i d) ≡ false)
+    → list_any p xs ≡ false
 none_at p [] d h = refl
-none_at p (x ∷ xs) d h = or_false (p x) (list_any p xs) (h 0 (omega arith)) (none_at p xs d (λ i within. h (suc i) (omega (arith, within))))
+none_at p (x ∷ xs) d h = or_false (p x) (list_any p xs) (h 0 (omega arith))
+    (none_at p xs d (λ i within. h (suc i) (omega (arith, within))))
 
 pub T_is : (b : Bool) → T b → b ≡ true
 T_is true h = refl
@@ -92,29 +103,38 @@ not_above bound small large below passes = by_test (int_le bound small) refl
     by_test true t = absurd (contradiction (le_z_yes (T_from_true (int_le bound small) t)))
       where
         contradiction : bound ≤ℤ small → ⊥
-        contradiction h = let both : bound ≤ℤ large = omega (arith, ints) in let yes_too : true ≡ false = sym (T_is (int_le bound large) both.le) ∙ passes in cc
+        contradiction h = let both : bound ≤ℤ large = omega (arith, ints) in let yes_too : true ≡ false =
+            sym (T_is (int_le bound large) both.le) ∙ passes in cc
 
-module _ (coordinate : Corner → ℤ) (corners : List Corner) (i : ℕ) (least greatest : ℤ) (h : IsReached coordinate corners i least greatest) (all : length corners ≤ i) where
+module _ (coordinate : Corner → ℤ) (corners : List Corner) (i : ℕ) (least greatest : ℤ)
+    (h : IsReached coordinate corners i least greatest) (all : length corners ≤ i) where
   pub wide_so : int_le SPAN (greatest -ℤ least) ≡ is_wide coordinate corners
   wide_so = by_test (int_le SPAN (greatest -ℤ least)) refl
     where
       by_test : (test : Bool) → int_le SPAN (greatest -ℤ least) ≡ test → test ≡ is_wide coordinate corners
       by_test true t =
-          let far : int_le SPAN (coordinate (at corners h.high.0) -ℤ coordinate (at corners h.low.0)) ≡ true = rw (sym h.high.2, sym h.low.2) t in
-          sym (any_at (λ c. list_any (λ d. int_le SPAN (coordinate c -ℤ coordinate d)) corners) corners h.high.0 no_corner h.high.1
-          (any_at (λ d. int_le SPAN (coordinate (at corners h.high.0) -ℤ coordinate d)) corners h.low.0 no_corner h.low.1 far))
+          let far : int_le SPAN (coordinate (at corners h.high.0) -ℤ coordinate (at corners h.low.0)) ≡ true =
+          rw (sym h.high.2, sym h.low.2) t in
+          sym (any_at (λ c. list_any (λ d. int_le SPAN (coordinate c -ℤ coordinate d)) corners) corners h.high.0
+          no_corner h.high.1
+          (any_at (λ d. int_le SPAN (coordinate (at corners h.high.0) -ℤ coordinate d)) corners h.low.0 no_corner
+          h.low.1 far))
       by_test false t =
           sym (none_at (λ c. list_any (λ d. int_le SPAN (coordinate c -ℤ coordinate d)) corners) corners no_corner
           (λ m within. none_at (λ d. int_le SPAN (coordinate (at corners m) -ℤ coordinate d)) corners no_corner
           (λ n inside. not_above SPAN (coordinate (at corners m) -ℤ coordinate (at corners n)) (greatest -ℤ least)
-          (omega (arith, ints, (h.below m (omega (arith, within, all))).1, (h.below n (omega (arith, inside, all))).0)) t)))
+          (omega (arith, ints, (h.below m (omega (arith, within, all))).1, (h.below n (omega (arith, inside, all))).0))
+          t)))
 
-pub at_of : (P : Corner → Type 0) (corners : List Corner) (i : ℕ) → AllByRecursion P corners → i < length corners → P (at corners i)
+pub at_of : (P : Corner → Type 0) (corners : List Corner) (i : ℕ) → AllByRecursion P corners → i < length corners
+    → P (at corners i)
 at_of P [] i h within = absurd (omega (arith, within))
 at_of P (corner ∷ corners) zero h within = h.0
 at_of P (corner ∷ corners) (suc i) h within = at_of P corners i h.1 (omega (arith, within))
 
-coordinate_in_reach : (frame : Frame) (axis : Axis) (corner : Corner) → IsCornerInReach frames.Source corner × IsCornerInReach frames.Target corner → IsInReach (coordinate_of frame axis corner)
+coordinate_in_reach : (frame : Frame) (axis : Axis) (corner : Corner)
+    → IsCornerInReach frames.Source corner × IsCornerInReach frames.Target corner
+    → IsInReach (coordinate_of frame axis corner)
 coordinate_in_reach frames.Source axes.X corner h = h.0.0
 coordinate_in_reach frames.Source axes.Y corner h = h.0.1
 coordinate_in_reach frames.Target axes.X corner h = h.1.0
@@ -125,11 +145,17 @@ by_mag (pos n) h i = record { sfits = omega (arith, ints) }
 by_mag (negsuc n) h i = record { sfits = omega (arith, ints) }
 
 difference_fits : (greatest least : ℤ) → IsInReach greatest → IsInReach least → FitsSigned w64 (greatest -ℤ least)
-difference_fits greatest least g l = by_mag (greatest -ℤ least) (omega (arith, ints, g.0, g.1, l.0, l.1)) (omega (arith, ints, g.0, g.1, l.0, l.1))
+difference_fits greatest least g l = by_mag (greatest -ℤ least) (omega (arith, ints, g.0, g.1, l.0, l.1))
+    (omega (arith, ints, g.0, g.1, l.0, l.1))
 
-pub reach_fits : (frame : Frame) (axis : Axis) (corners : List Corner) (i : ℕ) (least greatest : ℤ) → AreInReach corners → IsReached (coordinate_of frame axis) corners i least greatest
+pub reach_fits : (frame : Frame) (axis : Axis) (corners : List Corner) (i : ℕ) (least greatest : ℤ) → AreInReach corners
+    → IsReached (coordinate_of frame axis) corners i least greatest
     → FitsSigned w64 (greatest -ℤ least)
 reach_fits frame axis corners i least greatest all h =
     difference_fits greatest least
-    (subst IsInReach (sym h.high.2) (coordinate_in_reach frame axis (at corners h.high.0) (at_of (λ corner. IsCornerInReach frames.Source corner × IsCornerInReach frames.Target corner) corners h.high.0 all h.high.1)))
-    (subst IsInReach (sym h.low.2) (coordinate_in_reach frame axis (at corners h.low.0) (at_of (λ corner. IsCornerInReach frames.Source corner × IsCornerInReach frames.Target corner) corners h.low.0 all h.low.1)))
+    (subst IsInReach (sym h.high.2) (coordinate_in_reach frame axis (at corners h.high.0)
+    (at_of (λ corner. IsCornerInReach frames.Source corner × IsCornerInReach frames.Target corner) corners h.high.0
+    all h.high.1)))
+    (subst IsInReach (sym h.low.2) (coordinate_in_reach frame axis (at corners h.low.0)
+    (at_of (λ corner. IsCornerInReach frames.Source corner × IsCornerInReach frames.Target corner) corners h.low.0
+    all h.low.1)))

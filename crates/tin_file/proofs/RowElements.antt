@@ -17,7 +17,8 @@ use Rattle.tin_file.specs.declared.faults.TinFault.TheVariants.{Row}
 use Rattle.jtext.proofs.Standing.{array_stands}
 use Rattle.tin_file.proofs.There.{elements_there}
 
-pub array_of : (value : Json) → true ≡ is_array value → (blank : List ℕ) × (elements : Elements) × (value ≡ array blank elements)
+pub array_of : (value : Json) → true ≡ is_array value
+    → (blank : List ℕ) × (elements : Elements) × (value ≡ array blank elements)
 array_of (array blank elements) h = (blank, elements, refl)
 array_of null h = cc
 array_of (truth is) h = cc
@@ -26,38 +27,49 @@ array_of (quoted chars) h = cc
 array_of (object blank members) h = cc
 
 module _ (nodes : List Node) (bytes : List ℕ) (number : ℕ) where
-  pub is_array_there : IsNode nodes bytes number → ((value : Json) → IsThere nodes bytes number value → true ≡ is_array value) → IsArray nodes bytes number
+  pub is_array_there : IsNode nodes bytes number
+      → ((value : Json) → IsThere nodes bytes number value → true ≡ is_array value) → IsArray nodes bytes number
   is_array_there (value, there) is =
       let (blank, elements, value_is) = array_of value (is value there) in
       (blank, elements, subst (IsThere nodes bytes number) value_is there)
 
   -- the elements stand at the numbers that were listed
-  pub elements_listed : (blank : List ℕ) (elements : Elements) (numbers : List ℕ) → IsThere nodes bytes number (array blank elements)
+  pub elements_listed : (blank : List ℕ) (elements : Elements) (numbers : List ℕ)
+      → IsThere nodes bytes number (array blank elements)
       → numbers ≡ element_numbers (number + 1) elements → AreThere nodes bytes numbers (listed elements)
   elements_listed blank elements numbers there is =
       subst (λ ns. AreThere nodes bytes ns (listed elements)) (sym is)
-      (elements_there nodes bytes (number + 1) (inner_place there.0 blank) elements (array_stands nodes bytes number there.0 blank elements there.1))
+      (elements_there nodes bytes (number + 1) (inner_place there.0 blank) elements
+      (array_stands nodes bytes number there.0 blank elements there.1))
 
   pub nodes_listed : IsArray nodes bytes number → (numbers : List ℕ)
-      → ((bytes : List ℕ) (blank : List ℕ) (elements : Elements) → IsThere nodes bytes number (array blank elements) → numbers ≡ element_numbers (number + 1) elements)
+      → ((bytes : List ℕ) (blank : List ℕ) (elements : Elements) → IsThere nodes bytes number (array blank elements)
+      → numbers ≡ element_numbers (number + 1) elements)
       → AreNodes nodes bytes numbers
-  nodes_listed (blank, elements, there) numbers is = (listed elements, elements_listed blank elements numbers there (is bytes blank elements there))
+  nodes_listed (blank, elements, there) numbers is =
+      (listed elements, elements_listed blank elements numbers there (is bytes blank elements there))
 
   -- what is made of the elements of a row is made of the row
   pub of_elements : {A : Type 0} (of_row : Json → Result A TinFault) (of_all : List Json → Result A TinFault)
       → ((blank : List ℕ) (elements : Elements) → of_row (array blank elements) ≡ of_all (listed elements))
       → (value : Json) → IsThere nodes bytes number value → true ≡ is_array value → (numbers : List ℕ)
-      → ((bytes : List ℕ) (blank : List ℕ) (elements : Elements) → IsThere nodes bytes number (array blank elements) → numbers ≡ element_numbers (number + 1) elements)
-      → (result : Result A TinFault) → ((all : List Json) → AreThere nodes bytes numbers all → result ≡ of_all all) → result ≡ of_row value
+      → ((bytes : List ℕ) (blank : List ℕ) (elements : Elements) → IsThere nodes bytes number (array blank elements)
+      → numbers ≡ element_numbers (number + 1) elements)
+      → (result : Result A TinFault) → ((all : List Json) → AreThere nodes bytes numbers all → result ≡ of_all all)
+      → result ≡ of_row value
   of_elements of_row of_all same value there is numbers listed_so result made =
       let (blank, elements, value_is) = array_of value is in
-      let here : IsThere nodes bytes number (array blank elements) = subst (IsThere nodes bytes number) value_is there in
-      made (listed elements) (elements_listed blank elements numbers here (listed_so bytes blank elements here)) ∙ sym (same blank elements) ∙ ap of_row (sym value_is)
+      let here : IsThere nodes bytes number (array blank elements) =
+      subst (IsThere nodes bytes number) value_is there in
+      made (listed elements) (elements_listed blank elements numbers here (listed_so bytes blank elements here))
+      ∙ sym (same blank elements) ∙ ap of_row (sym value_is)
 
-pub no_vertex_row : (how : How) (columns : VertexColumns) (row : ℕ) (value : Json) → false ≡ is_array value → Err (Row lists.Vertices row) ≡ vertex_of how columns row value
+pub no_vertex_row : (how : How) (columns : VertexColumns) (row : ℕ) (value : Json) → false ≡ is_array value
+    → Err (Row lists.Vertices row) ≡ vertex_of how columns row value
 no_vertex_row how columns row (array blank elements) h = cc
 no_vertex_row how columns row value h = refl
 
-pub no_triangle_row : (columns : TriangleColumns) (rows triangle : ℕ) (value : Json) → false ≡ is_array value → Err (Row lists.Triangles triangle) ≡ triangle_of columns rows triangle value
+pub no_triangle_row : (columns : TriangleColumns) (rows triangle : ℕ) (value : Json) → false ≡ is_array value
+    → Err (Row lists.Triangles triangle) ≡ triangle_of columns rows triangle value
 no_triangle_row columns rows triangle (array blank elements) h = cc
 no_triangle_row columns rows triangle value h = refl

@@ -17,7 +17,8 @@ equals_ok value (Ok other) h = ap Ok (sym h)
 equals_ok value (Err fault) h = absurd h
 
 -- the fault of a part is the fault of the whole
-pub fault_of_part : {A B C : Type 0} (R : B → C → Type 0) (fault : TinFault) (part : Result A TinFault) (whole : Result C TinFault)
+pub fault_of_part : {A B C : Type 0} (R : B → C → Type 0) (fault : TinFault) (part : Result A TinFault)
+    (whole : Result C TinFault)
     → Equals (Err fault) part → (part ≡ Err fault → whole ≡ Err fault) → Gives R (Err fault) whole
 fault_of_part R NoMemory part whole h on = tt
 fault_of_part R fault part whole h on = sym (on (sym h))
@@ -25,24 +26,30 @@ fault_of_part R fault part whole h on = sym (on (sym h))
 module _ {A : Type 0} (of_row : ℕ → Json → Result A TinFault) (rows : ℕ → List Json → Result (List A) TinFault) where
   -- the rows are taken one by one
   abbrev pub AreByRow : Type 0
-  AreByRow = ((n : ℕ) → rows n [] ≡ Ok []) × ((n : ℕ) (value : Json) (values : List Json) → rows n (value ∷ values) ≡ in_front (of_row n value) (rows (n + 1) values))
+  AreByRow = ((n : ℕ) → rows n [] ≡ Ok []) × ((n : ℕ) (value : Json) (values : List Json)
+      → rows n (value ∷ values) ≡ in_front (of_row n value) (rows (n + 1) values))
 
   -- these rows are read, and the whole is what follows them
   pub record AreRead (done : List A) (n : ℕ) (rest : List Json) (whole : Result (List A) TinFault) : Type 0 where
     pub whole_is : whole ≡ behind done (rows n rest)
 
   module _ (by_row : AreByRow) (done : List A) (n : ℕ) (whole : Result (List A) TinFault) where
-    put_behind : (one : A) (more : Result (List A) TinFault) → behind done (in_front (Ok one) more) ≡ behind (done ++ one ∷ []) more
+    put_behind : (one : A) (more : Result (List A) TinFault)
+        → behind done (in_front (Ok one) more) ≡ behind (done ++ one ∷ []) more
     put_behind one (Ok others) = ap Ok (sym (append_assoc done (one ∷ []) others))
     put_behind one (Err fault) = refl
 
-    pub row_read : (value : Json) (values : List Json) (one : A) → AreRead done n (value ∷ values) whole → of_row n value ≡ Ok one → AreRead (done ++ one ∷ []) (n + 1) values whole
+    pub row_read : (value : Json) (values : List Json) (one : A) → AreRead done n (value ∷ values) whole
+        → of_row n value ≡ Ok one → AreRead (done ++ one ∷ []) (n + 1) values whole
     row_read value values one h is = record {
-      whole_is = h.whole_is ∙ ap (behind done) (by_row.1 n value values ∙ ap (λ r. in_front r (rows (n + 1) values)) is) ∙ put_behind one (rows (n + 1) values);
+      whole_is = h.whole_is ∙ ap (behind done) (by_row.1 n value values ∙ ap (λ r. in_front r (rows (n + 1) values)) is)
+          ∙ put_behind one (rows (n + 1) values);
     }
 
-    pub row_refused : (value : Json) (values : List Json) (fault : TinFault) → AreRead done n (value ∷ values) whole → of_row n value ≡ Err fault → whole ≡ Err fault
-    row_refused value values fault h is = h.whole_is ∙ ap (behind done) (by_row.1 n value values ∙ ap (λ r. in_front r (rows (n + 1) values)) is)
+    pub row_refused : (value : Json) (values : List Json) (fault : TinFault) → AreRead done n (value ∷ values) whole
+        → of_row n value ≡ Err fault → whole ≡ Err fault
+    row_refused value values fault h is = h.whole_is
+        ∙ ap (behind done) (by_row.1 n value values ∙ ap (λ r. in_front r (rows (n + 1) values)) is)
 
     pub rows_end : AreRead done n [] whole → whole ≡ Ok done
     rows_end h = h.whole_is ∙ ap (behind done) (by_row.0 n) ∙ ap Ok (append-nil done)

@@ -1,6 +1,8 @@
 -- What all rows are that are read.
-use Rattle.std.proofs.Common.{◌≡◌, ℕ, suc, ◌+◌, ◌≤◌, List, [], ◌∷◌, length, Bool, true, false, refl, sym, ap, ◌∙◌, subst, arith}
-use Rattle.std.specs.Prelude.{◌==◌, ◌&&◌, not, nat_lt, if◌then◌else◌, Option, Some, None, Result, Ok, Err, ℤ, pos, negsuc, unsigned_abs}
+use Rattle.std.proofs.Common.{◌≡◌, ℕ, suc, ◌+◌, ◌≤◌, List, [], ◌∷◌, length, Bool, true, false, refl, sym, ap, ◌∙◌}
+use Rattle.std.proofs.Common.{subst, arith}
+use Rattle.std.specs.Prelude.{◌==◌, ◌&&◌, not, nat_lt, if◌then◌else◌, Option, Some, None, Result, Ok, Err, ℤ, pos}
+use Rattle.std.specs.Prelude.{negsuc, unsigned_abs}
 use Rattle.std.specs.List.{AllByRecursion}
 use Rattle.std.proofs.lemmas.Int.{ints}
 use Rattle.std.proofs.lemmas.Bool.{ltb-true}
@@ -25,7 +27,8 @@ use Rattle.tin_file.specs.declared.faults.TinFault.{TinFault}
 use Rattle.tin_file.specs.declared.faults.TinFault.TheVariants.{Row, Index, Inexact}
 use Rattle.tin_file.specs.declared.faults.Rows.TheVariants as lists
 
-pub ok_of : {A B : Type 0} (R : A → B → Type 0) (one : A) (r : Result B TinFault) → Gives R (Ok one) r → (other : B) × (r ≡ Ok other) × R one other
+pub ok_of : {A B : Type 0} (R : A → B → Type 0) (one : A) (r : Result B TinFault) → Gives R (Ok one) r
+    → (other : B) × (r ≡ Ok other) × R one other
 ok_of R one (Ok other) h = (other, refl, h)
 ok_of R one (Err fault) h = absurd h
 
@@ -42,15 +45,18 @@ read_reach text read is =
     let (short, (value, has, so)) = subst (Answers text) is (measured_answers text) in
     by_abs read.mm (subst (λ z. unsigned_abs z ≤ 1000000000000000) (sym so.mm) so.limit)
 
-accepted_is : (how : How) (row : ℕ) (r : Result MmRead NumFault) (read : MmRead) → accepted how row r ≡ Ok read → r ≡ Ok read
+accepted_is : (how : How) (row : ℕ) (r : Result MmRead NumFault) (read : MmRead) → accepted how row r ≡ Ok read
+    → r ≡ Ok read
 accepted_is how row (Err fault) read h = cc
 accepted_is how row (Ok other) read h = by_test (how.exact && not other.exact) h
   where
-    by_test : (test : Bool) → (if test then Err (Inexact row) else Ok other) ≡ Ok read → ◌≡◌ {A = Result MmRead NumFault} (Ok other) (Ok read)
+    by_test : (test : Bool) → (if test then Err (Inexact row) else Ok other) ≡ Ok read
+        → ◌≡◌ {A = Result MmRead NumFault} (Ok other) (Ok read)
     by_test true h = cc
     by_test false h = ap Ok (same_ok other read h)
 
-number_reach : (how : How) (row : ℕ) (value : Json) (read : MmRead) → number_in how row value ≡ Ok read → IsInReach read.mm
+number_reach : (how : How) (row : ℕ) (value : Json) (read : MmRead) → number_in how row value ≡ Ok read
+    → IsInReach read.mm
 number_reach how row (numeral text) read h = read_reach text read (accepted_is how row (measured text) read h)
 number_reach how row null read h = cc
 number_reach how row (truth is) read h = cc
@@ -64,7 +70,8 @@ ReachOk r = (read : MmRead) → r ≡ Ok read → IsInReach read.mm
 abbrev VertexOk : Vertex → Type 0
 VertexOk vertex = IsCornerInReach frames.Source vertex.corner × IsCornerInReach frames.Target vertex.corner
 
-from_reach : (a b c d : Result MmRead TinFault) → ReachOk a → ReachOk b → ReachOk c → ReachOk d → (vertex : Vertex) → vertex_from a b c d ≡ Ok vertex → VertexOk vertex
+from_reach : (a b c d : Result MmRead TinFault) → ReachOk a → ReachOk b → ReachOk c → ReachOk d → (vertex : Vertex)
+    → vertex_from a b c d ≡ Ok vertex → VertexOk vertex
 from_reach (Ok sx) (Ok sy) (Ok tx) (Ok ty) h i j k vertex is =
     subst VertexOk (same_ok _ vertex is) ((h sx refl, i sy refl), (j tx refl, k ty refl))
 from_reach (Err fault) b c d h i j k vertex is = cc
@@ -72,14 +79,18 @@ from_reach (Ok sx) (Err fault) c d h i j k vertex is = cc
 from_reach (Ok sx) (Ok sy) (Err fault) d h i j k vertex is = cc
 from_reach (Ok sx) (Ok sy) (Ok tx) (Err fault) h i j k vertex is = cc
 
-vertex_reach : (how : How) (columns : VertexColumns) (row : ℕ) (value : Json) (vertex : Vertex) → vertex_of how columns row value ≡ Ok vertex → VertexOk vertex
+vertex_reach : (how : How) (columns : VertexColumns) (row : ℕ) (value : Json) (vertex : Vertex)
+    → vertex_of how columns row value ≡ Ok vertex → VertexOk vertex
 vertex_reach how columns row (array blank elements) vertex h =
     by_test (length (listed elements) == columns.count) h
   where
-    by_test : (test : Bool) → (if test then vertex_from (number_at how row (listed elements) columns.source_x) (number_at how row (listed elements) columns.source_y)
-        (number_at how row (listed elements) columns.target_x) (number_at how row (listed elements) columns.target_y) else Err (Row lists.Vertices row)) ≡ Ok vertex → VertexOk vertex
+    by_test : (test : Bool) → (if test then vertex_from (number_at how row (listed elements) columns.source_x)
+        (number_at how row (listed elements) columns.source_y)
+        (number_at how row (listed elements) columns.target_x) (number_at how row (listed elements) columns.target_y)
+        else Err (Row lists.Vertices row)) ≡ Ok vertex → VertexOk vertex
     by_test false h = cc
-    by_test true h = from_reach _ _ _ _ (number_reach how row _) (number_reach how row _) (number_reach how row _) (number_reach how row _) vertex h
+    by_test true h = from_reach _ _ _ _ (number_reach how row _) (number_reach how row _) (number_reach how row _)
+        (number_reach how row _) vertex h
 vertex_reach how columns row null vertex h = cc
 vertex_reach how columns row (truth is) vertex h = cc
 vertex_reach how columns row (numeral text) vertex h = cc
@@ -87,49 +98,64 @@ vertex_reach how columns row (quoted chars) vertex h = cc
 vertex_reach how columns row (object blank members) vertex h = cc
 
 -- the first of rows that are read, and the others
-split_front : {A : Type 0} (one : Result A TinFault) (more : Result (List A) TinFault) (all : List A) → in_front one more ≡ Ok all
+split_front : {A : Type 0} (one : Result A TinFault) (more : Result (List A) TinFault) (all : List A)
+    → in_front one more ≡ Ok all
     → (x : A) × (xs : List A) × (one ≡ Ok x) × (more ≡ Ok xs) × (x ∷ xs ≡ all)
 split_front (Ok x) (Ok xs) all h = (x, xs, refl, refl, same_ok (x ∷ xs) all h)
 split_front (Ok x) (Err fault) all h = cc
 split_front (Err fault) more all h = cc
 
-pub rows_reach : (how : How) (columns : VertexColumns) (row : ℕ) (values : List Json) (rows : List Vertex) → vertex_rows how columns row values ≡ Ok rows → AreInReach (corners_in rows)
+pub rows_reach : (how : How) (columns : VertexColumns) (row : ℕ) (values : List Json) (rows : List Vertex)
+    → vertex_rows how columns row values ≡ Ok rows → AreInReach (corners_in rows)
 rows_reach how columns row [] rows h = subst (λ rs. AreInReach (corners_in rs)) (same_ok [] rows h) tt
 rows_reach how columns row (value ∷ values) rows h =
-    let (x, xs, first, others, all) = split_front (vertex_of how columns row value) (vertex_rows how columns (row + 1) values) rows h in
-    subst (λ rs. AreInReach (corners_in rs)) all (vertex_reach how columns row value x first, rows_reach how columns (row + 1) values xs others)
+    let (x, xs, first, others, all) = split_front (vertex_of how columns row value)
+    (vertex_rows how columns (row + 1) values) rows h in
+    subst (λ rs. AreInReach (corners_in rs)) all
+    (vertex_reach how columns row value x first, rows_reach how columns (row + 1) values xs others)
 
-pub rows_long : (how : How) (columns : VertexColumns) (row : ℕ) (values : List Json) (rows : List Vertex) → vertex_rows how columns row values ≡ Ok rows → length rows ≡ length values
+pub rows_long : (how : How) (columns : VertexColumns) (row : ℕ) (values : List Json) (rows : List Vertex)
+    → vertex_rows how columns row values ≡ Ok rows → length rows ≡ length values
 rows_long how columns row [] rows h = ap length (sym (same_ok [] rows h))
 rows_long how columns row (value ∷ values) rows h =
-    let (x, xs, first, others, all) = split_front (vertex_of how columns row value) (vertex_rows how columns (row + 1) values) rows h in
+    let (x, xs, first, others, all) = split_front (vertex_of how columns row value)
+    (vertex_rows how columns (row + 1) values) rows h in
     ap length (sym all) ∙ ap suc (rows_long how columns (row + 1) values xs others)
 
 -- ---- triangles of rows
-pub faces_long : (columns : TriangleColumns) (count triangle : ℕ) (values : List Json) (faces : List (List ℕ)) → triangle_rows columns count triangle values ≡ Ok faces → length faces ≡ length values
+pub faces_long : (columns : TriangleColumns) (count triangle : ℕ) (values : List Json) (faces : List (List ℕ))
+    → triangle_rows columns count triangle values ≡ Ok faces → length faces ≡ length values
 faces_long columns count triangle [] faces h = ap length (sym (same_ok [] faces h))
 faces_long columns count triangle (value ∷ values) faces h =
-    let (x, xs, first, others, all) = split_front (triangle_of columns count triangle value) (triangle_rows columns count (triangle + 1) values) faces h in
+    let (x, xs, first, others, all) = split_front (triangle_of columns count triangle value)
+    (triangle_rows columns count (triangle + 1) values) faces h in
     ap length (sym all) ∙ ap suc (faces_long columns count (triangle + 1) values xs others)
 
-from_below : (count triangle : ℕ) (a b c : Option ℕ) (face : List ℕ) → triangle_from count triangle a b c ≡ Ok face → IsBelow count face
+from_below : (count triangle : ℕ) (a b c : Option ℕ) (face : List ℕ) → triangle_from count triangle a b c ≡ Ok face
+    → IsBelow count face
 from_below count triangle None b c face h = cc
 from_below count triangle (Some p) None c face h = cc
 from_below count triangle (Some p) (Some q) None face h = cc
-from_below count triangle (Some p) (Some q) (Some r) face h = by_tests (nat_lt p count) (nat_lt q count) (nat_lt r count) refl refl refl h
+from_below count triangle (Some p) (Some q) (Some r) face h =
+    by_tests (nat_lt p count) (nat_lt q count) (nat_lt r count) refl refl refl h
   where
     by_tests : (a b c : Bool) → nat_lt p count ≡ a → nat_lt q count ≡ b → nat_lt r count ≡ c
         → (if a && (b && c) then Ok (p ∷ q ∷ r ∷ []) else Err (Index triangle)) ≡ Ok face → IsBelow count face
-    by_tests true true true e f g h = subst (IsBelow count) (same_ok (p ∷ q ∷ r ∷ []) face h) (ltb-true p count e, ltb-true q count f, ltb-true r count g)
+    by_tests true true true e f g h = subst (IsBelow count) (same_ok (p ∷ q ∷ r ∷ []) face h)
+        (ltb-true p count e, ltb-true q count f, ltb-true r count g)
     by_tests false b c e f g h = cc
     by_tests true false c e f g h = cc
     by_tests true true false e f g h = cc
 
-triangle_below : (columns : TriangleColumns) (count triangle : ℕ) (value : Json) (face : List ℕ) → triangle_of columns count triangle value ≡ Ok face → IsBelow count face
-triangle_below columns count triangle (array blank elements) face h = by_test (length (listed elements) == columns.count) h
+triangle_below : (columns : TriangleColumns) (count triangle : ℕ) (value : Json) (face : List ℕ)
+    → triangle_of columns count triangle value ≡ Ok face → IsBelow count face
+triangle_below columns count triangle (array blank elements) face h =
+    by_test (length (listed elements) == columns.count) h
   where
-    by_test : (test : Bool) → (if test then triangle_from count triangle (row_number_at (listed elements) columns.first) (row_number_at (listed elements) columns.second)
-        (row_number_at (listed elements) columns.third) else Err (Row lists.Triangles triangle)) ≡ Ok face → IsBelow count face
+    by_test : (test : Bool) → (if test then triangle_from count triangle (row_number_at (listed elements) columns.first)
+        (row_number_at (listed elements) columns.second)
+        (row_number_at (listed elements) columns.third) else Err (Row lists.Triangles triangle)) ≡ Ok face
+        → IsBelow count face
     by_test false h = cc
     by_test true h = from_below count triangle _ _ _ face h
 triangle_below columns count triangle null face h = cc
@@ -138,9 +164,12 @@ triangle_below columns count triangle (numeral text) face h = cc
 triangle_below columns count triangle (quoted chars) face h = cc
 triangle_below columns count triangle (object blank members) face h = cc
 
-pub faces_below : (columns : TriangleColumns) (count triangle : ℕ) (values : List Json) (faces : List (List ℕ)) → triangle_rows columns count triangle values ≡ Ok faces
+pub faces_below : (columns : TriangleColumns) (count triangle : ℕ) (values : List Json) (faces : List (List ℕ))
+    → triangle_rows columns count triangle values ≡ Ok faces
     → AllByRecursion (IsBelow count) faces
 faces_below columns count triangle [] faces h = subst (AllByRecursion (IsBelow count)) (same_ok [] faces h) tt
 faces_below columns count triangle (value ∷ values) faces h =
-    let (x, xs, first, others, all) = split_front (triangle_of columns count triangle value) (triangle_rows columns count (triangle + 1) values) faces h in
-    subst (AllByRecursion (IsBelow count)) all (triangle_below columns count triangle value x first, faces_below columns count (triangle + 1) values xs others)
+    let (x, xs, first, others, all) = split_front (triangle_of columns count triangle value)
+    (triangle_rows columns count (triangle + 1) values) faces h in
+    subst (AllByRecursion (IsBelow count)) all
+    (triangle_below columns count triangle value x first, faces_below columns count (triangle + 1) values xs others)

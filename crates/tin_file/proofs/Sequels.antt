@@ -12,13 +12,15 @@ equals_is (Err NoMemory) wanted h = tt
 equals_is (Err fault) wanted h = h
 
 -- a fault stays the fault
-pub fault_stays : {A B C D : Type 0} (R : A → B → Type 0) (S : C → D → Type 0) (f : B → Result D TinFault) (fault : TinFault) (r : Result B TinFault)
+pub fault_stays : {A B C D : Type 0} (R : A → B → Type 0) (S : C → D → Type 0) (f : B → Result D TinFault)
+    (fault : TinFault) (r : Result B TinFault)
     → Gives R (Err fault) r → Gives S (Err fault) (and_then f r)
 fault_stays R S f NoMemory r h = tt
 fault_stays R S f fault r h = subst (λ x. Err fault ≡ and_then f x) h refl
 
 -- what is made of a value
-pub then_made : {A B C D : Type 0} (R : A → B → Type 0) (S : C → D → Type 0) (f : B → Result D TinFault) (one : A) (r : Result B TinFault) (made : Result C TinFault)
+pub then_made : {A B C D : Type 0} (R : A → B → Type 0) (S : C → D → Type 0) (f : B → Result D TinFault) (one : A)
+    (r : Result B TinFault) (made : Result C TinFault)
     → Gives R (Ok one) r → ((other : B) → R one other → Gives S made (f other)) → Gives S made (and_then f r)
 then_made R S f one (Ok other) made h on = on other h
 then_made R S f one (Err fault) made h on = absurd h

@@ -10,7 +10,8 @@ use Rattle.tin_file.specs.declared.faults.Nearest.TheVariants as nearest
 use Rattle.tin_file.specs.declared.faults.TinFault.TheVariants.{Key}
 
 -- a test, by the text that it was asked for
-pub tells_so : (is : Json) (text literal : List ℕ) (test answer : Bool) → test ≡ says is text → text ≡ literal → test ≡ answer → says is literal ≡ answer
+pub tells_so : (is : Json) (text literal : List ℕ) (test answer : Bool) → test ≡ says is text → text ≡ literal
+    → test ≡ answer → says is literal ≡ answer
 tells_so is text literal test answer told same was = subst (λ t. says is t ≡ answer) same (sym told ∙ was)
 
 module _ (how : How) (is : Json) (none : says is (codes "none") ≡ false) where

@@ -16,10 +16,12 @@ use Rattle.tin_file.specs.declared.faults.Top.TheVariants as tops
 use Rattle.tin_file.specs.declared.faults.TinFault.TheVariants.{Key}
 use Rattle.jtext.proofs.Standing.{reading_stands, first_there}
 
-pub whole_there : (whole : Whole) (doc : Doc) (bytes : List ℕ) → IsReading whole doc bytes → IsThere doc.nodes bytes 0 whole.value
+pub whole_there : (whole : Whole) (doc : Doc) (bytes : List ℕ) → IsReading whole doc bytes
+    → IsThere doc.nodes bytes 0 whole.value
 whole_there whole doc bytes h = (whole_start whole, reading_stands whole doc bytes h)
 
-object_of : (value : Json) → true ≡ is_object value → (blank : List ℕ) × (members : Members) × (value ≡ object blank members)
+object_of : (value : Json) → true ≡ is_object value
+    → (blank : List ℕ) × (members : Members) × (value ≡ object blank members)
 object_of (object blank members) h = (blank, members, refl)
 object_of null h = cc
 object_of (truth is) h = cc
@@ -31,14 +33,16 @@ pub is_no_object : (how : How) (value : Json) → false ≡ is_object value → 
 is_no_object how (object blank members) h = cc
 is_no_object how value h = refl
 
-module _ (nodes : List Node) (bytes : List ℕ) (value : Json) (there : IsThere nodes bytes 0 value) (is : true ≡ is_object value) where
+module _ (nodes : List Node) (bytes : List ℕ) (value : Json) (there : IsThere nodes bytes 0 value)
+    (is : true ≡ is_object value) where
   pub object_kind : HasKind nodes 0 kinds.Object
   object_kind =
       let (blank, members, value_is) = object_of value is in
       let here : IsThere nodes bytes 0 (object blank members) = subst (IsThere nodes bytes 0) value_is there in
       (first_node 0 here.0 (object blank members), first_there nodes bytes 0 here.0 (object blank members) here.1, refl)
 
-  pub object_members : (members : Members) × HasMembers nodes bytes members × ((blank : List ℕ) × (value ≡ object blank members))
+  pub object_members : (members : Members) × HasMembers nodes bytes members
+      × ((blank : List ℕ) × (value ≡ object blank members))
   object_members =
       let (blank, members, value_is) = object_of value is in
       (members, (blank, subst (IsThere nodes bytes 0) value_is there), (blank, value_is))

@@ -1,5 +1,6 @@
 -- Elements of a list that are changed one after another, and the numbers of a face.
-use Rattle.std.proofs.Common.{◌≡◌, ◌<◌, ◌∙◌, ℕ, suc, zero, ◌+◌, List, [], ◌∷◌, ◌++◌, length, map, take, drop, get_or, set, refl, sym, ap, arith, append_assoc}
+use Rattle.std.proofs.Common.{◌≡◌, ◌<◌, ◌∙◌, ℕ, suc, zero, ◌+◌, List, [], ◌∷◌, ◌++◌, length, map, take, drop, get_or}
+use Rattle.std.proofs.Common.{set, refl, sym, ap, arith, append_assoc}
 use Rattle.std.proofs.Math.Seq.{set-append_seam, get_or-append_seam}
 use Rattle.std.proofs.lemmas.List.{length-map, length-take, drop_more, map_more}
 use Rattle.tin_base.specs.declared.corners.Corner.{Corner}
@@ -19,7 +20,8 @@ module _ {A : Type 0} (f : A → A) where
       ∙ ap (λ (k : ℕ). get_or (map f (take i xs) ++ get_or xs i d ∷ drop (i + 1) xs) k d) (sym (length_front xs i h))
       ∙ get_or-append_seam (map f (take i xs)) (get_or xs i d) (drop (i + 1) xs) d
 
-  pub one_changed : (xs : List A) (i : ℕ) (d v : A) → i < length xs → v ≡ f (get_or xs i d) → set (so_far xs i) i v ≡ so_far xs (i + 1)
+  pub one_changed : (xs : List A) (i : ℕ) (d v : A) → i < length xs → v ≡ f (get_or xs i d)
+      → set (so_far xs i) i v ≡ so_far xs (i + 1)
   one_changed xs i d v h e =
       let front = map f (take i xs) in
       let x = get_or xs i d in
@@ -44,7 +46,8 @@ three_of corners (p ∷ []) h = absurd h
 three_of corners (p ∷ q ∷ []) h = absurd h
 three_of corners (p ∷ q ∷ r ∷ s ∷ more) h = absurd h
 
-pub face_at : (corners : List Corner) (faces : List (List ℕ)) (i : ℕ) → AreFacesOf corners faces → i < length faces → IsThree corners (get_or faces i [])
+pub face_at : (corners : List Corner) (faces : List (List ℕ)) (i : ℕ) → AreFacesOf corners faces → i < length faces
+    → IsThree corners (get_or faces i [])
 face_at corners [] i h within = absurd (omega (arith, within))
 face_at corners (face ∷ faces) zero h within = three_of corners face h.0
 face_at corners (face ∷ faces) (suc i) h within = face_at corners faces i h.1 (omega (arith, within))

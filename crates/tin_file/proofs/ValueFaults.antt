@@ -13,8 +13,12 @@ use Rattle.tin_base.specs.Triangulation.{Triangulation, x_in, y_in}
 use Rattle.tin_base.specs.declared.corners.Corner.{Corner}
 use Rattle.tin_base.specs.declared.frames.Frame.TheVariants.{Source, Target}
 use Rattle.tin_base.specs.declared.limits.TheConstants.{MOST_CORNERS, MOST_TRIANGLES}
-use Rattle.tin_file.specs.Keys.{key_of, values_of, the_one, needed, says, is_text, list_of, needed_list, listed, checked, and_then}
-use Rattle.tin_file.specs.Headings.{file_type, file_type_of, version, version_of, strategy, strategy_of, fallback, is_horizontal, is_component, components, components_in, place_of, vertex_columns, vertex_columns_at, vertex_columns_in, triangle_columns, triangle_columns_at, triangle_columns_in, both_columns, heading}
+use Rattle.tin_file.specs.Keys.{key_of, values_of, the_one, needed, says, is_text, list_of, needed_list, listed}
+use Rattle.tin_file.specs.Keys.{checked, and_then}
+use Rattle.tin_file.specs.Headings.{file_type, file_type_of, version, version_of, strategy, strategy_of, fallback}
+use Rattle.tin_file.specs.Headings.{is_horizontal, is_component, components, components_in, place_of, vertex_columns}
+use Rattle.tin_file.specs.Headings.{vertex_columns_at, vertex_columns_in, triangle_columns, triangle_columns_at}
+use Rattle.tin_file.specs.Headings.{triangle_columns_in, both_columns, heading}
 use Rattle.tin_file.specs.Vertices.{few, accepted, number_in, vertex_from, vertex_of, in_front, vertex_rows, vertices}
 use Rattle.tin_file.specs.Triangles.{row_number_at, triangle_from, triangle_of, triangle_rows, triangles}
 use Rattle.tin_file.specs.Corners.{corners_of, is_wide, spans}
@@ -49,11 +53,13 @@ pub record IsGood {A : Type 0} (r : Result A TinFault) : Type 0 where
 fine : {A : Type 0} (r : Result A TinFault) → IsGoodAt r → IsGood r
 fine r h = record { is = h }
 
-good_then : {A B : Type 0} (f : A → Result B TinFault) (r : Result A TinFault) → IsGood r → ((value : A) → IsGood (f value)) → IsGood (and_then f r)
+good_then : {A B : Type 0} (f : A → Result B TinFault) (r : Result A TinFault) → IsGood r
+    → ((value : A) → IsGood (f value)) → IsGood (and_then f r)
 good_then f (Ok value) h on = on value
 good_then f (Err fault) h on = fine _ h.is
 
-good_checked : {B : Type 0} (r : Result (Unit {0}) TinFault) (next : Result B TinFault) → IsGood r → IsGood next → IsGood (checked r next)
+good_checked : {B : Type 0} (r : Result (Unit {0}) TinFault) (next : Result B TinFault) → IsGood r → IsGood next
+    → IsGood (checked r next)
 good_checked (Ok passed) next h on = on
 good_checked (Err fault) next h on = fine _ h.is
 
@@ -75,19 +81,24 @@ good_list which (quoted chars) = fine _ tt
 good_list which (object blank members) = fine _ tt
 
 good_needed_list : (which : Top) (members : Members) → IsGood (needed_list which members)
-good_needed_list which members = good_then (list_of which) (needed which members) (good_one which (values_of (key_of which) members)) (good_list which)
+good_needed_list which members = good_then (list_of which) (needed which members)
+    (good_one which (values_of (key_of which) members)) (good_list which)
 
 -- ---- headings
 good_file_type : (members : Members) → IsGood (file_type members)
 unfolding file_type
 good_file_type members =
-    good_then file_type_of (needed tops.FileType members) (good_one tops.FileType (values_of (key_of tops.FileType) members)) (λ value. good_if (says value (codes "triangulation_file")) (fine _ tt) (fine _ tt))
+    good_then file_type_of (needed tops.FileType members)
+    (good_one tops.FileType (values_of (key_of tops.FileType) members))
+    (λ value. good_if (says value (codes "triangulation_file")) (fine _ tt) (fine _ tt))
 
 good_version : (members : Members) → IsGood (version members)
 unfolding version
 good_version members =
-    good_then version_of (needed tops.FormatVersion members) (good_one tops.FormatVersion (values_of (key_of tops.FormatVersion) members))
-    (λ value. good_if (says value (codes "1.0")) (fine _ tt) (good_if (says value (codes "1.1")) (fine _ tt) (good_if (is_text value) (fine _ tt) (fine _ tt))))
+    good_then version_of (needed tops.FormatVersion members)
+    (good_one tops.FormatVersion (values_of (key_of tops.FormatVersion) members))
+    (λ value. good_if (says value (codes "1.0")) (fine _ tt)
+    (good_if (says value (codes "1.1")) (fine _ tt) (good_if (is_text value) (fine _ tt) (fine _ tt))))
 
 good_fallback : (how : How) (which : Nearest) → IsGood (fallback how which)
 good_fallback how which = good_if how.inside_only (fine _ tt) (fine _ tt)
@@ -96,7 +107,8 @@ good_strategies : (how : How) (values : List Json) → IsGood (strategy_of how v
 good_strategies how [] = fine _ tt
 good_strategies how (value ∷ []) =
     good_if (says value (codes "none")) (fine _ tt)
-    (good_if (says value (codes "nearest_side")) (good_fallback how nearest.Side) (good_if (says value (codes "nearest_centroid")) (good_fallback how nearest.Centroid) (fine _ tt)))
+    (good_if (says value (codes "nearest_side")) (good_fallback how nearest.Side)
+    (good_if (says value (codes "nearest_centroid")) (good_fallback how nearest.Centroid) (fine _ tt)))
 good_strategies how (value ∷ second ∷ more) = fine _ tt
 
 good_strategy : (how : How) (members : Members) → IsGood (strategy how members)
@@ -106,7 +118,9 @@ good_strategy how members = good_strategies how (values_of (key_of tops.Strategy
 good_components : (members : Members) → IsGood (components members)
 unfolding components
 good_components members =
-    good_then components_in (needed_list tops.Components members) (good_needed_list tops.Components members) (λ values. good_if (list_all is_component values) (good_if (list_any is_horizontal values) (fine _ tt) (fine _ tt)) (fine _ tt))
+    good_then components_in (needed_list tops.Components members) (good_needed_list tops.Components members)
+    (λ values. good_if (list_all is_component values)
+    (good_if (list_any is_horizontal values) (fine _ tt) (fine _ tt)) (fine _ tt))
 
 good_vertex_places : (count : ℕ) (a b c d : Option ℕ) → IsGood (vertex_columns_at count a b c d)
 good_vertex_places count (Some a) (Some b) (Some c) (Some d) = fine _ tt
@@ -118,9 +132,11 @@ good_vertex_places count (Some a) (Some b) (Some c) None = fine _ tt
 good_vertex_columns : (members : Members) → IsGood (vertex_columns members)
 unfolding vertex_columns
 good_vertex_columns members =
-    good_then vertex_columns_in (needed_list tops.VerticesColumns members) (good_needed_list tops.VerticesColumns members)
+    good_then vertex_columns_in (needed_list tops.VerticesColumns members)
+    (good_needed_list tops.VerticesColumns members)
     (λ values. good_if (list_all is_text values)
-    (good_vertex_places (length values) (place_of (codes "source_x") values) (place_of (codes "source_y") values) (place_of (codes "target_x") values) (place_of (codes "target_y") values))
+    (good_vertex_places (length values) (place_of (codes "source_x") values) (place_of (codes "source_y") values)
+    (place_of (codes "target_x") values) (place_of (codes "target_y") values))
     (fine _ tt))
 
 good_triangle_places : (count : ℕ) (a b c : Option ℕ) → IsGood (triangle_columns_at count a b c)
@@ -132,20 +148,27 @@ good_triangle_places count (Some a) (Some b) None = fine _ tt
 good_triangle_columns : (members : Members) → IsGood (triangle_columns members)
 unfolding triangle_columns
 good_triangle_columns members =
-    good_then triangle_columns_in (needed_list tops.TrianglesColumns members) (good_needed_list tops.TrianglesColumns members)
+    good_then triangle_columns_in (needed_list tops.TrianglesColumns members)
+    (good_needed_list tops.TrianglesColumns members)
     (λ values. good_if (list_all is_text values)
-    (good_triangle_places (length values) (place_of (codes "idx_vertex1") values) (place_of (codes "idx_vertex2") values) (place_of (codes "idx_vertex3") values)) (fine _ tt))
+    (good_triangle_places (length values) (place_of (codes "idx_vertex1") values)
+    (place_of (codes "idx_vertex2") values) (place_of (codes "idx_vertex3") values)) (fine _ tt))
 
 good_heading : (how : How) (members : Members) → IsGood (heading how members)
 good_heading how members =
-    good_checked (file_type members) (checked (version members) (checked (strategy how members) (checked (components members) (both_columns members)))) (good_file_type members)
-    (good_checked (version members) (checked (strategy how members) (checked (components members) (both_columns members))) (good_version members)
-    (good_checked (strategy how members) (checked (components members) (both_columns members)) (good_strategy how members)
+    good_checked (file_type members) (checked (version members)
+    (checked (strategy how members) (checked (components members) (both_columns members)))) (good_file_type members)
+    (good_checked (version members) (checked (strategy how members)
+    (checked (components members) (both_columns members))) (good_version members)
+    (good_checked (strategy how members) (checked (components members) (both_columns members))
+    (good_strategy how members)
     (good_checked (components members) (both_columns members) (good_components members)
-    (good_then _ (vertex_columns members) (good_vertex_columns members) (λ columns. good_then _ (triangle_columns members) (good_triangle_columns members) (λ others. fine _ tt))))))
+    (good_then _ (vertex_columns members) (good_vertex_columns members)
+    (λ columns. good_then _ (triangle_columns members) (good_triangle_columns members) (λ others. fine _ tt))))))
 
 -- ---- rows
-good_in_front : {A : Type 0} (one : Result A TinFault) (more : Result (List A) TinFault) → IsGood one → IsGood more → IsGood (in_front one more)
+good_in_front : {A : Type 0} (one : Result A TinFault) (more : Result (List A) TinFault) → IsGood one → IsGood more
+    → IsGood (in_front one more)
 good_in_front (Ok x) (Ok xs) h i = fine _ tt
 good_in_front (Ok x) (Err fault) h i = fine _ i.is
 good_in_front (Err fault) more h i = fine _ h.is
@@ -162,7 +185,8 @@ good_number how row (quoted chars) = fine _ tt
 good_number how row (array blank elements) = fine _ tt
 good_number how row (object blank members) = fine _ tt
 
-good_from : (a b c d : Result MmRead TinFault) → IsGood a → IsGood b → IsGood c → IsGood d → IsGood (vertex_from a b c d)
+good_from : (a b c d : Result MmRead TinFault) → IsGood a → IsGood b → IsGood c → IsGood d
+    → IsGood (vertex_from a b c d)
 good_from (Ok a) (Ok b) (Ok c) (Ok d) h i j k = fine _ tt
 good_from (Err fault) b c d h i j k = fine _ h.is
 good_from (Ok a) (Err fault) c d h i j k = fine _ i.is
@@ -174,8 +198,10 @@ good_vertex how columns row (array blank elements) =
     let values = listed elements in
     let at = λ (column : ℕ). slice_index_or values column null in
     good_if (length values == columns.count)
-    (good_from (number_in how row (at columns.source_x)) (number_in how row (at columns.source_y)) (number_in how row (at columns.target_x)) (number_in how row (at columns.target_y))
-    (good_number how row (at columns.source_x)) (good_number how row (at columns.source_y)) (good_number how row (at columns.target_x)) (good_number how row (at columns.target_y)))
+    (good_from (number_in how row (at columns.source_x)) (number_in how row (at columns.source_y))
+    (number_in how row (at columns.target_x)) (number_in how row (at columns.target_y))
+    (good_number how row (at columns.source_x)) (good_number how row (at columns.source_y))
+    (good_number how row (at columns.target_x)) (good_number how row (at columns.target_y)))
     (fine _ tt)
 good_vertex how columns row null = fine _ tt
 good_vertex how columns row (truth is) = fine _ tt
@@ -183,9 +209,12 @@ good_vertex how columns row (numeral text) = fine _ tt
 good_vertex how columns row (quoted chars) = fine _ tt
 good_vertex how columns row (object blank members) = fine _ tt
 
-good_vertex_rows : (how : How) (columns : VertexColumns) (row : ℕ) (values : List Json) → IsGood (vertex_rows how columns row values)
+good_vertex_rows : (how : How) (columns : VertexColumns) (row : ℕ) (values : List Json)
+    → IsGood (vertex_rows how columns row values)
 good_vertex_rows how columns row [] = fine _ tt
-good_vertex_rows how columns row (value ∷ values) = good_in_front (vertex_of how columns row value) (vertex_rows how columns (row + 1) values) (good_vertex how columns row value) (good_vertex_rows how columns (row + 1) values)
+good_vertex_rows how columns row (value ∷ values) =
+    good_in_front (vertex_of how columns row value) (vertex_rows how columns (row + 1) values)
+    (good_vertex how columns row value) (good_vertex_rows how columns (row + 1) values)
 
 good_few : (list : Rows) (most : ℕ) (values : List Json) → IsGood (few list most values)
 good_few list most values = good_if (nat_lt most (length values)) (fine _ tt) (fine _ tt)
@@ -193,43 +222,54 @@ good_few list most values = good_if (nat_lt most (length values)) (fine _ tt) (f
 good_vertices : (how : How) (columns : VertexColumns) (members : Members) → IsGood (vertices how columns members)
 unfolding vertices
 good_vertices how columns members =
-    good_then (vertex_rows how columns 0) (and_then (few lists.Vertices MOST_CORNERS) (needed_list tops.Vertices members))
-    (good_then (few lists.Vertices MOST_CORNERS) (needed_list tops.Vertices members) (good_needed_list tops.Vertices members) (good_few lists.Vertices MOST_CORNERS))
+    good_then (vertex_rows how columns 0) (and_then (few lists.Vertices MOST_CORNERS)
+    (needed_list tops.Vertices members))
+    (good_then (few lists.Vertices MOST_CORNERS) (needed_list tops.Vertices members)
+    (good_needed_list tops.Vertices members) (good_few lists.Vertices MOST_CORNERS))
     (good_vertex_rows how columns 0)
 
 good_face : (rows triangle : ℕ) (a b c : Option ℕ) → IsGood (triangle_from rows triangle a b c)
-good_face rows triangle (Some a) (Some b) (Some c) = good_if (nat_lt a rows && (nat_lt b rows && nat_lt c rows)) (fine _ tt) (fine _ tt)
+good_face rows triangle (Some a) (Some b) (Some c) =
+    good_if (nat_lt a rows && (nat_lt b rows && nat_lt c rows)) (fine _ tt) (fine _ tt)
 good_face rows triangle None b c = fine _ tt
 good_face rows triangle (Some a) None c = fine _ tt
 good_face rows triangle (Some a) (Some b) None = fine _ tt
 
-good_triangle : (columns : TriangleColumns) (rows triangle : ℕ) (value : Json) → IsGood (triangle_of columns rows triangle value)
+good_triangle : (columns : TriangleColumns) (rows triangle : ℕ) (value : Json)
+    → IsGood (triangle_of columns rows triangle value)
 good_triangle columns rows triangle (array blank elements) =
     let values = listed elements in
     good_if (length values == columns.count)
-    (good_face rows triangle (row_number_at values columns.first) (row_number_at values columns.second) (row_number_at values columns.third)) (fine _ tt)
+    (good_face rows triangle (row_number_at values columns.first) (row_number_at values columns.second)
+    (row_number_at values columns.third)) (fine _ tt)
 good_triangle columns rows triangle null = fine _ tt
 good_triangle columns rows triangle (truth is) = fine _ tt
 good_triangle columns rows triangle (numeral text) = fine _ tt
 good_triangle columns rows triangle (quoted chars) = fine _ tt
 good_triangle columns rows triangle (object blank members) = fine _ tt
 
-good_triangle_rows : (columns : TriangleColumns) (rows triangle : ℕ) (values : List Json) → IsGood (triangle_rows columns rows triangle values)
+good_triangle_rows : (columns : TriangleColumns) (rows triangle : ℕ) (values : List Json)
+    → IsGood (triangle_rows columns rows triangle values)
 good_triangle_rows columns rows triangle [] = fine _ tt
-good_triangle_rows columns rows triangle (value ∷ values) = good_in_front (triangle_of columns rows triangle value) (triangle_rows columns rows (triangle + 1) values) (good_triangle columns rows triangle value) (good_triangle_rows columns rows (triangle + 1) values)
+good_triangle_rows columns rows triangle (value ∷ values) =
+    good_in_front (triangle_of columns rows triangle value) (triangle_rows columns rows (triangle + 1) values)
+    (good_triangle columns rows triangle value) (good_triangle_rows columns rows (triangle + 1) values)
 
 good_triangles : (columns : TriangleColumns) (rows : ℕ) (members : Members) → IsGood (triangles columns rows members)
 unfolding triangles
 good_triangles columns rows members =
-    good_then (triangle_rows columns rows 0) (and_then (few lists.Triangles MOST_TRIANGLES) (needed_list tops.Triangles members))
-    (good_then (few lists.Triangles MOST_TRIANGLES) (needed_list tops.Triangles members) (good_needed_list tops.Triangles members) (good_few lists.Triangles MOST_TRIANGLES))
+    good_then (triangle_rows columns rows 0) (and_then (few lists.Triangles MOST_TRIANGLES)
+    (needed_list tops.Triangles members))
+    (good_then (few lists.Triangles MOST_TRIANGLES) (needed_list tops.Triangles members)
+    (good_needed_list tops.Triangles members) (good_few lists.Triangles MOST_TRIANGLES))
     (good_triangle_rows columns rows 0)
 
 good_spans : (corners : List Corner) → IsGood (spans corners)
 good_spans corners =
     good_if (is_wide (x_in Source) corners) (fine _ tt)
     (good_if (is_wide (y_in Source) corners) (fine _ tt)
-    (good_if (is_wide (x_in Target) corners) (fine _ tt) (good_if (is_wide (y_in Target) corners) (fine _ tt) (fine _ tt))))
+    (good_if (is_wide (x_in Target) corners) (fine _ tt)
+    (good_if (is_wide (y_in Target) corners) (fine _ tt) (fine _ tt))))
 
 good_within : (rows : List Vertex) (faces : List (List ℕ)) → IsGood (within_spans rows faces)
 good_within rows faces =
@@ -238,12 +278,15 @@ good_within rows faces =
 
 good_rows : (how : How) (members : Members) (columns : Heading) → IsGood (rows_of how members columns)
 good_rows how members columns =
-    good_then (λ rows. and_then (within_spans rows) (triangles columns.triangles (length rows) members)) (vertices how columns.vertices members)
+    good_then (λ rows. and_then (within_spans rows) (triangles columns.triangles (length rows) members))
+    (vertices how columns.vertices members)
     (good_vertices how columns.vertices members)
-    (λ rows. good_then (within_spans rows) (triangles columns.triangles (length rows) members) (good_triangles columns.triangles (length rows) members) (good_within rows))
+    (λ rows. good_then (within_spans rows) (triangles columns.triangles (length rows) members)
+    (good_triangles columns.triangles (length rows) members) (good_within rows))
 
 pub good_reading : (how : How) (value : Json) → IsGood (reading how value)
-good_reading how (object blank members) = good_then (rows_of how members) (heading how members) (good_heading how members) (good_rows how members)
+good_reading how (object blank members) = good_then (rows_of how members) (heading how members)
+    (good_heading how members) (good_rows how members)
 good_reading how null = fine _ tt
 good_reading how (truth is) = fine _ tt
 good_reading how (numeral text) = fine _ tt
@@ -251,8 +294,10 @@ good_reading how (quoted chars) = fine _ tt
 good_reading how (array blank elements) = fine _ tt
 
 -- ---- the answer to the bytes
-pub answer_by : (how : How) (bytes : List ℕ) (result wanted : Result Triangulation TinFault) → IsGood wanted → Equals result wanted
-    → ((answer : Result Triangulation TinFault) → wanted ≡ answer → IsReading how bytes answer) → Answers how bytes result
+pub answer_by : (how : How) (bytes : List ℕ) (result wanted : Result Triangulation TinFault) → IsGood wanted
+    → Equals result wanted
+    → ((answer : Result Triangulation TinFault) → wanted ≡ answer → IsReading how bytes answer)
+    → Answers how bytes result
 answer_by how bytes (Ok tin) (Ok other) good h on = on (Ok tin) (ap Ok (sym h))
 answer_by how bytes (Ok tin) (Err fault) good h on = absurd h
 answer_by how bytes (Err (faults.Json at)) wanted good h on = absurd (subst IsGood (sym h) good).is
@@ -260,7 +305,9 @@ answer_by how bytes (Err (faults.Deep at)) wanted good h on = absurd (subst IsGo
 answer_by how bytes (Err faults.NoMemory) wanted good h on = tt
 answer_by how bytes (Err fault) wanted good h on = on (Err fault) (sym h)
 
-pub answer_of : (how : How) (bytes : List ℕ) (whole : Whole) (result : Result Triangulation TinFault) → IsWhole DEEPEST whole bytes → Equals result (reading how whole.value)
+pub answer_of : (how : How) (bytes : List ℕ) (whole : Whole) (result : Result Triangulation TinFault)
+    → IsWhole DEEPEST whole bytes → Equals result (reading how whole.value)
     → Answers how bytes result
 answer_of how bytes whole result is same =
-    answer_by how bytes result (reading how whole.value) (good_reading how whole.value) same (λ answer read. (whole, is, read))
+    answer_by how bytes result (reading how whole.value) (good_reading how whole.value) same
+    (λ answer read. (whole, is, read))

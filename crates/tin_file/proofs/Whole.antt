@@ -25,14 +25,16 @@ use Rattle.tin_file.specs.declared.faults.TinFault.{TinFault}
 use Rattle.tin_file.specs.declared.faults.TinFault.TheVariants.{TooMany}
 use Rattle.tin_file.proofs.RowsRead.{same_ok, rows_reach, rows_long, faces_long, faces_below}
 
-split_then : {A B : Type 0} (f : A → Result B TinFault) (r : Result A TinFault) (made : B) → and_then f r ≡ Ok made → (value : A) × (r ≡ Ok value) × (f value ≡ Ok made)
+split_then : {A B : Type 0} (f : A → Result B TinFault) (r : Result A TinFault) (made : B) → and_then f r ≡ Ok made
+    → (value : A) × (r ≡ Ok value) × (f value ≡ Ok made)
 split_then f (Ok value) made h = (value, refl, h)
 split_then f (Err fault) made h = cc
 
 few_are : (list : Rows) (most : ℕ) (values rows : List Json) → few list most values ≡ Ok rows → length rows ≤ most
 few_are list most values rows h = by_test (nat_lt most (length values)) refl h
   where
-    by_test : (test : Bool) → nat_lt most (length values) ≡ test → (if test then Err (TooMany list) else Ok values) ≡ Ok rows → length rows ≤ most
+    by_test : (test : Bool) → nat_lt most (length values) ≡ test
+        → (if test then Err (TooMany list) else Ok values) ≡ Ok rows → length rows ≤ most
     by_test true t h = cc
     by_test false t h = omega (arith, ap length (same_ok values rows h), ltb-false most (length values) t)
 
@@ -41,43 +43,63 @@ pub record AreVertices (rows : List Vertex) : Type 0 where
   pub reach : AreInReach (corners_in rows)
   pub few_rows : length rows ≤ MOST_CORNERS
 
-pub vertices_are : (how : How) (columns : VertexColumns) (members : Members) (rows : List Vertex) → vertices how columns members ≡ Ok rows → AreVertices rows
+pub vertices_are : (how : How) (columns : VertexColumns) (members : Members) (rows : List Vertex)
+    → vertices how columns members ≡ Ok rows → AreVertices rows
 unfolding vertices
 vertices_are how columns members rows h =
-    let (values, found, made) = split_then (vertex_rows how columns 0) (and_then (few lists.Vertices MOST_CORNERS) (needed_list tops.Vertices members)) rows h in
-    let (all, listed, passes) = split_then (few lists.Vertices MOST_CORNERS) (needed_list tops.Vertices members) values found in
+    let (values, found, made) = split_then (vertex_rows how columns 0)
+    (and_then (few lists.Vertices MOST_CORNERS) (needed_list tops.Vertices members)) rows h in
+    let (all, listed, passes) = split_then (few lists.Vertices MOST_CORNERS) (needed_list tops.Vertices members) values
+    found in
     record {
       reach = rows_reach how columns 0 values rows made;
-      few_rows = omega (arith, rows_long how columns 0 values rows made, few_are lists.Vertices MOST_CORNERS all values passes);
+      few_rows = omega (
+        arith,
+        rows_long how columns 0 values rows made,
+        few_are lists.Vertices MOST_CORNERS all values
+            passes,
+      );
     }
 
 pub record AreTriangles (count : ℕ) (faces : List (List ℕ)) : Type 0 where
   pub below : AllByRecursion (IsBelow count) faces
   pub few_faces : length faces ≤ MOST_TRIANGLES
 
-pub triangles_are : (columns : TriangleColumns) (count : ℕ) (members : Members) (faces : List (List ℕ)) → triangles columns count members ≡ Ok faces → AreTriangles count faces
+pub triangles_are : (columns : TriangleColumns) (count : ℕ) (members : Members) (faces : List (List ℕ))
+    → triangles columns count members ≡ Ok faces → AreTriangles count faces
 unfolding triangles
 triangles_are columns count members faces h =
-    let (values, found, made) = split_then (triangle_rows columns count 0) (and_then (few lists.Triangles MOST_TRIANGLES) (needed_list tops.Triangles members)) faces h in
-    let (all, listed, passes) = split_then (few lists.Triangles MOST_TRIANGLES) (needed_list tops.Triangles members) values found in
+    let (values, found, made) = split_then (triangle_rows columns count 0)
+    (and_then (few lists.Triangles MOST_TRIANGLES) (needed_list tops.Triangles members)) faces h in
+    let (all, listed, passes) = split_then (few lists.Triangles MOST_TRIANGLES) (needed_list tops.Triangles members)
+    values found in
     record {
       below = faces_below columns count 0 values faces made;
-      few_faces = omega (arith, faces_long columns count 0 values faces made, few_are lists.Triangles MOST_TRIANGLES all values passes);
+      few_faces = omega (
+        arith,
+        faces_long columns count 0 values faces made,
+        few_are lists.Triangles MOST_TRIANGLES all
+            values passes,
+      );
     }
 
-pub numbers_long : (done : Vertices) (rows : List Vertex) → AreGathered done rows → length done.numbers.items ≡ length rows
+pub numbers_long : (done : Vertices) (rows : List Vertex) → AreGathered done rows
+    → length done.numbers.items ≡ length rows
 numbers_long done rows h =
-    ap length h.numbers ∙ length-map (corners_in rows) (corner_number (corners_of (corners_in rows))) ∙ length-map rows (λ (row : Vertex). row.corner)
+    ap length h.numbers ∙ length-map (corners_in rows) (corner_number (corners_of (corners_in rows)))
+    ∙ length-map rows (λ (row : Vertex). row.corner)
 
 module _ (how : How) (columns : Heading) (members : Members) (done : Vertices) (rows : List Vertex)
-    (is : vertices how columns.vertices members ≡ Ok rows) (gathered : AreGathered done rows) (numbers : List ℕ) (same : numbers ≡ done.numbers.items) where
+    (is : vertices how columns.vertices members ≡ Ok rows) (gathered : AreGathered done rows) (numbers : List ℕ)
+    (same : numbers ≡ done.numbers.items) where
   count : length numbers ≡ length rows
   count = ap length same ∙ numbers_long done rows gathered
 
   pub numbers_few : length numbers ≤ MOST_CORNERS
   numbers_few = omega (arith, count, (vertices_are how columns.vertices members rows is).few_rows)
 
-  pub complete : (made faces : List (List ℕ)) → triangles columns.triangles (length numbers) members ≡ Ok faces → made ≡ map (placed numbers) faces → IsComplete done made rows faces
+  pub complete : (made faces : List (List ℕ)) → triangles columns.triangles (length numbers) members ≡ Ok faces
+      → made ≡ map (placed numbers) faces → IsComplete done made rows faces
   complete made faces found placed_so =
       let rows_facts = vertices_are how columns.vertices members rows is in
       let faces_facts = triangles_are columns.triangles (length numbers) members faces found in
@@ -90,7 +112,8 @@ module _ (how : How) (columns : Heading) (members : Members) (done : Vertices) (
         few_faces = faces_facts.few_faces;
       }
 
-  pub rows_so : rows_of how members columns ≡ and_then (within_spans rows) (triangles columns.triangles (length numbers) members)
+  pub rows_so : rows_of how members columns ≡ and_then (within_spans rows)
+      (triangles columns.triangles (length numbers) members)
   rows_so =
       ap (and_then (λ rs. and_then (within_spans rs) (triangles columns.triangles (length rs) members))) is
       ∙ ap (λ n. and_then (within_spans rows) (triangles columns.triangles n members)) (sym count)

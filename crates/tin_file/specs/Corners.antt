@@ -1,5 +1,6 @@
 -- Corners of vertex rows, triangles of them, and spans. What is merged and exchanged is this project's own rule.
-use Rattle.std.specs.Prelude.{ℕ, Bool, ◌&&◌, List, [], ◌∷◌, ◌++◌, slice_index_or, Result, Ok, Err, if◌then◌else◌, ℤ, pos, ◌-ℤ◌, int_le, int_lt}
+use Rattle.std.specs.Prelude.{ℕ, Bool, ◌&&◌, List, [], ◌∷◌, ◌++◌, slice_index_or, Result, Ok, Err, if◌then◌else◌, ℤ}
+use Rattle.std.specs.Prelude.{pos, ◌-ℤ◌, int_le, int_lt}
 use Rattle.std.specs.List.{list_any, position_or_len}
 use Rattle.std.specs.Ordering.{int_eq}
 use Rattle.plane_base.specs.Plane.{turn_of}
@@ -19,7 +20,8 @@ is_same c d = int_eq c.sx d.sx && (int_eq c.sy d.sy && (int_eq c.tx d.tx && int_
 abbrev pub kept_behind : List Corner → List Corner → List Corner
 kept_behind earlier [] = []
 kept_behind earlier (row ∷ rows) =
-    if list_any (is_same row) earlier then kept_behind (earlier ++ row ∷ []) rows else row ∷ kept_behind (earlier ++ row ∷ []) rows
+    if list_any (is_same row) earlier then kept_behind (earlier ++ row ∷ []) rows else row
+    ∷ kept_behind (earlier ++ row ∷ []) rows
 
 -- the corners are the vertex rows without any row that equals an earlier one
 abbrev pub corners_of : List Corner → List Corner
@@ -36,11 +38,13 @@ number_of_row rows row = corner_number (corners_of rows) (slice_index_or rows ro
 -- twice the area of a triangle of corners in the source, negative where it is clockwise
 abbrev pub source_turn : List Corner → ℕ → ℕ → ℕ → ℤ
 source_turn corners p q r =
-    turn_of (place Source (slice_index_or corners p no_corner)) (place Source (slice_index_or corners q no_corner)) (place Source (slice_index_or corners r no_corner))
+    turn_of (place Source (slice_index_or corners p no_corner)) (place Source (slice_index_or corners q no_corner))
+    (place Source (slice_index_or corners r no_corner))
 
 -- with its last two corners exchanged where it is clockwise
 abbrev pub oriented : List Corner → List ℕ → List ℕ
-oriented corners (p ∷ q ∷ r ∷ []) = if int_lt (source_turn corners p q r) (pos 0) then p ∷ r ∷ q ∷ [] else p ∷ q ∷ r ∷ []
+oriented corners (p ∷ q ∷ r ∷ []) = if int_lt (source_turn corners p q r) (pos 0) then p ∷ r ∷ q ∷ [] else p ∷ q ∷ r
+    ∷ []
 oriented corners numbers = numbers
 
 -- two corners are so far apart

@@ -1,5 +1,6 @@
 -- What is gathered of the rows. Only private functions speak of it.
-use Rattle.std.specs.Prelude.{◌≡◌, ℕ, ◌<◌, ◌≤◌, List, [], ◌∷◌, map, length, slice_index_or, sum_by, min, ℤ, Option, Some, None, Result, Ok, Err}
+use Rattle.std.specs.Prelude.{◌≡◌, ℕ, ◌<◌, ◌≤◌, List, [], ◌∷◌, map, length, slice_index_or, sum_by, min, ℤ, Option}
+use Rattle.std.specs.Prelude.{Some, None, Result, Ok, Err}
 use Rattle.std.specs.List.{AllByRecursion}
 use Rattle.indexmap.specs.IndexSet.{IndexSet}
 use Rattle.tin_base.specs.declared.corners.Corner.{Corner}
@@ -77,7 +78,8 @@ coordinate_of frame Y = y_in frame
 -- no two corners are SPAN apart in the source
 abbrev pub AreNear : List Corner → Type 0
 AreNear corners =
-    (m n : ℕ) → m < length corners → n < length corners → IsNotFarBelow Source (slice_index_or corners m no_corner) (slice_index_or corners n no_corner)
+    (m n : ℕ) → m < length corners → n < length corners
+    → IsNotFarBelow Source (slice_index_or corners m no_corner) (slice_index_or corners n no_corner)
 
 -- three numbers below this one
 abbrev pub IsBelow : ℕ → List ℕ → Type 0
@@ -92,7 +94,8 @@ abbrev pub AreFacesOf : List Corner → List (List ℕ) → Type 0
 AreFacesOf corners faces = AllByRecursion (IsFaceOf corners) faces
 
 -- what is gathered of all rows, which are within the limits
-pub record IsComplete (vertices : Vertices) (triangles : List (List ℕ)) (rows : List Vertex) (faces : List (List ℕ)) : Type 0 where
+pub record IsComplete (vertices : Vertices) (triangles : List (List ℕ)) (rows : List Vertex)
+    (faces : List (List ℕ)) : Type 0 where
   pub gathered : AreGathered vertices rows
   pub placed_so : triangles ≡ map (placed vertices.numbers.items) faces
   pub reach : AreInReach (corners_in rows)

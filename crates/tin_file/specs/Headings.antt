@@ -1,5 +1,6 @@
 -- What stands before the rows of a triangulation file (PROJ manual, tinshift, and its JSON schema 1.0 and 1.1).
-use Rattle.std.specs.Prelude.{ℕ, ◌+◌, Bool, ◌||◌, codes, List, [], ◌∷◌, length, Option, Some, None, Result, Ok, Err, if◌then◌else◌}
+use Rattle.std.specs.Prelude.{ℕ, ◌+◌, Bool, ◌||◌, codes, List, [], ◌∷◌, length, Option, Some, None, Result, Ok, Err}
+use Rattle.std.specs.Prelude.{if◌then◌else◌}
 use Rattle.std.specs.List.{list_all, list_any}
 use Rattle.jtext.specs.Values.{Json, Members}
 use Rattle.sheet_base.specs.declared.flags.How.{How}
@@ -87,7 +88,8 @@ vertex_columns_at count source_x source_y target_x target_y = Err (Key tops.Vert
 abbrev pub vertex_columns_in : List Json → Result VertexColumns TinFault
 vertex_columns_in values =
     if list_all is_text values
-    then vertex_columns_at (length values) (place_of (codes "source_x") values) (place_of (codes "source_y") values) (place_of (codes "target_x") values) (place_of (codes "target_y") values)
+    then vertex_columns_at (length values) (place_of (codes "source_x") values) (place_of (codes "source_y") values)
+    (place_of (codes "target_x") values) (place_of (codes "target_y") values)
     else Err (Key tops.VerticesColumns)
 
 -- `vertices_columns` are texts, and each of the four names stands among them once
@@ -102,7 +104,8 @@ triangle_columns_at count first second third = Err (Key tops.TrianglesColumns)
 abbrev pub triangle_columns_in : List Json → Result TriangleColumns TinFault
 triangle_columns_in values =
     if list_all is_text values
-    then triangle_columns_at (length values) (place_of (codes "idx_vertex1") values) (place_of (codes "idx_vertex2") values) (place_of (codes "idx_vertex3") values)
+    then triangle_columns_at (length values) (place_of (codes "idx_vertex1") values)
+    (place_of (codes "idx_vertex2") values) (place_of (codes "idx_vertex3") values)
     else Err (Key tops.TrianglesColumns)
 
 -- `triangles_columns` are texts, and each of the three names stands among them once
@@ -112,9 +115,11 @@ triangle_columns members = and_then triangle_columns_in (needed_list tops.Triang
 -- the columns, each list in turn
 abbrev pub both_columns : Members → Result Heading TinFault
 both_columns members =
-    and_then (λ vertices. and_then (λ triangles. Ok (record { vertices = vertices; triangles = triangles })) (triangle_columns members)) (vertex_columns members)
+    and_then (λ vertices. and_then (λ triangles. Ok (record { vertices = vertices; triangles = triangles }))
+    (triangle_columns members)) (vertex_columns members)
 
 -- the first fault before the rows, or the columns
 abbrev pub heading : How → Members → Result Heading TinFault
 heading how members =
-    checked (file_type members) (checked (version members) (checked (strategy how members) (checked (components members) (both_columns members))))
+    checked (file_type members) (checked (version members)
+    (checked (strategy how members) (checked (components members) (both_columns members))))

@@ -1,7 +1,8 @@
 -- Members by their keys, and texts by what they say (PROJ manual, tinshift; RFC 8259 for what a text says).
 use Rattle.std.specs.Prelude.{ℕ, Bool, true, false, codes, List, [], ◌∷◌, Result, Ok, Err, if◌then◌else◌}
 use Rattle.jtext.specs.Characters.{units_of}
-use Rattle.jtext.specs.Values.{Json, Elements, Members, numeral, quoted, array, object, no_element, element, no_member, member}
+use Rattle.jtext.specs.Values.{Json, Elements, Members, numeral, quoted, array, object, no_element, element, no_member}
+use Rattle.jtext.specs.Values.{member}
 use Rattle.jtext.specs.Lookups.{are_same}
 use Rattle.tin_file.specs.declared.faults.Top.{Top}
 use Rattle.tin_file.specs.declared.faults.Top.TheVariants as tops

@@ -6,10 +6,11 @@ use Rattle.tin_file.specs.Reading.{Answers}
 use Rattle.tin_file.specs.declared.faults.TinFault.{TinFault}
 use Rattle.tin_file.specs.declared.faults.TinFault.TheVariants.{NoMemory}
 
--- two answers to the same bytes, of which none is want of memory, are the same
+-- two answers to the same bytes, neither of which is that memory ran out, are the same
 abbrev pub AnswerIsOne : Type 0
 AnswerIsOne =
-    (how : How) (bytes : List ℕ) (answer other : Result Triangulation TinFault) → Answers how bytes answer → answer ≢ Err NoMemory → Answers how bytes other → other ≢ Err NoMemory
+    (how : How) (bytes : List ℕ) (answer other : Result Triangulation TinFault) → Answers how bytes answer
+    → answer ≢ Err NoMemory → Answers how bytes other → other ≢ Err NoMemory
     → answer ≡ other
 
 -- any bytes have an answer other than out of memory

@@ -20,14 +20,17 @@ use Rattle.tin_file.specs.declared.faults.TinFault.TheVariants.{Json as JsonFaul
 abbrev pub made_of : List Vertex → List (List ℕ) → Triangulation
 made_of rows faces =
     let corners = map (λ (row : Vertex). row.corner) rows in
-    triangulation (corners_of corners) (map (λ face. oriented (corners_of corners) (map (number_of_row corners) face)) faces) (sum_by (λ (row : Vertex). row.inexact) rows)
+    triangulation (corners_of corners) (map (λ face. oriented (corners_of corners) (map (number_of_row corners) face))
+    faces) (sum_by (λ (row : Vertex). row.inexact) rows)
 
 abbrev pub within_spans : List Vertex → List (List ℕ) → Result Triangulation TinFault
-within_spans rows faces = checked (spans (corners_of (map (λ (row : Vertex). row.corner) rows))) (Ok (made_of rows faces))
+within_spans rows faces = checked (spans (corners_of (map (λ (row : Vertex). row.corner) rows)))
+    (Ok (made_of rows faces))
 
 abbrev pub rows_of : How → Members → Heading → Result Triangulation TinFault
 rows_of how members columns =
-    and_then (λ rows. and_then (within_spans rows) (triangles columns.triangles (length rows) members)) (vertices how columns.vertices members)
+    and_then (λ rows. and_then (within_spans rows) (triangles columns.triangles (length rows) members))
+    (vertices how columns.vertices members)
 
 -- the triangulation that a value is, or its first fault
 abbrev pub reading : How → Json → Result Triangulation TinFault
@@ -38,7 +41,7 @@ reading how value = Err (Key tops.Whole)
 abbrev pub IsReading : How → List ℕ → Result Triangulation TinFault → Type 0
 IsReading how bytes answer = (whole : Whole) × IsWhole DEEPEST whole bytes × (reading how whole.value ≡ answer)
 
--- the answer is the one to the bytes; want of memory comes at any growth
+-- the answer is the one to the bytes; memory may run out at any growth
 abbrev pub Answers : How → List ℕ → Result Triangulation TinFault → Type 0
 Answers how bytes (Err (JsonFault at)) = IsBad bytes at
 Answers how bytes (Err (Deep at)) = IsDeep bytes at

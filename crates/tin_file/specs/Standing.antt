@@ -14,7 +14,8 @@ IsThere nodes bytes number value = (start : ℕ) × Stands nodes bytes number st
 -- the values have their first nodes at these numbers
 abbrev pub AreThere : List Node → List ℕ → List ℕ → List Json → Type 0
 AreThere nodes bytes [] [] = Unit {0}
-AreThere nodes bytes (number ∷ numbers) (value ∷ values) = IsThere nodes bytes number value × AreThere nodes bytes numbers values
+AreThere nodes bytes (number ∷ numbers) (value ∷ values) =
+    IsThere nodes bytes number value × AreThere nodes bytes numbers values
 AreThere nodes bytes numbers values = ⊥
 
 -- some value has
@@ -27,7 +28,8 @@ AreNodes nodes bytes numbers = (values : List Json) × AreThere nodes bytes numb
 
 -- an array has
 abbrev pub IsArray : List Node → List ℕ → ℕ → Type 0
-IsArray nodes bytes number = (blank : List ℕ) × (elements : Elements) × IsThere nodes bytes number (array blank elements)
+IsArray nodes bytes number = (blank : List ℕ) × (elements : Elements)
+    × IsThere nodes bytes number (array blank elements)
 
 -- an object with these members is the whole value
 abbrev pub HasMembers : List Node → List ℕ → Members → Type 0
@@ -38,7 +40,7 @@ abbrev pub element_numbers : ℕ → Elements → List ℕ
 element_numbers number no_element = []
 element_numbers number (element before value after rest) = number ∷ element_numbers (number + node_count value) rest
 
--- both are values in the relation, or both are the same fault; want of memory may come always
+-- both are values in the relation, or both are the same fault; memory may always run out
 abbrev pub Gives : {A B : Type 0} → (A → B → Type 0) → Result A TinFault → Result B TinFault → Type 0
 Gives R (Ok one) (Ok other) = R one other
 Gives R (Ok one) (Err fault) = ⊥

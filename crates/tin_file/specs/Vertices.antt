@@ -1,5 +1,6 @@
 -- Vertex rows.
-use Rattle.std.specs.Prelude.{ℕ, ◌+◌, not, ◌&&◌, ◌==◌, nat_lt, List, [], ◌∷◌, length, slice_index_or, Result, Ok, Err, if◌then◌else◌}
+use Rattle.std.specs.Prelude.{ℕ, ◌+◌, not, ◌&&◌, ◌==◌, nat_lt, List, [], ◌∷◌, length, slice_index_or, Result, Ok, Err}
+use Rattle.std.specs.Prelude.{if◌then◌else◌}
 use Rattle.jtext.specs.Values.{Json, Members, null, numeral, array}
 use Rattle.mm_decimal.specs.Measured.{measured}
 use Rattle.mm_decimal.specs.declared.reading.MmRead.{MmRead}
@@ -33,9 +34,14 @@ abbrev pub lost : MmRead → ℕ
 lost read = if read.exact then 0 else 1
 
 -- the first fault of the four numbers, or the corner that they are
-abbrev pub vertex_from : Result MmRead TinFault → Result MmRead TinFault → Result MmRead TinFault → Result MmRead TinFault → Result Vertex TinFault
+abbrev pub vertex_from : Result MmRead TinFault → Result MmRead TinFault → Result MmRead TinFault
+    → Result MmRead TinFault → Result Vertex TinFault
 vertex_from (Ok sx) (Ok sy) (Ok tx) (Ok ty) =
-    Ok (record { corner = record { sx = sx.mm; sy = sy.mm; tx = tx.mm; ty = ty.mm }; inexact = lost sx + (lost sy + (lost tx + lost ty)) })
+    Ok (record {
+      corner = record { sx = sx.mm; sy = sy.mm; tx = tx.mm; ty = ty.mm };
+      inexact =
+          lost sx + (lost sy + (lost tx + lost ty));
+    })
 vertex_from (Err fault) sy tx ty = Err fault
 vertex_from (Ok sx) (Err fault) tx ty = Err fault
 vertex_from (Ok sx) (Ok sy) (Err fault) ty = Err fault
@@ -48,7 +54,8 @@ number_at how row values place = number_in how row (slice_index_or values place 
 abbrev pub vertex_in : How → VertexColumns → ℕ → List Json → Result Vertex TinFault
 vertex_in how columns row values =
     if length values == columns.count
-    then vertex_from (number_at how row values columns.source_x) (number_at how row values columns.source_y) (number_at how row values columns.target_x) (number_at how row values columns.target_y)
+    then vertex_from (number_at how row values columns.source_x) (number_at how row values columns.source_y)
+    (number_at how row values columns.target_x) (number_at how row values columns.target_y)
     else Err (Row lists.Vertices row)
 
 abbrev pub vertex_of : How → VertexColumns → ℕ → Json → Result Vertex TinFault
@@ -64,9 +71,11 @@ in_front (Err fault) others = Err fault
 -- what the rows are, where the first of them has this number
 abbrev pub vertex_rows : How → VertexColumns → ℕ → List Json → Result (List Vertex) TinFault
 vertex_rows how columns row [] = Ok []
-vertex_rows how columns row (value ∷ values) = in_front (vertex_of how columns row value) (vertex_rows how columns (row + 1) values)
+vertex_rows how columns row (value ∷ values) =
+    in_front (vertex_of how columns row value) (vertex_rows how columns (row + 1) values)
 
 -- `vertices` is an array of at most so many rows
 unfoldable pub vertices : How → VertexColumns → Members → Result (List Vertex) TinFault
 vertices how columns members =
-    and_then (vertex_rows how columns 0) (and_then (few lists.Vertices MOST_CORNERS) (needed_list tops.Vertices members))
+    and_then (vertex_rows how columns 0) (and_then (few lists.Vertices MOST_CORNERS)
+    (needed_list tops.Vertices members))

@@ -4,7 +4,7 @@ ghost use Rattle.std.specs.Prelude.{◌≡◌, ◌^◌};
 ghost use Rattle.tin_file.specs.Laws.{AnswerIsOne, OutcomeExists};
 ghost use Rattle.tin_file.specs.declared.reading.TheConstants.{MOST_BYTES};
 
-/// A law: but for want of memory, bytes have one answer.
+/// A law: except where memory runs out, bytes have one answer.
 pub fn answer_is_one()
     ensures { AnswerIsOne }
 {}

@@ -1,5 +1,7 @@
--- At most one other triangle has both corners of a side: two to the left of it would overlap, and so would two to the right.
-use Rattle.std.proofs.Common.{◌≡◌, ◌≢◌, ◌⊎◌, inl, inr, ⊎_elim, ℕ, zero, suc, ◌<◌, ◌≤◌, ℤ, pos, ◌<ℤ◌, Bool, true, false, ◌||◌, cond, eqb, List, [], ◌∷◌, length, get_or, refl, sym, ◌∙◌, subst, arith}
+-- At most one other triangle has both corners of a side: two to the left of it would overlap, and so would two to the
+-- right.
+use Rattle.std.proofs.Common.{◌≡◌, ◌≢◌, ◌⊎◌, inl, inr, ⊎_elim, ℕ, zero, suc, ◌<◌, ◌≤◌, ℤ, pos, ◌<ℤ◌, Bool, true, false}
+use Rattle.std.proofs.Common.{◌||◌, cond, eqb, List, [], ◌∷◌, length, get_or, refl, sym, ◌∙◌, subst, arith}
 use Rattle.std.proofs.lemmas.Bool.Decides.{eqb_tells}
 use Rattle.std.proofs.lemmas.Bool.{cases_eq, eq-eqb}
 use Rattle.std.proofs.lemmas.Grind.{get_or_default_zero}
@@ -19,13 +21,16 @@ use Rattle.tin_index.proofs.Corners.{Numbered, numbered, read_differ, own, first
 use Rattle.plane_base.proofs.LeftOfSide.{overlap_at_side}
 
 -- some of the corners, in another order or twice, have no other mixes
-pub mix_in : (tin : Triangulation) (ns ks : List ℕ) (p : Point) → HasAll ns ks → IsMix p (places tin Source ks) → IsMix p (places tin Source ns)
-mix_in tin ns ks p h m = let q = alike_of tin Source ks p m in alike_in tin Source ns p q.0 (alike_more tin Source ns ks p q.0 h q.2)
+pub mix_in : (tin : Triangulation) (ns ks : List ℕ) (p : Point) → HasAll ns ks → IsMix p (places tin Source ks)
+    → IsMix p (places tin Source ns)
+mix_in tin ns ks p h m = let q = alike_of tin Source ks p m in alike_in tin Source ns p q.0
+    (alike_more tin Source ns ks p q.0 h q.2)
 
 -- three corners to the left of the way from corner c to corner d: f is the third of them
 record LeftOf (tin : Triangulation) (ns : List ℕ) (c d : ℕ) : Type 0 where
   f : ℕ
-  positive : pos 0 <ℤ turn_of (place Source (corner_at tin c)) (place Source (corner_at tin d)) (place Source (corner_at tin f))
+  positive : pos 0 <ℤ turn_of (place Source (corner_at tin c)) (place Source (corner_at tin d))
+      (place Source (corner_at tin f))
   into : (p : Point) → IsMix p (places tin Source (c ∷ d ∷ f ∷ [])) → IsMix p (places tin Source ns)
 
 -- ---- corners by name
@@ -53,14 +58,17 @@ first_or n c ns h = go (eqb_tells n c)
     go (inr e) = inr (or_false (eqb n c) (has ns c) e.0 h)
 
 pub member : (i j k c : ℕ) → has (i ∷ j ∷ k ∷ []) c ≡ true → (i ≡ c) ⊎ ((j ≡ c) ⊎ (k ≡ c))
-member i j k c h = ⊎_elim (λ e. inl e) (λ r. ⊎_elim (λ e. inr (inl e)) (λ q. ⊎_elim (λ e. inr (inr e)) (λ n. no_true n) (first_or k c [] q)) (first_or j c (k ∷ []) r)) (first_or i c (j ∷ k ∷ []) h)
+member i j k c h = ⊎_elim (λ e. inl e) (λ r. ⊎_elim (λ e. inr (inl e))
+    (λ q. ⊎_elim (λ e. inr (inr e)) (λ n. no_true n) (first_or k c [] q)) (first_or j c (k ∷ []) r))
+    (first_or i c (j ∷ k ∷ []) h)
 
 -- a number of both lists is common to them
 has_common : (ks ns : List ℕ) (c : ℕ) → has ks c ≡ true → has ns c ≡ true → has (common ks ns) c ≡ true
 has_common [] ns c h k = no_true h
 has_common (x ∷ ks) ns c h k = go (has ns x) refl (first_or x c ks h) (λ r. has_common ks ns c r k)
   where
-    go : (b : Bool) → has ns x ≡ b → (x ≡ c) ⊎ (has ks c ≡ true) → (has ks c ≡ true → has (common ks ns) c ≡ true) → has (cond b (x ∷ common ks ns) (common ks ns)) c ≡ true
+    go : (b : Bool) → has ns x ≡ b → (x ≡ c) ⊎ (has ks c ≡ true) → (has ks c ≡ true → has (common ks ns) c ≡ true)
+        → has (cond b (x ∷ common ks ns) (common ks ns)) c ≡ true
     go true e (inl same) rest = or_left (eqb x c) (has (common ks ns) c) (eq-eqb x c same)
     go true e (inr later) rest = or_right (eqb x c) (has (common ks ns) c) (rest later)
     go false e (inl same) rest = no_true (sym e ∙ subst (λ (n : ℕ). has ns n ≡ true) (sym same) k)
@@ -69,7 +77,9 @@ has_common (x ∷ ks) ns c h k = go (has ns x) refl (first_or x c ks h) (λ r. h
 -- of two numbers at most, c and d are all
 only_two : (cs : List ℕ) (c d : ℕ) → length cs ≤ 2 → has cs c ≡ true → has cs d ≡ true → c ≢ d → HasAll (c ∷ d ∷ []) cs
 only_two [] c d few hc hd differ = no_true hc
-only_two (x ∷ []) c d few hc hd differ = ⊎_elim (λ e. ⊎_elim (λ f. absurd (differ (sym e ∙ f))) (λ n. no_true n) (first_or x d [] hd)) (λ n. no_true n) (first_or x c [] hc)
+only_two (x ∷ []) c d few hc hd differ = ⊎_elim
+    (λ e. ⊎_elim (λ f. absurd (differ (sym e ∙ f))) (λ n. no_true n) (first_or x d [] hd)) (λ n. no_true n)
+    (first_or x c [] hc)
 only_two (x ∷ y ∷ z ∷ cs) c d few hc hd differ = absurd (omega arith)
 only_two (x ∷ y ∷ []) c d few hc hd differ = go (first_or x c (y ∷ []) hc) (first_or x d (y ∷ []) hd)
   where
@@ -89,27 +99,38 @@ only_two (x ∷ y ∷ []) c d few hc hd differ = go (first_or x c (y ∷ []) hc)
     go (inr e) (inr f) = absurd (differ (sym (last c e) ∙ last d f))
 
 -- ---- each triangle with both corners is to the left of the way from the one to the other, or of the way back
-hands : (tin : Triangulation) (ns : List ℕ) (c d : ℕ) → Numbered tin ns → c ≢ d → has ns c ≡ true → has ns d ≡ true → LeftOf tin ns c d ⊎ LeftOf tin ns d c
+hands : (tin : Triangulation) (ns : List ℕ) (c d : ℕ) → Numbered tin ns → c ≢ d → has ns c ≡ true → has ns d ≡ true
+    → LeftOf tin ns c d ⊎ LeftOf tin ns d c
 hands tin ns c d s differ hc hd =
     subst (λ (ms : List ℕ). LeftOf tin ms c d ⊎ LeftOf tin ms d c) (sym s.is)
-    (go s.i s.j s.k s.positive (subst (λ (ms : List ℕ). has ms c ≡ true) s.is hc) (subst (λ (ms : List ℕ). has ms d ≡ true) s.is hd))
+    (go s.i s.j s.k s.positive (subst (λ (ms : List ℕ). has ms c ≡ true) s.is hc)
+    (subst (λ (ms : List ℕ). has ms d ≡ true) s.is hd))
   where
     at : ℕ → Point
     at n = place Source (corner_at tin n)
 
-    left : (ms : List ℕ) (m n l e f : ℕ) → m ≡ e → n ≡ f → pos 0 <ℤ turn_of (place Source (corner_at tin m)) (place Source (corner_at tin n)) (place Source (corner_at tin l)) → HasAll ms (m ∷ n ∷ l ∷ []) → LeftOf tin ms e f
+    left : (ms : List ℕ) (m n l e f : ℕ) → m ≡ e → n ≡ f
+        → pos 0 <ℤ turn_of (place Source (corner_at tin m)) (place Source (corner_at tin n))
+        (place Source (corner_at tin l)) → HasAll ms (m ∷ n ∷ l ∷ []) → LeftOf tin ms e f
     left ms m n l e f is_e is_f t all =
-        subst (λ (x : ℕ). LeftOf tin ms x f) is_e (subst (λ (x : ℕ). LeftOf tin ms m x) is_f (record { f = l; positive = t; into = λ p mix. mix_in tin ms (m ∷ n ∷ l ∷ []) p all mix }))
+        subst (λ (x : ℕ). LeftOf tin ms x f) is_e
+        (subst (λ (x : ℕ). LeftOf tin ms m x) is_f
+        (record { f = l; positive = t; into = λ p mix. mix_in tin ms (m ∷ n ∷ l ∷ []) p all mix }))
 
-    go : (i j k : ℕ) → pos 0 <ℤ turn_of (place Source (corner_at tin i)) (place Source (corner_at tin j)) (place Source (corner_at tin k)) → has (i ∷ j ∷ k ∷ []) c ≡ true → has (i ∷ j ∷ k ∷ []) d ≡ true
+    go : (i j k : ℕ) → pos 0 <ℤ turn_of (place Source (corner_at tin i)) (place Source (corner_at tin j))
+        (place Source (corner_at tin k)) → has (i ∷ j ∷ k ∷ []) c ≡ true → has (i ∷ j ∷ k ∷ []) d ≡ true
         → LeftOf tin (i ∷ j ∷ k ∷ []) c d ⊎ LeftOf tin (i ∷ j ∷ k ∷ []) d c
     go i j k t hc hd = by (member i j k c hc) (member i j k d hd)
       where
-        t' : pos 0 <ℤ turn_of (place Source (corner_at tin j)) (place Source (corner_at tin k)) (place Source (corner_at tin i))
-        t' = subst (λ (n : ℤ). pos 0 <ℤ n) (turn_cycle (place Source (corner_at tin i)) (place Source (corner_at tin j)) (place Source (corner_at tin k))) t
+        t' : pos 0 <ℤ turn_of (place Source (corner_at tin j)) (place Source (corner_at tin k))
+            (place Source (corner_at tin i))
+        t' = subst (λ (n : ℤ). pos 0 <ℤ n) (turn_cycle (place Source (corner_at tin i)) (place Source (corner_at tin j))
+            (place Source (corner_at tin k))) t
 
-        t'' : pos 0 <ℤ turn_of (place Source (corner_at tin k)) (place Source (corner_at tin i)) (place Source (corner_at tin j))
-        t'' = subst (λ (n : ℤ). pos 0 <ℤ n) (turn_cycle (place Source (corner_at tin j)) (place Source (corner_at tin k)) (place Source (corner_at tin i))) t'
+        t'' : pos 0 <ℤ turn_of (place Source (corner_at tin k)) (place Source (corner_at tin i))
+            (place Source (corner_at tin j))
+        t'' = subst (λ (n : ℤ). pos 0 <ℤ n) (turn_cycle (place Source (corner_at tin j))
+            (place Source (corner_at tin k)) (place Source (corner_at tin i))) t'
 
         in_i : has (i ∷ j ∷ k ∷ []) i ≡ true
         in_i = first_has i j k
@@ -120,7 +141,8 @@ hands tin ns c d s differ hc hd =
         in_k : has (i ∷ j ∷ k ∷ []) k ≡ true
         in_k = third_has i j k
 
-        by : (i ≡ c) ⊎ ((j ≡ c) ⊎ (k ≡ c)) → (i ≡ d) ⊎ ((j ≡ d) ⊎ (k ≡ d)) → LeftOf tin (i ∷ j ∷ k ∷ []) c d ⊎ LeftOf tin (i ∷ j ∷ k ∷ []) d c
+        by : (i ≡ c) ⊎ ((j ≡ c) ⊎ (k ≡ c)) → (i ≡ d) ⊎ ((j ≡ d) ⊎ (k ≡ d))
+            → LeftOf tin (i ∷ j ∷ k ∷ []) c d ⊎ LeftOf tin (i ∷ j ∷ k ∷ []) d c
         by (inl e) (inl f) = absurd (differ (sym e ∙ f))
         by (inl e) (inr (inl f)) = inl (left (i ∷ j ∷ k ∷ []) i j k c d e f t (in_i, (in_j, (in_k, tt))))
         by (inl e) (inr (inr f)) = inr (left (i ∷ j ∷ k ∷ []) k i j d c f e t'' (in_k, (in_i, (in_j, tt))))
@@ -132,30 +154,40 @@ hands tin ns c d s differ hc hd =
         by (inr (inr e)) (inr (inr f)) = absurd (differ (sym e ∙ f))
 
 -- ---- two triangles are not on the same hand
-clash : (tin : Triangulation) (t u c d : ℕ) → IsSound tin → t ≢ u → t < length tin.triangles → u < length tin.triangles → c ≢ d → HasCorner tin t c → HasCorner tin t d → HasCorner tin u c → HasCorner tin u d
+clash : (tin : Triangulation) (t u c d : ℕ) → IsSound tin → t ≢ u → t < length tin.triangles → u < length tin.triangles
+    → c ≢ d → HasCorner tin t c → HasCorner tin t d → HasCorner tin u c → HasCorner tin u d
     → LeftOf tin (numbers_of tin t) c d → LeftOf tin (numbers_of tin u) c d → ⊥
 clash tin t u c d sound differ ht hu two tc td uc ud of_t of_u =
-    overlap_at_side (place Source (corner_at tin c)) (place Source (corner_at tin d)) (place Source (corner_at tin of_t.f)) (place Source (corner_at tin of_u.f)) one one one one of_t.positive of_u.positive
-    (λ p hp in_t in_u. turn_on_side (place Source (corner_at tin c)) (place Source (corner_at tin d)) p one one (mix_in tin (c ∷ d ∷ []) (common_of tin t u) p all (fit.meet p hp (of_t.into p in_t) (of_u.into p in_u))))
+    overlap_at_side (place Source (corner_at tin c)) (place Source (corner_at tin d))
+    (place Source (corner_at tin of_t.f)) (place Source (corner_at tin of_u.f)) one one one one of_t.positive
+    of_u.positive
+    (λ p hp in_t in_u. turn_on_side (place Source (corner_at tin c)) (place Source (corner_at tin d)) p one one
+    (mix_in tin (c ∷ d ∷ []) (common_of tin t u) p all (fit.meet p hp (of_t.into p in_t) (of_u.into p in_u))))
   where
     fit : DoFit tin Source t u
     fit = sound.fit Source t u differ ht hu
 
     all : HasAll (c ∷ d ∷ []) (common_of tin t u)
-    all = only_two (common_of tin t u) c d fit.two_common (has_common (numbers_of tin t) (numbers_of tin u) c tc uc) (has_common (numbers_of tin t) (numbers_of tin u) d td ud) two
+    all = only_two (common_of tin t u) c d fit.two_common (has_common (numbers_of tin t) (numbers_of tin u) c tc uc)
+        (has_common (numbers_of tin t) (numbers_of tin u) d td ud) two
 
-at_most_two : (tin : Triangulation) (t u v c d : ℕ) → IsWithinLimits tin → IsSound tin → t ≢ u → t ≢ v → u ≢ v → t < length tin.triangles → u < length tin.triangles → v < length tin.triangles → c ≢ d
-    → HasCorner tin t c → HasCorner tin t d → HasCorner tin u c → HasCorner tin u d → HasCorner tin v c → HasCorner tin v d → ⊥
+at_most_two : (tin : Triangulation) (t u v c d : ℕ) → IsWithinLimits tin → IsSound tin → t ≢ u → t ≢ v → u ≢ v
+    → t < length tin.triangles → u < length tin.triangles → v < length tin.triangles → c ≢ d
+    → HasCorner tin t c → HasCorner tin t d → HasCorner tin u c → HasCorner tin u d → HasCorner tin v c
+    → HasCorner tin v d → ⊥
 at_most_two tin t u v c d limits sound tu tv uv ht hu hv differ tc td uc ud vc vd =
     go (hand t ht tc td) (hand u hu uc ud) (hand v hv vc vd)
   where
-    hand : (w : ℕ) → w < length tin.triangles → HasCorner tin w c → HasCorner tin w d → LeftOf tin (numbers_of tin w) c d ⊎ LeftOf tin (numbers_of tin w) d c
+    hand : (w : ℕ) → w < length tin.triangles → HasCorner tin w c → HasCorner tin w d
+        → LeftOf tin (numbers_of tin w) c d ⊎ LeftOf tin (numbers_of tin w) d c
     hand w hw wc wd = hands tin (numbers_of tin w) c d (numbered tin w limits sound hw) differ wc wd
 
     back : d ≢ c
     back e = differ (sym e)
 
-    go : LeftOf tin (numbers_of tin t) c d ⊎ LeftOf tin (numbers_of tin t) d c → LeftOf tin (numbers_of tin u) c d ⊎ LeftOf tin (numbers_of tin u) d c → LeftOf tin (numbers_of tin v) c d ⊎ LeftOf tin (numbers_of tin v) d c → ⊥
+    go : LeftOf tin (numbers_of tin t) c d ⊎ LeftOf tin (numbers_of tin t) d c
+        → LeftOf tin (numbers_of tin u) c d ⊎ LeftOf tin (numbers_of tin u) d c
+        → LeftOf tin (numbers_of tin v) c d ⊎ LeftOf tin (numbers_of tin v) d c → ⊥
     go (inl x) (inl y) z = clash tin t u c d sound tu ht hu differ tc td uc ud x y
     go (inr x) (inr y) z = clash tin t u d c sound tu ht hu back td tc ud uc x y
     go (inl x) (inr y) (inl z) = clash tin t v c d sound tv ht hv differ tc td vc vd x z
@@ -170,7 +202,8 @@ next_below (suc zero) h = (omega arith, λ e. absurd (omega arith))
 next_below (suc (suc zero)) h = (omega arith, λ e. absurd (omega arith))
 next_below (suc (suc (suc k))) h = absurd (omega arith)
 
-pub one_across : (tin : Triangulation) (t k u v : ℕ) → IsWithinLimits tin → IsSound tin → t < length tin.triangles → k < 3 → IsAcross tin t k u → IsAcross tin t k v → u ≡ v
+pub one_across : (tin : Triangulation) (t k u v : ℕ) → IsWithinLimits tin → IsSound tin → t < length tin.triangles
+    → k < 3 → IsAcross tin t k u → IsAcross tin t k v → u ≡ v
 one_across tin t k u v limits sound ht hk in_u in_v = ⊎_elim (λ e. e) two (cases_eq u v)
   where
     next : (next_of k < 3) × (k ≢ next_of k)
@@ -178,11 +211,15 @@ one_across tin t k u v limits sound ht hk in_u in_v = ⊎_elim (λ e. e) two (ca
 
     two : (u ≡ v → ⊥) → u ≡ v
     two differ =
-        absurd (at_most_two tin t u v (corner_of tin t k) (corner_of tin t (next_of k)) limits sound (λ e. in_u.differs (sym e)) (λ e. in_v.differs (sym e)) differ ht in_u.in_range in_v.in_range
-        (read_differ tin t k (next_of k) limits sound ht hk next.0 next.1) (own tin t k limits sound ht hk) (own tin t (next_of k) limits sound ht next.0) in_u.first in_u.second in_v.first in_v.second)
+        absurd (at_most_two tin t u v (corner_of tin t k) (corner_of tin t (next_of k)) limits sound
+        (λ e. in_u.differs (sym e)) (λ e. in_v.differs (sym e)) differ ht in_u.in_range in_v.in_range
+        (read_differ tin t k (next_of k) limits sound ht hk next.0 next.1) (own tin t k limits sound ht hk)
+        (own tin t (next_of k) limits sound ht next.0) in_u.first in_u.second in_v.first in_v.second)
 
 -- a triangle of the first corner's that has the second
-pub found_across : (tin : Triangulation) (t k i c d : ℕ) (star : List ℕ) → c ≡ corner_of tin t k → d ≡ corner_of tin t (next_of k) → IsStar tin c star → i < length star → (get_or star i 0 ≢ t) × HasCorner tin (get_or star i 0) d → IsAcross tin t k (get_or star i 0)
+pub found_across : (tin : Triangulation) (t k i c d : ℕ) (star : List ℕ) → c ≡ corner_of tin t k
+    → d ≡ corner_of tin t (next_of k) → IsStar tin c star → i < length star
+    → (get_or star i 0 ≢ t) × HasCorner tin (get_or star i 0) d → IsAcross tin t k (get_or star i 0)
 found_across tin t k i c d star e f s h other =
     let in_star = (s.exact (get_or star i 0)).0 (Contains-get_or star i 0 h) in
     record {
@@ -192,9 +229,12 @@ found_across tin t k i c d star e f s h other =
       second = subst (λ (n : ℕ). HasCorner tin (get_or star i 0) n) f other.1;
     }
 
-pub none_across : (tin : Triangulation) (t k c d : ℕ) (star : List ℕ) → c ≡ corner_of tin t k → d ≡ corner_of tin t (next_of k) → IsStar tin c star
-    → ((i : ℕ) → i < length star → (get_or star i 0 ≢ t) × HasCorner tin (get_or star i 0) d → ⊥) → (u : ℕ) → IsAcross tin t k u → ⊥
+pub none_across : (tin : Triangulation) (t k c d : ℕ) (star : List ℕ) → c ≡ corner_of tin t k
+    → d ≡ corner_of tin t (next_of k) → IsStar tin c star
+    → ((i : ℕ) → i < length star → (get_or star i 0 ≢ t) × HasCorner tin (get_or star i 0) d → ⊥) → (u : ℕ)
+    → IsAcross tin t k u → ⊥
 none_across tin t k c d star e f s none u across =
     let in_star = (s.exact u).1 (across.in_range, subst (λ (n : ℕ). HasCorner tin u n) (sym e) across.first) in
     let same : get_or star in_star.0 0 ≡ u = sym (get_or_default_zero star in_star.0 u in_star.1) ∙ in_star.2 in
-    none in_star.0 in_star.1 (subst (λ (v : ℕ). (v ≢ t) × HasCorner tin v d) (sym same) (across.differs, subst (λ (n : ℕ). HasCorner tin u n) (sym f) across.second))
+    none in_star.0 in_star.1 (subst (λ (v : ℕ). (v ≢ t) × HasCorner tin v d) (sym same)
+    (across.differs, subst (λ (n : ℕ). HasCorner tin u n) (sym f) across.second))

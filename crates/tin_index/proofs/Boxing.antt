@@ -1,5 +1,6 @@
 -- The boxes of the source triangles: none is empty, any two are near each other, and a triangle's has its points.
-use Rattle.std.proofs.Common.{◌≡◌, ⊎_elim, ℕ, ◌+◌, ◌<◌, ◌≤◌, ℤ, pos, ◌-ℤ◌, ◌≤ℤ◌, ◌<ℤ◌, List, [], ◌∷◌, ◌++◌, length, get_or, All, refl, sym, ap, ◌∙◌, subst, arith}
+use Rattle.std.proofs.Common.{◌≡◌, ⊎_elim, ℕ, ◌+◌, ◌<◌, ◌≤◌, ℤ, pos, ◌-ℤ◌, ◌≤ℤ◌, ◌<ℤ◌, List, [], ◌∷◌, ◌++◌, length}
+use Rattle.std.proofs.Common.{get_or, All, refl, sym, ap, ◌∙◌, subst, arith}
 use Rattle.std.proofs.lemmas.Bool.{cases_lt}
 use Rattle.std.proofs.lemmas.Int.{ints, int_min_is, int_max_is}
 use Rattle.std.proofs.lemmas.List.{length_push, get_or_append_left, get_or_push, get_or_default}
@@ -23,24 +24,43 @@ use Rattle.tin_index.proofs.InBox.{in_box}
 pub no_boxes : (tin : Triangulation) (boxes : List Rect) → boxes ≡ [] → AreBoxesOf tin 0 boxes
 no_boxes tin boxes e = record { count = ap length e; each = λ t h. absurd (omega arith) }
 
-pub boxes_more : (tin : Triangulation) (n : ℕ) (xs ys : List Rect) (rect : Rect) (tri : Tri) → AreBoxesOf tin n xs → corners tri ≡ places tin Source (numbers_of tin n) → rect ≡ box_of_triangle tri → ys ≡ xs ++ rect ∷ [] → AreBoxesOf tin (n + 1) ys
-boxes_more tin n xs ys rect tri old stands same e = subst (λ (zs : List Rect). AreBoxesOf tin (n + 1) zs) (sym e) (record { count = (let long = old.count in omega (arith, length_push xs rect, long)); each = each })
+pub boxes_more : (tin : Triangulation) (n : ℕ) (xs ys : List Rect) (rect : Rect) (tri : Tri) → AreBoxesOf tin n xs
+    → corners tri ≡ places tin Source (numbers_of tin n) → rect ≡ box_of_triangle tri → ys ≡ xs ++ rect ∷ []
+    → AreBoxesOf tin (n + 1) ys
+boxes_more tin n xs ys rect tri old stands same e =
+    subst (λ (zs : List Rect). AreBoxesOf tin (n + 1) zs) (sym e)
+    (record { count = (let long = old.count in omega (arith, length_push xs rect, long)); each = each })
   where
     each : (t : ℕ) → t < n + 1 → IsBoxOf tin t (box_at (xs ++ rect ∷ []) t)
     each t h = ⊎_elim before last (cases_lt t n)
       where
         before : t < n → IsBoxOf tin t (box_at (xs ++ rect ∷ []) t)
-        before l = subst (λ (r : Rect). IsBoxOf tin t r) (sym (get_or_append_left xs (rect ∷ []) no_box t (let long = old.count in omega (arith, long)))) (old.each t l)
+        before l = subst (λ (r : Rect). IsBoxOf tin t r)
+            (sym (get_or_append_left xs (rect ∷ []) no_box t (let long = old.count in omega (arith, long))))
+            (old.each t l)
 
         last : n ≤ t → IsBoxOf tin t (box_at (xs ++ rect ∷ []) t)
         last l =
             let here : t ≡ n = omega arith in
-            subst (λ (r : Rect). IsBoxOf tin t r) (sym (get_or_push xs rect no_box t (let long = old.count in omega (arith, long))))
-            (record { tri = tri; stands = stands ∙ ap (λ (m : ℕ). places tin Source (numbers_of tin m)) (sym here); same = same })
+            subst (λ (r : Rect). IsBoxOf tin t r) (sym
+            (get_or_push xs rect no_box t (let long = old.count in omega (arith, long))))
+            (record {
+              tri = tri;
+              stands = stands ∙ ap (λ (m : ℕ). places tin Source (numbers_of tin m)) (sym here);
+              same = same;
+            })
 
 -- ---- the box of a triangle
 low_high : (a b c : ℤ) → int_min a (int_min b c) ≤ℤ int_max a (int_max b c)
-low_high a b c = omega (arith, ints, int_min_is a (int_min b c), int_min_is b c, int_max_is a (int_max b c), int_max_is b c)
+low_high a b c = omega (
+  arith,
+  ints,
+  int_min_is a (int_min b c),
+  int_min_is b c,
+  int_max_is a (int_max b c),
+  int_max_is
+      b c,
+)
 
 ordered : (tri : Tri) → IsOrdered (box_of_triangle tri)
 ordered tri = (low_high tri.a.x tri.b.x tri.c.x, low_high tri.a.y tri.b.y tri.c.y)
@@ -51,17 +71,23 @@ all_ordered tin n boxes are k d h =
     let one = are.each k (omega (arith, long)) in
     subst (λ (r : Rect). IsOrdered r) (sym one.same ∙ get_or_default boxes k no_box d h) (ordered one.tri)
 
-pub holder : (tin : Triangulation) (boxes : List Rect) (t : ℕ) (p : Pt) → AreBoxesOf tin (length tin.triangles) boxes → t < length tin.triangles → IsInTriangle tin Source t (whole p) → IsHolder boxes p t
+pub holder : (tin : Triangulation) (boxes : List Rect) (t : ℕ) (p : Pt) → AreBoxesOf tin (length tin.triangles) boxes
+    → t < length tin.triangles → IsInTriangle tin Source t (whole p) → IsHolder boxes p t
 holder tin boxes t p are h m =
     let long = are.count in
     let one = are.each t h in
-    let within = in_box one.tri p (subst (λ (cs : List Point). IsMix (whole p) cs) (sym one.stands) m) in
-    (omega (arith, long), subst (λ (r : Rect). HasPoint r p) (sym one.same) (record { left = within.0.0; right = within.1.0; bottom = within.0.1; top = within.1.1 }))
+    let within = in_box one.tri p (subst (λ (cs : List Point). IsMix (whole p) cs) (sym one.stands) m) in (
+      omega (arith, long),
+      subst (λ (r : Rect). HasPoint r p) (sym one.same)
+          (record { left = within.0.0; right = within.1.0; bottom = within.0.1; top = within.1.1 }),
+    )
 
 -- ---- boxes of near corners
-spread_on : (a b c e f g : ℤ) → ((e -ℤ a) <ℤ SPAN) → ((e -ℤ b) <ℤ SPAN) → ((e -ℤ c) <ℤ SPAN) → ((f -ℤ a) <ℤ SPAN) → ((f -ℤ b) <ℤ SPAN) → ((f -ℤ c) <ℤ SPAN) → ((g -ℤ a) <ℤ SPAN) → ((g -ℤ b) <ℤ SPAN) → ((g -ℤ c) <ℤ SPAN)
+spread_on : (a b c e f g : ℤ) → ((e -ℤ a) <ℤ SPAN) → ((e -ℤ b) <ℤ SPAN) → ((e -ℤ c) <ℤ SPAN) → ((f -ℤ a) <ℤ SPAN)
+    → ((f -ℤ b) <ℤ SPAN) → ((f -ℤ c) <ℤ SPAN) → ((g -ℤ a) <ℤ SPAN) → ((g -ℤ b) <ℤ SPAN) → ((g -ℤ c) <ℤ SPAN)
     → (int_max e (int_max f g) -ℤ int_min a (int_min b c)) <ℤ SPAN
-spread_on a b c e f g h0 h1 h2 h3 h4 h5 h6 h7 h8 = omega (arith, ints, int_min_is a (int_min b c), int_min_is b c, int_max_is e (int_max f g), int_max_is f g)
+spread_on a b c e f g h0 h1 h2 h3 h4 h5 h6 h7 h8 =
+    omega (arith, ints, int_min_is a (int_min b c), int_min_is b c, int_max_is e (int_max f g), int_max_is f g)
 
 -- the corners of a triangle by their numbers
 pub record Standing (tin : Triangulation) (tri : Tri) : Type 0 where
@@ -78,7 +104,8 @@ pub record Standing (tin : Triangulation) (tri : Tri) : Type 0 where
 abbrev nowhere : Point
 nowhere = record { x = pos 0; y = pos 0; w = pos 0 }
 
-pub standing : (tin : Triangulation) (tri : Tri) (ns : List ℕ) → length ns ≡ 3 → All (λ n. n < length tin.corners) ns → corners tri ≡ places tin Source ns → Standing tin tri
+pub standing : (tin : Triangulation) (tri : Tri) (ns : List ℕ) → length ns ≡ 3 → All (λ n. n < length tin.corners) ns
+    → corners tri ≡ places tin Source ns → Standing tin tri
 standing tin tri [] e below is = absurd (omega arith)
 standing tin tri (i ∷ []) e below is = absurd (omega arith)
 standing tin tri (i ∷ j ∷ []) e below is = absurd (omega arith)
@@ -97,11 +124,14 @@ standing tin tri (i ∷ j ∷ k ∷ []) e below is =
     }
 
 -- two corners
-far : (tin : Triangulation) (m n : ℕ) (p q : Pt) → IsWithinLimits tin → m < length tin.corners → n < length tin.corners → whole p ≡ place Source (corner_at tin m) → whole q ≡ place Source (corner_at tin n) → ((p.x -ℤ q.x) <ℤ SPAN) × ((p.y -ℤ q.y) <ℤ SPAN)
+far : (tin : Triangulation) (m n : ℕ) (p q : Pt) → IsWithinLimits tin → m < length tin.corners → n < length tin.corners
+    → whole p ≡ place Source (corner_at tin m) → whole q ≡ place Source (corner_at tin n)
+    → ((p.x -ℤ q.x) <ℤ SPAN) × ((p.y -ℤ q.y) <ℤ SPAN)
 far tin m n p q limits hm hn e f =
     let near = near_points tin Source m n p q limits hm hn e f in (near.0, near.2)
 
-within : (tin : Triangulation) (p q : Tri) → IsWithinLimits tin → Standing tin p → Standing tin q → IsWithinSpan (box_of_triangle p) (box_of_triangle q)
+within : (tin : Triangulation) (p q : Tri) → IsWithinLimits tin → Standing tin p → Standing tin q
+    → IsWithinSpan (box_of_triangle p) (box_of_triangle q)
 within tin p q limits s t =
     let aa = far tin t.i s.i q.a p.a limits t.first s.first t.is_a s.is_a in
     let ab = far tin t.i s.j q.a p.b limits t.first s.second t.is_a s.is_b in
@@ -116,7 +146,8 @@ within tin p q limits s t =
       spread_on p.a.y p.b.y p.c.y q.a.y q.b.y q.c.y aa.1 ab.1 ac.1 ba.1 bb.1 bc.1 ca.1 cb.1 cc'.1,
     )
 
-pub all_within : (tin : Triangulation) (boxes : List Rect) → IsWithinLimits tin → AreBoxesOf tin (length tin.triangles) boxes → AreWithinSpan boxes
+pub all_within : (tin : Triangulation) (boxes : List Rect) → IsWithinLimits tin
+    → AreBoxesOf tin (length tin.triangles) boxes → AreWithinSpan boxes
 all_within tin boxes limits are k d hk l e hl =
     let long = are.count in
     let p = are.each k (omega (arith, long)) in
@@ -124,8 +155,10 @@ all_within tin boxes limits are k d hk l e hl =
     subst (λ (r : Rect). IsWithinSpan r (get_or boxes l e)) (sym p.same ∙ get_or_default boxes k no_box d hk)
     (subst (λ (r : Rect). IsWithinSpan (box_of_triangle p.tri) r) (sym q.same ∙ get_or_default boxes l no_box e hl)
     (within tin p.tri q.tri limits
-    (standing tin p.tri (numbers_of tin k) (limits.three k (omega (arith, long))) (limits.in_range k (omega (arith, long))) p.stands)
-    (standing tin q.tri (numbers_of tin l) (limits.three l (omega (arith, long))) (limits.in_range l (omega (arith, long))) q.stands)))
+    (standing tin p.tri (numbers_of tin k) (limits.three k (omega (arith, long)))
+    (limits.in_range k (omega (arith, long))) p.stands)
+    (standing tin q.tri (numbers_of tin l) (limits.three l (omega (arith, long)))
+    (limits.in_range l (omega (arith, long))) q.stands)))
 
 -- each triangle stands somewhere
 pub tri_of : (tin : Triangulation) (ns : List ℕ) → length ns ≡ 3 → (r : Tri) × (corners r ≡ places tin Source ns)

@@ -1,5 +1,6 @@
 -- The three corners of a triangle with positive turn are different ones.
-use Rattle.std.proofs.Common.{◌≡◌, ◌≢◌, ℕ, zero, suc, ◌<◌, ℤ, pos, ◌<ℤ◌, Bool, true, false, ◌||◌, eqb, List, [], ◌∷◌, length, get_or, All, refl, sym, ◌∙◌, subst, arith}
+use Rattle.std.proofs.Common.{◌≡◌, ◌≢◌, ℕ, zero, suc, ◌<◌, ℤ, pos, ◌<ℤ◌, Bool, true, false, ◌||◌, eqb, List, [], ◌∷◌}
+use Rattle.std.proofs.Common.{length, get_or, All, refl, sym, ◌∙◌, subst, arith}
 use Rattle.std.proofs.lemmas.Bool.{eq-eqb}
 use Rattle.plane_base.specs.Plane.{Point, turn_of}
 use Rattle.plane_base.proofs.Turns.{turn_cycle, turn_twice}
@@ -26,9 +27,11 @@ pub record Numbered (tin : Triangulation) (ns : List ℕ) : Type 0 where
   pub first : i < length tin.corners
   pub second : j < length tin.corners
   pub third : k < length tin.corners
-  pub positive : pos 0 <ℤ turn_of (place Source (corner_at tin i)) (place Source (corner_at tin j)) (place Source (corner_at tin k))
+  pub positive : pos 0 <ℤ turn_of (place Source (corner_at tin i)) (place Source (corner_at tin j))
+      (place Source (corner_at tin k))
 
-numbered_list : (tin : Triangulation) (ns : List ℕ) → length ns ≡ 3 → All (λ n. n < length tin.corners) ns → pos 0 <ℤ turn_of_three (places tin Source ns) → Numbered tin ns
+numbered_list : (tin : Triangulation) (ns : List ℕ) → length ns ≡ 3 → All (λ n. n < length tin.corners) ns
+    → pos 0 <ℤ turn_of_three (places tin Source ns) → Numbered tin ns
 numbered_list tin [] e below t = absurd (omega arith)
 numbered_list tin (i ∷ []) e below t = absurd (omega arith)
 numbered_list tin (i ∷ j ∷ []) e below t = absurd (omega arith)
@@ -39,9 +42,14 @@ numbered_list tin (i ∷ j ∷ k ∷ []) e below t =
       j = j;
       k = k;
       is = refl;
-      ij = λ s. not_zero (turn_of (at i) (at j) (at k)) t (subst (λ (n : ℕ). turn_of (at i) (at n) (at k) ≡ pos 0) s (turn_twice (at i) (at k)));
-      ik = λ s. not_zero (turn_of (at i) (at j) (at k)) t (subst (λ (n : ℕ). turn_of (at i) (at j) (at n) ≡ pos 0) s (sym (turn_cycle (at i) (at i) (at j)) ∙ turn_twice (at i) (at j)));
-      jk = λ s. not_zero (turn_of (at i) (at j) (at k)) t (subst (λ (n : ℕ). turn_of (at i) (at j) (at n) ≡ pos 0) s (turn_cycle (at i) (at j) (at j) ∙ turn_twice (at j) (at i)));
+      ij = λ s. not_zero (turn_of (at i) (at j) (at k)) t
+          (subst (λ (n : ℕ). turn_of (at i) (at n) (at k) ≡ pos 0) s (turn_twice (at i) (at k)));
+      ik = λ s. not_zero (turn_of (at i) (at j) (at k)) t
+          (subst (λ (n : ℕ). turn_of (at i) (at j) (at n) ≡ pos 0) s
+          (sym (turn_cycle (at i) (at i) (at j)) ∙ turn_twice (at i) (at j)));
+      jk = λ s. not_zero (turn_of (at i) (at j) (at k)) t
+          (subst (λ (n : ℕ). turn_of (at i) (at j) (at n) ≡ pos 0) s
+          (turn_cycle (at i) (at j) (at j) ∙ turn_twice (at j) (at i)));
       first = below 0 0 (omega arith);
       second = below 1 0 (omega arith);
       third = below 2 0 (omega arith);
@@ -51,14 +59,18 @@ numbered_list tin (i ∷ j ∷ k ∷ []) e below t =
     at : ℕ → Point
     at n = place Source (corner_at tin n)
 
-pub numbered : (tin : Triangulation) (t : ℕ) → IsWithinLimits tin → IsSound tin → t < length tin.triangles → Numbered tin (numbers_of tin t)
-numbered tin t limits sound ht = numbered_list tin (numbers_of tin t) (limits.three t ht) (limits.in_range t ht) (sound.positive Source t ht)
+pub numbered : (tin : Triangulation) (t : ℕ) → IsWithinLimits tin → IsSound tin → t < length tin.triangles
+    → Numbered tin (numbers_of tin t)
+numbered tin t limits sound ht = numbered_list tin (numbers_of tin t) (limits.three t ht) (limits.in_range t ht)
+    (sound.positive Source t ht)
 
 -- the corners as they are read
-pub read_differ : (tin : Triangulation) (t m n : ℕ) → IsWithinLimits tin → IsSound tin → t < length tin.triangles → m < 3 → n < 3 → m ≢ n → get_or (numbers_of tin t) m 0 ≢ get_or (numbers_of tin t) n 0
+pub read_differ : (tin : Triangulation) (t m n : ℕ) → IsWithinLimits tin → IsSound tin → t < length tin.triangles
+    → m < 3 → n < 3 → m ≢ n → get_or (numbers_of tin t) m 0 ≢ get_or (numbers_of tin t) n 0
 read_differ tin t m n limits sound ht hm hn differ = go (numbered tin t limits sound ht)
   where
-    at_least : (i j k m n : ℕ) → i ≢ j → i ≢ k → j ≢ k → m < 3 → n < 3 → m ≢ n → get_or (i ∷ j ∷ k ∷ []) m 0 ≢ get_or (i ∷ j ∷ k ∷ []) n 0
+    at_least : (i j k m n : ℕ) → i ≢ j → i ≢ k → j ≢ k → m < 3 → n < 3 → m ≢ n
+        → get_or (i ∷ j ∷ k ∷ []) m 0 ≢ get_or (i ∷ j ∷ k ∷ []) n 0
     at_least i j k zero zero ij ik jk hm hn d = λ _. d refl
     at_least i j k zero (suc zero) ij ik jk hm hn d = ij
     at_least i j k zero (suc (suc zero)) ij ik jk hm hn d = ik
@@ -74,14 +86,17 @@ read_differ tin t m n limits sound ht hm hn differ = go (numbered tin t limits s
     at_least i j k (suc (suc (suc m))) n ij ik jk hm hn d = absurd (omega arith)
 
     go : Numbered tin (numbers_of tin t) → get_or (numbers_of tin t) m 0 ≢ get_or (numbers_of tin t) n 0
-    go s = subst (λ (ns : List ℕ). get_or ns m 0 ≢ get_or ns n 0) (sym s.is) (at_least s.i s.j s.k m n s.ij s.ik s.jk hm hn differ)
+    go s = subst (λ (ns : List ℕ). get_or ns m 0 ≢ get_or ns n 0) (sym s.is)
+        (at_least s.i s.j s.k m n s.ij s.ik s.jk hm hn differ)
 
 -- the list of the three, as they are read
 pub three_read : (tin : Triangulation) (t : ℕ) → IsWithinLimits tin → IsSound tin → t < length tin.triangles
-    → numbers_of tin t ≡ get_or (numbers_of tin t) 0 0 ∷ get_or (numbers_of tin t) 1 0 ∷ get_or (numbers_of tin t) 2 0 ∷ []
+    → numbers_of tin t ≡ get_or (numbers_of tin t) 0 0 ∷ get_or (numbers_of tin t) 1 0 ∷ get_or (numbers_of tin t) 2 0
+    ∷ []
 three_read tin t limits sound ht = go (numbered tin t limits sound ht)
   where
-    go : Numbered tin (numbers_of tin t) → numbers_of tin t ≡ get_or (numbers_of tin t) 0 0 ∷ get_or (numbers_of tin t) 1 0 ∷ get_or (numbers_of tin t) 2 0 ∷ []
+    go : Numbered tin (numbers_of tin t) → numbers_of tin t ≡ get_or (numbers_of tin t) 0 0
+        ∷ get_or (numbers_of tin t) 1 0 ∷ get_or (numbers_of tin t) 2 0 ∷ []
     go s = subst (λ (ns : List ℕ). ns ≡ get_or ns 0 0 ∷ get_or ns 1 0 ∷ get_or ns 2 0 ∷ []) (sym s.is) refl
 
 -- a triangle has its own corners
@@ -97,12 +112,15 @@ pub first_has : (i j k : ℕ) → has (i ∷ j ∷ k ∷ []) i ≡ true
 first_has i j k = or_true (eqb i i) (eqb j i || (eqb k i || false)) (eq-eqb i i refl)
 
 pub second_has : (i j k : ℕ) → has (i ∷ j ∷ k ∷ []) j ≡ true
-second_has i j k = or_later (eqb i j) (eqb j j || (eqb k j || false)) (or_true (eqb j j) (eqb k j || false) (eq-eqb j j refl))
+second_has i j k = or_later (eqb i j) (eqb j j || (eqb k j || false))
+    (or_true (eqb j j) (eqb k j || false) (eq-eqb j j refl))
 
 pub third_has : (i j k : ℕ) → has (i ∷ j ∷ k ∷ []) k ≡ true
-third_has i j k = or_later (eqb i k) (eqb j k || (eqb k k || false)) (or_later (eqb j k) (eqb k k || false) (or_true (eqb k k) false (eq-eqb k k refl)))
+third_has i j k = or_later (eqb i k) (eqb j k || (eqb k k || false))
+    (or_later (eqb j k) (eqb k k || false) (or_true (eqb k k) false (eq-eqb k k refl)))
 
-pub own : (tin : Triangulation) (t k : ℕ) → IsWithinLimits tin → IsSound tin → t < length tin.triangles → k < 3 → has (numbers_of tin t) (get_or (numbers_of tin t) k 0) ≡ true
+pub own : (tin : Triangulation) (t k : ℕ) → IsWithinLimits tin → IsSound tin → t < length tin.triangles → k < 3
+    → has (numbers_of tin t) (get_or (numbers_of tin t) k 0) ≡ true
 own tin t k limits sound ht hk = go (numbered tin t limits sound ht)
   where
     each : (i j l k : ℕ) → k < 3 → has (i ∷ j ∷ l ∷ []) (get_or (i ∷ j ∷ l ∷ []) k 0) ≡ true

@@ -1,5 +1,6 @@
 -- A point inside of a triangle is in no other: it would be on a side.
-use Rattle.std.proofs.Common.{◌≡◌, ◌⊎◌, inl, inr, ⊎_elim, ◌↔◌, IsTrue, ℕ, ◌<◌, ◌≤◌, ℤ, pos, ◌<ℤ◌, Bool, true, false, ◌||◌, eqb, List, [], ◌∷◌, length, get_or, refl, sym, subst, arith}
+use Rattle.std.proofs.Common.{◌≡◌, ◌⊎◌, inl, inr, ⊎_elim, ◌↔◌, IsTrue, ℕ, ◌<◌, ◌≤◌, ℤ, pos, ◌<ℤ◌, Bool, true, false}
+use Rattle.std.proofs.Common.{◌||◌, eqb, List, [], ◌∷◌, length, get_or, refl, sym, subst, arith}
 use Rattle.std.proofs.lemmas.Bool.{cases_eq, eq-eqb}
 use Rattle.integer_ring.proofs.Order.{≤_of_<}
 use Rattle.plane_base.specs.Plane.{Point, turn_of, IsMix, whole, corners}
@@ -17,10 +18,12 @@ use Rattle.tin_index.specs.Locating.{IsInsideOf, IsOnlyIn}
 use Rattle.tin_index.proofs.Across.{mix_in, member}
 
 -- what a test of three numbers tells of three that are equal to them
-pub by_tests : (u v w x y z : ℤ) (r : Bool) → u ≡ x → v ≡ y → w ≡ z → IsTrue r ↔ ((pos 0 <ℤ u) × (pos 0 <ℤ v) × (pos 0 <ℤ w)) → IsTrue r ↔ ((pos 0 <ℤ x) × (pos 0 <ℤ y) × (pos 0 <ℤ z))
+pub by_tests : (u v w x y z : ℤ) (r : Bool) → u ≡ x → v ≡ y → w ≡ z
+    → IsTrue r ↔ ((pos 0 <ℤ u) × (pos 0 <ℤ v) × (pos 0 <ℤ w)) → IsTrue r ↔ ((pos 0 <ℤ x) × (pos 0 <ℤ y) × (pos 0 <ℤ z))
 by_tests u v w x y z r e f g h =
     subst (λ (n : ℤ). IsTrue r ↔ ((pos 0 <ℤ n) × (pos 0 <ℤ y) × (pos 0 <ℤ z))) e
-    (subst (λ (n : ℤ). IsTrue r ↔ ((pos 0 <ℤ u) × (pos 0 <ℤ n) × (pos 0 <ℤ z))) f (subst (λ (n : ℤ). IsTrue r ↔ ((pos 0 <ℤ u) × (pos 0 <ℤ v) × (pos 0 <ℤ n))) g h))
+    (subst (λ (n : ℤ). IsTrue r ↔ ((pos 0 <ℤ u) × (pos 0 <ℤ n) × (pos 0 <ℤ z))) f
+    (subst (λ (n : ℤ). IsTrue r ↔ ((pos 0 <ℤ u) × (pos 0 <ℤ v) × (pos 0 <ℤ n))) g h))
 
 is_first : (d e n : ℕ) → d ≡ n → has (d ∷ e ∷ []) n ≡ true
 is_first d e n s = or_left (eqb d n) (eqb e n || false) (eq-eqb d n s)
@@ -79,7 +82,8 @@ record IsLeft (tin : Triangulation) (ns : List ℕ) (p : Point) : Type 0 where
   second : pos 0 <ℤ turn_of (place Source (corner_at tin j)) (place Source (corner_at tin k)) p
   third : pos 0 <ℤ turn_of (place Source (corner_at tin k)) (place Source (corner_at tin i)) p
 
-left_of : (tin : Triangulation) (ns : List ℕ) (r : Tri) (p : Pt) → length ns ≡ 3 → corners r ≡ places tin Source ns → IsInsideOf r p → IsLeft tin ns (whole p)
+left_of : (tin : Triangulation) (ns : List ℕ) (r : Tri) (p : Pt) → length ns ≡ 3 → corners r ≡ places tin Source ns
+    → IsInsideOf r p → IsLeft tin ns (whole p)
 left_of tin [] r p e is h = absurd (omega arith)
 left_of tin (i ∷ []) r p e is h = absurd (omega arith)
 left_of tin (i ∷ j ∷ []) r p e is h = absurd (omega arith)
@@ -90,33 +94,49 @@ left_of tin (i ∷ j ∷ k ∷ []) r p e is h =
       j = j;
       k = k;
       is = refl;
-      first = subst (λ (ps : List Point). pos 0 <ℤ turn_of (get_or ps 0 nowhere) (get_or ps 1 nowhere) (whole p)) is h.0;
-      second = subst (λ (ps : List Point). pos 0 <ℤ turn_of (get_or ps 1 nowhere) (get_or ps 2 nowhere) (whole p)) is h.1;
-      third = subst (λ (ps : List Point). pos 0 <ℤ turn_of (get_or ps 2 nowhere) (get_or ps 0 nowhere) (whole p)) is h.2;
+      first = subst (λ (ps : List Point). pos 0 <ℤ turn_of (get_or ps 0 nowhere) (get_or ps 1 nowhere) (whole p)) is
+          h.0;
+      second = subst (λ (ps : List Point). pos 0 <ℤ turn_of (get_or ps 1 nowhere) (get_or ps 2 nowhere) (whole p)) is
+          h.1;
+      third = subst (λ (ps : List Point). pos 0 <ℤ turn_of (get_or ps 2 nowhere) (get_or ps 0 nowhere) (whole p)) is
+          h.2;
     }
   where
     nowhere : Point
     nowhere = record { x = pos 0; y = pos 0; w = pos 0 }
 
-not_on_side : (tin : Triangulation) (ns cs : List ℕ) (p : Point) → length cs ≤ 2 → HasAll ns cs → IsLeft tin ns p → IsMix p (places tin Source cs) → ⊥
-not_on_side tin ns cs p few all left m = go (on_a_side left.i left.j left.k cs few (subst (λ (ms : List ℕ). HasAll ms cs) left.is all))
+not_on_side : (tin : Triangulation) (ns cs : List ℕ) (p : Point) → length cs ≤ 2 → HasAll ns cs → IsLeft tin ns p
+    → IsMix p (places tin Source cs) → ⊥
+not_on_side tin ns cs p few all left m = go
+    (on_a_side left.i left.j left.k cs few (subst (λ (ms : List ℕ). HasAll ms cs) left.is all))
   where
-    side : (c d : ℕ) → HasAll (c ∷ d ∷ []) cs → pos 0 <ℤ turn_of (place Source (corner_at tin c)) (place Source (corner_at tin d)) p → ⊥
-    side c d h t = not_zero (turn_of (place Source (corner_at tin c)) (place Source (corner_at tin d)) p) t (turn_on_side (place Source (corner_at tin c)) (place Source (corner_at tin d)) p one one (mix_in tin (c ∷ d ∷ []) cs p h m))
+    side : (c d : ℕ) → HasAll (c ∷ d ∷ []) cs
+        → pos 0 <ℤ turn_of (place Source (corner_at tin c)) (place Source (corner_at tin d)) p → ⊥
+    side c d h t = not_zero (turn_of (place Source (corner_at tin c)) (place Source (corner_at tin d)) p) t
+        (turn_on_side (place Source (corner_at tin c)) (place Source (corner_at tin d)) p one one
+        (mix_in tin (c ∷ d ∷ []) cs p h m))
 
     go : OnSide left.i left.j left.k cs → ⊥
     go (inl h) = side left.i left.j h left.first
     go (inr (inl h)) = side left.j left.k h left.second
     go (inr (inr h)) = side left.k left.i h left.third
 
-pub only_in : (tin : Triangulation) (t : ℕ) (r : Tri) (p : Pt) → IsWithinLimits tin → IsSound tin → t < length tin.triangles → corners r ≡ places tin Source (numbers_of tin t) → pos 0 <ℤ turn_of (whole r.a) (whole r.b) (whole r.c) → IsInsideOf r p → IsOnlyIn tin t p
+pub only_in : (tin : Triangulation) (t : ℕ) (r : Tri) (p : Pt) → IsWithinLimits tin → IsSound tin
+    → t < length tin.triangles → corners r ≡ places tin Source (numbers_of tin t)
+    → pos 0 <ℤ turn_of (whole r.a) (whole r.b) (whole r.c) → IsInsideOf r p → IsOnlyIn tin t p
 only_in tin t r p limits sound ht is positive inside =
     let has : IsInTriangle tin Source t (whole p) = subst (λ (ps : List Point). IsMix (whole p) ps) is
-    (mix_of_turns (whole r.a) (whole r.b) (whole r.c) (whole p) one one one one positive (≤_of_< (pos 0) (turn_of (whole r.a) (whole r.b) (whole p)) inside.0) (≤_of_< (pos 0) (turn_of (whole r.b) (whole r.c) (whole p)) inside.1) (≤_of_< (pos 0) (turn_of (whole r.c) (whole r.a) (whole p)) inside.2)) in
+    (mix_of_turns (whole r.a) (whole r.b) (whole r.c) (whole p) one one one one positive
+    (≤_of_< (pos 0) (turn_of (whole r.a) (whole r.b) (whole p)) inside.0)
+    (≤_of_< (pos 0) (turn_of (whole r.b) (whole r.c) (whole p)) inside.1)
+    (≤_of_< (pos 0) (turn_of (whole r.c) (whole r.a) (whole p)) inside.2)) in
     record {
       in_range = ht;
       has = has;
       only = λ u hu m. ⊎_elim (λ e. sym e) (λ differ.
           let fit = sound.fit Source t u differ ht hu in
-          absurd (not_on_side tin (numbers_of tin t) (common_of tin t u) (whole p) fit.two_common (common_in_first (numbers_of tin t) (numbers_of tin u)) (left_of tin (numbers_of tin t) r p (limits.three t ht) is inside) (fit.meet (whole p) one has m))) (cases_eq t u);
+          absurd (not_on_side tin (numbers_of tin t) (common_of tin t u) (whole p) fit.two_common
+          (common_in_first (numbers_of tin t) (numbers_of tin u))
+          (left_of tin (numbers_of tin t) r p (limits.three t ht) is inside) (fit.meet (whole p) one has m)))
+          (cases_eq t u);
     }

@@ -8,11 +8,13 @@ use Rattle.tin_base.specs.Triangulation.{Triangulation, IsInTriangle}
 
 -- the number that was found before, or a triangle that has the point
 abbrev pub IsOneOf : Triangulation → Pt → ℕ → ℕ → Type 0
-IsOneOf tin p found number = (number ≡ found) ⊎ ((number < length tin.triangles) × IsInTriangle tin Source number (whole p))
+IsOneOf tin p found number = (number ≡ found)
+    ⊎ ((number < length tin.triangles) × IsInTriangle tin Source number (whole p))
 
 -- the point is to the left of each side
 abbrev pub IsInsideOf : Tri → Pt → Type 0
-IsInsideOf t p = (pos 0 <ℤ turn_of (whole t.a) (whole t.b) (whole p)) × (pos 0 <ℤ turn_of (whole t.b) (whole t.c) (whole p)) × (pos 0 <ℤ turn_of (whole t.c) (whole t.a) (whole p))
+IsInsideOf t p = (pos 0 <ℤ turn_of (whole t.a) (whole t.b) (whole p))
+    × (pos 0 <ℤ turn_of (whole t.b) (whole t.c) (whole p)) × (pos 0 <ℤ turn_of (whole t.c) (whole t.a) (whole p))
 
 -- the triangle has the point, and no other has it
 pub record IsOnlyIn (tin : Triangulation) (t : ℕ) (p : Pt) : Type 0 where

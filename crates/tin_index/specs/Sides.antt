@@ -1,4 +1,5 @@
--- Corners and sides of triangles by their numbers, and the triangles that have them. Side k goes from corner k to the next.
+-- Corners and sides of triangles by their numbers, and the triangles that have them. Side k goes from corner k to the
+-- next.
 use Rattle.std.specs.Prelude.{◌≢◌, ◌↔◌, ℕ, zero, suc, ◌<◌, List, length, slice_index_or, Contains, IsTrue}
 use Rattle.std.specs.List.Sorted.{IsStrictlyIncreasing}
 use Rattle.tin_base.specs.Triangulation.{Triangulation, numbers_of}

@@ -77,7 +77,8 @@ fn is_up_to(p: Pt, q: Pt) -> bool
     p.x <= q.x && p.y <= q.y
 }
 
-/// Whether the point is in the triangle. It may be anywhere: far from the corners their box refuses it, before any product.
+/// Whether the point is in the triangle. It may be anywhere: far from the corners their box refuses it, before any
+/// product.
 pub fn has_point(t: &Tri, p: Pt) -> bool
     requires near { IsNearAll t.now.a t.now.b t.now.c }
     requires positive { pos 0 <ℤ turn_of (whole t.now.a) (whole t.now.b) (whole t.now.c) }

@@ -99,7 +99,8 @@ impl TinIndex {
         self.locate(p)
     }
 
-    /// Whether the point is in the box of all corners. Only there can a triangle contain it, and there it is near each corner.
+    /// Whether the point is in the box of all corners. Only there can a triangle contain it, and there it is near each
+    /// corner.
     pub fn is_among_corners(&self, p: Pt) -> bool
         ensures has { IsInSome self.now Source (whole p) → IsTrue result }
         ensures near { IsTrue result → IsNearCorners self.now p }
@@ -116,9 +117,8 @@ impl TinIndex {
         self.stars.at(corner)
     }
 
-    /// The number of the other triangle that has both corners of the triangle's side `side`, which goes from the corner of
-    /// that number, 0 to 2, to the next.
-    /// `None` comes exactly where there is no other.
+    /// The number of the other triangle that has both corners of the triangle's side `side`, which goes from the corner
+    /// of that number, 0 to 2, to the next. `None` comes exactly where there is no other.
     pub fn across(&self, triangle: u32, side: u8) -> Option<u32>
         requires triangle { triangle < length self.now.triangles }
         requires side { side < 3 }

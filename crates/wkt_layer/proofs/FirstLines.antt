@@ -11,7 +11,8 @@ pub one_line : (text : List ℕ) → Nowhere (Passes (is_byte LINE_FEED) text) 0
 one_line text nowhere = part_alone LINE_FEED text (λ k within. nowhere k (omega arith) within)
 
 -- the first line ends before the first line feed
-pub line_before : (text : List ℕ) (end : ℕ) → NoneBefore (Passes (is_byte LINE_FEED) text) 0 (length text) end → Passes (is_byte LINE_FEED) text end
+pub line_before : (text : List ℕ) (end : ℕ) → NoneBefore (Passes (is_byte LINE_FEED) text) 0 (length text) end
+    → Passes (is_byte LINE_FEED) text end
     → lines_of text ≡ take end text ∷ lines_of (drop (end + 1) text)
 line_before text end first here = part_before LINE_FEED text end first.high (λ k. first.before k (omega arith)) here
 

@@ -6,7 +6,9 @@ use Rattle.mm_decimal.specs.declared.reading.MmRead.{MmRead}
 use Rattle.wkt_layer.specs.Tokens.{Number, Token, opening, closing, comma, word, number, stray}
 use Rattle.wkt_layer.specs.Numbers.{Point}
 use Rattle.wkt_layer.specs.Paths.{Path, path_of}
-use Rattle.wkt_layer.specs.States.{Spot, item, content, first, second, whole, bare_second, bare_whole, behind, State, state, enter_step, tag_step, item_step, number_step, whole_step, behind_step, may_end, kind_of, opened_by, IsLast}
+use Rattle.wkt_layer.specs.States.{Spot, item, content, first, second, whole, bare_second, bare_whole, behind, State}
+use Rattle.wkt_layer.specs.States.{state, enter_step, tag_step, item_step, number_step, whole_step, behind_step}
+use Rattle.wkt_layer.specs.States.{may_end, kind_of, opened_by, IsLast}
 use Rattle.wkt_layer.specs.Passes.{token_for, Shows, AreSome, IsFit, IsUnfit, points_at}
 use Rattle.wkt_layer.specs.declared.places.Content.{Content}
 use Rattle.wkt_layer.specs.declared.places.Content.TheVariants.{Points, Items}
@@ -20,39 +22,50 @@ use Rattle.wkt_layer.specs.declared.words.Word.TheVariants.{Empty}
 use Rattle.wkt_layer.specs.declared.tokens.Sign.{Sign}
 use Rattle.wkt_layer.specs.declared.tokens.Sign.TheVariants as signs
 
-empty_enters : (inner : Content) (stack : List Group) (paths : List Path) → enter_step inner stack paths (word Empty) ≡ Some (state behind stack paths)
+empty_enters : (inner : Content) (stack : List Group) (paths : List Path)
+    → enter_step inner stack paths (word Empty) ≡ Some (state behind stack paths)
 empty_enters (Points listing) stack paths = refl
 empty_enters (Items group) stack paths = refl
 
-pub enter_empty : (inner : Content) (stack : List Group) (paths : List Path) (at : ℕ) (text : List ℕ) (sign : Sign) (w : Word) → sign ≡ signs.Word w → w ≡ Empty
+pub enter_empty : (inner : Content) (stack : List Group) (paths : List Path) (at : ℕ) (text : List ℕ) (sign : Sign)
+    (w : Word) → sign ≡ signs.Word w → w ≡ Empty
     → enter_step inner stack paths (token_for at text sign) ≡ Some (state behind stack paths)
 enter_empty inner stack paths at text sign w is empty = rw (is, empty) (empty_enters inner stack paths)
 
-pub opened_empty : (at before : ℕ) (text : List ℕ) (sign : Sign) (w : Word) → sign ≡ signs.Word w → before ≡ opened_by (token_for at text sign) at before
+pub opened_empty : (at before : ℕ) (text : List ℕ) (sign : Sign) (w : Word) → sign ≡ signs.Word w
+    → before ≡ opened_by (token_for at text sign) at before
 opened_empty at before text sign w is = rw is refl
 
-pub enter_listing : (inner : Content) (listing : Listing) (stack : List Group) (paths : List Path) (at : ℕ) (text : List ℕ) (sign : Sign) → sign ≡ signs.Opening → inner ≡ Points listing
+pub enter_listing : (inner : Content) (listing : Listing) (stack : List Group) (paths : List Path) (at : ℕ)
+    (text : List ℕ) (sign : Sign) → sign ≡ signs.Opening → inner ≡ Points listing
     → enter_step inner stack paths (token_for at text sign) ≡ Some (state (first listing []) stack paths)
 enter_listing inner listing stack paths at text sign is points = rw (is, points) refl
 
-pub enter_group : (inner : Content) (group : Group) (stack : List Group) (paths : List Path) (at : ℕ) (text : List ℕ) (sign : Sign) → sign ≡ signs.Opening → inner ≡ Items group
+pub enter_group : (inner : Content) (group : Group) (stack : List Group) (paths : List Path) (at : ℕ) (text : List ℕ)
+    (sign : Sign) → sign ≡ signs.Opening → inner ≡ Items group
     → enter_step inner stack paths (token_for at text sign) ≡ Some (state item (group ∷ stack) paths)
 enter_group inner group stack paths at text sign is items = rw (is, items) refl
 
-pub opened_here : (at before : ℕ) (text : List ℕ) (sign : Sign) → sign ≡ signs.Opening → at ≡ opened_by (token_for at text sign) at before
+pub opened_here : (at before : ℕ) (text : List ℕ) (sign : Sign) → sign ≡ signs.Opening
+    → at ≡ opened_by (token_for at text sign) at before
 opened_here at before text sign is = rw is refl
 
-pub at_second : (listing : Listing) (read : MmRead) (start : ℕ) (spot : Spot) → Shows (places.Second listing read start) spot → (P : Spot → Type 0) → ((points : List Point) (x : Number) → measured x.text ≡ Ok read → start ≡ x.start → P (second listing points x)) → P spot
+pub at_second : (listing : Listing) (read : MmRead) (start : ℕ) (spot : Spot)
+    → Shows (places.Second listing read start) spot → (P : Spot → Type 0)
+    → ((points : List Point) (x : Number) → measured x.text ≡ Ok read → start ≡ x.start → P (second listing points x))
+    → P spot
 at_second listing read start item shows P there = absurd shows
 at_second listing read start (content other) shows P there = absurd shows
 at_second listing read start (first other points) shows P there = absurd shows
-at_second listing read start (second other points x) shows P there = subst (λ y. P (second y points x)) shows.0 (there points x shows.1 shows.2)
+at_second listing read start (second other points x) shows P there =
+    subst (λ y. P (second y points x)) shows.0 (there points x shows.1 shows.2)
 at_second listing read start (whole other points) shows P there = absurd shows
 at_second listing read start (bare_second x) shows P there = absurd shows
 at_second listing read start bare_whole shows P there = absurd shows
 at_second listing read start behind shows P there = absurd shows
 
-pub at_bare_second : (read : MmRead) (start : ℕ) (spot : Spot) → Shows (places.BareSecond read start) spot → (P : Spot → Type 0) → ((x : Number) → measured x.text ≡ Ok read → start ≡ x.start → P (bare_second x)) → P spot
+pub at_bare_second : (read : MmRead) (start : ℕ) (spot : Spot) → Shows (places.BareSecond read start) spot
+    → (P : Spot → Type 0) → ((x : Number) → measured x.text ≡ Ok read → start ≡ x.start → P (bare_second x)) → P spot
 at_bare_second read start item shows P there = absurd shows
 at_bare_second read start (content other) shows P there = absurd shows
 at_bare_second read start (first other points) shows P there = absurd shows
@@ -63,7 +76,8 @@ at_bare_second read start bare_whole shows P there = absurd shows
 at_bare_second read start behind shows P there = absurd shows
 
 -- a tag is no bracket
-pub opened_tag : (stack : List Group) (paths : List Path) (t : Token) (s : State) (at before : ℕ) → tag_step stack paths t ≡ Some s → before ≡ opened_by t at before
+pub opened_tag : (stack : List Group) (paths : List Path) (t : Token) (s : State) (at before : ℕ)
+    → tag_step stack paths t ≡ Some s → before ≡ opened_by t at before
 opened_tag stack paths opening s at before e = cc
 opened_tag stack paths closing s at before e = refl
 opened_tag stack paths comma s at before e = refl
@@ -72,8 +86,10 @@ opened_tag stack paths (number n) s at before e = refl
 opened_tag stack paths stray s at before e = refl
 
 -- among dots a token that is no number that fits is as in front of a dot
-pub dots_enter : (exact : Bool) (stack : List Group) (paths : List Path) (at : ℕ) (text : List ℕ) (sign : Sign) → IsUnfit exact sign text
-    → enter_step (Points listings.Dot) stack paths (token_for at text sign) ≡ item_step exact groups.Dots stack paths (token_for at text sign)
+pub dots_enter : (exact : Bool) (stack : List Group) (paths : List Path) (at : ℕ) (text : List ℕ) (sign : Sign)
+    → IsUnfit exact sign text
+    → enter_step (Points listings.Dot) stack paths (token_for at text sign)
+    ≡ item_step exact groups.Dots stack paths (token_for at text sign)
 dots_enter exact stack paths at text signs.Number unfit = rw (unfit refl) refl
 dots_enter exact stack paths at text signs.Opening unfit = refl
 dots_enter exact stack paths at text signs.Closing unfit = refl
@@ -82,45 +98,59 @@ dots_enter exact stack paths at text (signs.Word w) unfit = refl
 dots_enter exact stack paths at text signs.Stray unfit = refl
 
 -- a number that fits leads on
-pub number_goes : (exact : Bool) (make : Number → State) (at : ℕ) (text : List ℕ) (sign : Sign) (read : MmRead) → IsFit exact sign text read
+pub number_goes : (exact : Bool) (make : Number → State) (at : ℕ) (text : List ℕ) (sign : Sign) (read : MmRead)
+    → IsFit exact sign text read
     → number_step exact make (token_for at text sign) ≡ Some (make (record { start = at; text = text }))
 number_goes exact make at text sign read fit = rw (fit.is, fit.fits) refl
 
-pub opened_number : (exact : Bool) (at before : ℕ) (text : List ℕ) (sign : Sign) (read : MmRead) → IsFit exact sign text read → before ≡ opened_by (token_for at text sign) at before
+pub opened_number : (exact : Bool) (at before : ℕ) (text : List ℕ) (sign : Sign) (read : MmRead)
+    → IsFit exact sign text read → before ≡ opened_by (token_for at text sign) at before
 opened_number exact at before text sign read fit = rw (fit.is) refl
 
-pub dot_number : (exact : Bool) (stack : List Group) (paths : List Path) (at : ℕ) (text : List ℕ) (sign : Sign) (read : MmRead) → IsFit exact sign text read
-    → item_step exact groups.Dots stack paths (token_for at text sign) ≡ Some (state (bare_second (record { start = at; text = text })) stack paths)
+pub dot_number : (exact : Bool) (stack : List Group) (paths : List Path) (at : ℕ) (text : List ℕ) (sign : Sign)
+    (read : MmRead) → IsFit exact sign text read
+    → item_step exact groups.Dots stack paths (token_for at text sign)
+    ≡ Some (state (bare_second (record { start = at; text = text })) stack paths)
 dot_number exact stack paths at text sign read fit = rw (fit.is, fit.fits) refl
 
 -- behind points and items
-pub comma_goes : (listing : Listing) (points : List Point) (stack : List Group) (paths : List Path) (at : ℕ) (text : List ℕ) (sign : Sign) (other : Listing) → sign ≡ signs.Comma
-    → listing ≡ other → (other ≡ listings.Dot → ⊥) → whole_step listing points stack paths (token_for at text sign) ≡ Some (state (first other points) stack paths)
+pub comma_goes : (listing : Listing) (points : List Point) (stack : List Group) (paths : List Path) (at : ℕ)
+    (text : List ℕ) (sign : Sign) (other : Listing) → sign ≡ signs.Comma
+    → listing ≡ other → (other ≡ listings.Dot → ⊥)
+    → whole_step listing points stack paths (token_for at text sign) ≡ Some (state (first other points) stack paths)
 comma_goes listing points stack paths at text sign listings.Dot is same no_dot = absurd (no_dot refl)
 comma_goes listing points stack paths at text sign listings.List is same no_dot = rw (is, same) refl
 comma_goes listing points stack paths at text sign listings.Ring is same no_dot = rw (is, same) refl
 
-pub opened_comma : (at before : ℕ) (text : List ℕ) (sign : Sign) → sign ≡ signs.Comma → before ≡ opened_by (token_for at text sign) at before
+pub opened_comma : (at before : ℕ) (text : List ℕ) (sign : Sign) → sign ≡ signs.Comma
+    → before ≡ opened_by (token_for at text sign) at before
 opened_comma at before text sign is = rw is refl
 
-pub opened_closing : (at before : ℕ) (text : List ℕ) (sign : Sign) → sign ≡ signs.Closing → before ≡ opened_by (token_for at text sign) at before
+pub opened_closing : (at before : ℕ) (text : List ℕ) (sign : Sign) → sign ≡ signs.Closing
+    → before ≡ opened_by (token_for at text sign) at before
 opened_closing at before text sign is = rw is refl
 
 whole_closes : (listing : Listing) (points : List Point) (stack : List Group) (paths : List Path)
-    → whole_step listing points stack paths closing ≡ (if may_end listing points then Some (state behind stack (paths ++ path_of (kind_of listing) points)) else None)
+    → whole_step listing points stack paths closing
+    ≡ (if may_end listing points then Some (state behind stack (paths ++ path_of (kind_of listing) points)) else None)
 whole_closes listings.Dot points stack paths = refl
 whole_closes listings.List points stack paths = refl
 whole_closes listings.Ring points stack paths = refl
 
-pub closing_goes : (listing : Listing) (points : List Point) (stack : List Group) (paths : List Path) (at : ℕ) (text : List ℕ) (sign : Sign) → sign ≡ signs.Closing
-    → may_end listing points ≡ true → whole_step listing points stack paths (token_for at text sign) ≡ Some (state behind stack (paths ++ path_of (kind_of listing) points))
-closing_goes listing points stack paths at text sign is may = rw (is) (whole_closes listing points stack paths ∙ (rw may refl))
+pub closing_goes : (listing : Listing) (points : List Point) (stack : List Group) (paths : List Path) (at : ℕ)
+    (text : List ℕ) (sign : Sign) → sign ≡ signs.Closing
+    → may_end listing points ≡ true → whole_step listing points stack paths (token_for at text sign)
+    ≡ Some (state behind stack (paths ++ path_of (kind_of listing) points))
+closing_goes listing points stack paths at text sign is may =
+    rw (is) (whole_closes listing points stack paths ∙ (rw may refl))
 
-pub item_goes : (group : Group) (outer stack : List Group) (paths : List Path) (at : ℕ) (text : List ℕ) (sign : Sign) → sign ≡ signs.Comma → stack ≡ group ∷ outer
+pub item_goes : (group : Group) (outer stack : List Group) (paths : List Path) (at : ℕ) (text : List ℕ) (sign : Sign)
+    → sign ≡ signs.Comma → stack ≡ group ∷ outer
     → behind_step stack paths (token_for at text sign) ≡ Some (state item stack paths)
 item_goes group outer stack paths at text sign is some = rw (is, some) refl
 
-pub close_goes : (group : Group) (outer stack : List Group) (paths : List Path) (at : ℕ) (text : List ℕ) (sign : Sign) → sign ≡ signs.Closing → stack ≡ group ∷ outer
+pub close_goes : (group : Group) (outer stack : List Group) (paths : List Path) (at : ℕ) (text : List ℕ) (sign : Sign)
+    → sign ≡ signs.Closing → stack ≡ group ∷ outer
     → behind_step stack paths (token_for at text sign) ≡ Some (state behind outer paths)
 close_goes group outer stack paths at text sign is some = rw (is, some) refl
 

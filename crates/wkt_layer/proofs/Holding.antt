@@ -1,5 +1,6 @@
 -- The sheet so far, one point or one path further on.
-use Rattle.std.proofs.Common.{◌≡◌, ℕ, suc, ◌+◌, ◌==◌, Bool, true, false, List, [], ◌∷◌, ◌++◌, length, refl, sym, ap, ◌∙◌, subst, append_assoc, append-nil, arith, length-append}
+use Rattle.std.proofs.Common.{◌≡◌, ℕ, suc, ◌+◌, ◌==◌, Bool, true, false, List, [], ◌∷◌, ◌++◌, length, refl, sym, ap}
+use Rattle.std.proofs.Common.{◌∙◌, subst, append_assoc, append-nil, arith, length-append}
 use Rattle.std.specs.Prelude.{flat_map, map, sum_by, if◌then◌else◌, Ok}
 use Rattle.std.proofs.lemmas.Grind.{flat_map-append}
 use Rattle.std.proofs.lemmas.List.{map-append}
@@ -14,7 +15,8 @@ use Rattle.sheet_base.specs.declared.paths.PathRow.{PathRow}
 use Rattle.sheet_base.specs.declared.edits.Edit.{Edit}
 use Rattle.wkt_layer.specs.Numbers.{Point, place_of, lost_in, lost_of, mm_in}
 use Rattle.wkt_layer.specs.Geometries.{last_behind}
-use Rattle.wkt_layer.specs.Paths.{Path, kept_of, kept_points, points_before_last, lost_on, rows_from, edits_from, edit_of, text_for}
+use Rattle.wkt_layer.specs.Paths.{Path, kept_of, kept_points, points_before_last, lost_on, rows_from, edits_from}
+use Rattle.wkt_layer.specs.Paths.{edit_of, text_for}
 use Rattle.wkt_layer.specs.Passes.{Held, AreFrom}
 use Rattle.wkt_layer.specs.declared.pass.Pass.{Pass}
 use Rattle.wkt_layer.proofs.Rings.{length_places}
@@ -24,27 +26,34 @@ abbrev pub row_at : Path → ℕ → PathRow
 row_at path first = record { kind = path.kind; first = first; past = first + length (kept_points path) }
 
 -- rows and edits of one path more
-pub rows_push : (first : ℕ) (done : List Path) (path : Path) → rows_from first (done ++ path ∷ []) ≡ rows_from first done ++ row_at path (first + length (flat_map kept_points done)) ∷ []
+pub rows_push : (first : ℕ) (done : List Path) (path : Path)
+    → rows_from first (done ++ path ∷ []) ≡ rows_from first done
+    ++ row_at path (first + length (flat_map kept_points done)) ∷ []
 rows_push first [] path = let e : first ≡ first + 0 = omega arith in ap (λ n. row_at path n ∷ []) e
 rows_push first (one ∷ done) path =
     let next : ℕ = first + length (kept_points one) in
-    let e : first + length (kept_points one) + length (flat_map kept_points done) ≡ first + length (kept_points one ++ flat_map kept_points done) =
+    let e : first + length (kept_points one) + length (flat_map kept_points done) ≡ first
+    + length (kept_points one ++ flat_map kept_points done) =
     omega (arith, length-append (kept_points one) (flat_map kept_points done)) in
     ap (λ rows. row_at one first ∷ rows)
-    (rows_push (first + length (kept_points one)) done path ∙ ap (λ n. rows_from (first + length (kept_points one)) done ++ row_at path n ∷ []) e)
+    (rows_push (first + length (kept_points one)) done path
+    ∙ ap (λ n. rows_from (first + length (kept_points one)) done ++ row_at path n ∷ []) e)
 
-pub edits_push : (number : ℕ) (done : List Path) (path : Path) → edits_from number (done ++ path ∷ []) ≡ edits_from number done ++ edit_of (number + length done) path ∷ []
+pub edits_push : (number : ℕ) (done : List Path) (path : Path)
+    → edits_from number (done ++ path ∷ []) ≡ edits_from number done ++ edit_of (number + length done) path ∷ []
 edits_push number [] path = let e : number ≡ number + 0 = omega arith in ap (λ n. edit_of n path ∷ []) e
 edits_push number (one ∷ done) path =
     let e : number + 1 + length done ≡ number + length (one ∷ done) = omega arith in
-    ap (λ edits. edit_of number one ∷ edits) (edits_push (number + 1) done path ∙ ap (λ n. edits_from (number + 1) done ++ edit_of n path ∷ []) e)
+    ap (λ edits. edit_of number one ∷ edits) (edits_push (number + 1) done path
+    ∙ ap (λ n. edits_from (number + 1) done ++ edit_of n path ∷ []) e)
 
 pub rows_length : (first : ℕ) (done : List Path) → length (rows_from first done) ≡ length done
 rows_length first [] = refl
 rows_length first (one ∷ done) = let e = rows_length (first + length (kept_points one)) done in ap suc e
 
 -- the points of a path without its last one, and that one
-pub split_last : (one : Point) (more : List Point) → one ∷ more ≡ points_before_last one more ++ last_behind one more ∷ []
+pub split_last : (one : Point) (more : List Point)
+    → one ∷ more ≡ points_before_last one more ++ last_behind one more ∷ []
 split_last one [] = refl
 split_last one (next ∷ more) = ap (λ x. one ∷ x) (split_last next more)
 
@@ -52,8 +61,10 @@ last_push : (one : Point) (more : List Point) (p : Point) → last_behind one (m
 last_push one [] p = refl
 last_push one (next ∷ more) p = last_push next more p
 
-from_push : (now : List Point) (p : Point) (start end old_start old_end : ℕ) → AreFrom now old_start old_end → start ≡ p.x.start → end ≡ p.y.start + length p.y.text
-    → (first : Bool) → (now ≡ [] → first ≡ true) → ((now ≡ [] → ⊥) → first ≡ false) → AreFrom (now ++ p ∷ []) (if first then start else old_start) end
+from_push : (now : List Point) (p : Point) (start end old_start old_end : ℕ) → AreFrom now old_start old_end
+    → start ≡ p.x.start → end ≡ p.y.start + length p.y.text
+    → (first : Bool) → (now ≡ [] → first ≡ true) → ((now ≡ [] → ⊥) → first ≡ false)
+    → AreFrom (now ++ p ∷ []) (if first then start else old_start) end
 from_push [] p start end old_start old_end from at_start at_end first none some = rw (none refl) (at_start, at_end)
 from_push (one ∷ now) p start end old_start old_end from at_start at_end first none some =
     rw (some (λ e. cc)) (from.0, at_end ∙ sym (ap (λ (q : Point). q.y.start + length q.y.text) (last_push one now p)))
@@ -68,20 +79,28 @@ some_first size first (one ∷ now) sum some = ne_eqb size first (λ e. absurd (
 
 -- one point more
 pub held_add : (old new : Pass) (x y : MmRead) (start end : ℕ)
-    → new.paths.items ≡ old.paths.items → new.points.items ≡ old.points.items ++ record { x = x.mm; y = y.mm } ∷ [] → new.edits.items ≡ old.edits.items
+    → new.paths.items ≡ old.paths.items → new.points.items ≡ old.points.items ++ record { x = x.mm; y = y.mm } ∷ []
+    → new.edits.items ≡ old.edits.items
     → new.inexact ≡ old.inexact + (lost_in (Ok x) + lost_in (Ok y)) → new.first ≡ old.first
     → new.start ≡ (if length old.points.items == old.first then start else old.start) → new.end ≡ end
-    → (done : List Path) (now : List Point) (p : Point) → Held old done now → measured p.x.text ≡ Ok x → measured p.y.text ≡ Ok y → start ≡ p.x.start → end ≡ p.y.start + length p.y.text
+    → (done : List Path) (now : List Point) (p : Point) → Held old done now → measured p.x.text ≡ Ok x
+    → measured p.y.text ≡ Ok y → start ≡ p.x.start → end ≡ p.y.start + length p.y.text
     → Held new done (now ++ p ∷ [])
 held_add old new x y start end paths points edits inexact first starts ends done now p held is_x is_y at_start at_end =
     let size : length old.points.items ≡ old.first + length now =
-    ap length held.points ∙ length-append (flat_map kept_points done) (map place_of now) ∙ (let e = held.first in let m = length_places now in omega (arith, e, m)) in
-    let place : place_of p ≡ record { x = x.mm; y = y.mm } = ap (λ a. let q : Pt = record { x = mm_in a; y = mm_in (measured p.y.text) } in q) is_x
+    ap length held.points ∙ length-append (flat_map kept_points done) (map place_of now)
+    ∙ (let e = held.first in let m = length_places now in omega (arith, e, m)) in
+    let place : place_of p ≡ record { x = x.mm; y = y.mm } =
+    ap (λ a. let q : Pt = record { x = mm_in a; y = mm_in (measured p.y.text) } in q) is_x
     ∙ ap (λ b. let q : Pt = record { x = x.mm; y = mm_in b } in q) is_y in
-    let lost : lost_of p ≡ lost_in (Ok x) + lost_in (Ok y) = ap (λ a. lost_in a + lost_in (measured p.y.text)) is_x ∙ ap (λ b. lost_in (Ok x) + lost_in b) is_y in
-    let sum : sum_by lost_of (now ++ p ∷ []) ≡ sum_by lost_of now + lost_of p = sum_by-append lost_of now (p ∷ []) ∙ (let e : sum_by lost_of (p ∷ []) ≡ lost_of p = omega arith in ap (λ n. sum_by lost_of now + n) e) in
-    let from = from_push now p start end old.start old.end held.ends at_start at_end (length old.points.items == old.first)
-    (none_first (length old.points.items) old.first now size) (some_first (length old.points.items) old.first now size) in
+    let lost : lost_of p ≡ lost_in (Ok x) + lost_in (Ok y) = ap (λ a. lost_in a + lost_in (measured p.y.text)) is_x
+    ∙ ap (λ b. lost_in (Ok x) + lost_in b) is_y in
+    let sum : sum_by lost_of (now ++ p ∷ []) ≡ sum_by lost_of now + lost_of p = sum_by-append lost_of now (p ∷ [])
+    ∙ (let e : sum_by lost_of (p ∷ []) ≡ lost_of p = omega arith in ap (λ n. sum_by lost_of now + n) e) in
+    let from = from_push now p start end old.start old.end held.ends at_start at_end
+    (length old.points.items == old.first)
+    (none_first (length old.points.items) old.first now size)
+    (some_first (length old.points.items) old.first now size) in
     record {
       paths = paths ∙ held.paths;
       points = points ∙ ap (λ items. items ++ record { x = x.mm; y = y.mm } ∷ []) held.points
@@ -91,12 +110,15 @@ held_add old new x y start end paths points edits inexact first starts ends done
       edits = edits ∙ held.edits;
       inexact = omega (arith, inexact, held.inexact, sum, lost);
       first = first ∙ held.first;
-      ends = subst (λ e. AreFrom (now ++ p ∷ []) new.start e) (sym ends) (subst (λ b. AreFrom (now ++ p ∷ []) b end) (sym starts) from);
+      ends = subst (λ e. AreFrom (now ++ p ∷ []) new.start e) (sym ends)
+          (subst (λ b. AreFrom (now ++ p ∷ []) b end) (sym starts) from);
     }
 
 -- the points of a whole path are kept
-kept : (kind : PathKind) (one : Point) (more : List Point) (front old new : List Pt) → old ≡ front ++ map place_of (one ∷ more)
-    → (kind ≡ Loop → (ahead : List Pt) → (last : Pt) → old ≡ ahead ++ last ∷ [] → new ≡ ahead) → ((kind ≡ Loop → ⊥) → new ≡ old)
+kept : (kind : PathKind) (one : Point) (more : List Point) (front old new : List Pt)
+    → old ≡ front ++ map place_of (one ∷ more)
+    → (kind ≡ Loop → (ahead : List Pt) → (last : Pt) → old ≡ ahead ++ last ∷ [] → new ≡ ahead)
+    → ((kind ≡ Loop → ⊥) → new ≡ old)
     → new ≡ front ++ map place_of (kept_of kind one more)
 kept Dot one more front old new split closing others = others (λ e. cc) ∙ split
 kept Line one more front old new split closing others = others (λ e. cc) ∙ split
@@ -108,37 +130,67 @@ kept Loop one more front old new split closing others =
 
 -- one path more
 pub held_end : (old new : Pass) (kind : PathKind)
-    → (rows : PathRow) → (edit : Edit) → rows ≡ record { kind = kind; first = old.first; past = length new.points.items }
+    → (rows : PathRow) → (edit : Edit) → rows
+    ≡ record { kind = kind; first = old.first; past = length new.points.items }
     → edit ≡ record { start = old.start; end = old.end; what = text_for kind (length old.paths.items) }
     → new.paths.items ≡ old.paths.items ++ rows ∷ [] → new.edits.items ≡ old.edits.items ++ edit ∷ []
     → (kind ≡ Loop → (front : List Pt) → (last : Pt) → old.points.items ≡ front ++ last ∷ [] → new.points.items ≡ front)
     → ((kind ≡ Loop → ⊥) → new.points.items ≡ old.points.items)
     → new.inexact ≡ old.inexact → new.first ≡ length new.points.items
-    → (done : List Path) (one : Point) (more : List Point) → Held old done (one ∷ more) → Held new (done ++ record { kind = kind; first = one; more = more } ∷ []) []
+    → (done : List Path) (one : Point) (more : List Point) → Held old done (one ∷ more)
+    → Held new (done ++ record { kind = kind; first = one; more = more } ∷ []) []
 held_end old new kind rows edit is_row is_edit paths edits closing others inexact first done one more held =
     let path : Path = record { kind = kind; first = one; more = more } in
     let points : new.points.items ≡ flat_map kept_points done ++ map place_of (kept_of kind one more) =
     kept kind one more (flat_map kept_points done) old.points.items new.points.items held.points closing others in
-    let whole : flat_map kept_points (done ++ record { kind = kind; first = one; more = more } ∷ []) ≡ flat_map kept_points done ++ map place_of (kept_of kind one more) =
-    flat_map-append kept_points done (record { kind = kind; first = one; more = more } ∷ []) ∙ ap (λ ps. flat_map kept_points done ++ ps) (append-nil (map place_of (kept_of kind one more))) in
-    let size : length new.points.items ≡ length (flat_map kept_points done) + length (map place_of (kept_of kind one more)) =
+    let whole : flat_map kept_points (done ++ record { kind = kind; first = one; more = more } ∷ [])
+    ≡ flat_map kept_points done ++ map place_of (kept_of kind one more) =
+    flat_map-append kept_points done (record { kind = kind; first = one; more = more } ∷ [])
+    ∙ ap (λ ps. flat_map kept_points done ++ ps) (append-nil (map place_of (kept_of kind one more))) in
+    let size : length new.points.items ≡ length (flat_map kept_points done)
+    + length (map place_of (kept_of kind one more)) =
     ap length points ∙ length-append (flat_map kept_points done) (map place_of (kept_of kind one more)) in
     let count : length old.paths.items ≡ length done = ap length held.paths ∙ rows_length 0 done in
-    let row : rows ≡ row_at (record { kind = kind; first = one; more = more }) (0 + length (flat_map kept_points done)) =
-    is_row ∙ ap (λ n. let r : PathRow = record { kind = kind; first = n; past = length new.points.items } in r) (held.first ∙ (let e : length (flat_map kept_points done) ≡ 0 + length (flat_map kept_points done) = omega arith in e))
+    let row : rows ≡ row_at (record { kind = kind; first = one; more = more })
+    (0 + length (flat_map kept_points done)) =
+    is_row ∙ ap (λ n. let r : PathRow = record { kind = kind; first = n; past = length new.points.items } in r)
+    (held.first ∙ (let e : length (flat_map kept_points done) ≡ 0 + length (flat_map kept_points done) =
+    omega arith in e))
     ∙ ap (λ n. let r : PathRow = record { kind = kind; first = 0 + length (flat_map kept_points done); past = n } in r)
-    (size ∙ (let e : length (flat_map kept_points done) + length (map place_of (kept_of kind one more)) ≡ 0 + length (flat_map kept_points done) + length (map place_of (kept_of kind one more)) = omega arith in e)) in
+    (size ∙ (let e : length (flat_map kept_points done) + length (map place_of (kept_of kind one more)) ≡ 0
+    + length (flat_map kept_points done) + length (map place_of (kept_of kind one more)) = omega arith in e)) in
     let change : edit ≡ edit_of (0 + length done) (record { kind = kind; first = one; more = more }) =
-    is_edit ∙ ap (λ n. let r : Edit = record { start = n; end = old.end; what = text_for kind (length old.paths.items) } in r) held.ends.0
-    ∙ ap (λ n. let r : Edit = record { start = one.x.start; end = n; what = text_for kind (length old.paths.items) } in r) held.ends.1
-    ∙ ap (λ n. let r : Edit = record { start = one.x.start; end = (last_behind one more).y.start + length (last_behind one more).y.text; what = text_for kind n } in r)
+    is_edit ∙ ap (λ n. let r : Edit = record {
+      start = n;
+      end = old.end;
+      what =
+          text_for kind (length old.paths.items);
+    } in r) held.ends.0
+    ∙ ap (λ n. let r : Edit = record {
+      start = one.x.start;
+      end = n;
+      what =
+          text_for kind (length old.paths.items);
+    } in r) held.ends.1
+    ∙ ap (λ n. let r : Edit = record {
+      start = one.x.start;
+      end =
+          (last_behind one more).y.start + length (last_behind one more).y.text;
+      what = text_for kind n;
+    } in r)
     (count ∙ (let e : length done ≡ 0 + length done = omega arith in e)) in
-    let lost : sum_by lost_on (done ++ record { kind = kind; first = one; more = more } ∷ []) ≡ sum_by lost_on done + sum_by lost_of (one ∷ more) =
-    sum_by-append lost_on done (record { kind = kind; first = one; more = more } ∷ []) ∙ (let e : sum_by lost_on (record { kind = kind; first = one; more = more } ∷ []) ≡ sum_by lost_of (one ∷ more) = omega arith in ap (λ n. sum_by lost_on done + n) e) in
+    let lost : sum_by lost_on (done ++ record { kind = kind; first = one; more = more } ∷ []) ≡ sum_by lost_on done
+    + sum_by lost_of (one ∷ more) =
+    sum_by-append lost_on done (record { kind = kind; first = one; more = more } ∷ [])
+    ∙ (let e : sum_by lost_on (record { kind = kind; first = one; more = more } ∷ [])
+    ≡ sum_by lost_of (one ∷ more) = omega arith in ap (λ n. sum_by lost_on done + n) e) in
     record {
-      paths = paths ∙ ap (λ items. items ++ rows ∷ []) held.paths ∙ ap (λ r. rows_from 0 done ++ r ∷ []) row ∙ sym (rows_push 0 done (record { kind = kind; first = one; more = more }));
-      points = points ∙ sym whole ∙ sym (append-nil (flat_map kept_points (done ++ record { kind = kind; first = one; more = more } ∷ [])));
-      edits = edits ∙ ap (λ items. items ++ edit ∷ []) held.edits ∙ ap (λ r. edits_from 0 done ++ r ∷ []) change ∙ sym (edits_push 0 done (record { kind = kind; first = one; more = more }));
+      paths = paths ∙ ap (λ items. items ++ rows ∷ []) held.paths ∙ ap (λ r. rows_from 0 done ++ r ∷ []) row
+          ∙ sym (rows_push 0 done (record { kind = kind; first = one; more = more }));
+      points = points ∙ sym whole ∙ sym (append-nil
+          (flat_map kept_points (done ++ record { kind = kind; first = one; more = more } ∷ [])));
+      edits = edits ∙ ap (λ items. items ++ edit ∷ []) held.edits ∙ ap (λ r. edits_from 0 done ++ r ∷ []) change
+          ∙ sym (edits_push 0 done (record { kind = kind; first = one; more = more }));
       inexact = let e : sum_by lost_of [] ≡ 0 = refl in omega (arith, inexact, held.inexact, lost, e);
       first = first ∙ ap length (points ∙ sym whole);
       ends = tt;

@@ -1,5 +1,7 @@
 -- The texts of images are points, and are read as these images.
-use Rattle.std.proofs.Common.{◌≡◌, ℕ, zero, suc, ◌+◌, ◌/◌, ◌%◌, ◌^◌, ◌<◌, ◌≤◌, Bool, true, false, List, [], ◌∷◌, ◌++◌, length, refl, sym, ap, ◌∙◌, subst, append_assoc, append-nil, arith, length-append, decimal, ℤ, pos, negsuc}
+use Rattle.std.proofs.Common.{◌≡◌, ℕ, zero, suc, ◌+◌, ◌/◌, ◌%◌, ◌^◌, ◌<◌, ◌≤◌, Bool, true, false, List, [], ◌∷◌, ◌++◌}
+use Rattle.std.proofs.Common.{length, refl, sym, ap, ◌∙◌, subst, append_assoc, append-nil, arith, length-append}
+use Rattle.std.proofs.Common.{decimal, ℤ, pos, negsuc}
 use Rattle.std.specs.Prelude.{map, sum_by, unsigned_abs, Ok}
 use Rattle.std.specs.List.{list_all, AllByRecursion}
 use Rattle.std.specs.Char.{is_ascii_alphabetic}
@@ -35,13 +37,17 @@ digit_byte (suc (suc (suc (suc zero)))) small = record { letter = refl; blank = 
 digit_byte (suc (suc (suc (suc (suc zero))))) small = record { letter = refl; blank = refl; numeric = refl }
 digit_byte (suc (suc (suc (suc (suc (suc zero)))))) small = record { letter = refl; blank = refl; numeric = refl }
 digit_byte (suc (suc (suc (suc (suc (suc (suc zero))))))) small = record { letter = refl; blank = refl; numeric = refl }
-digit_byte (suc (suc (suc (suc (suc (suc (suc (suc zero)))))))) small = record { letter = refl; blank = refl; numeric = refl }
-digit_byte (suc (suc (suc (suc (suc (suc (suc (suc (suc zero))))))))) small = record { letter = refl; blank = refl; numeric = refl }
+digit_byte (suc (suc (suc (suc (suc (suc (suc (suc zero)))))))) small =
+    record { letter = refl; blank = refl; numeric = refl }
+digit_byte (suc (suc (suc (suc (suc (suc (suc (suc (suc zero))))))))) small =
+    record { letter = refl; blank = refl; numeric = refl }
 digit_byte (suc (suc (suc (suc (suc (suc (suc (suc (suc (suc n)))))))))) small = absurd (omega (arith, small))
 
-pub all_append : (xs ys : List ℕ) → list_all is_numeric xs ≡ true → list_all is_numeric ys ≡ true → list_all is_numeric (xs ++ ys) ≡ true
+pub all_append : (xs ys : List ℕ) → list_all is_numeric xs ≡ true → list_all is_numeric ys ≡ true
+    → list_all is_numeric (xs ++ ys) ≡ true
 all_append [] ys a b = b
-all_append (x ∷ xs) ys a b = let parts = and_parts (is_numeric x) (list_all is_numeric xs) a in rw parts.0 (all_append xs ys parts.1 b)
+all_append (x ∷ xs) ys a b = let parts = and_parts (is_numeric x) (list_all is_numeric xs) a in rw parts.0
+    (all_append xs ys parts.1 b)
 
 -- a digit or a minus before number's bytes
 pub record IsNumberText (text : List ℕ) : Type 0 where
@@ -57,7 +63,15 @@ digit_numeric n = let d = digit_byte (n % 10) (omega arith) in rw d.numeric refl
 
 decimal_number : (n : ℕ) → n < 2 ^ 64 → IsNumberText (decimal n)
 decimal_number = decimal_by_steps (λ n digits. IsNumberText digits)
-    (λ n small. let d = digit_byte n small in record { byte = 48 + n; more = []; is = refl; letter = d.letter; blank = d.blank; numeric = rw d.numeric refl })
+    (λ n small. let d = digit_byte n small in record {
+      byte = 48 + n;
+      more = [];
+      is = refl;
+      letter = d.letter;
+      blank =
+          d.blank;
+      numeric = rw d.numeric refl;
+    })
     (λ n digits large h. record {
       byte = h.byte;
       more = h.more ++ digit_text n;
@@ -78,7 +92,8 @@ metres_number size small =
       letter = h.letter;
       blank = h.blank;
       numeric = all_append (decimal (size / 1000)) back h.numeric
-          (all_append (digit_text (size / 100)) (digit_text (size / 10) ++ digit_text size) (digit_numeric (size / 100)) (all_append (digit_text (size / 10)) (digit_text size) (digit_numeric (size / 10)) (digit_numeric size)));
+          (all_append (digit_text (size / 100)) (digit_text (size / 10) ++ digit_text size) (digit_numeric (size / 100))
+          (all_append (digit_text (size / 10)) (digit_text size) (digit_numeric (size / 10)) (digit_numeric size)));
     }
 
 pub written_number : (mm : ℤ) → unsigned_abs mm ≤ LIMIT → IsNumberText (written mm)
@@ -88,24 +103,35 @@ written_number (negsuc size) within =
     record { byte = 45; more = metres_text (suc size); is = refl; letter = refl; blank = refl; numeric = h.numeric }
 
 -- ---- it is read as its millimetres
-measured_written : (mm : ℤ) → unsigned_abs mm ≤ LIMIT → (let read : MmRead = record { mm = mm; exact = true } in measured (written mm) ≡ Ok read)
-measured_written mm within = sym (answer_is_measured (written mm) (Ok (record { mm = mm; exact = true })) (written_reads mm within))
+measured_written : (mm : ℤ) → unsigned_abs mm ≤ LIMIT
+    → (let read : MmRead = record { mm = mm; exact = true } in measured (written mm) ≡ Ok read)
+measured_written mm within = sym (answer_is_measured (written mm) (Ok (record { mm = mm; exact = true }))
+    (written_reads mm within))
 
 abbrev pub number_at : ℕ → ℤ → Number
 number_at at mm = record { start = at; text = written mm }
 
-number_lexed : (at : ℕ) (mm : ℤ) (behind : List ℕ) → unsigned_abs mm ≤ LIMIT → Stops is_numeric behind → lexed at (written mm ++ behind) ≡ number (number_at at mm) ∷ lexed (at + length (written mm)) behind
+number_lexed : (at : ℕ) (mm : ℤ) (behind : List ℕ) → unsigned_abs mm ≤ LIMIT → Stops is_numeric behind
+    → lexed at (written mm ++ behind) ≡ number (number_at at mm) ∷ lexed (at + length (written mm)) behind
 number_lexed at mm behind within stops = go (written mm) (written_number mm within)
   where
-    go : (text : List ℕ) → IsNumberText text → (let n : Number = record { start = at; text = text } in lexed at (text ++ behind) ≡ number n ∷ lexed (at + length text) behind)
-    go text h = subst (λ t. let n : Number = record { start = at; text = t } in lexed at (t ++ behind) ≡ number n ∷ lexed (at + length t) behind) (sym h.is) (at_once h)
+    go : (text : List ℕ) → IsNumberText text → (let n : Number =
+        record { start = at; text = text } in lexed at (text ++ behind) ≡ number n ∷ lexed (at + length text) behind)
+    go text h = subst (λ t. let n : Number = record { start = at; text = t } in lexed at (t ++ behind) ≡ number n
+        ∷ lexed (at + length t) behind) (sym h.is) (at_once h)
       where
-        at_once : (h : IsNumberText text) → (let n : Number = record { start = at; text = h.byte ∷ h.more } in lexed at ((h.byte ∷ h.more) ++ behind) ≡ number n ∷ lexed (at + length (h.byte ∷ h.more)) behind)
+        at_once : (h : IsNumberText text) → (let n : Number =
+            record { start = at; text = h.byte ∷ h.more } in lexed at ((h.byte ∷ h.more) ++ behind) ≡ number n
+            ∷ lexed (at + length (h.byte ∷ h.more)) behind)
         at_once h =
-            let all : list_all is_numeric (h.byte ∷ h.more) ≡ true = subst (λ t. list_all is_numeric t ≡ true) h.is h.numeric in
+            let all : list_all is_numeric (h.byte ∷ h.more) ≡ true =
+            subst (λ t. list_all is_numeric t ≡ true) h.is h.numeric in
             let first = and_parts (is_numeric h.byte) (list_all is_numeric h.more) all in
-            token_lexed at h.byte h.more behind h.blank (number_length h.byte (h.more ++ behind) h.letter first.0 ∙ passes_front is_numeric (h.byte ∷ h.more) behind all stops)
-            ∙ ap (λ t. t ∷ lexed (at + length (h.byte ∷ h.more)) behind) (number_case at h.byte (h.byte ∷ h.more) h.letter first.0)
+            token_lexed at h.byte h.more behind h.blank
+            (number_length h.byte (h.more ++ behind) h.letter first.0
+            ∙ passes_front is_numeric (h.byte ∷ h.more) behind all stops)
+            ∙ ap (λ t. t ∷ lexed (at + length (h.byte ∷ h.more)) behind)
+            (number_case at h.byte (h.byte ∷ h.more) h.letter first.0)
 
 -- ---- points
 abbrev pub new_point : ℕ → Pt → Point
@@ -123,48 +149,64 @@ comma_lexed : (at : ℕ) (behind : List ℕ) → lexed at (44 ∷ behind) ≡ co
 comma_lexed at behind = token_lexed at 44 [] behind refl refl
 
 point_lexed : (at : ℕ) (image : Pt) (behind : List ℕ) → IsWithinReach image → Stops is_numeric behind
-    → lexed at (image_text image ++ behind) ≡ number (new_point at image).x ∷ number (new_point at image).y ∷ lexed (at + length (image_text image)) behind
+    → lexed at (image_text image ++ behind) ≡ number (new_point at image).x ∷ number (new_point at image).y
+    ∷ lexed (at + length (image_text image)) behind
 point_lexed at image behind within stops =
     let wx = written image.x in
     let wy = written image.y in
-    let size : at + length wx + 1 + length wy ≡ at + length (image_text image) = let e = length-append wx (32 ∷ wy) in omega (arith, e) in
+    let size : at + length wx + 1 + length wy ≡ at + length (image_text image) = let e =
+    length-append wx (32 ∷ wy) in omega (arith, e) in
     ap (lexed at) (append_assoc wx (32 ∷ wy) behind) ∙ number_lexed at image.x (32 ∷ (wy ++ behind)) within.0 refl
     ∙ ap (λ ts. number (number_at at image.x) ∷ ts)
-    (space_lexed (at + length wx) (wy ++ behind) ∙ number_lexed (at + length wx + 1) image.y behind within.1 stops ∙ ap (λ n. number (number_at (at + length wx + 1) image.y) ∷ lexed n behind) size)
+    (space_lexed (at + length wx) (wy ++ behind) ∙ number_lexed (at + length wx + 1) image.y behind within.1 stops
+    ∙ ap (λ n. number (number_at (at + length wx + 1) image.y) ∷ lexed n behind) size)
 
-pub points_lexed : (at : ℕ) (image : Pt) (images : List Pt) (behind : List ℕ) → AllByRecursion IsWithinReach (image ∷ images) → Stops is_numeric behind
+pub points_lexed : (at : ℕ) (image : Pt) (images : List Pt) (behind : List ℕ)
+    → AllByRecursion IsWithinReach (image ∷ images) → Stops is_numeric behind
     → lexed at (list_text (image ∷ images) ++ behind)
-    ≡ joined_points (new_point at image) (new_points (at + length (image_text image)) images) ++ lexed (at + length (list_text (image ∷ images))) behind
+    ≡ joined_points (new_point at image) (new_points (at + length (image_text image)) images)
+    ++ lexed (at + length (list_text (image ∷ images))) behind
 points_lexed at image [] behind within stops =
     let nil : image_text image ++ [] ≡ image_text image = append-nil (image_text image) in
     ap (λ text. lexed at (text ++ behind)) nil ∙ point_lexed at image behind within.0 stops
-    ∙ ap (λ text. number (new_point at image).x ∷ number (new_point at image).y ∷ lexed (at + length text) behind) (sym nil)
+    ∙ ap (λ text. number (new_point at image).x ∷ number (new_point at image).y ∷ lexed (at + length text) behind)
+    (sym nil)
 points_lexed at image (next ∷ images) behind within stops =
     let first = image_text image in
     let later = list_text (next ∷ images) in
-    let all : list_text (image ∷ next ∷ images) ++ behind ≡ first ++ 44 ∷ 32 ∷ (later ++ behind) = append_assoc first (44 ∷ 32 ∷ later) behind in
+    let all : list_text (image ∷ next ∷ images) ++ behind ≡ first ++ 44 ∷ 32 ∷ (later ++ behind) =
+    append_assoc first (44 ∷ 32 ∷ later) behind in
     let place : at + length first + 1 + 1 ≡ at + length first + 2 = omega arith in
-    let size : at + length first + 2 + length later ≡ at + length (list_text (image ∷ next ∷ images)) = let e = length-append first (44 ∷ 32 ∷ later) in omega (arith, e) in
+    let size : at + length first + 2 + length later ≡ at + length (list_text (image ∷ next ∷ images)) = let e =
+    length-append first (44 ∷ 32 ∷ later) in omega (arith, e) in
     ap (lexed at) all ∙ point_lexed at image (44 ∷ 32 ∷ (later ++ behind)) within.0 refl
     ∙ ap (λ ts. number (new_point at image).x ∷ number (new_point at image).y ∷ ts)
     (comma_lexed (at + length first) (32 ∷ (later ++ behind))
     ∙ ap (λ ts. comma ∷ ts)
-    (space_lexed (at + length first + 1) (later ++ behind) ∙ ap (λ n. lexed n (later ++ behind)) place ∙ points_lexed (at + length first + 2) next images behind within.1 stops
-    ∙ ap (λ n. joined_points (new_point (at + length first + 2) next) (new_points (at + length first + 2 + length (image_text next)) images) ++ lexed n behind) size))
+    (space_lexed (at + length first + 1) (later ++ behind) ∙ ap (λ n. lexed n (later ++ behind)) place
+    ∙ points_lexed (at + length first + 2) next images behind within.1 stops
+    ∙ ap (λ n. joined_points (new_point (at + length first + 2) next)
+    (new_points (at + length first + 2 + length (image_text next)) images) ++ lexed n behind) size))
 
 -- ---- what is read of them
 pub new_place : (at : ℕ) (image : Pt) → IsWithinReach image → place_of (new_point at image) ≡ image
 new_place at image within =
-    ap (λ r. let p : Pt = record { x = mm_in r; y = mm_in (measured (written image.y)) } in p) (measured_written image.x within.0)
+    ap (λ r. let p : Pt = record { x = mm_in r; y = mm_in (measured (written image.y)) } in p)
+    (measured_written image.x within.0)
     ∙ ap (λ r. let p : Pt = record { x = image.x; y = mm_in r } in p) (measured_written image.y within.1)
 
-fits_always : (exact : Bool) (mm : ℤ) → (let read : MmRead = record { mm = mm; exact = true } in does_fit exact (Ok read) ≡ true)
+fits_always : (exact : Bool) (mm : ℤ) → (let read : MmRead =
+    record { mm = mm; exact = true } in does_fit exact (Ok read) ≡ true)
 fits_always true mm = refl
 fits_always false mm = refl
 
 pub new_is_point : (exact : Bool) (at : ℕ) (image : Pt) → IsWithinReach image → IsPoint exact (new_point at image)
-new_is_point exact at image within =
-    (ap (does_fit exact) (measured_written image.x within.0) ∙ fits_always exact image.x, ap (does_fit exact) (measured_written image.y within.1) ∙ fits_always exact image.y)
+new_is_point exact at image within = (
+  ap (does_fit exact) (measured_written image.x within.0)
+      ∙ fits_always exact image.x,
+  ap (does_fit exact) (measured_written image.y within.1)
+      ∙ fits_always exact image.y,
+)
 
 pub new_loses_none : (at : ℕ) (image : Pt) → IsWithinReach image → lost_of (new_point at image) ≡ 0
 new_loses_none at image within =
@@ -172,22 +214,31 @@ new_loses_none at image within =
     let y : lost_in (measured (written image.y)) ≡ 0 = ap lost_in (measured_written image.y within.1) in
     omega (arith, x, y)
 
-pub new_places : (at : ℕ) (images : List Pt) → AllByRecursion IsWithinReach images → map place_of (new_points at images) ≡ images
+pub new_places : (at : ℕ) (images : List Pt) → AllByRecursion IsWithinReach images
+    → map place_of (new_points at images) ≡ images
 new_places at [] within = refl
 new_places at (image ∷ images) within =
-    ap (λ p. p ∷ map place_of (new_points (at + 2 + length (image_text image)) images)) (new_place (at + 2) image within.0)
+    ap (λ p. p ∷ map place_of (new_points (at + 2 + length (image_text image)) images))
+    (new_place (at + 2) image within.0)
     ∙ ap (λ ps. image ∷ ps) (new_places (at + 2 + length (image_text image)) images within.1)
 
-pub new_are_points : (exact : Bool) (at : ℕ) (images : List Pt) → AllByRecursion IsWithinReach images → AllByRecursion (IsPoint exact) (new_points at images)
+pub new_are_points : (exact : Bool) (at : ℕ) (images : List Pt) → AllByRecursion IsWithinReach images
+    → AllByRecursion (IsPoint exact) (new_points at images)
 new_are_points exact at [] within = tt
-new_are_points exact at (image ∷ images) within = (new_is_point exact (at + 2) image within.0, new_are_points exact (at + 2 + length (image_text image)) images within.1)
+new_are_points exact at (image ∷ images) within = (
+  new_is_point exact (at + 2) image within.0,
+  new_are_points exact (at + 2 + length (image_text image)) images
+      within.1,
+)
 
-pub new_lose_none : (at : ℕ) (images : List Pt) → AllByRecursion IsWithinReach images → sum_by lost_of (new_points at images) ≡ 0
+pub new_lose_none : (at : ℕ) (images : List Pt) → AllByRecursion IsWithinReach images
+    → sum_by lost_of (new_points at images) ≡ 0
 new_lose_none at [] within = refl
 new_lose_none at (image ∷ images) within =
     let one = new_loses_none (at + 2) image within.0 in
     let others = new_lose_none (at + 2 + length (image_text image)) images within.1 in
-    sum_by-cons lost_of (new_point (at + 2) image) (new_points (at + 2 + length (image_text image)) images) ∙ omega (arith, one, others)
+    sum_by-cons lost_of (new_point (at + 2) image) (new_points (at + 2 + length (image_text image)) images)
+    ∙ omega (arith, one, others)
 
 pub new_count : (at : ℕ) (images : List Pt) → length (new_points at images) ≡ length images
 new_count at [] = refl

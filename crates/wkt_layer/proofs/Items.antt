@@ -3,7 +3,8 @@ use Rattle.std.proofs.Common.{◌≡◌, ℕ, ◌⊎◌, inl, inr, Bool, List, [
 use Rattle.wkt_layer.specs.Tokens.{opening, closing, comma, word}
 use Rattle.wkt_layer.specs.Numbers.{Point, IsPoint}
 use Rattle.wkt_layer.specs.Geometries.{no_geometry, geometry, ArePoints}
-use Rattle.wkt_layer.proofs.Rests.{ItemOf, ItemsOf, item_tokens, more_tokens, items_tokens, IsItem, AreItems, item_paths, items_paths, no_items, one_more, GoOn, IsContentOfPoints}
+use Rattle.wkt_layer.proofs.Rests.{ItemOf, ItemsOf, item_tokens, more_tokens, items_tokens, IsItem, AreItems}
+use Rattle.wkt_layer.proofs.Rests.{item_paths, items_paths, no_items, one_more, GoOn, IsContentOfPoints}
 use Rattle.wkt_layer.specs.declared.words.Word.TheVariants.{Empty}
 use Rattle.wkt_layer.specs.declared.places.Listing.{Listing}
 use Rattle.wkt_layer.specs.declared.places.Listing.TheVariants as listings
@@ -11,7 +12,8 @@ use Rattle.wkt_layer.specs.declared.places.Group.{Group}
 use Rattle.wkt_layer.specs.declared.places.Group.TheVariants as groups
 
 -- the first of items, unless there is none
-pub split_items : (group : Group) (items : ItemsOf group) → (items ≡ no_items group) ⊎ ((one : ItemOf group) × (more : ItemsOf group) × (items ≡ one_more group one more))
+pub split_items : (group : Group) (items : ItemsOf group)
+    → (items ≡ no_items group) ⊎ ((one : ItemOf group) × (more : ItemsOf group) × (items ≡ one_more group one more))
 split_items groups.Rings [] = inl refl
 split_items groups.Rings (one ∷ more) = inr (one, more, refl)
 split_items groups.Dots [] = inl refl
@@ -76,7 +78,8 @@ are_none exact depth groups.Polygons = tt
 are_none exact depth groups.Geometries = tt
 
 pub are_parts : (exact : Bool) (depth : ℕ) (group : Group) (one : ItemOf group) (more : ItemsOf group)
-    → AreItems exact depth group (one_more group one more) → IsItem exact depth group one × AreItems exact depth group more
+    → AreItems exact depth group (one_more group one more)
+    → IsItem exact depth group one × AreItems exact depth group more
 are_parts exact depth groups.Rings one more are = (are.0, are.1)
 are_parts exact depth groups.Dots one more are = (are.0, are.1)
 are_parts exact depth groups.Lists one more are = (are.0, are.1)
@@ -84,7 +87,8 @@ are_parts exact depth groups.Polygons one more are = (are.0, are.1)
 are_parts exact depth groups.Geometries one more are = (are.0, are.1)
 
 pub are_some : (exact : Bool) (depth : ℕ) (group : Group) (one : ItemOf group) (more : ItemsOf group)
-    → IsItem exact depth group one → AreItems exact depth group more → AreItems exact depth group (one_more group one more)
+    → IsItem exact depth group one → AreItems exact depth group more
+    → AreItems exact depth group (one_more group one more)
 are_some exact depth groups.Rings one more is are = (is, are)
 are_some exact depth groups.Dots one more is are = (is, are)
 are_some exact depth groups.Lists one more is are = (is, are)
@@ -112,12 +116,14 @@ no_points exact listings.List = tt
 no_points exact listings.Ring = (tt, tt)
 
 -- points go on in two steps
-pub on_next : (listing : Listing) (read : List Point) (p : Point) (more : List Point) → GoOn listing read (p ∷ more) → GoOn listing (read ++ p ∷ []) more
+pub on_next : (listing : Listing) (read : List Point) (p : Point) (more : List Point) → GoOn listing read (p ∷ more)
+    → GoOn listing (read ++ p ∷ []) more
 on_next listings.Dot read p more on = cc
 on_next listings.List read p more on = tt
 on_next listings.Ring read p more on = rw (append_assoc read (p ∷ []) more) on
 
-pub on_before : (listing : Listing) (read : List Point) (p : Point) (more : List Point) → (listing ≡ listings.Dot → ⊥) → GoOn listing (read ++ p ∷ []) more → GoOn listing read (p ∷ more)
+pub on_before : (listing : Listing) (read : List Point) (p : Point) (more : List Point) → (listing ≡ listings.Dot → ⊥)
+    → GoOn listing (read ++ p ∷ []) more → GoOn listing read (p ∷ more)
 on_before listings.Dot read p more no_dot on = absurd (no_dot refl)
 on_before listings.List read p more no_dot on = tt
 on_before listings.Ring read p more no_dot on = rw (append_assoc read (p ∷ []) more) at on

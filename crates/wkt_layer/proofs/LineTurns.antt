@@ -1,5 +1,6 @@
 -- How lines turn into those that are written.
-use Rattle.std.proofs.Common.{◌≡◌, ◌==◌, ℕ, zero, suc, ◌+◌, ◌-◌, Bool, true, false, List, [], ◌∷◌, ◌++◌, length, take, drop, refl, sym, ap, ◌∙◌, subst, append-nil, arith, All}
+use Rattle.std.proofs.Common.{◌≡◌, ◌==◌, ℕ, zero, suc, ◌+◌, ◌-◌, Bool, true, false, List, [], ◌∷◌, ◌++◌, length, take}
+use Rattle.std.proofs.Common.{drop, refl, sym, ap, ◌∙◌, subst, append-nil, arith, All}
 use Rattle.std.specs.Prelude.{not, map, sum_by}
 use Rattle.std.specs.List.{list_all, AllByRecursion, join_with_byte, onto_first}
 use Rattle.std.proofs.lemmas.Bool.{and_parts}
@@ -9,7 +10,8 @@ use Rattle.std.proofs.lemmas.List.Splits.{slice_split_none, slice_split_at, join
 use Rattle.plane_base.specs.declared.shapes.Pt.{Pt}
 use Rattle.sheet_base.specs.declared.edits.Edit.{Edit}
 use Rattle.wkt_layer.specs.Tokens.{Placed, tokens_of, is_blank}
-use Rattle.wkt_layer.specs.Geometries.{Geometry, point, line_string, polygon, multi_point, multi_line_string, multi_polygon, collection, IsGeometry, geometry_tokens}
+use Rattle.wkt_layer.specs.Geometries.{Geometry, point, line_string, polygon, multi_point, multi_line_string}
+use Rattle.wkt_layer.specs.Geometries.{multi_polygon, collection, IsGeometry, geometry_tokens}
 use Rattle.wkt_layer.specs.Paths.{Path, geometry_paths, lost_on, edits_from}
 use Rattle.wkt_layer.specs.Lines.{IsLineOf, tokens_in}
 use Rattle.wkt_layer.specs.Layers.{lines_of, AreLinesOf}
@@ -34,7 +36,8 @@ no_tokens (multi_line_string lists) e = cc
 no_tokens (multi_polygon polygons) e = cc
 no_tokens (collection all) e = cc
 
-line_is : (exact : Bool) (line : List Placed) (one : Geometry) → IsGeometry exact DEEPEST one → tokens_in line ≡ geometry_tokens one → IsLineOf exact line (geometry_paths one)
+line_is : (exact : Bool) (line : List Placed) (one : Geometry) → IsGeometry exact DEEPEST one
+    → tokens_in line ≡ geometry_tokens one → IsLineOf exact line (geometry_paths one)
 line_is exact [] one good e = absurd (no_tokens one (sym e))
 line_is exact (first ∷ more) one good e = (one, good, e, refl)
 
@@ -50,20 +53,24 @@ none_lexed : (line : List Placed) → tokens_in line ≡ [] → line ≡ []
 none_lexed [] e = refl
 none_lexed (one ∷ more) e = cc
 
--- some lines are written in place of lines of these paths, and are read as the same paths with images in place of their points
-pub record IsWritten (exact : Bool) (images : ℕ → List Pt) (nth : ℕ) (paths : List Path) (AreOf : List Path → Type 0) : Type 0 where
+-- some lines are written in place of lines of these paths, and are read as the same paths with images in place of their
+-- points
+pub record IsWritten (exact : Bool) (images : ℕ → List Pt) (nth : ℕ) (paths : List Path)
+    (AreOf : List Path → Type 0) : Type 0 where
   pub others : List Path
   pub are_of : AreOf others
   pub drawn_are : map drawn others ≡ redrawn images nth paths
   pub exact_all : sum_by lost_on others ≡ 0
 
-pub record LineTurned (exact : Bool) (text : Edit → List ℕ) (images : ℕ → List Pt) (at : ℕ) (line : List ℕ) (nth : ℕ) (paths : List Path) : Type 0 where
+pub record LineTurned (exact : Bool) (text : Edit → List ℕ) (images : ℕ → List Pt) (at : ℕ) (line : List ℕ) (nth : ℕ)
+    (paths : List Path) : Type 0 where
   pub now : List ℕ
   pub swap : Swapped text at line (edits_from nth paths) now
   pub reads : (from : ℕ) → IsWritten exact images nth paths (IsLineOf exact (tokens_of from now))
 
 module _ (exact : Bool) (text : Edit → List ℕ) (images : ℕ → List Pt) (says : DoesSay text images) where
-  line_turned : (at : ℕ) (line : List ℕ) (nth : ℕ) (paths : List Path) → AllSuit images nth paths → IsLineOf exact (tokens_of at line) paths → LineTurned exact text images at line nth paths
+  line_turned : (at : ℕ) (line : List ℕ) (nth : ℕ) (paths : List Path) → AllSuit images nth paths
+      → IsLineOf exact (tokens_of at line) paths → LineTurned exact text images at line nth paths
   line_turned at line nth paths suit is = by_tokens (tokens_of at line) refl is
     where
       blank : tokens_of at line ≡ [] → paths ≡ [] → LineTurned exact text images at line nth paths
@@ -78,31 +85,42 @@ module _ (exact : Bool) (text : Edit → List ℕ) (images : ℕ → List Pt) (s
         };
       }
 
-      black : (one : Geometry) → IsGeometry exact DEEPEST one → tokens_in (tokens_of at line) ≡ geometry_tokens one → paths ≡ geometry_paths one → LineTurned exact text images at line nth paths
+      black : (one : Geometry) → IsGeometry exact DEEPEST one → tokens_in (tokens_of at line) ≡ geometry_tokens one
+          → paths ≡ geometry_paths one → LineTurned exact text images at line nth paths
       black one good same are =
-          go (geometry_turned exact text images says DEEPEST one good nth at line [] (subst (AllSuit images nth) are suit) (same ∙ sym (append-nil (geometry_tokens one))))
+          go (geometry_turned exact text images says DEEPEST one good nth at line []
+          (subst (AllSuit images nth) are suit) (same ∙ sym (append-nil (geometry_tokens one))))
         where
-          go : Turned geometry_tokens geometry_paths (IsGeometry exact DEEPEST) text images one nth at line [] → LineTurned exact text images at line nth paths
+          go : Turned geometry_tokens geometry_paths (IsGeometry exact DEEPEST) text images one nth at line []
+              → LineTurned exact text images at line nth paths
           go t = record {
             now = t.now ++ t.rest;
             swap = subst (λ l. Swapped text at l (edits_from nth paths) (t.now ++ t.rest)) (sym t.split)
-                (subst (λ es. Swapped text at (t.taken ++ t.rest) es (t.now ++ t.rest)) (append-nil (edits_from nth (geometry_paths one)) ∙ ap (edits_from nth) (sym are))
-                (both_swapped text at t.taken t.rest (edits_from nth (geometry_paths one)) [] t.now t.rest t.swap (kept_swapped text (at + length t.taken) t.rest)));
+                (subst (λ es. Swapped text at (t.taken ++ t.rest) es (t.now ++ t.rest))
+                (append-nil (edits_from nth (geometry_paths one)) ∙ ap (edits_from nth) (sym are))
+                (both_swapped text at t.taken t.rest (edits_from nth (geometry_paths one)) [] t.now t.rest t.swap
+                (kept_swapped text (at + length t.taken) t.rest)));
             reads = λ from. on from (t.reads from t.rest (clear_end (at + length t.taken) t.rest t.left));
           }
             where
-              on : (from : ℕ) → IsRead geometry_tokens geometry_paths (IsGeometry exact DEEPEST) (redrawn images nth (geometry_paths one)) (lexed from (t.now ++ t.rest)) (lexed (from + length t.now) t.rest)
+              on : (from : ℕ) → IsRead geometry_tokens geometry_paths (IsGeometry exact DEEPEST)
+                  (redrawn images nth (geometry_paths one)) (lexed from (t.now ++ t.rest))
+                  (lexed (from + length t.now) t.rest)
                   → IsWritten exact images nth paths (IsLineOf exact (tokens_of from (t.now ++ t.rest)))
               on from r =
-                  let none : lexed (from + length t.now) t.rest ≡ [] = ap tokens_in (blank_anywhere (at + length t.taken) (from + length t.now) t.rest (none_lexed (tokens_of (at + length t.taken) t.rest) t.left)) in
+                  let none : lexed (from + length t.now) t.rest ≡ [] =
+                  ap tokens_in (blank_anywhere (at + length t.taken) (from + length t.now) t.rest
+                  (none_lexed (tokens_of (at + length t.taken) t.rest) t.left)) in
                   record {
                     others = geometry_paths r.part;
-                    are_of = line_is exact (tokens_of from (t.now ++ t.rest)) r.part r.good (r.is ∙ ap (λ ts. geometry_tokens r.part ++ ts) none ∙ append-nil (geometry_tokens r.part));
+                    are_of = line_is exact (tokens_of from (t.now ++ t.rest)) r.part r.good
+                        (r.is ∙ ap (λ ts. geometry_tokens r.part ++ ts) none ∙ append-nil (geometry_tokens r.part));
                     drawn_are = r.drawn_are ∙ ap (redrawn images nth) (sym are);
                     exact_all = r.exact;
                   }
 
-      by_tokens : (ts : List Placed) → tokens_of at line ≡ ts → IsLineOf exact ts paths → LineTurned exact text images at line nth paths
+      by_tokens : (ts : List Placed) → tokens_of at line ≡ ts → IsLineOf exact ts paths
+          → LineTurned exact text images at line nth paths
       by_tokens [] none no_paths = blank none no_paths
       by_tokens (first ∷ more) e (one, good, same, are) = black one good (ap tokens_in e ∙ same) are
 
@@ -115,7 +133,8 @@ IsPlain bytes = list_all is_plain bytes ≡ true
 
 pub plain_append : (xs ys : List ℕ) → IsPlain xs → IsPlain ys → IsPlain (xs ++ ys)
 plain_append [] ys a b = b
-plain_append (x ∷ xs) ys a b = let parts = and_parts (is_plain x) (list_all is_plain xs) a in rw parts.0 (plain_append xs ys parts.1 b)
+plain_append (x ∷ xs) ys a b = let parts =
+    and_parts (is_plain x) (list_all is_plain xs) a in rw parts.0 (plain_append xs ys parts.1 b)
 
 plain_parts : (n : ℕ) (xs : List ℕ) → IsPlain xs → IsPlain (take n xs) × IsPlain (drop n xs)
 plain_parts zero xs a = (refl, a)
@@ -125,16 +144,22 @@ plain_parts (suc n) (x ∷ xs) a =
     let (front, back) = plain_parts n xs parts.1 in
     (rw parts.0 front, back)
 
-spliced_plain : (text : Edit → List ℕ) → ((edit : Edit) → IsPlain (text edit)) → (at : ℕ) (bytes : List ℕ) (edits : List Edit) → IsPlain bytes → IsPlain (spliced_on text at bytes edits)
+spliced_plain : (text : Edit → List ℕ) → ((edit : Edit) → IsPlain (text edit))
+    → (at : ℕ) (bytes : List ℕ) (edits : List Edit) → IsPlain bytes → IsPlain (spliced_on text at bytes edits)
 spliced_plain text plain at bytes [] a = a
 spliced_plain text plain at bytes (edit ∷ edits) a =
     let front = plain_parts (edit.start - at) bytes a in
     let back = plain_parts (edit.end - at) bytes a in
-    plain_append (take (edit.start - at) bytes) (text edit ++ spliced_on text edit.end (drop (edit.end - at) bytes) edits) front.0
-    (plain_append (text edit) (spliced_on text edit.end (drop (edit.end - at) bytes) edits) (plain edit) (spliced_plain text plain edit.end (drop (edit.end - at) bytes) edits back.1))
+    plain_append (take (edit.start - at) bytes)
+    (text edit ++ spliced_on text edit.end (drop (edit.end - at) bytes) edits) front.0
+    (plain_append (text edit) (spliced_on text edit.end (drop (edit.end - at) bytes) edits) (plain edit)
+    (spliced_plain text plain edit.end (drop (edit.end - at) bytes) edits back.1))
 
-swapped_plain : (text : Edit → List ℕ) → ((edit : Edit) → IsPlain (text edit)) → (at : ℕ) (taken : List ℕ) (edits : List Edit) (now : List ℕ) → Swapped text at taken edits now → IsPlain taken → IsPlain now
-swapped_plain text plain at taken edits now swap a = subst IsPlain (swapped_all text at taken edits now swap) (spliced_plain text plain at taken edits a)
+swapped_plain : (text : Edit → List ℕ) → ((edit : Edit) → IsPlain (text edit))
+    → (at : ℕ) (taken : List ℕ) (edits : List Edit) (now : List ℕ) → Swapped text at taken edits now → IsPlain taken
+    → IsPlain now
+swapped_plain text plain at taken edits now swap a =
+    subst IsPlain (swapped_all text at taken edits now swap) (spliced_plain text plain at taken edits a)
 
 -- ---- many lines
 abbrev pub ArePlain : List (List ℕ) → Type 0
@@ -150,14 +175,18 @@ plain_all (x ∷ xs) a zero d h = by_test (x == LINE_FEED) refl (and_parts (is_p
     by_test : (b : Bool) → (x == LINE_FEED) ≡ b → not (x == LINE_FEED) ≡ true → (x == LINE_FEED) ≡ false
     by_test false is other = is
     by_test true is other = let e = sym other ∙ ap not is in cc
-plain_all (x ∷ xs) a (suc k) d h = plain_all xs (and_parts (is_plain x) (list_all is_plain xs) a).1 k d (omega (arith, h))
+plain_all (x ∷ xs) a (suc k) d h = plain_all xs (and_parts (is_plain x) (list_all is_plain xs) a).1 k d
+    (omega (arith, h))
 
-lines_joined : (line : List ℕ) (lines : List (List ℕ)) → ArePlain (line ∷ lines) → lines_of (joined_lines (line ∷ lines)) ≡ line ∷ lines
+lines_joined : (line : List ℕ) (lines : List (List ℕ)) → ArePlain (line ∷ lines)
+    → lines_of (joined_lines (line ∷ lines)) ≡ line ∷ lines
 lines_joined line [] plain = slice_split_none (λ byte. byte == LINE_FEED) line (plain_all line plain.0)
 lines_joined line (next ∷ lines) plain =
-    slice_split_at (λ byte. byte == LINE_FEED) line LINE_FEED (joined_lines (next ∷ lines)) (plain_all line plain.0) refl ∙ ap (λ ls. line ∷ ls) (lines_joined next lines plain.1)
+    slice_split_at (λ byte. byte == LINE_FEED) line LINE_FEED (joined_lines (next ∷ lines)) (plain_all line plain.0)
+    refl ∙ ap (λ ls. line ∷ ls) (lines_joined next lines plain.1)
 
-onto_plain : (byte : ℕ) (lines : List (List ℕ)) → is_plain byte ≡ true → ArePlain lines → ArePlain (onto_first byte lines)
+onto_plain : (byte : ℕ) (lines : List (List ℕ)) → is_plain byte ≡ true → ArePlain lines
+    → ArePlain (onto_first byte lines)
 onto_plain byte [] is plain = (rw is refl, tt)
 onto_plain byte (line ∷ lines) is plain = (rw is plain.0, plain.1)
 
@@ -169,15 +198,18 @@ lines_plain (byte ∷ bytes) = by_test (byte == LINE_FEED) refl (lines_plain byt
     by_test true is plain = rw is (refl, plain)
     by_test false is plain = rw is (onto_plain byte (lines_of bytes) (ap not is) plain)
 
-pub record LinesTurned (exact : Bool) (text : Edit → List ℕ) (images : ℕ → List Pt) (at : ℕ) (lines : List (List ℕ)) (nth : ℕ) (paths : List Path) : Type 0 where
+pub record LinesTurned (exact : Bool) (text : Edit → List ℕ) (images : ℕ → List Pt) (at : ℕ) (lines : List (List ℕ))
+    (nth : ℕ) (paths : List Path) : Type 0 where
   pub first : List ℕ
   pub more : List (List ℕ)
   pub swap : Swapped text at (joined_lines lines) (edits_from nth paths) (joined_lines (first ∷ more))
   pub plain : ArePlain (first ∷ more)
   pub reads : (from : ℕ) → IsWritten exact images nth paths (AreLinesOf exact from (first ∷ more))
 
-module _ (exact : Bool) (text : Edit → List ℕ) (images : ℕ → List Pt) (says : DoesSay text images) (plain : (edit : Edit) → IsPlain (text edit)) where
-  last_turned : (at : ℕ) (line : List ℕ) (nth : ℕ) (paths : List Path) → AllSuit images nth paths → IsLineOf exact (tokens_of at line) paths → IsPlain line → LinesTurned exact text images at (line ∷ []) nth paths
+module _ (exact : Bool) (text : Edit → List ℕ) (images : ℕ → List Pt) (says : DoesSay text images)
+    (plain : (edit : Edit) → IsPlain (text edit)) where
+  last_turned : (at : ℕ) (line : List ℕ) (nth : ℕ) (paths : List Path) → AllSuit images nth paths
+      → IsLineOf exact (tokens_of at line) paths → IsPlain line → LinesTurned exact text images at (line ∷ []) nth paths
   last_turned at line nth paths suit is line_plain = go (line_turned exact text images says at line nth paths suit is)
     where
       go : LineTurned exact text images at line nth paths → LinesTurned exact text images at (line ∷ []) nth paths
@@ -189,7 +221,8 @@ module _ (exact : Bool) (text : Edit → List ℕ) (images : ℕ → List Pt) (s
         reads = λ from. on from (l.reads from);
       }
         where
-          on : (from : ℕ) → IsWritten exact images nth paths (IsLineOf exact (tokens_of from l.now)) → IsWritten exact images nth paths (AreLinesOf exact from (l.now ∷ []))
+          on : (from : ℕ) → IsWritten exact images nth paths (IsLineOf exact (tokens_of from l.now))
+              → IsWritten exact images nth paths (AreLinesOf exact from (l.now ∷ []))
           on from w = record {
             others = w.others;
             are_of = (w.others, [], w.are_of, refl, sym (append-nil w.others));
@@ -197,55 +230,74 @@ module _ (exact : Bool) (text : Edit → List ℕ) (images : ℕ → List Pt) (s
             exact_all = w.exact_all;
           }
 
-  next_turned : (at : ℕ) (line next : List ℕ) (lines : List (List ℕ)) (nth : ℕ) (here others : List Path) → IsPlain line → LineTurned exact text images at line nth here
-      → LinesTurned exact text images (at + length line + 1) (next ∷ lines) (nth + length here) others → LinesTurned exact text images at (line ∷ next ∷ lines) nth (here ++ others)
+  next_turned : (at : ℕ) (line next : List ℕ) (lines : List (List ℕ)) (nth : ℕ) (here others : List Path) → IsPlain line
+      → LineTurned exact text images at line nth here
+      → LinesTurned exact text images (at + length line + 1) (next ∷ lines) (nth + length here) others
+      → LinesTurned exact text images at (line ∷ next ∷ lines) nth (here ++ others)
   next_turned at line next lines nth here others line_plain l r =
       let later = joined_lines (r.first ∷ r.more) in
       record {
         first = l.now;
         more = r.first ∷ r.more;
-        swap = subst (λ es. Swapped text at (joined_lines (line ∷ next ∷ lines)) es (joined_lines (l.now ∷ r.first ∷ r.more))) (sym (edits_append nth here others))
-            (both_swapped text at line (LINE_FEED ∷ joined_lines (next ∷ lines)) (edits_from nth here) (edits_from (nth + length here) others) l.now (LINE_FEED ∷ later) l.swap
-            (both_swapped text (at + length line) (LINE_FEED ∷ []) (joined_lines (next ∷ lines)) [] (edits_from (nth + length here) others) (LINE_FEED ∷ []) later
+        swap = subst (λ es. Swapped text at (joined_lines (line ∷ next ∷ lines)) es
+            (joined_lines (l.now ∷ r.first ∷ r.more))) (sym (edits_append nth here others))
+            (both_swapped text at line (LINE_FEED ∷ joined_lines (next ∷ lines)) (edits_from nth here)
+            (edits_from (nth + length here) others) l.now (LINE_FEED ∷ later) l.swap
+            (both_swapped text (at + length line) (LINE_FEED ∷ []) (joined_lines (next ∷ lines)) []
+            (edits_from (nth + length here) others) (LINE_FEED ∷ []) later
             (kept_swapped text (at + length line) (LINE_FEED ∷ [])) r.swap));
         plain = (swapped_plain text plain at line (edits_from nth here) l.now l.swap line_plain, r.plain);
         reads = λ from. on from (l.reads from) (r.reads (from + length l.now + 1));
       }
     where
-      on : (from : ℕ) → IsWritten exact images nth here (IsLineOf exact (tokens_of from l.now)) → IsWritten exact images (nth + length here) others (AreLinesOf exact (from + length l.now + 1) (r.first ∷ r.more))
+      on : (from : ℕ) → IsWritten exact images nth here (IsLineOf exact (tokens_of from l.now))
+          → IsWritten exact images (nth + length here) others
+          (AreLinesOf exact (from + length l.now + 1) (r.first ∷ r.more))
           → IsWritten exact images nth (here ++ others) (AreLinesOf exact from (l.now ∷ r.first ∷ r.more))
       on from v w = record {
         others = v.others ++ w.others;
         are_of = (v.others, w.others, v.are_of, w.are_of, refl);
-        drawn_are = map-append drawn v.others w.others ∙ ap (λ ds. ds ++ map drawn w.others) v.drawn_are ∙ ap (λ ds. redrawn images nth here ++ ds) w.drawn_are ∙ sym (redrawn_append drawn images nth here others);
+        drawn_are = map-append drawn v.others w.others ∙ ap (λ ds. ds ++ map drawn w.others) v.drawn_are
+            ∙ ap (λ ds. redrawn images nth here ++ ds) w.drawn_are ∙ sym (redrawn_append drawn images nth here others);
         exact_all = sum_by-append lost_on v.others w.others ∙ omega (arith, v.exact_all, w.exact_all);
       }
 
-  lines_turned : (at : ℕ) (line : List ℕ) (lines : List (List ℕ)) (nth : ℕ) (paths : List Path) → AllSuit images nth paths → AreLinesOf exact at (line ∷ lines) paths → ArePlain (line ∷ lines)
+  lines_turned : (at : ℕ) (line : List ℕ) (lines : List (List ℕ)) (nth : ℕ) (paths : List Path)
+      → AllSuit images nth paths → AreLinesOf exact at (line ∷ lines) paths → ArePlain (line ∷ lines)
       → LinesTurned exact text images at (line ∷ lines) nth paths
   lines_turned at line [] nth paths suit (here, others, is, none, same) line_plain =
       let all : paths ≡ here = same ∙ ap (λ ps. here ++ ps) none ∙ append-nil here in
-      subst (LinesTurned exact text images at (line ∷ []) nth) (sym all) (last_turned at line nth here (subst (AllSuit images nth) all suit) is line_plain.0)
+      subst (LinesTurned exact text images at (line ∷ []) nth) (sym all)
+      (last_turned at line nth here (subst (AllSuit images nth) all suit) is line_plain.0)
   lines_turned at line (next ∷ lines) nth paths suit (here, others, is, are, same) line_plain =
       let suits = suit_parts drawn images nth here others (subst (AllSuit images nth) same suit) in
       subst (LinesTurned exact text images at (line ∷ next ∷ lines) nth) (sym same)
-      (next_turned at line next lines nth here others line_plain.0 (line_turned exact text images says at line nth here suits.0 is)
+      (next_turned at line next lines nth here others line_plain.0
+      (line_turned exact text images says at line nth here suits.0 is)
       (lines_turned (at + length line + 1) next lines (nth + length here) others suits.1 are line_plain.1))
 
   -- ---- the whole text
-  pub text_turned : (bytes : List ℕ) (paths : List Path) → AllSuit images 0 paths → AreLinesOf exact 0 (lines_of bytes) paths → AreInOrder 0 (edits_from 0 paths) (length bytes)
+  pub text_turned : (bytes : List ℕ) (paths : List Path) → AllSuit images 0 paths
+      → AreLinesOf exact 0 (lines_of bytes) paths → AreInOrder 0 (edits_from 0 paths) (length bytes)
       → IsWritten exact images 0 paths (AreLinesOf exact 0 (lines_of (spliced bytes text (edits_from 0 paths))))
   text_turned bytes paths suit are order = by_lines (split_some (λ byte. byte == LINE_FEED) bytes)
     where
-      by_lines : (line : List ℕ) × (lines : List (List ℕ)) × (lines_of bytes ≡ line ∷ lines) → IsWritten exact images 0 paths (AreLinesOf exact 0 (lines_of (spliced bytes text (edits_from 0 paths))))
+      by_lines : (line : List ℕ) × (lines : List (List ℕ)) × (lines_of bytes ≡ line ∷ lines)
+          → IsWritten exact images 0 paths (AreLinesOf exact 0 (lines_of (spliced bytes text (edits_from 0 paths))))
       by_lines (line, lines, split) =
-          go (lines_turned 0 line lines 0 paths suit (subst (λ ls. AreLinesOf exact 0 ls paths) split are) (subst ArePlain split (lines_plain bytes)))
+          go (lines_turned 0 line lines 0 paths suit (subst (λ ls. AreLinesOf exact 0 ls paths) split are)
+          (subst ArePlain split (lines_plain bytes)))
         where
-          go : LinesTurned exact text images 0 (line ∷ lines) 0 paths → IsWritten exact images 0 paths (AreLinesOf exact 0 (lines_of (spliced bytes text (edits_from 0 paths))))
+          go : LinesTurned exact text images 0 (line ∷ lines) 0 paths
+              → IsWritten exact images 0 paths (AreLinesOf exact 0 (lines_of (spliced bytes text (edits_from 0 paths))))
           go t =
-              let whole : bytes ≡ joined_lines (line ∷ lines) = sym (join_with_byte-slice_split LINE_FEED bytes) ∙ ap joined_lines split in
+              let whole : bytes ≡ joined_lines (line ∷ lines) = sym (join_with_byte-slice_split LINE_FEED bytes)
+              ∙ ap joined_lines split in
               let now : spliced bytes text (edits_from 0 paths) ≡ joined_lines (t.first ∷ t.more) =
-              on_from bytes text 0 (edits_from 0 paths) (length bytes) order ∙ ap (λ xs. spliced_on text 0 xs (edits_from 0 paths)) whole
-              ∙ swapped_all text 0 (joined_lines (line ∷ lines)) (edits_from 0 paths) (joined_lines (t.first ∷ t.more)) t.swap in
-              let same : lines_of (spliced bytes text (edits_from 0 paths)) ≡ t.first ∷ t.more = ap lines_of now ∙ lines_joined t.first t.more t.plain in
+              on_from bytes text 0 (edits_from 0 paths) (length bytes) order
+              ∙ ap (λ xs. spliced_on text 0 xs (edits_from 0 paths)) whole
+              ∙ swapped_all text 0 (joined_lines (line ∷ lines)) (edits_from 0 paths) (joined_lines (t.first ∷ t.more))
+              t.swap in
+              let same : lines_of (spliced bytes text (edits_from 0 paths)) ≡ t.first ∷ t.more = ap lines_of now
+              ∙ lines_joined t.first t.more t.plain in
               subst (λ ls. IsWritten exact images 0 paths (AreLinesOf exact 0 ls)) (sym same) (t.reads 0)

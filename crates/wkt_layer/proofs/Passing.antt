@@ -1,15 +1,22 @@
 -- The pass over the tokens of a line reads the line's geometry, and refuses each other line at its first fault.
-use Rattle.std.proofs.Common.{◌≡◌, ℕ, ◌+◌, ◌<◌, Bool, true, false, List, [], ◌∷◌, ◌++◌, length, refl, sym, ap, ◌∙◌, subst, append-nil, take}
+use Rattle.std.proofs.Common.{◌≡◌, ℕ, ◌+◌, ◌<◌, Bool, true, false, List, [], ◌∷◌, ◌++◌, length, refl, sym, ap, ◌∙◌}
+use Rattle.std.proofs.Common.{subst, append-nil, take}
 use Rattle.std.specs.Prelude.{Option, Some, None, nat_lt, if◌then◌else◌}
 use Rattle.std.proofs.lemmas.Option.{same_Some}
 use Rattle.mm_decimal.specs.Measured.{measured}
 use Rattle.sheet_base.specs.declared.paths.PathKind.TheVariants.{Dot}
 use Rattle.wkt_layer.specs.Tokens.{Token, opening, closing, comma, word, number, stray}
 use Rattle.wkt_layer.specs.Numbers.{Point, does_fit}
-use Rattle.wkt_layer.specs.Geometries.{Member, dot, bare, Geometry, point, line_string, polygon, multi_point, multi_line_string, multi_polygon, collection, Geometries, no_geometry, geometry, content_tokens, points_tokens, member_tokens, lists_tokens, geometry_tokens, geometries_tokens, ArePoints, IsGeometry}
+use Rattle.wkt_layer.specs.Geometries.{Member, dot, bare, Geometry, point, line_string, polygon, multi_point}
+use Rattle.wkt_layer.specs.Geometries.{multi_line_string, multi_polygon, collection, Geometries, no_geometry, geometry}
+use Rattle.wkt_layer.specs.Geometries.{content_tokens, points_tokens, member_tokens, lists_tokens, geometry_tokens}
+use Rattle.wkt_layer.specs.Geometries.{geometries_tokens, ArePoints, IsGeometry}
 use Rattle.wkt_layer.specs.Paths.{Path, path_of, geometry_paths}
-use Rattle.wkt_layer.specs.States.{Spot, item, content, first, second, whole, bare_second, bare_whole, behind, State, state, innermost, pair, kind_of, step, step_at, enter_step, tag_step, item_step, whole_step, behind_step, may_end, content_of}
-use Rattle.wkt_layer.proofs.Rests.{ItemOf, ItemsOf, item_tokens, more_tokens, items_tokens, Closes, ClosesPoints, Rests, Follows}
+use Rattle.wkt_layer.specs.States.{Spot, item, content, first, second, whole, bare_second, bare_whole, behind, State}
+use Rattle.wkt_layer.specs.States.{state, innermost, pair, kind_of, step, step_at, enter_step, tag_step, item_step}
+use Rattle.wkt_layer.specs.States.{whole_step, behind_step, may_end, content_of}
+use Rattle.wkt_layer.proofs.Rests.{ItemOf, ItemsOf, item_tokens, more_tokens, items_tokens, Closes, ClosesPoints, Rests}
+use Rattle.wkt_layer.proofs.Rests.{Follows}
 use Rattle.wkt_layer.specs.declared.limits.TheConstants.{DEEPEST}
 use Rattle.wkt_layer.specs.declared.words.Kind.TheVariants as kinds
 use Rattle.wkt_layer.specs.declared.words.Word.TheVariants.{Tag, Empty, Height, Other}
@@ -42,7 +49,8 @@ members_begin : (members : List Member) (rest : List Token) → [] ≡ content_t
 members_begin [] rest e = cc
 members_begin (p ∷ more) rest e = cc
 
-polygons_begin : (polygons : List (List (List Point))) (rest : List Token) → [] ≡ content_tokens lists_tokens polygons ++ rest → ⊥
+polygons_begin : (polygons : List (List (List Point))) (rest : List Token)
+    → [] ≡ content_tokens lists_tokens polygons ++ rest → ⊥
 polygons_begin [] rest e = cc
 polygons_begin (p ∷ more) rest e = cc
 
@@ -90,18 +98,25 @@ more_begin groups.Geometries (geometry one more) rest e = cc
 abbrev Ends : Spot → List Group → List Path → Type 0
 Ends spot stack later = IsLast spot × (stack ≡ []) × (later ≡ [])
 
-closes_ends : (exact : Bool) (stack : List Group) (later : List Path) → Closes exact stack [] later → (stack ≡ []) × (later ≡ [])
+closes_ends : (exact : Bool) (stack : List Group) (later : List Path) → Closes exact stack [] later
+    → (stack ≡ []) × (later ≡ [])
 closes_ends exact [] later closes = (refl, closes.1)
-closes_ends exact (group ∷ outer) later (more, rest, close, are, same, closes, all) = absurd (more_begin group more rest same)
+closes_ends exact (group ∷ outer) later (more, rest, close, are, same, closes, all) =
+    absurd (more_begin group more rest same)
 
-points_end : (exact : Bool) (listing : Listing) (read : List Point) (stack : List Group) (later : List Path) → ClosesPoints exact listing read stack [] later → ⊥
+points_end : (exact : Bool) (listing : Listing) (read : List Point) (stack : List Group) (later : List Path)
+    → ClosesPoints exact listing read stack [] later → ⊥
 points_end exact listing read stack later ([], rest, close, are, on, same, closes, all) = cc
 points_end exact listing read stack later (p ∷ more, rest, close, are, on, same, closes, all) = cc
 
-rests_end : (exact : Bool) (spot : Spot) (stack : List Group) (later : List Path) → Rests exact spot stack [] later → Ends spot stack later
-rests_end exact item stack later (one, rest, close, is, same, closes, all) = absurd (item_begins (innermost stack) one rest same)
-rests_end exact (content (Points listing)) stack later (points, rest, close, is, same, closes, all) = absurd (points_begin points rest same)
-rests_end exact (content (Items group)) stack later (items, rest, close, is, same, closes, all) = absurd (items_begin group items rest same)
+rests_end : (exact : Bool) (spot : Spot) (stack : List Group) (later : List Path) → Rests exact spot stack [] later
+    → Ends spot stack later
+rests_end exact item stack later (one, rest, close, is, same, closes, all) =
+    absurd (item_begins (innermost stack) one rest same)
+rests_end exact (content (Points listing)) stack later (points, rest, close, is, same, closes, all) =
+    absurd (points_begin points rest same)
+rests_end exact (content (Items group)) stack later (items, rest, close, is, same, closes, all) =
+    absurd (items_begin group items rest same)
 rests_end exact (first listing read) stack later (p, rest, is, same, closes) = cc
 rests_end exact (second listing read x) stack later (y, rest, is, same, closes) = cc
 rests_end exact (whole listing read) stack later closes = absurd (points_end exact listing read stack later closes)
@@ -123,7 +138,8 @@ end_rests exact (bare_second x) stack last closed = absurd last
 abbrev RunsOut : Bool → State → List Token → List Path → Type 0
 RunsOut exact s tokens all = (last : State) × (run (step exact) s tokens ≡ Some last) × IsEnd last × (last.paths ≡ all)
 
-runs_out : (exact : Bool) (s : State) (tokens : List Token) (all : List Path) → Follows exact s tokens all → RunsOut exact s tokens all
+runs_out : (exact : Bool) (s : State) (tokens : List Token) (all : List Path) → Follows exact s tokens all
+    → RunsOut exact s tokens all
 runs_out exact s [] all (later, rests, same) =
     let (last, closed, none) = rests_end exact s.spot s.stack later rests in
     (s, refl, record { last = last; closed = closed }, sym (same ∙ ap (λ x. s.paths ++ x) none ∙ append-nil s.paths))
@@ -133,20 +149,29 @@ runs_out exact s (t ∷ ts) all (later, rests, same) =
     (last, rw steps runs, end, paths ∙ sym same)
 
 -- what follows a state follows the one before the tokens that lead to it, behind them
-runs_before : (exact : Bool) (s last : State) (front rest : List Token) (all : List Path) → run (step exact) s front ≡ Some last → Follows exact last rest all → Follows exact s (front ++ rest) all
-runs_before exact s last [] rest all runs follows = subst (λ x. Follows exact x rest all) (sym (same_Some s last runs)) follows
+runs_before : (exact : Bool) (s last : State) (front rest : List Token) (all : List Path)
+    → run (step exact) s front ≡ Some last → Follows exact last rest all → Follows exact s (front ++ rest) all
+runs_before exact s last [] rest all runs follows =
+    subst (λ x. Follows exact x rest all) (sym (same_Some s last runs)) follows
 runs_before exact s last (t ∷ ts) rest all runs follows =
     let step_runs : option_and_then (λ next. run (step exact) next ts) (step exact s t) ≡ Some last = runs in
     at_step (step exact s t) refl step_runs (λ next h. runs_before exact next last ts rest all h follows)
   where
-    at_step : (to : Option State) → step exact s t ≡ to → option_and_then (λ next. run (step exact) next ts) to ≡ Some last
-        → ((next : State) → run (step exact) next ts ≡ Some last → Follows exact next (ts ++ rest) all) → Follows exact s (t ∷ (ts ++ rest)) all
+    at_step : (to : Option State) → step exact s t ≡ to
+        → option_and_then (λ next. run (step exact) next ts) to ≡ Some last
+        → ((next : State) → run (step exact) next ts ≡ Some last → Follows exact next (ts ++ rest) all)
+        → Follows exact s (t ∷ (ts ++ rest)) all
     at_step None e h on = cc
     at_step (Some next) e h on = token_before exact s.spot s.stack s.paths t next (ts ++ rest) all e (on next h)
 
 -- a geometry's tokens follow the start
-start_follows : (exact : Bool) (one : Geometry) → IsGeometry exact DEEPEST one → Follows exact start (geometry_tokens one) (geometry_paths one)
-start_follows exact one is = (geometry_paths one, (one, [], [], is, sym (append-nil (geometry_tokens one)), (refl, refl), sym (append-nil (geometry_paths one))), refl)
+start_follows : (exact : Bool) (one : Geometry) → IsGeometry exact DEEPEST one
+    → Follows exact start (geometry_tokens one) (geometry_paths one)
+start_follows exact one is = (
+  geometry_paths one,
+  (one, [], [], is, sym (append-nil (geometry_tokens one)), (refl, refl), sym (append-nil (geometry_paths one))),
+  refl,
+)
 
 follows_start : (exact : Bool) (tokens : List Token) (all : List Path) → Follows exact start tokens all
     → (one : Geometry) × IsGeometry exact DEEPEST one × (tokens ≡ geometry_tokens one) × (all ≡ geometry_paths one)
@@ -158,23 +183,31 @@ follows_start exact tokens all (later, (one, rest, close, is, same, (no_rest, no
 )
 
 -- a geometry's tokens lead to its paths
-pub line_paths : (exact : Bool) (one : Geometry) → IsGeometry exact DEEPEST one → (last : State) × (run (step exact) start (geometry_tokens one) ≡ Some last) × (last.paths ≡ geometry_paths one)
+pub line_paths : (exact : Bool) (one : Geometry) → IsGeometry exact DEEPEST one
+    → (last : State) × (run (step exact) start (geometry_tokens one) ≡ Some last) × (last.paths ≡ geometry_paths one)
 line_paths exact one is =
-    let (last, runs, end, paths) = runs_out exact start (geometry_tokens one) (geometry_paths one) (start_follows exact one is) in
+    let (last, runs, end, paths) = runs_out exact start (geometry_tokens one) (geometry_paths one)
+    (start_follows exact one is) in
     (last, runs, paths)
 
 -- a line is read to its end
-pub line_read : (exact : Bool) (tokens : List Token) → IsLine exact tokens → (last : State) × (run (step exact) start tokens ≡ Some last) × IsEnd last
+pub line_read : (exact : Bool) (tokens : List Token) → IsLine exact tokens
+    → (last : State) × (run (step exact) start tokens ≡ Some last) × IsEnd last
 line_read exact tokens (one, is, same) =
-    let (last, runs, end, paths) = runs_out exact start (geometry_tokens one) (geometry_paths one) (start_follows exact one is) in
+    let (last, runs, end, paths) = runs_out exact start (geometry_tokens one) (geometry_paths one)
+    (start_follows exact one is) in
     (last, ap (run (step exact) start) same ∙ runs, end)
 
 -- what is read to an end is a line, of these paths
-pub read_line : (exact : Bool) (tokens : List Token) (last : State) → run (step exact) start tokens ≡ Some last → IsEnd last
-    → (one : Geometry) × IsGeometry exact DEEPEST one × (tokens ≡ geometry_tokens one) × (last.paths ≡ geometry_paths one)
+pub read_line : (exact : Bool) (tokens : List Token) (last : State) → run (step exact) start tokens ≡ Some last
+    → IsEnd last
+    → (one : Geometry) × IsGeometry exact DEEPEST one × (tokens ≡ geometry_tokens one)
+    × (last.paths ≡ geometry_paths one)
 read_line exact tokens last runs end =
-    let follows : Follows exact last [] last.paths = ([], end_rests exact last.spot last.stack end.last end.closed, sym (append-nil last.paths)) in
-    let (one, is, same, paths) = follows_start exact (tokens ++ []) last.paths (runs_before exact start last tokens [] last.paths runs follows) in
+    let follows : Follows exact last [] last.paths =
+    ([], end_rests exact last.spot last.stack end.last end.closed, sym (append-nil last.paths)) in
+    let (one, is, same, paths) = follows_start exact (tokens ++ []) last.paths
+    (runs_before exact start last tokens [] last.paths runs follows) in
     (one, is, sym (append-nil tokens) ∙ same, paths)
 
 -- What was read fits, behind each token.
@@ -184,14 +217,19 @@ Read exact s = AreRead exact s.spot
 leads_read : (exact : Bool) (to next : State) → Some to ≡ Some next → Read exact to → Read exact next
 leads_read exact to next e are = subst (λ (s : State). Read exact s) (same_Some to next e) are
 
-if_read : (exact : Bool) (b : Bool) (to next : State) → (if b then Some to else None) ≡ Some next → Read exact to → Read exact next
+if_read : (exact : Bool) (b : Bool) (to next : State) → (if b then Some to else None) ≡ Some next → Read exact to
+    → Read exact next
 if_read exact true to next e are = leads_read exact to next e are
 if_read exact false to next e are = cc
 
-enter_read : (exact : Bool) (inner : Content) (stack : List Group) (paths : List Path) (t : Token) (next : State) → enter_step inner stack paths t ≡ Some next → Read exact next
-enter_read exact (Points listing) stack paths opening next e = leads_read exact (state (first listing []) stack paths) next e tt
-enter_read exact (Items group) stack paths opening next e = leads_read exact (state item (group ∷ stack) paths) next e tt
-enter_read exact (Points listing) stack paths (word Empty) next e = leads_read exact (state behind stack paths) next e tt
+enter_read : (exact : Bool) (inner : Content) (stack : List Group) (paths : List Path) (t : Token) (next : State)
+    → enter_step inner stack paths t ≡ Some next → Read exact next
+enter_read exact (Points listing) stack paths opening next e =
+    leads_read exact (state (first listing []) stack paths) next e tt
+enter_read exact (Items group) stack paths opening next e =
+    leads_read exact (state item (group ∷ stack) paths) next e tt
+enter_read exact (Points listing) stack paths (word Empty) next e =
+    leads_read exact (state behind stack paths) next e tt
 enter_read exact (Items group) stack paths (word Empty) next e = leads_read exact (state behind stack paths) next e tt
 enter_read exact (Points listing) stack paths (word (Tag kind)) next e = cc
 enter_read exact (Items group) stack paths (word (Tag kind)) next e = cc
@@ -208,15 +246,22 @@ enter_read exact (Items group) stack paths (number n) next e = cc
 enter_read exact (Points listing) stack paths stray next e = cc
 enter_read exact (Items group) stack paths stray next e = cc
 
-tag_read : (exact : Bool) (stack : List Group) (paths : List Path) (t : Token) (next : State) → tag_step stack paths t ≡ Some next → Read exact next
+tag_read : (exact : Bool) (stack : List Group) (paths : List Path) (t : Token) (next : State)
+    → tag_step stack paths t ≡ Some next → Read exact next
 tag_read exact stack paths (word (Tag kinds.Collection)) next e =
     if_read exact (nat_lt (length stack) DEEPEST) (state (content (Items groups.Geometries)) stack paths) next e tt
-tag_read exact stack paths (word (Tag kinds.Point)) next e = leads_read exact (state (content (content_of kinds.Point)) stack paths) next e tt
-tag_read exact stack paths (word (Tag kinds.LineString)) next e = leads_read exact (state (content (content_of kinds.LineString)) stack paths) next e tt
-tag_read exact stack paths (word (Tag kinds.Polygon)) next e = leads_read exact (state (content (content_of kinds.Polygon)) stack paths) next e tt
-tag_read exact stack paths (word (Tag kinds.MultiPoint)) next e = leads_read exact (state (content (content_of kinds.MultiPoint)) stack paths) next e tt
-tag_read exact stack paths (word (Tag kinds.MultiLineString)) next e = leads_read exact (state (content (content_of kinds.MultiLineString)) stack paths) next e tt
-tag_read exact stack paths (word (Tag kinds.MultiPolygon)) next e = leads_read exact (state (content (content_of kinds.MultiPolygon)) stack paths) next e tt
+tag_read exact stack paths (word (Tag kinds.Point)) next e =
+    leads_read exact (state (content (content_of kinds.Point)) stack paths) next e tt
+tag_read exact stack paths (word (Tag kinds.LineString)) next e =
+    leads_read exact (state (content (content_of kinds.LineString)) stack paths) next e tt
+tag_read exact stack paths (word (Tag kinds.Polygon)) next e =
+    leads_read exact (state (content (content_of kinds.Polygon)) stack paths) next e tt
+tag_read exact stack paths (word (Tag kinds.MultiPoint)) next e =
+    leads_read exact (state (content (content_of kinds.MultiPoint)) stack paths) next e tt
+tag_read exact stack paths (word (Tag kinds.MultiLineString)) next e =
+    leads_read exact (state (content (content_of kinds.MultiLineString)) stack paths) next e tt
+tag_read exact stack paths (word (Tag kinds.MultiPolygon)) next e =
+    leads_read exact (state (content (content_of kinds.MultiPolygon)) stack paths) next e tt
 tag_read exact stack paths (word Empty) next e = cc
 tag_read exact stack paths (word Height) next e = cc
 tag_read exact stack paths (word Other) next e = cc
@@ -226,29 +271,40 @@ tag_read exact stack paths comma next e = cc
 tag_read exact stack paths (number n) next e = cc
 tag_read exact stack paths stray next e = cc
 
-item_read : (exact : Bool) (group : Group) (stack : List Group) (paths : List Path) (t : Token) (next : State) → item_step exact group stack paths t ≡ Some next → Read exact next
+item_read : (exact : Bool) (group : Group) (stack : List Group) (paths : List Path) (t : Token) (next : State)
+    → item_step exact group stack paths t ≡ Some next → Read exact next
 item_read exact groups.Rings stack paths t next e = enter_read exact (Points listings.Ring) stack paths t next e
 item_read exact groups.Lists stack paths t next e = enter_read exact (Points listings.List) stack paths t next e
 item_read exact groups.Polygons stack paths t next e = enter_read exact (Items groups.Rings) stack paths t next e
 item_read exact groups.Geometries stack paths t next e = tag_read exact stack paths t next e
-item_read exact groups.Dots stack paths (number n) next e = if_read exact (does_fit exact (measured n.text)) (state (bare_second n) stack paths) next e tt
-item_read exact groups.Dots stack paths opening next e = enter_read exact (Points listings.Dot) stack paths opening next e
-item_read exact groups.Dots stack paths closing next e = enter_read exact (Points listings.Dot) stack paths closing next e
+item_read exact groups.Dots stack paths (number n) next e =
+    if_read exact (does_fit exact (measured n.text)) (state (bare_second n) stack paths) next e tt
+item_read exact groups.Dots stack paths opening next e =
+    enter_read exact (Points listings.Dot) stack paths opening next e
+item_read exact groups.Dots stack paths closing next e =
+    enter_read exact (Points listings.Dot) stack paths closing next e
 item_read exact groups.Dots stack paths comma next e = enter_read exact (Points listings.Dot) stack paths comma next e
-item_read exact groups.Dots stack paths (word w) next e = enter_read exact (Points listings.Dot) stack paths (word w) next e
+item_read exact groups.Dots stack paths (word w) next e =
+    enter_read exact (Points listings.Dot) stack paths (word w) next e
 item_read exact groups.Dots stack paths stray next e = enter_read exact (Points listings.Dot) stack paths stray next e
 
-whole_read : (exact : Bool) (listing : Listing) (points : List Point) (stack : List Group) (paths : List Path) (t : Token) (next : State) → ArePoints exact points
+whole_read : (exact : Bool) (listing : Listing) (points : List Point) (stack : List Group) (paths : List Path)
+    (t : Token) (next : State) → ArePoints exact points
     → whole_step listing points stack paths t ≡ Some next → Read exact next
 whole_read exact listings.Dot points stack paths comma next are e = cc
-whole_read exact listings.List points stack paths comma next are e = leads_read exact (state (first listings.List points) stack paths) next e are
-whole_read exact listings.Ring points stack paths comma next are e = leads_read exact (state (first listings.Ring points) stack paths) next e are
+whole_read exact listings.List points stack paths comma next are e =
+    leads_read exact (state (first listings.List points) stack paths) next e are
+whole_read exact listings.Ring points stack paths comma next are e =
+    leads_read exact (state (first listings.Ring points) stack paths) next e are
 whole_read exact listings.Dot points stack paths closing next are e =
-    if_read exact (may_end listings.Dot points) (state behind stack (paths ++ path_of (kind_of listings.Dot) points)) next e tt
+    if_read exact (may_end listings.Dot points) (state behind stack (paths ++ path_of (kind_of listings.Dot) points))
+    next e tt
 whole_read exact listings.List points stack paths closing next are e =
-    if_read exact (may_end listings.List points) (state behind stack (paths ++ path_of (kind_of listings.List) points)) next e tt
+    if_read exact (may_end listings.List points) (state behind stack (paths ++ path_of (kind_of listings.List) points))
+    next e tt
 whole_read exact listings.Ring points stack paths closing next are e =
-    if_read exact (may_end listings.Ring points) (state behind stack (paths ++ path_of (kind_of listings.Ring) points)) next e tt
+    if_read exact (may_end listings.Ring points) (state behind stack (paths ++ path_of (kind_of listings.Ring) points))
+    next e tt
 whole_read exact listings.Dot points stack paths opening next are e = cc
 whole_read exact listings.Dot points stack paths (word w) next are e = cc
 whole_read exact listings.Dot points stack paths (number n) next are e = cc
@@ -262,7 +318,8 @@ whole_read exact listings.Ring points stack paths (word w) next are e = cc
 whole_read exact listings.Ring points stack paths (number n) next are e = cc
 whole_read exact listings.Ring points stack paths stray next are e = cc
 
-behind_read : (exact : Bool) (stack : List Group) (paths : List Path) (t : Token) (next : State) → behind_step stack paths t ≡ Some next → Read exact next
+behind_read : (exact : Bool) (stack : List Group) (paths : List Path) (t : Token) (next : State)
+    → behind_step stack paths t ≡ Some next → Read exact next
 behind_read exact [] paths t next e = cc
 behind_read exact (group ∷ outer) paths comma next e = leads_read exact (state item (group ∷ outer) paths) next e tt
 behind_read exact (group ∷ outer) paths closing next e = leads_read exact (state behind outer paths) next e tt
@@ -271,51 +328,64 @@ behind_read exact (group ∷ outer) paths (word w) next e = cc
 behind_read exact (group ∷ outer) paths (number n) next e = cc
 behind_read exact (group ∷ outer) paths stray next e = cc
 
-pub read_step : (exact : Bool) (spot : Spot) (stack : List Group) (paths : List Path) (t : Token) (next : State) → AreRead exact spot → step_at exact spot stack paths t ≡ Some next → Read exact next
+pub read_step : (exact : Bool) (spot : Spot) (stack : List Group) (paths : List Path) (t : Token) (next : State)
+    → AreRead exact spot → step_at exact spot stack paths t ≡ Some next → Read exact next
 read_step exact item stack paths t next are e = item_read exact (innermost stack) stack paths t next e
 read_step exact (content inner) stack paths t next are e = enter_read exact inner stack paths t next e
 read_step exact (first listing points) stack paths t next are e =
     let (n, is, fits, make) = number_taken exact (λ x. state (second listing points x) stack paths) t next e in
     subst (λ (s : State). Read exact s) (sym make) (are, fits)
 read_step exact (second listing points x) stack paths t next are e =
-    let (n, is, fits, make) = number_taken exact (λ y. state (whole listing (points ++ pair x y ∷ [])) stack paths) t next e in
+    let (n, is, fits, make) = number_taken exact (λ y. state (whole listing (points ++ pair x y ∷ [])) stack paths) t
+    next e in
     subst (λ (s : State). Read exact s) (sym make) (are_push exact points (pair x n) are.0 (are.1, fits))
-read_step exact (whole listing points) stack paths t next are e = whole_read exact listing points stack paths t next are e
+read_step exact (whole listing points) stack paths t next are e =
+    whole_read exact listing points stack paths t next are e
 read_step exact (bare_second x) stack paths t next are e =
-    let (n, is, fits, make) = number_taken exact (λ y. state bare_whole stack (paths ++ path_of Dot (pair x y ∷ []))) t next e in
+    let (n, is, fits, make) = number_taken exact (λ y. state bare_whole stack (paths ++ path_of Dot (pair x y ∷ []))) t
+    next e in
     subst (λ (s : State). Read exact s) (sym make) tt
 read_step exact bare_whole stack paths t next are e = behind_read exact stack paths t next e
 read_step exact behind stack paths t next are e = behind_read exact stack paths t next e
 
-runs_read : (exact : Bool) (s last : State) (tokens : List Token) → AreRead exact s.spot → run (step exact) s tokens ≡ Some last → Read exact last
+runs_read : (exact : Bool) (s last : State) (tokens : List Token) → AreRead exact s.spot
+    → run (step exact) s tokens ≡ Some last → Read exact last
 runs_read exact s last [] are runs = leads_read exact s last runs are
 runs_read exact s last (t ∷ ts) are runs =
     let step_runs : option_and_then (λ next. run (step exact) next ts) (step exact s t) ≡ Some last = runs in
     at_step (step exact s t) refl step_runs (λ next fits h. runs_read exact next last ts fits h)
   where
-    at_step : (to : Option State) → step exact s t ≡ to → option_and_then (λ next. run (step exact) next ts) to ≡ Some last
+    at_step : (to : Option State) → step exact s t ≡ to
+        → option_and_then (λ next. run (step exact) next ts) to ≡ Some last
         → ((next : State) → Read exact next → run (step exact) next ts ≡ Some last → Read exact last) → Read exact last
     at_step None e h on = cc
     at_step (Some next) e h on = on next (read_step exact s.spot s.stack s.paths t next are e) h
 
 -- what was read begins a line
-pub viable : (exact : Bool) (front : List Token) (s : State) → run (step exact) start front ≡ Some s → IsViable exact front
+pub viable : (exact : Bool) (front : List Token) (s : State) → run (step exact) start front ≡ Some s
+    → IsViable exact front
 viable exact front s runs =
     let (rest, later, rests) = can_follow exact s.spot s.stack (runs_read exact start s front tt runs) in
-    let (one, is, same, paths) = follows_start exact (front ++ rest) (s.paths ++ later) (runs_before exact start s front rest (s.paths ++ later) runs (later, rests, refl)) in
+    let (one, is, same, paths) = follows_start exact (front ++ rest) (s.paths ++ later)
+    (runs_before exact start s front rest (s.paths ++ later) runs (later, rests, refl)) in
     (rest, (one, is, same))
 
 -- what is refused begins none
 pub not_viable : (exact : Bool) (front : List Token) → run (step exact) start front ≡ None → IsViable exact front → ⊥
-not_viable exact front refused viable_front = begins_none (IsLine exact) (step exact) start IsEnd (line_read exact) front refused viable_front
+not_viable exact front refused viable_front =
+    begins_none (IsLine exact) (step exact) start IsEnd (line_read exact) front refused viable_front
 
 -- the first fault stands at a token that is refused
-pub fault_at_token : (exact : Bool) (tokens : List Token) (at : ℕ) (s : State) → at < length tokens → run (step exact) start (take at tokens) ≡ Some s
+pub fault_at_token : (exact : Bool) (tokens : List Token) (at : ℕ) (s : State) → at < length tokens
+    → run (step exact) start (take at tokens) ≡ Some s
     → run (step exact) start (take (at + 1) tokens) ≡ None → IsFirstFault (IsLine exact) tokens at
 fault_at_token exact tokens at s within runs refused =
-    refused_at (IsLine exact) (step exact) start IsEnd (line_read exact) tokens at within (viable exact (take at tokens) s runs) refused
+    refused_at (IsLine exact) (step exact) start IsEnd (line_read exact) tokens at within
+    (viable exact (take at tokens) s runs) refused
 
 -- the first fault stands behind all tokens, where the line may not end
-pub fault_at_end : (exact : Bool) (tokens : List Token) (s : State) → run (step exact) start tokens ≡ Some s → (IsEnd s → ⊥) → IsFirstFault (IsLine exact) tokens (length tokens)
+pub fault_at_end : (exact : Bool) (tokens : List Token) (s : State) → run (step exact) start tokens ≡ Some s
+    → (IsEnd s → ⊥) → IsFirstFault (IsLine exact) tokens (length tokens)
 fault_at_end exact tokens s runs open_still =
-    unfinished (IsLine exact) (step exact) start IsEnd (line_read exact) tokens s runs open_still (viable exact tokens s runs)
+    unfinished (IsLine exact) (step exact) start IsEnd (line_read exact) tokens s runs open_still
+    (viable exact tokens s runs)

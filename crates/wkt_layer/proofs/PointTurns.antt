@@ -1,5 +1,6 @@
 -- How the points of a path turn into its images.
-use Rattle.std.proofs.Common.{◌≡◌, ◌==◌, ℕ, suc, ◌+◌, ◌≤◌, Bool, true, false, List, [], ◌∷◌, ◌++◌, length, refl, sym, ap, ◌∙◌, subst, append_assoc, arith, length-append}
+use Rattle.std.proofs.Common.{◌≡◌, ◌==◌, ℕ, suc, ◌+◌, ◌≤◌, Bool, true, false, List, [], ◌∷◌, ◌++◌, length, refl, sym}
+use Rattle.std.proofs.Common.{ap, ◌∙◌, subst, append_assoc, arith, length-append}
 use Rattle.std.specs.Prelude.{map, sum_by, if◌then◌else◌}
 use Rattle.std.specs.List.{list_all, AllByRecursion}
 use Rattle.std.specs.Char.{is_ascii_alphabetic}
@@ -11,30 +12,37 @@ use Rattle.sheet_base.specs.declared.paths.PathKind.TheVariants.{Dot, Line, Loop
 use Rattle.sheet_base.specs.Fitting.{IsWithinReach}
 use Rattle.sheet_base.proofs.Swaps.{Swapped, kept_swapped, edit_swapped, both_swapped}
 use Rattle.sheet_base.proofs.Redrawn.{Drawn, DoSuit}
-use Rattle.wkt_layer.specs.Tokens.{Number, Token, opening, closing, comma, word, number, stray, is_blank, is_numeric, token_of}
+use Rattle.wkt_layer.specs.Tokens.{Number, Token, opening, closing, comma, word, number, stray, is_blank, is_numeric}
+use Rattle.wkt_layer.specs.Tokens.{token_of}
 use Rattle.wkt_layer.specs.Numbers.{Point, place_of, lost_of}
-use Rattle.wkt_layer.specs.Geometries.{point_tokens, behind_item, points_tokens, dot, bare, member_tokens, last_behind, ArePoints, IsDot, IsRing, IsMember}
+use Rattle.wkt_layer.specs.Geometries.{point_tokens, behind_item, points_tokens, dot, bare, member_tokens, last_behind}
+use Rattle.wkt_layer.specs.Geometries.{ArePoints, IsDot, IsRing, IsMember}
 use Rattle.wkt_layer.specs.Faults.{joined_points}
 use Rattle.wkt_layer.specs.Paths.{Path, path_of, member_path, points_before_last, kept_points, lost_on, edit_of}
 use Rattle.wkt_layer.specs.Texts.{image_text, texts_behind, list_text, ring_text}
 use Rattle.wkt_layer.specs.declared.words.Word.TheVariants.{Empty}
 use Rattle.wkt_layer.proofs.EditOrder.{number_token}
-use Rattle.wkt_layer.proofs.TokenCuts.{lexed, Clear, MayFollow, Cut, first_cut, Kept, kept_cut, gap_lexed, clear_closing}
+use Rattle.wkt_layer.proofs.TokenCuts.{lexed, Clear, MayFollow, Cut, first_cut, Kept, kept_cut, gap_lexed}
+use Rattle.wkt_layer.proofs.TokenCuts.{clear_closing}
 use Rattle.wkt_layer.proofs.Rings.{ring_closes_by, ring_has_four}
-use Rattle.wkt_layer.proofs.ImageTexts.{new_point, new_points, points_lexed, new_place, new_places, new_is_point, new_are_points, new_loses_none, new_lose_none, new_count}
+use Rattle.wkt_layer.proofs.ImageTexts.{new_point, new_points, points_lexed, new_place, new_places, new_is_point}
+use Rattle.wkt_layer.proofs.ImageTexts.{new_are_points, new_loses_none, new_lose_none, new_count}
 use Rattle.wkt_layer.proofs.Turns.{drawn, redrawn, IsRead, Turned, EachTurns, single, led, after_empty}
 
 -- ---- where points stand
-not_number : (at byte : ℕ) (text : List ℕ) (n : Number) → is_ascii_alphabetic byte ≡ false → is_numeric byte ≡ false → number n ≡ token_of at byte text → ⊥
+not_number : (at byte : ℕ) (text : List ℕ) (n : Number) → is_ascii_alphabetic byte ≡ false → is_numeric byte ≡ false
+    → number n ≡ token_of at byte text → ⊥
 not_number at byte text n e f is = by_tests (byte == 40) (byte == 41) (byte == 44) (is ∙ rw (e, f) refl)
   where
-    by_tests : (c d g : Bool) → number n ≡ (if c then opening else if d then closing else if g then comma else stray) → ⊥
+    by_tests : (c d g : Bool) → number n ≡ (if c then opening else if d then closing else if g then comma else stray)
+        → ⊥
     by_tests true d g h = cc
     by_tests false true g h = cc
     by_tests false false true h = cc
     by_tests false false false h = cc
 
--- the bytes from this place on are blanks, some bytes from this place to that one, and a rest of these tokens; those that begin a number go on another
+-- the bytes from this place on are blanks, some bytes from this place to that one, and a rest of these tokens; those
+-- that begin a number go on another
 record Spanned (at : ℕ) (bytes : List ℕ) (start past : ℕ) (others : List Token) : Type 0 where
   gap : List ℕ
   body : List ℕ
@@ -46,14 +54,16 @@ record Spanned (at : ℕ) (bytes : List ℕ) (start past : ℕ) (others : List T
   left : lexed past rest ≡ others
   heads : Clear bytes → (behind : List ℕ) → Clear (gap ++ behind)
 
-number_spanned : (at : ℕ) (bytes : List ℕ) (n : Number) (others : List Token) → lexed at bytes ≡ number n ∷ others → Spanned at bytes n.start (n.start + length n.text) others
+number_spanned : (at : ℕ) (bytes : List ℕ) (n : Number) (others : List Token) → lexed at bytes ≡ number n ∷ others
+    → Spanned at bytes n.start (n.start + length n.text) others
 number_spanned at bytes n others e = go (first_cut at bytes (number n) others e)
   where
     go : Cut at bytes (number n) others → Spanned at bytes n.start (n.start + length n.text) others
     go c =
         let (begins, text) = number_token (at + length c.gap) c.byte (c.byte ∷ c.more) n (sym c.is) in
         let size = ap length text in
-        let past : n.start + length n.text ≡ at + length c.gap + length (c.byte ∷ c.more) = omega (arith, begins, size) in
+        let past : n.start + length n.text ≡ at + length c.gap + length (c.byte ∷ c.more) =
+        omega (arith, begins, size) in
         record {
           gap = c.gap;
           body = c.byte ∷ c.more;
@@ -67,13 +77,16 @@ number_spanned at bytes n others e = go (first_cut at bytes (number n) others e)
         }
       where
         by_gap : (gap : List ℕ) → Clear (gap ++ c.byte ∷ (c.more ++ c.rest)) → (behind : List ℕ) → Clear (gap ++ behind)
-        by_gap [] clear behind = absurd (not_number (at + length c.gap) c.byte (c.byte ∷ c.more) n clear.letters clear.numbers c.is)
+        by_gap [] clear behind = absurd (not_number (at + length c.gap) c.byte (c.byte ∷ c.more) n clear.letters
+            clear.numbers c.is)
         by_gap (b ∷ gap) clear behind = record { letters = clear.letters; numbers = clear.numbers }
 
 -- one span behind another
-then_spanned : (at mid : ℕ) (bytes : List ℕ) (start past from to : ℕ) (more others : List Token) (a : Spanned at bytes start past more) → Spanned past a.rest from to others → Spanned at bytes start to others
+then_spanned : (at mid : ℕ) (bytes : List ℕ) (start past from to : ℕ) (more others : List Token)
+    (a : Spanned at bytes start past more) → Spanned past a.rest from to others → Spanned at bytes start to others
 then_spanned at mid bytes start past from to more others a b =
-    let size : at + length a.gap + length (a.body ++ (b.gap ++ b.body)) ≡ at + length a.gap + length a.body + length b.gap + length b.body =
+    let size : at + length a.gap + length (a.body ++ (b.gap ++ b.body)) ≡ at + length a.gap + length a.body
+    + length b.gap + length b.body =
     let e = length-append a.body (b.gap ++ b.body) in let f = length-append b.gap b.body in omega (arith, e, f) in
     record {
       gap = a.gap;
@@ -87,40 +100,52 @@ then_spanned at mid bytes start past from to more others a b =
       heads = a.heads;
     }
 
-point_spanned : (at : ℕ) (bytes : List ℕ) (p : Point) (others : List Token) → lexed at bytes ≡ point_tokens p ++ others → Spanned at bytes p.x.start (p.y.start + length p.y.text) others
+point_spanned : (at : ℕ) (bytes : List ℕ) (p : Point) (others : List Token) → lexed at bytes ≡ point_tokens p ++ others
+    → Spanned at bytes p.x.start (p.y.start + length p.y.text) others
 point_spanned at bytes p others e = go (number_spanned at bytes p.x (number p.y ∷ others) e)
   where
-    go : Spanned at bytes p.x.start (p.x.start + length p.x.text) (number p.y ∷ others) → Spanned at bytes p.x.start (p.y.start + length p.y.text) others
-    go a = then_spanned at 0 bytes p.x.start (p.x.start + length p.x.text) p.y.start (p.y.start + length p.y.text) (number p.y ∷ others) others a
+    go : Spanned at bytes p.x.start (p.x.start + length p.x.text) (number p.y ∷ others)
+        → Spanned at bytes p.x.start (p.y.start + length p.y.text) others
+    go a = then_spanned at 0 bytes p.x.start (p.x.start + length p.x.text) p.y.start (p.y.start + length p.y.text)
+        (number p.y ∷ others) others a
         (number_spanned (p.x.start + length p.x.text) a.rest p.y others a.left)
 
 abbrev past_points : Point → List Point → ℕ
 past_points first more = (last_behind first more).y.start + length (last_behind first more).y.text
 
-points_spanned : (at : ℕ) (bytes : List ℕ) (first : Point) (more : List Point) (others : List Token) → lexed at bytes ≡ joined_points first more ++ others
+points_spanned : (at : ℕ) (bytes : List ℕ) (first : Point) (more : List Point) (others : List Token)
+    → lexed at bytes ≡ joined_points first more ++ others
     → Spanned at bytes first.x.start (past_points first more) others
 points_spanned at bytes first [] others e = point_spanned at bytes first others e
 points_spanned at bytes first (next ∷ more) others e =
-    go (point_spanned at bytes first (comma ∷ (joined_points next more ++ others)) e) (λ place xs f. points_spanned place xs next more others f)
+    go (point_spanned at bytes first (comma ∷ (joined_points next more ++ others)) e)
+    (λ place xs f. points_spanned place xs next more others f)
   where
-    go : Spanned at bytes first.x.start (first.y.start + length first.y.text) (comma ∷ (joined_points next more ++ others))
-        → ((place : ℕ) (xs : List ℕ) → lexed place xs ≡ joined_points next more ++ others → Spanned place xs next.x.start (past_points next more) others)
+    go : Spanned at bytes first.x.start (first.y.start + length first.y.text)
+        (comma ∷ (joined_points next more ++ others))
+        → ((place : ℕ) (xs : List ℕ) → lexed place xs ≡ joined_points next more ++ others
+        → Spanned place xs next.x.start (past_points next more) others)
         → Spanned at bytes first.x.start (past_points next more) others
     go a later =
         let past = first.y.start + length first.y.text in
         on (kept_cut past a.rest comma (joined_points next more ++ others) tt a.left)
       where
-        on : Kept (first.y.start + length first.y.text) a.rest comma (joined_points next more ++ others) → Spanned at bytes first.x.start (past_points next more) others
+        on : Kept (first.y.start + length first.y.text) a.rest comma (joined_points next more ++ others)
+            → Spanned at bytes first.x.start (past_points next more) others
         on k =
             let past = first.y.start + length first.y.text in
             let b = later (past + length k.piece) k.rest k.left in
-            let size : at + length a.gap + length (a.body ++ (k.piece ++ (b.gap ++ b.body))) ≡ at + length a.gap + length a.body + length k.piece + length b.gap + length b.body =
-            let e = length-append a.body (k.piece ++ (b.gap ++ b.body)) in let f = length-append k.piece (b.gap ++ b.body) in let g = length-append b.gap b.body in omega (arith, e, f, g) in
+            let size : at + length a.gap + length (a.body ++ (k.piece ++ (b.gap ++ b.body))) ≡ at + length a.gap
+            + length a.body + length k.piece + length b.gap + length b.body =
+            let e = length-append a.body (k.piece ++ (b.gap ++ b.body)) in let f =
+            length-append k.piece (b.gap ++ b.body) in let g =
+            length-append b.gap b.body in omega (arith, e, f, g) in
             record {
               gap = a.gap;
               body = a.body ++ (k.piece ++ (b.gap ++ b.body));
               rest = b.rest;
-              split = a.split ∙ ap (λ xs. a.gap ++ (a.body ++ xs)) (k.split ∙ ap (λ xs. k.piece ++ xs) b.split) ∙ simp append_assoc;
+              split = a.split ∙ ap (λ xs. a.gap ++ (a.body ++ xs)) (k.split ∙ ap (λ xs. k.piece ++ xs) b.split)
+                  ∙ simp append_assoc;
               blank = a.blank;
               begins = a.begins;
               ends = omega (arith, size, a.ends, b.ends);
@@ -162,18 +187,23 @@ closed_behind Loop image images = images ++ image ∷ []
 behind_append : (xs ys : List Pt) → texts_behind (xs ++ ys) ≡ texts_behind xs ++ texts_behind ys
 behind_append [] ys = refl
 behind_append (x ∷ xs) ys =
-    ap (λ text. 44 ∷ 32 ∷ (image_text x ++ text)) (behind_append xs ys) ∙ ap (λ text. 44 ∷ 32 ∷ text) (sym (append_assoc (image_text x) (texts_behind xs) (texts_behind ys)))
+    ap (λ text. 44 ∷ 32 ∷ (image_text x ++ text)) (behind_append xs ys)
+    ∙ ap (λ text. 44 ∷ 32 ∷ text) (sym (append_assoc (image_text x) (texts_behind xs) (texts_behind ys)))
 
-text_is : (kind : PathKind) (image : Pt) (images : List Pt) → kind_text kind (image ∷ images) ≡ list_text (image ∷ closed_behind kind image images)
+text_is : (kind : PathKind) (image : Pt) (images : List Pt)
+    → kind_text kind (image ∷ images) ≡ list_text (image ∷ closed_behind kind image images)
 text_is Dot image images = refl
 text_is Line image images = refl
-text_is Loop image images = append_assoc (image_text image) (texts_behind images) (texts_behind (image ∷ [])) ∙ ap (λ text. image_text image ++ text) (sym (behind_append images (image ∷ [])))
+text_is Loop image images = append_assoc (image_text image) (texts_behind images) (texts_behind (image ∷ []))
+    ∙ ap (λ text. image_text image ++ text) (sym (behind_append images (image ∷ [])))
 
-reach_append : (xs : List Pt) (y : Pt) → AllByRecursion IsWithinReach xs → IsWithinReach y → AllByRecursion IsWithinReach (xs ++ y ∷ [])
+reach_append : (xs : List Pt) (y : Pt) → AllByRecursion IsWithinReach xs → IsWithinReach y
+    → AllByRecursion IsWithinReach (xs ++ y ∷ [])
 reach_append [] y all one = (one, tt)
 reach_append (x ∷ xs) y all one = (all.0, reach_append xs y all.1 one)
 
-closed_reach : (kind : PathKind) (image : Pt) (images : List Pt) → AllByRecursion IsWithinReach (image ∷ images) → AllByRecursion IsWithinReach (image ∷ closed_behind kind image images)
+closed_reach : (kind : PathKind) (image : Pt) (images : List Pt) → AllByRecursion IsWithinReach (image ∷ images)
+    → AllByRecursion IsWithinReach (image ∷ closed_behind kind image images)
 closed_reach Dot image images all = all
 closed_reach Line image images all = all
 closed_reach Loop image images all = (all.0, reach_append images image all.1 all.0)
@@ -194,11 +224,15 @@ before_last q (n ∷ qs) (i ∷ images) z e =
 -- these points are read where a path's images were written
 record AreReadOf (exact : Bool) (kind : PathKind) (images : List Pt) (q : Point) (qs : List Point) : Type 0 where
   good : ArePointsOf exact kind (q ∷ qs)
-  drawn_are : (let one : Path = record { kind = kind; first = q; more = qs } in let is : Drawn = record { kind = kind; points = images } in drawn one ≡ is)
+  drawn_are : (let one : Path = record { kind = kind; first = q; more = qs } in let is : Drawn =
+      record { kind = kind; points = images } in drawn one ≡ is)
 
-are_read : (exact : Bool) (kind : PathKind) (image : Pt) (images : List Pt) (q : Point) (qs : List Point) → ArePoints exact (q ∷ qs)
-    → map place_of (q ∷ qs) ≡ image ∷ closed_behind kind image images → length qs ≡ length (closed_behind kind image images)
-    → (kind ≡ Dot → length (image ∷ images) ≡ 1) → (kind ≡ Loop → 3 ≤ length (image ∷ images)) → AreReadOf exact kind (image ∷ images) q qs
+are_read : (exact : Bool) (kind : PathKind) (image : Pt) (images : List Pt) (q : Point) (qs : List Point)
+    → ArePoints exact (q ∷ qs)
+    → map place_of (q ∷ qs) ≡ image ∷ closed_behind kind image images
+    → length qs ≡ length (closed_behind kind image images)
+    → (kind ≡ Dot → length (image ∷ images) ≡ 1) → (kind ≡ Loop → 3 ≤ length (image ∷ images))
+    → AreReadOf exact kind (image ∷ images) q qs
 are_read exact Dot image images q qs points places size one many = record {
   good = (points, let e = one refl in omega (arith, e, size));
   drawn_are = ap (λ ps. let is : Drawn = record { kind = Dot; points = ps } in is) places;
@@ -211,7 +245,11 @@ are_read exact Loop image images q qs points places size one many =
     let (front, last) = before_last q qs (image ∷ images) image places in
     let first : place_of q ≡ image = cc in
     record {
-      good = (points, ring_closes_by q qs (let e = many refl in let f = length-append images (image ∷ []) in omega (arith, e, f, size)) (last ∙ sym first));
+      good = (
+        points,
+        ring_closes_by q qs (let e = many refl in let f =
+            length-append images (image ∷ []) in omega (arith, e, f, size)) (last ∙ sym first),
+      );
       drawn_are = ap (λ ps. let is : Drawn = record { kind = Loop; points = ps } in is) front;
     }
 
@@ -221,52 +259,69 @@ abbrev pub DoesSay : (Edit → List ℕ) → (ℕ → List Pt) → Type 0
 DoesSay text images = (number : ℕ) (path : Path) → text (edit_of number path) ≡ kind_text path.kind (images number)
 
 -- a ring has four points, and so keeps three
-ring_keeps : (exact : Bool) (kind : PathKind) (first : Point) (more : List Point) → ArePointsOf exact kind (first ∷ more) → kind ≡ Loop
+ring_keeps : (exact : Bool) (kind : PathKind) (first : Point) (more : List Point)
+    → ArePointsOf exact kind (first ∷ more) → kind ≡ Loop
     → (let path : Path = record { kind = kind; first = first; more = more } in 3 ≤ length (kept_points path))
 ring_keeps exact Dot first more good is = cc
 ring_keeps exact Line first more good is = cc
-ring_keeps exact Loop first more good is = let few = ring_has_four first more good.1 in let e = kept_count first more in omega (arith, few, e)
+ring_keeps exact Loop first more good is = let few = ring_has_four first more good.1 in let e =
+    kept_count first more in omega (arith, few, e)
   where
     kept_count : (p : Point) (ps : List Point) → length (map place_of (points_before_last p ps)) ≡ length ps
     kept_count p [] = refl
     kept_count p (next ∷ ps) = let e = kept_count next ps in ap suc e
 
-images_read : (exact : Bool) (kind : PathKind) (path : Path) → path.kind ≡ kind → (kind ≡ Loop → 3 ≤ length (kept_points path)) → (images : List Pt) → DoSuit (drawn path) images → (from : ℕ) (behind : List ℕ) → Clear behind
+images_read : (exact : Bool) (kind : PathKind) (path : Path) → path.kind ≡ kind
+    → (kind ≡ Loop → 3 ≤ length (kept_points path)) → (images : List Pt) → DoSuit (drawn path) images
+    → (from : ℕ) (behind : List ℕ) → Clear behind
     → (let is : Drawn = record { kind = kind; points = images } in
-    IsRead joined_tokens (joined_path kind) (IsJoined exact kind) (is ∷ []) (lexed from (kind_text kind images ++ behind)) (lexed (from + length (kind_text kind images)) behind))
+    IsRead joined_tokens (joined_path kind) (IsJoined exact kind) (is ∷ [])
+    (lexed from (kind_text kind images ++ behind)) (lexed (from + length (kind_text kind images)) behind))
 images_read exact kind path same ring [] suit from behind clear = absurd (omega (arith, suit.some))
 images_read exact kind path same ring (image ∷ images) suit from behind clear =
     let q = new_point from image in
     let rest = closed_behind kind image images in
     let qs = new_points (from + length (image_text image)) rest in
     let reach = closed_reach kind image images suit.reach in
-    let points : ArePoints exact (q ∷ qs) = (new_is_point exact from image reach.0, new_are_points exact (from + length (image_text image)) rest reach.1) in
+    let points : ArePoints exact (q ∷ qs) = (
+      new_is_point exact from image reach.0,
+      new_are_points exact
+          (from + length (image_text image)) rest reach.1,
+    ) in
     let places : map place_of (q ∷ qs) ≡ image ∷ rest =
-    ap (λ p. p ∷ map place_of qs) (new_place from image reach.0) ∙ ap (λ ps. image ∷ ps) (new_places (from + length (image_text image)) rest reach.1) in
-    let are = are_read exact kind image images q qs points places (new_count (from + length (image_text image)) rest) (λ is. suit.dot (same ∙ is)) (λ is. let a = ring is in let b = suit.many in omega (arith, a, b)) in
+    ap (λ p. p ∷ map place_of qs) (new_place from image reach.0)
+    ∙ ap (λ ps. image ∷ ps) (new_places (from + length (image_text image)) rest reach.1) in
+    let are = are_read exact kind image images q qs points places (new_count (from + length (image_text image)) rest)
+    (λ is. suit.dot (same ∙ is)) (λ is. let a = ring is in let b = suit.many in omega (arith, a, b)) in
     let one : Path = record { kind = kind; first = q; more = qs } in
     record {
       part = record { first = q; more = qs };
-      is = ap (λ text. lexed from (text ++ behind)) (text_is kind image images) ∙ points_lexed from image rest behind reach clear.numbers
+      is = ap (λ text. lexed from (text ++ behind)) (text_is kind image images)
+          ∙ points_lexed from image rest behind reach clear.numbers
           ∙ ap (λ text. joined_points q qs ++ lexed (from + length text) behind) (sym (text_is kind image images));
       good = are.good;
       drawn_are = ap (λ d. d ∷ []) are.drawn_are;
       exact =
-          let a = new_loses_none from image reach.0 in let b = new_lose_none (from + length (image_text image)) rest reach.1 in
+          let a = new_loses_none from image reach.0 in let b =
+          new_lose_none (from + length (image_text image)) rest reach.1 in
           let lost : lost_on one ≡ 0 = sum_by-cons lost_of q qs ∙ omega (arith, a, b) in
           let none : sum_by lost_on [] ≡ 0 = refl in
           sum_by-cons lost_on one [] ∙ omega (arith, lost, none);
     }
 
-pub joined_turned : (exact : Bool) (kind : PathKind) (text : Edit → List ℕ) (images : ℕ → List Pt) → DoesSay text images → EachTurns joined_tokens (joined_path kind) (IsJoined exact kind) text images
-joined_turned exact kind text images says part good nth at bytes others suit e = go (points_spanned at bytes part.first part.more others e)
+pub joined_turned : (exact : Bool) (kind : PathKind) (text : Edit → List ℕ) (images : ℕ → List Pt) → DoesSay text images
+    → EachTurns joined_tokens (joined_path kind) (IsJoined exact kind) text images
+joined_turned exact kind text images says part good nth at bytes others suit e =
+    go (points_spanned at bytes part.first part.more others e)
   where
-    go : Spanned at bytes part.first.x.start (past_points part.first part.more) others → Turned joined_tokens (joined_path kind) (IsJoined exact kind) text images part nth at bytes others
+    go : Spanned at bytes part.first.x.start (past_points part.first part.more) others
+        → Turned joined_tokens (joined_path kind) (IsJoined exact kind) text images part nth at bytes others
     go s =
         let one : Path = record { kind = kind; first = part.first; more = part.more } in
         let edit = edit_of nth one in
         let now = kind_text kind (images nth) in
-        let size : at + length (s.gap ++ s.body) ≡ past_points part.first part.more = let f = length-append s.gap s.body in omega (arith, f, s.ends) in
+        let size : at + length (s.gap ++ s.body) ≡ past_points part.first part.more = let f =
+        length-append s.gap s.body in omega (arith, f, s.ends) in
         record {
           taken = s.gap ++ s.body;
           rest = s.rest;
@@ -274,23 +329,30 @@ joined_turned exact kind text images says part good nth at bytes others suit e =
           split = s.split ∙ sym (append_assoc s.gap s.body s.rest);
           left = ap (λ n. lexed n s.rest) size ∙ s.left;
           swap = subst (λ t. Swapped text at (s.gap ++ s.body) (edit ∷ []) (s.gap ++ t)) (says nth one)
-              (both_swapped text at s.gap s.body [] (edit ∷ []) s.gap (text edit) (kept_swapped text at s.gap) (edit_swapped text (at + length s.gap) s.body edit s.begins s.ends));
+              (both_swapped text at s.gap s.body [] (edit ∷ []) s.gap (text edit) (kept_swapped text at s.gap)
+              (edit_swapped text (at + length s.gap) s.body edit s.begins s.ends));
           heads = λ before behind. subst Clear (sym (append_assoc s.gap now behind)) (s.heads before (now ++ behind));
           reads = λ from behind after.
-              on s.gap s.blank from behind (images_read exact kind one refl (ring_keeps exact kind part.first part.more good) (images nth) suit.0 (from + length s.gap) behind after);
+              on s.gap s.blank from behind (images_read exact kind one refl
+              (ring_keeps exact kind part.first part.more good) (images nth) suit.0 (from + length s.gap) behind
+              after);
         }
       where
         on : (gap : List ℕ) → list_all is_blank gap ≡ true → (from : ℕ) (behind : List ℕ)
-            → IsRead joined_tokens (joined_path kind) (IsJoined exact kind) (redrawn images nth (joined_path kind part)) (lexed (from + length gap) (kind_text kind (images nth) ++ behind))
+            → IsRead joined_tokens (joined_path kind) (IsJoined exact kind) (redrawn images nth (joined_path kind part))
+            (lexed (from + length gap) (kind_text kind (images nth) ++ behind))
             (lexed (from + length gap + length (kind_text kind (images nth))) behind)
-            → IsRead joined_tokens (joined_path kind) (IsJoined exact kind) (redrawn images nth (joined_path kind part)) (lexed from ((gap ++ kind_text kind (images nth)) ++ behind))
+            → IsRead joined_tokens (joined_path kind) (IsJoined exact kind) (redrawn images nth (joined_path kind part))
+            (lexed from ((gap ++ kind_text kind (images nth)) ++ behind))
             (lexed (from + length (gap ++ kind_text kind (images nth))) behind)
         on gap blank from behind r =
             let now = kind_text kind (images nth) in
-            let size : from + length gap + length now ≡ from + length (gap ++ now) = let f = length-append gap now in omega (arith, f) in
+            let size : from + length gap + length now ≡ from + length (gap ++ now) = let f =
+            length-append gap now in omega (arith, f) in
             record {
               part = r.part;
-              is = ap (lexed from) (append_assoc gap now behind) ∙ gap_lexed from gap (now ++ behind) blank ∙ r.is ∙ ap (λ n. joined_tokens r.part ++ lexed n behind) size;
+              is = ap (lexed from) (append_assoc gap now behind) ∙ gap_lexed from gap (now ++ behind) blank ∙ r.is
+                  ∙ ap (λ n. joined_tokens r.part ++ lexed n behind) size;
               good = r.good;
               drawn_are = r.drawn_are;
               exact = r.exact;
@@ -309,10 +371,13 @@ closer_paths c = []
 abbrev IsCloser : Closer → Type 0
 IsCloser c = Unit {0}
 
-behind_joined : (first : Point) (more : List Point) → opening ∷ (point_tokens first ++ behind_item point_tokens more) ≡ opening ∷ (joined_points first more ++ closing ∷ [])
+behind_joined : (first : Point) (more : List Point)
+    → opening ∷ (point_tokens first ++ behind_item point_tokens more) ≡ opening
+    ∷ (joined_points first more ++ closing ∷ [])
 behind_joined first more = ap (λ ts. opening ∷ ts) (go first more)
   where
-    go : (first : Point) (more : List Point) → point_tokens first ++ behind_item point_tokens more ≡ joined_points first more ++ closing ∷ []
+    go : (first : Point) (more : List Point) → point_tokens first ++ behind_item point_tokens more
+        ≡ joined_points first more ++ closing ∷ []
     go first [] = refl
     go first (next ∷ more) = ap (λ ts. number first.x ∷ number first.y ∷ comma ∷ ts) (go next more)
 
@@ -327,28 +392,39 @@ no_points_of exact Dot = (tt, omega arith)
 no_points_of exact Line = tt
 no_points_of exact Loop = (tt, tt)
 
-pub points_turned : (exact : Bool) (kind : PathKind) (text : Edit → List ℕ) (images : ℕ → List Pt) → DoesSay text images → EachTurns points_tokens (path_of kind) (ArePointsOf exact kind) text images
+pub points_turned : (exact : Bool) (kind : PathKind) (text : Edit → List ℕ) (images : ℕ → List Pt) → DoesSay text images
+    → EachTurns points_tokens (path_of kind) (ArePointsOf exact kind) text images
 points_turned exact kind text images says [] good nth at bytes others suit e =
-    single points_tokens (path_of kind) (ArePointsOf exact kind) text images [] (word Empty) refl refl (no_points_of exact kind) (after_empty Empty) nth at bytes others (kept_cut at bytes (word Empty) others tt e)
+    single points_tokens (path_of kind) (ArePointsOf exact kind) text images [] (word Empty) refl refl
+    (no_points_of exact kind) (after_empty Empty) nth at bytes others (kept_cut at bytes (word Empty) others tt e)
 points_turned exact kind text images says (first ∷ more) good nth at bytes others suit e =
     go (kept_cut at bytes opening (joined_points first more ++ closing ∷ others) tt
-    (e ∙ ap (λ ts. ts ++ others) (behind_joined first more) ∙ ap (λ ts. opening ∷ ts) (append_assoc (joined_points first more) (closing ∷ []) others)))
+    (e ∙ ap (λ ts. ts ++ others) (behind_joined first more)
+    ∙ ap (λ ts. opening ∷ ts) (append_assoc (joined_points first more) (closing ∷ []) others)))
   where
-    go : Kept at bytes opening (joined_points first more ++ closing ∷ others) → Turned points_tokens (path_of kind) (ArePointsOf exact kind) text images (first ∷ more) nth at bytes others
+    go : Kept at bytes opening (joined_points first more ++ closing ∷ others)
+        → Turned points_tokens (path_of kind) (ArePointsOf exact kind) text images (first ∷ more) nth at bytes others
     go k =
         let j : Joined = record { first = first; more = more } in
         let c : Closer = record { none = tt } in
-        let a = joined_turned exact kind text images says j good nth (at + length k.piece) k.rest (closing ∷ others) suit k.left in
-        led joined_tokens (joined_path kind) (IsJoined exact kind) closer_tokens closer_paths IsCloser points_tokens (path_of kind) (ArePointsOf exact kind) text images (λ j c. j.first ∷ j.more) opening
-        (λ j c. behind_joined j.first j.more) (λ j c. refl) (λ j c is _. is) any_opening j c nth at bytes others k a (clear_closing (at + length k.piece + length a.taken) a.rest others a.left)
-        (single closer_tokens closer_paths IsCloser text images c closing refl refl tt any_closing (nth + 1) (at + length k.piece + length a.taken) a.rest others
+        let a = joined_turned exact kind text images says j good nth (at + length k.piece) k.rest (closing ∷ others)
+        suit k.left in
+        led joined_tokens (joined_path kind) (IsJoined exact kind) closer_tokens closer_paths IsCloser points_tokens
+        (path_of kind) (ArePointsOf exact kind) text images (λ j c. j.first ∷ j.more) opening
+        (λ j c. behind_joined j.first j.more) (λ j c. refl) (λ j c is _. is) any_opening j c nth at bytes others k a
+        (clear_closing (at + length k.piece + length a.taken) a.rest others a.left)
+        (single closer_tokens closer_paths IsCloser text images c closing refl refl tt any_closing (nth + 1)
+        (at + length k.piece + length a.taken) a.rest others
         (kept_cut (at + length k.piece + length a.taken) a.rest closing others tt a.left))
 
 -- ---- members of a multipoint
-pub member_turned : (exact : Bool) (text : Edit → List ℕ) (images : ℕ → List Pt) → DoesSay text images → EachTurns member_tokens member_path (IsMember exact) text images
-member_turned exact text images says (dot points) good nth at bytes others suit e = go (points_turned exact Dot text images says points good nth at bytes others suit e)
+pub member_turned : (exact : Bool) (text : Edit → List ℕ) (images : ℕ → List Pt) → DoesSay text images
+    → EachTurns member_tokens member_path (IsMember exact) text images
+member_turned exact text images says (dot points) good nth at bytes others suit e =
+    go (points_turned exact Dot text images says points good nth at bytes others suit e)
   where
-    go : Turned points_tokens (path_of Dot) (ArePointsOf exact Dot) text images points nth at bytes others → Turned member_tokens member_path (IsMember exact) text images (dot points) nth at bytes others
+    go : Turned points_tokens (path_of Dot) (ArePointsOf exact Dot) text images points nth at bytes others
+        → Turned member_tokens member_path (IsMember exact) text images (dot points) nth at bytes others
     go t = record {
       taken = t.taken;
       rest = t.rest;
@@ -360,13 +436,25 @@ member_turned exact text images says (dot points) good nth at bytes others suit 
       reads = λ from behind after. on from behind (t.reads from behind after);
     }
       where
-        on : (from : ℕ) (behind : List ℕ) → IsRead points_tokens (path_of Dot) (ArePointsOf exact Dot) (redrawn images nth (path_of Dot points)) (lexed from (t.now ++ behind)) (lexed (from + length t.now) behind)
-            → IsRead member_tokens member_path (IsMember exact) (redrawn images nth (path_of Dot points)) (lexed from (t.now ++ behind)) (lexed (from + length t.now) behind)
-        on from behind r = record { part = dot r.part; is = r.is; good = r.good; drawn_are = r.drawn_are; exact = r.exact }
+        on : (from : ℕ) (behind : List ℕ) → IsRead points_tokens (path_of Dot) (ArePointsOf exact Dot)
+            (redrawn images nth (path_of Dot points)) (lexed from (t.now ++ behind))
+            (lexed (from + length t.now) behind)
+            → IsRead member_tokens member_path (IsMember exact) (redrawn images nth (path_of Dot points))
+            (lexed from (t.now ++ behind)) (lexed (from + length t.now) behind)
+        on from behind r = record {
+          part = dot r.part;
+          is = r.is;
+          good = r.good;
+          drawn_are = r.drawn_are;
+          exact =
+              r.exact;
+        }
 member_turned exact text images says (bare p) good nth at bytes others suit e =
-    go (joined_turned exact Dot text images says (record { first = p; more = [] }) ((good, tt), omega arith) nth at bytes others suit e)
+    go (joined_turned exact Dot text images says (record { first = p; more = [] }) ((good, tt), omega arith) nth at
+    bytes others suit e)
   where
-    go : (let j : Joined = record { first = p; more = [] } in Turned joined_tokens (joined_path Dot) (IsJoined exact Dot) text images j nth at bytes others)
+    go : (let j : Joined = record { first = p; more = [] } in Turned joined_tokens (joined_path Dot)
+        (IsJoined exact Dot) text images j nth at bytes others)
         → Turned member_tokens member_path (IsMember exact) text images (bare p) nth at bytes others
     go t = record {
       taken = t.taken;
@@ -379,12 +467,26 @@ member_turned exact text images says (bare p) good nth at bytes others suit e =
       reads = λ from behind after. on from behind (t.reads from behind after);
     }
       where
-        on : (from : ℕ) (behind : List ℕ) → IsRead joined_tokens (joined_path Dot) (IsJoined exact Dot) (redrawn images nth (path_of Dot (p ∷ []))) (lexed from (t.now ++ behind)) (lexed (from + length t.now) behind)
-            → IsRead member_tokens member_path (IsMember exact) (redrawn images nth (path_of Dot (p ∷ []))) (lexed from (t.now ++ behind)) (lexed (from + length t.now) behind)
+        on : (from : ℕ) (behind : List ℕ) → IsRead joined_tokens (joined_path Dot) (IsJoined exact Dot)
+            (redrawn images nth (path_of Dot (p ∷ []))) (lexed from (t.now ++ behind))
+            (lexed (from + length t.now) behind)
+            → IsRead member_tokens member_path (IsMember exact) (redrawn images nth (path_of Dot (p ∷ [])))
+            (lexed from (t.now ++ behind)) (lexed (from + length t.now) behind)
         on from behind r = by_more r.part.first r.part.more r.is r.good r.drawn_are r.exact
           where
-            by_more : (q : Point) (qs : List Point) → lexed from (t.now ++ behind) ≡ joined_points q qs ++ lexed (from + length t.now) behind → ArePointsOf exact Dot (q ∷ qs)
-                → map drawn (path_of Dot (q ∷ qs)) ≡ redrawn images nth (path_of Dot (p ∷ [])) → sum_by lost_on (path_of Dot (q ∷ qs)) ≡ 0
-                → IsRead member_tokens member_path (IsMember exact) (redrawn images nth (path_of Dot (p ∷ []))) (lexed from (t.now ++ behind)) (lexed (from + length t.now) behind)
-            by_more q [] is good are none = record { part = bare q; is = is; good = good.0.0; drawn_are = are; exact = none }
+            by_more : (q : Point) (qs : List Point)
+                → lexed from (t.now ++ behind) ≡ joined_points q qs ++ lexed (from + length t.now) behind
+                → ArePointsOf exact Dot (q ∷ qs)
+                → map drawn (path_of Dot (q ∷ qs)) ≡ redrawn images nth (path_of Dot (p ∷ []))
+                → sum_by lost_on (path_of Dot (q ∷ qs)) ≡ 0
+                → IsRead member_tokens member_path (IsMember exact) (redrawn images nth (path_of Dot (p ∷ [])))
+                (lexed from (t.now ++ behind)) (lexed (from + length t.now) behind)
+            by_more q [] is good are none = record {
+              part = bare q;
+              is = is;
+              good = good.0.0;
+              drawn_are = are;
+              exact =
+                  none;
+            }
             by_more q (next ∷ qs) is good are none = absurd (omega (arith, good.1))

@@ -16,19 +16,28 @@ use Rattle.wkt_layer.proofs.Sheets.{whole_append, line_paths_whole}
 use Rattle.wkt_layer.proofs.LineTurns.{IsWritten, text_turned}
 use Rattle.wkt_layer.proofs.SheetTurns.{texts_plain, texts_say, sheet_suits, points_again, rows_again}
 
-lines_whole : (exact : Bool) (at : ℕ) (lines : List (List ℕ)) (paths : List Path) → AreLinesOf exact at lines paths → AreWhole paths
+lines_whole : (exact : Bool) (at : ℕ) (lines : List (List ℕ)) (paths : List Path) → AreLinesOf exact at lines paths
+    → AreWhole paths
 lines_whole exact at [] paths none = subst AreWhole (sym none) tt
 lines_whole exact at (line ∷ lines) paths (here, others, is, are, same) =
-    subst AreWhole (sym same) (whole_append here others (line_paths_whole exact (tokens_of at line) here is) (lines_whole exact (at + length line + 1) lines others are))
+    subst AreWhole (sym same) (whole_append here others (line_paths_whole exact (tokens_of at line) here is)
+    (lines_whole exact (at + length line + 1) lines others are))
 
-paths_again : (exact : Bool) (bytes : List ℕ) (paths : List Path) (images : Runs) → AreLinesOf exact 0 (lines_of bytes) paths → AreInOrder 0 (edits_from 0 paths) (length bytes) → DoFit (sheet_of paths) images
-    → IsReadAgain (IsReadAs exact) (spliced bytes (edit_text (sheet_of paths) images) (edits_from 0 paths)) (sheet_of paths) images
+paths_again : (exact : Bool) (bytes : List ℕ) (paths : List Path) (images : Runs)
+    → AreLinesOf exact 0 (lines_of bytes) paths → AreInOrder 0 (edits_from 0 paths) (length bytes)
+    → DoFit (sheet_of paths) images
+    → IsReadAgain (IsReadAs exact) (spliced bytes (edit_text (sheet_of paths) images) (edits_from 0 paths))
+    (sheet_of paths) images
 paths_again exact bytes paths images are order fit =
-    go (text_turned exact (edit_text (sheet_of paths) images) (path_images (rows_from 0 paths) images) (texts_say (sheet_of paths) images)
-    (texts_plain (sheet_of paths) images (all_listed IsWithinReach images.points fit.in_reach)) bytes paths (sheet_suits paths images fit (lines_whole exact 0 (lines_of bytes) paths are)) are order)
+    go (text_turned exact (edit_text (sheet_of paths) images) (path_images (rows_from 0 paths) images)
+    (texts_say (sheet_of paths) images)
+    (texts_plain (sheet_of paths) images (all_listed IsWithinReach images.points fit.in_reach)) bytes paths
+    (sheet_suits paths images fit (lines_whole exact 0 (lines_of bytes) paths are)) are order)
   where
-    go : IsWritten exact (path_images (rows_from 0 paths) images) 0 paths (AreLinesOf exact 0 (lines_of (spliced bytes (edit_text (sheet_of paths) images) (edits_from 0 paths))))
-        → IsReadAgain (IsReadAs exact) (spliced bytes (edit_text (sheet_of paths) images) (edits_from 0 paths)) (sheet_of paths) images
+    go : IsWritten exact (path_images (rows_from 0 paths) images) 0 paths
+        (AreLinesOf exact 0 (lines_of (spliced bytes (edit_text (sheet_of paths) images) (edits_from 0 paths))))
+        → IsReadAgain (IsReadAs exact) (spliced bytes (edit_text (sheet_of paths) images) (edits_from 0 paths))
+        (sheet_of paths) images
     go w = record {
       back = sheet_of w.others;
       is_read = (w.others, w.are_of, refl);
@@ -37,14 +46,20 @@ paths_again exact bytes paths images are order fit =
       exact_all = w.exact_all;
     }
 
-pub read_again : (exact : Bool) (bytes : List ℕ) (sheet : Contents) (images : Runs) → IsReadAs exact bytes sheet → DoFit sheet images
+pub read_again : (exact : Bool) (bytes : List ℕ) (sheet : Contents) (images : Runs) → IsReadAs exact bytes sheet
+    → DoFit sheet images
     → IsReadAgain (IsReadAs exact) (spliced bytes (edit_text sheet images) sheet.edits) sheet images
 read_again exact bytes sheet images (paths, are, same) fit =
-    subst (λ (s : Contents). IsReadAgain (IsReadAs exact) (spliced bytes (edit_text s images) s.edits) s images) (sym same)
-    (paths_again exact bytes paths images are (subst (λ (s : Contents). AreInOrder 0 s.edits (length bytes)) same (read_in_order exact bytes sheet (paths, are, same)))
+    subst (λ (s : Contents). IsReadAgain (IsReadAs exact) (spliced bytes (edit_text s images) s.edits) s images)
+    (sym same)
+    (paths_again exact bytes paths images are
+    (subst (λ (s : Contents). AreInOrder 0 s.edits (length bytes)) same
+    (read_in_order exact bytes sheet (paths, are, same)))
     (subst (λ (s : Contents). DoFit s images) same fit))
 
-pub reads_back : (exact : Bool) (bytes : List ℕ) (sheet : Contents) (images : Runs) → IsReadAs exact bytes sheet → DoFit sheet images
+pub reads_back : (exact : Bool) (bytes : List ℕ) (sheet : Contents) (images : Runs) → IsReadAs exact bytes sheet
+    → DoFit sheet images
     → IsReadBack (IsReadAs exact) sheet images (spliced bytes (edit_text sheet images) sheet.edits)
 reads_back exact bytes sheet images is fit =
-    read_back (IsReadAs exact) (spliced bytes (edit_text sheet images) sheet.edits) sheet images (read_again exact bytes sheet images is fit)
+    read_back (IsReadAs exact) (spliced bytes (edit_text sheet images) sheet.edits) sheet images
+    (read_again exact bytes sheet images is fit)

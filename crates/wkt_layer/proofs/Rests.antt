@@ -5,9 +5,13 @@ use Rattle.std.specs.List.{AllByRecursion}
 use Rattle.sheet_base.specs.declared.paths.PathKind.TheVariants.{Dot, Line, Loop}
 use Rattle.wkt_layer.specs.Tokens.{Number, Token, number}
 use Rattle.wkt_layer.specs.Numbers.{Point, IsNumber, IsPoint}
-use Rattle.wkt_layer.specs.Geometries.{Member, Geometry, Geometries, no_geometry, geometry, point_tokens, behind_item, content_tokens, points_tokens, member_tokens, lists_tokens, geometry_tokens, geometries_tokens, behind_geometry, IsClosed, ArePoints, IsDot, IsRing, IsMember, IsGeometry, AreGeometries}
+use Rattle.wkt_layer.specs.Geometries.{Member, Geometry, Geometries, no_geometry, geometry, point_tokens, behind_item}
+use Rattle.wkt_layer.specs.Geometries.{content_tokens, points_tokens, member_tokens, lists_tokens, geometry_tokens}
+use Rattle.wkt_layer.specs.Geometries.{geometries_tokens, behind_geometry, IsClosed, ArePoints, IsDot, IsRing, IsMember}
+use Rattle.wkt_layer.specs.Geometries.{IsGeometry, AreGeometries}
 use Rattle.wkt_layer.specs.Paths.{Path, path_of, member_path, geometry_paths, geometries_paths}
-use Rattle.wkt_layer.specs.States.{Spot, item, content, first, second, whole, bare_second, bare_whole, behind, State, innermost, pair, kind_of}
+use Rattle.wkt_layer.specs.States.{Spot, item, content, first, second, whole, bare_second, bare_whole, behind, State}
+use Rattle.wkt_layer.specs.States.{innermost, pair, kind_of}
 use Rattle.wkt_layer.specs.declared.limits.TheConstants.{DEEPEST}
 use Rattle.wkt_layer.specs.declared.places.Content.{Content}
 use Rattle.wkt_layer.specs.declared.places.Content.TheVariants.{Points, Items}
@@ -105,19 +109,22 @@ GoOn listings.Dot read more = more ≡ []
 GoOn listings.List read more = Unit {0}
 GoOn listings.Ring read more = IsClosed (read ++ more)
 
--- the tokens are those of the items behind one, and then of what stands behind the list; and so for each list that is open
+-- the tokens are those of the items behind one, and then of what stands behind the list; and so for each list that is
+-- open
 abbrev pub Closes : Bool → List Group → List Token → List Path → Type 0
 Closes exact [] tokens paths = (tokens ≡ []) × (paths ≡ [])
 Closes exact (group ∷ outer) tokens paths =
     (more : ItemsOf group) × (rest : List Token) × (later : List Path)
-    × AreItems exact (room (group ∷ outer)) group more × (tokens ≡ more_tokens group more ++ rest) × Closes exact outer rest later
+    × AreItems exact (room (group ∷ outer)) group more × (tokens ≡ more_tokens group more ++ rest)
+    × Closes exact outer rest later
     × (paths ≡ items_paths group more ++ later)
 
 -- more points of a path
 abbrev pub ClosesPoints : Bool → Listing → List Point → List Group → List Token → List Path → Type 0
 ClosesPoints exact listing read stack tokens paths =
     (more : List Point) × (rest : List Token) × (later : List Path)
-    × ArePoints exact more × GoOn listing read more × (tokens ≡ behind_item point_tokens more ++ rest) × Closes exact stack rest later
+    × ArePoints exact more × GoOn listing read more × (tokens ≡ behind_item point_tokens more ++ rest)
+    × Closes exact stack rest later
     × (paths ≡ path_of (kind_of listing) (read ++ more) ++ later)
 
 -- a content of points
@@ -133,23 +140,28 @@ Enters exact (Points listing) stack tokens paths =
     × (paths ≡ path_of (kind_of listing) points ++ later)
 Enters exact (Items group) stack tokens paths =
     (items : ItemsOf group) × (rest : List Token) × (later : List Path)
-    × AreItems exact (room (group ∷ stack)) group items × (tokens ≡ items_tokens group items ++ rest) × Closes exact stack rest later
+    × AreItems exact (room (group ∷ stack)) group items × (tokens ≡ items_tokens group items ++ rest)
+    × Closes exact stack rest later
     × (paths ≡ items_paths group items ++ later)
 
 -- what may follow: the tokens, and the paths that they have together with the points that were read
 abbrev pub Rests : Bool → Spot → List Group → List Token → List Path → Type 0
 Rests exact item stack tokens paths =
     (one : ItemOf (innermost stack)) × (rest : List Token) × (later : List Path)
-    × IsItem exact (room stack) (innermost stack) one × (tokens ≡ item_tokens (innermost stack) one ++ rest) × Closes exact stack rest later
+    × IsItem exact (room stack) (innermost stack) one × (tokens ≡ item_tokens (innermost stack) one ++ rest)
+    × Closes exact stack rest later
     × (paths ≡ item_paths (innermost stack) one ++ later)
 Rests exact (content inner) stack tokens paths = Enters exact inner stack tokens paths
 Rests exact (first listing read) stack tokens paths =
-    (p : Point) × (rest : List Token) × IsPoint exact p × (tokens ≡ point_tokens p ++ rest) × ClosesPoints exact listing (read ++ p ∷ []) stack rest paths
+    (p : Point) × (rest : List Token) × IsPoint exact p × (tokens ≡ point_tokens p ++ rest)
+    × ClosesPoints exact listing (read ++ p ∷ []) stack rest paths
 Rests exact (second listing read x) stack tokens paths =
-    (y : Number) × (rest : List Token) × IsNumber exact y × (tokens ≡ number y ∷ rest) × ClosesPoints exact listing (read ++ pair x y ∷ []) stack rest paths
+    (y : Number) × (rest : List Token) × IsNumber exact y × (tokens ≡ number y ∷ rest)
+    × ClosesPoints exact listing (read ++ pair x y ∷ []) stack rest paths
 Rests exact (whole listing read) stack tokens paths = ClosesPoints exact listing read stack tokens paths
 Rests exact (bare_second x) stack tokens paths =
-    (y : Number) × (rest : List Token) × (later : List Path) × IsNumber exact y × (tokens ≡ number y ∷ rest) × Closes exact stack rest later
+    (y : Number) × (rest : List Token) × (later : List Path) × IsNumber exact y × (tokens ≡ number y ∷ rest)
+    × Closes exact stack rest later
     × (paths ≡ path_of Dot (pair x y ∷ []) ++ later)
 Rests exact bare_whole stack tokens paths = Closes exact stack tokens paths
 Rests exact behind stack tokens paths = Closes exact stack tokens paths

@@ -1,15 +1,21 @@
--- A token that the pass takes is one that the grammar allows: what follows the state behind it follows the state before, behind the token.
-use Rattle.std.proofs.Common.{◌≡◌, suc, ◌<◌, Bool, true, false, List, [], ◌∷◌, ◌++◌, length, refl, sym, ap, ◌∙◌, subst, append_assoc, append-nil, arith}
+-- A token that the pass takes is one that the grammar allows: what follows the state behind it follows the state
+-- before, behind the token.
+use Rattle.std.proofs.Common.{◌≡◌, suc, ◌<◌, Bool, true, false, List, [], ◌∷◌, ◌++◌, length, refl, sym, ap, ◌∙◌, subst}
+use Rattle.std.proofs.Common.{append_assoc, append-nil, arith}
 use Rattle.std.specs.Prelude.{Some, None, nat_lt, if◌then◌else◌}
 use Rattle.std.proofs.lemmas.Option.{same_Some}
 use Rattle.mm_decimal.specs.Measured.{measured}
 use Rattle.sheet_base.specs.declared.paths.PathKind.TheVariants.{Dot}
 use Rattle.wkt_layer.specs.Tokens.{Number, Token, opening, closing, comma, word, number, stray}
 use Rattle.wkt_layer.specs.Numbers.{Point, IsNumber, does_fit}
-use Rattle.wkt_layer.specs.Geometries.{dot, bare, point, line_string, polygon, multi_point, multi_line_string, multi_polygon, collection, point_tokens, IsClosed, IsGeometry}
+use Rattle.wkt_layer.specs.Geometries.{dot, bare, point, line_string, polygon, multi_point, multi_line_string}
+use Rattle.wkt_layer.specs.Geometries.{multi_polygon, collection, point_tokens, IsClosed, IsGeometry}
 use Rattle.wkt_layer.specs.Paths.{Path, path_of}
-use Rattle.wkt_layer.specs.States.{Spot, item, content, first, second, whole, bare_second, bare_whole, behind, State, state, innermost, pair, kind_of, step_at, enter_step, tag_step, number_step, item_step, whole_step, behind_step, may_end}
-use Rattle.wkt_layer.proofs.Rests.{room, ItemOf, item_tokens, more_tokens, IsItem, item_paths, items_paths, no_items, one_more, GoOn, Closes, ClosesPoints, Enters, Follows}
+use Rattle.wkt_layer.specs.States.{Spot, item, content, first, second, whole, bare_second, bare_whole, behind, State}
+use Rattle.wkt_layer.specs.States.{state, innermost, pair, kind_of, step_at, enter_step, tag_step, number_step}
+use Rattle.wkt_layer.specs.States.{item_step, whole_step, behind_step, may_end}
+use Rattle.wkt_layer.proofs.Rests.{room, ItemOf, item_tokens, more_tokens, IsItem, item_paths, items_paths, no_items}
+use Rattle.wkt_layer.proofs.Rests.{one_more, GoOn, Closes, ClosesPoints, Enters, Follows}
 use Rattle.wkt_layer.specs.declared.limits.TheConstants.{DEEPEST}
 use Rattle.wkt_layer.specs.declared.words.Kind.{Kind}
 use Rattle.wkt_layer.specs.declared.words.Kind.TheVariants as kinds
@@ -21,19 +27,22 @@ use Rattle.wkt_layer.specs.declared.places.Listing.TheVariants as listings
 use Rattle.wkt_layer.specs.declared.places.Group.{Group}
 use Rattle.wkt_layer.specs.declared.places.Group.TheVariants as groups
 use Rattle.std.proofs.lemmas.Bool.{ltb-true}
-use Rattle.wkt_layer.proofs.Items.{tokens_none, tokens_some, more_none, more_some, paths_none, paths_some, are_none, are_some, points_whole, no_points, on_before}
+use Rattle.wkt_layer.proofs.Items.{tokens_none, tokens_some, more_none, more_some, paths_none, paths_some, are_none}
+use Rattle.wkt_layer.proofs.Items.{are_some, points_whole, no_points, on_before}
 use Rattle.wkt_layer.proofs.Rings.{is_closed_is}
 
 -- the tokens with this one in front follow the state
 abbrev pub Before : Bool → Spot → List Group → List Path → Token → List Token → List Path → Type 0
 Before exact spot stack paths t ts all = Follows exact (state spot stack paths) (t ∷ ts) all
 
-if_some : {A : Type 0} (b : Bool) (one next : A) → (if b then Some one else None) ≡ Some next → (b ≡ true) × (next ≡ one)
+if_some : {A : Type 0} (b : Bool) (one next : A) → (if b then Some one else None) ≡ Some next
+    → (b ≡ true) × (next ≡ one)
 if_some true one next e = (refl, sym (same_Some one next e))
 if_some false one next e = cc
 
 -- a number that was taken
-pub number_taken : (exact : Bool) (make : Number → State) (t : Token) (next : State) → number_step exact make t ≡ Some next
+pub number_taken : (exact : Bool) (make : Number → State) (t : Token) (next : State)
+    → number_step exact make t ≡ Some next
     → (n : Number) × (t ≡ number n) × IsNumber exact n × (next ≡ make n)
 number_taken exact make (number n) next e =
     let h = if_some (does_fit exact (measured n.text)) (make n) next e in
@@ -45,9 +54,12 @@ number_taken exact make (word w) next e = cc
 number_taken exact make stray next e = cc
 
 -- EMPTY
-empty_before : (exact : Bool) (inner : Content) (stack : List Group) (paths : List Path) (ts : List Token) (all : List Path)
-    → Follows exact (state behind stack paths) ts all → (later : List Path) × Enters exact inner stack (word Empty ∷ ts) later × (all ≡ paths ++ later)
-empty_before exact (Points listing) stack paths ts all (close, closes, same) = (close, ([], ts, close, no_points exact listing, refl, closes, refl), same)
+empty_before : (exact : Bool) (inner : Content) (stack : List Group) (paths : List Path) (ts : List Token)
+    (all : List Path)
+    → Follows exact (state behind stack paths) ts all
+    → (later : List Path) × Enters exact inner stack (word Empty ∷ ts) later × (all ≡ paths ++ later)
+empty_before exact (Points listing) stack paths ts all (close, closes, same) =
+    (close, ([], ts, close, no_points exact listing, refl, closes, refl), same)
 empty_before exact (Items group) stack paths ts all (close, closes, same) = (
   close,
   (
@@ -63,10 +75,13 @@ empty_before exact (Items group) stack paths ts all (close, closes, same) = (
 )
 
 -- an opening bracket
-opening_before : (exact : Bool) (inner : Content) (stack : List Group) (paths : List Path) (next : State) (ts : List Token) (all : List Path)
-    → enter_step inner stack paths opening ≡ Some next → Follows exact next ts all → (later : List Path) × Enters exact inner stack (opening ∷ ts) later × (all ≡ paths ++ later)
+opening_before : (exact : Bool) (inner : Content) (stack : List Group) (paths : List Path) (next : State)
+    (ts : List Token) (all : List Path)
+    → enter_step inner stack paths opening ≡ Some next → Follows exact next ts all
+    → (later : List Path) × Enters exact inner stack (opening ∷ ts) later × (all ≡ paths ++ later)
 opening_before exact (Points listing) stack paths next ts all e follows =
-    let here = subst (λ s. Follows exact s ts all) (sym (same_Some (state (first listing []) stack paths) next e)) follows in
+    let here = subst (λ s. Follows exact s ts all) (sym (same_Some (state (first listing []) stack paths) next e))
+    follows in
     let (later, (p, tokens, is, same, (more, rest, close, are, on, tokens_are, closes, paths_are)), all_are) = here in (
       later,
       (
@@ -81,30 +96,50 @@ opening_before exact (Points listing) stack paths next ts all e follows =
       all_are,
     )
 opening_before exact (Items group) stack paths next ts all e follows =
-    let here = subst (λ s. Follows exact s ts all) (sym (same_Some (state item (group ∷ stack) paths) next e)) follows in
-    let (later, (one, tokens, rest_paths, is, same, (more, rest, close, are, tokens_are, closes, more_paths), paths_are), all_are) = here in (
+    let here = subst (λ s. Follows exact s ts all) (sym (same_Some (state item (group ∷ stack) paths) next e))
+    follows in
+    let (
+      later,
+      (
+        one,
+        tokens,
+        rest_paths,
+        is,
+        same,
+        (more, rest, close, are, tokens_are, closes, more_paths),
+        paths_are,
+      ),
+      all_are,
+    ) = here in (
       later,
       (
         one_more group one more,
         rest,
         close,
         are_some exact (room (group ∷ stack)) group one more is are,
-        ap (λ x. opening ∷ x) (same ∙ ap (λ x. item_tokens group one ++ x) tokens_are ∙ sym (append_assoc (item_tokens group one) (more_tokens group more) rest))
+        ap (λ x. opening ∷ x) (same ∙ ap (λ x. item_tokens group one ++ x) tokens_are
+            ∙ sym (append_assoc (item_tokens group one) (more_tokens group more) rest))
             ∙ ap (λ x. x ++ rest) (sym (tokens_some group one more)),
         closes,
-        paths_are ∙ ap (λ x. item_paths group one ++ x) more_paths ∙ sym (append_assoc (item_paths group one) (items_paths group more) close)
+        paths_are ∙ ap (λ x. item_paths group one ++ x) more_paths
+            ∙ sym (append_assoc (item_paths group one) (items_paths group more) close)
             ∙ ap (λ x. x ++ close) (sym (paths_some group one more)),
       ),
       all_are,
     )
 
-pub enter_before : (exact : Bool) (inner : Content) (stack : List Group) (paths : List Path) (t : Token) (next : State) (ts : List Token) (all : List Path)
-    → enter_step inner stack paths t ≡ Some next → Follows exact next ts all → (later : List Path) × Enters exact inner stack (t ∷ ts) later × (all ≡ paths ++ later)
-enter_before exact inner stack paths opening next ts all e follows = opening_before exact inner stack paths next ts all e follows
+pub enter_before : (exact : Bool) (inner : Content) (stack : List Group) (paths : List Path) (t : Token) (next : State)
+    (ts : List Token) (all : List Path)
+    → enter_step inner stack paths t ≡ Some next → Follows exact next ts all
+    → (later : List Path) × Enters exact inner stack (t ∷ ts) later × (all ≡ paths ++ later)
+enter_before exact inner stack paths opening next ts all e follows =
+    opening_before exact inner stack paths next ts all e follows
 enter_before exact (Points listing) stack paths (word Empty) next ts all e follows =
-    empty_before exact (Points listing) stack paths ts all (subst (λ s. Follows exact s ts all) (sym (same_Some (state behind stack paths) next e)) follows)
+    empty_before exact (Points listing) stack paths ts all
+    (subst (λ s. Follows exact s ts all) (sym (same_Some (state behind stack paths) next e)) follows)
 enter_before exact (Items group) stack paths (word Empty) next ts all e follows =
-    empty_before exact (Items group) stack paths ts all (subst (λ s. Follows exact s ts all) (sym (same_Some (state behind stack paths) next e)) follows)
+    empty_before exact (Items group) stack paths ts all
+    (subst (λ s. Follows exact s ts all) (sym (same_Some (state behind stack paths) next e)) follows)
 enter_before exact (Points listing) stack paths (word (Tag kind)) next ts all e follows = cc
 enter_before exact (Items group) stack paths (word (Tag kind)) next ts all e follows = cc
 enter_before exact (Points listing) stack paths (word Height) next ts all e follows = cc
@@ -125,39 +160,70 @@ abbrev Begun : Bool → Group → List Group → List Path → List Token → Li
 Begun exact group stack paths tokens all =
     (later : List Path)
     × ((one : ItemOf group) × (rest : List Token) × (close : List Path)
-    × IsItem exact (room stack) group one × (tokens ≡ item_tokens group one ++ rest) × Closes exact stack rest close × (later ≡ item_paths group one ++ close))
+    × IsItem exact (room stack) group one × (tokens ≡ item_tokens group one ++ rest) × Closes exact stack rest close
+    × (later ≡ item_paths group one ++ close))
     × (all ≡ paths ++ later)
 
 -- a tag
-kind_before : (exact : Bool) (kind : Kind) (stack : List Group) (paths : List Path) (next : State) (ts : List Token) (all : List Path)
-    → tag_step stack paths (word (Tag kind)) ≡ Some next → Follows exact next ts all → Begun exact groups.Geometries stack paths (word (Tag kind) ∷ ts) all
+kind_before : (exact : Bool) (kind : Kind) (stack : List Group) (paths : List Path) (next : State) (ts : List Token)
+    (all : List Path)
+    → tag_step stack paths (word (Tag kind)) ≡ Some next → Follows exact next ts all
+    → Begun exact groups.Geometries stack paths (word (Tag kind) ∷ ts) all
 kind_before exact kinds.Point stack paths next ts all e follows =
     let (later, (points, rest, close, is, same, closes, paths_are), all_are) =
-    subst (λ s. Follows exact s ts all) (sym (same_Some (state (content (Points listings.Dot)) stack paths) next e)) follows in
+    subst (λ s. Follows exact s ts all) (sym (same_Some (state (content (Points listings.Dot)) stack paths) next e))
+    follows in
     (later, (point points, rest, close, is, ap (λ x. word (Tag kinds.Point) ∷ x) same, closes, paths_are), all_are)
 kind_before exact kinds.LineString stack paths next ts all e follows =
     let (later, (points, rest, close, is, same, closes, paths_are), all_are) =
-    subst (λ s. Follows exact s ts all) (sym (same_Some (state (content (Points listings.List)) stack paths) next e)) follows in
-    (later, (line_string points, rest, close, is, ap (λ x. word (Tag kinds.LineString) ∷ x) same, closes, paths_are), all_are)
+    subst (λ s. Follows exact s ts all) (sym (same_Some (state (content (Points listings.List)) stack paths) next e))
+    follows in (
+      later,
+      (line_string points, rest, close, is, ap (λ x. word (Tag kinds.LineString) ∷ x) same, closes, paths_are),
+      all_are,
+    )
 kind_before exact kinds.Polygon stack paths next ts all e follows =
     let (later, (items, rest, close, is, same, closes, paths_are), all_are) =
-    subst (λ s. Follows exact s ts all) (sym (same_Some (state (content (Items groups.Rings)) stack paths) next e)) follows in
+    subst (λ s. Follows exact s ts all) (sym (same_Some (state (content (Items groups.Rings)) stack paths) next e))
+    follows in
     (later, (polygon items, rest, close, is, ap (λ x. word (Tag kinds.Polygon) ∷ x) same, closes, paths_are), all_are)
 kind_before exact kinds.MultiPoint stack paths next ts all e follows =
     let (later, (items, rest, close, is, same, closes, paths_are), all_are) =
-    subst (λ s. Follows exact s ts all) (sym (same_Some (state (content (Items groups.Dots)) stack paths) next e)) follows in
-    (later, (multi_point items, rest, close, is, ap (λ x. word (Tag kinds.MultiPoint) ∷ x) same, closes, paths_are), all_are)
+    subst (λ s. Follows exact s ts all) (sym (same_Some (state (content (Items groups.Dots)) stack paths) next e))
+    follows in (
+      later,
+      (multi_point items, rest, close, is, ap (λ x. word (Tag kinds.MultiPoint) ∷ x) same, closes, paths_are),
+      all_are,
+    )
 kind_before exact kinds.MultiLineString stack paths next ts all e follows =
     let (later, (items, rest, close, is, same, closes, paths_are), all_are) =
-    subst (λ s. Follows exact s ts all) (sym (same_Some (state (content (Items groups.Lists)) stack paths) next e)) follows in
-    (later, (multi_line_string items, rest, close, is, ap (λ x. word (Tag kinds.MultiLineString) ∷ x) same, closes, paths_are), all_are)
+    subst (λ s. Follows exact s ts all) (sym (same_Some (state (content (Items groups.Lists)) stack paths) next e))
+    follows in (
+      later,
+      (
+        multi_line_string items,
+        rest,
+        close,
+        is,
+        ap (λ x. word (Tag kinds.MultiLineString) ∷ x) same,
+        closes,
+        paths_are,
+      ),
+      all_are,
+    )
 kind_before exact kinds.MultiPolygon stack paths next ts all e follows =
     let (later, (items, rest, close, is, same, closes, paths_are), all_are) =
-    subst (λ s. Follows exact s ts all) (sym (same_Some (state (content (Items groups.Polygons)) stack paths) next e)) follows in
-    (later, (multi_polygon items, rest, close, is, ap (λ x. word (Tag kinds.MultiPolygon) ∷ x) same, closes, paths_are), all_are)
+    subst (λ s. Follows exact s ts all) (sym (same_Some (state (content (Items groups.Polygons)) stack paths) next e))
+    follows in (
+      later,
+      (multi_polygon items, rest, close, is, ap (λ x. word (Tag kinds.MultiPolygon) ∷ x) same, closes, paths_are),
+      all_are,
+    )
 kind_before exact kinds.Collection stack paths next ts all e follows =
-    let taken = if_some (nat_lt (length stack) DEEPEST) (state (content (Items groups.Geometries)) stack paths) next e in
-    let (later, (items, rest, close, is, same, closes, paths_are), all_are) = subst (λ s. Follows exact s ts all) taken.1 follows in
+    let taken = if_some (nat_lt (length stack) DEEPEST) (state (content (Items groups.Geometries)) stack paths) next
+    e in
+    let (later, (items, rest, close, is, same, closes, paths_are), all_are) =
+    subst (λ s. Follows exact s ts all) taken.1 follows in
     let less : length stack < DEEPEST = ltb-true (length stack) DEEPEST taken.0 in
     let left : suc (room (groups.Geometries ∷ stack)) ≡ room stack = omega arith in (
       later,
@@ -173,9 +239,12 @@ kind_before exact kinds.Collection stack paths next ts all e follows =
       all_are,
     )
 
-tag_before : (exact : Bool) (stack : List Group) (paths : List Path) (t : Token) (next : State) (ts : List Token) (all : List Path)
-    → tag_step stack paths t ≡ Some next → Follows exact next ts all → Begun exact groups.Geometries stack paths (t ∷ ts) all
-tag_before exact stack paths (word (Tag kind)) next ts all e follows = kind_before exact kind stack paths next ts all e follows
+tag_before : (exact : Bool) (stack : List Group) (paths : List Path) (t : Token) (next : State) (ts : List Token)
+    (all : List Path)
+    → tag_step stack paths t ≡ Some next → Follows exact next ts all
+    → Begun exact groups.Geometries stack paths (t ∷ ts) all
+tag_before exact stack paths (word (Tag kind)) next ts all e follows =
+    kind_before exact kind stack paths next ts all e follows
 tag_before exact stack paths (word Empty) next ts all e follows = cc
 tag_before exact stack paths (word Height) next ts all e follows = cc
 tag_before exact stack paths (word Other) next ts all e follows = cc
@@ -186,53 +255,81 @@ tag_before exact stack paths (number n) next ts all e follows = cc
 tag_before exact stack paths stray next ts all e follows = cc
 
 -- a dot of a multipoint
-dot_before : (exact : Bool) (stack : List Group) (paths : List Path) (t : Token) (next : State) (ts : List Token) (all : List Path)
-    → enter_step (Points listings.Dot) stack paths t ≡ Some next → Follows exact next ts all → Begun exact groups.Dots stack paths (t ∷ ts) all
+dot_before : (exact : Bool) (stack : List Group) (paths : List Path) (t : Token) (next : State) (ts : List Token)
+    (all : List Path)
+    → enter_step (Points listings.Dot) stack paths t ≡ Some next → Follows exact next ts all
+    → Begun exact groups.Dots stack paths (t ∷ ts) all
 dot_before exact stack paths t next ts all e follows =
-    let (later, (points, rest, close, is, same, closes, paths_are), all_are) = enter_before exact (Points listings.Dot) stack paths t next ts all e follows in
+    let (later, (points, rest, close, is, same, closes, paths_are), all_are) =
+    enter_before exact (Points listings.Dot) stack paths t next ts all e follows in
     (later, (dot points, rest, close, is, same, closes, paths_are), all_are)
 
-bare_before : (exact : Bool) (stack : List Group) (paths : List Path) (n : Number) (next : State) (ts : List Token) (all : List Path)
-    → number_step exact (λ x. state (bare_second x) stack paths) (number n) ≡ Some next → Follows exact next ts all → Begun exact groups.Dots stack paths (number n ∷ ts) all
+bare_before : (exact : Bool) (stack : List Group) (paths : List Path) (n : Number) (next : State) (ts : List Token)
+    (all : List Path)
+    → number_step exact (λ x. state (bare_second x) stack paths) (number n) ≡ Some next → Follows exact next ts all
+    → Begun exact groups.Dots stack paths (number n ∷ ts) all
 bare_before exact stack paths n next ts all e follows =
     let taken = if_some (does_fit exact (measured n.text)) (state (bare_second n) stack paths) next e in
-    let (later, (y, rest, close, is, same, closes, paths_are), all_are) = subst (λ s. Follows exact s ts all) taken.1 follows in
+    let (later, (y, rest, close, is, same, closes, paths_are), all_are) =
+    subst (λ s. Follows exact s ts all) taken.1 follows in
     (later, (bare (pair n y), rest, close, (taken.0, is), ap (λ x. number n ∷ x) same, closes, paths_are), all_are)
 
-item_before : (exact : Bool) (group : Group) (stack : List Group) (paths : List Path) (t : Token) (next : State) (ts : List Token) (all : List Path)
-    → item_step exact group stack paths t ≡ Some next → Follows exact next ts all → Begun exact group stack paths (t ∷ ts) all
-item_before exact groups.Rings stack paths t next ts all e follows = enter_before exact (Points listings.Ring) stack paths t next ts all e follows
-item_before exact groups.Lists stack paths t next ts all e follows = enter_before exact (Points listings.List) stack paths t next ts all e follows
-item_before exact groups.Polygons stack paths t next ts all e follows = enter_before exact (Items groups.Rings) stack paths t next ts all e follows
-item_before exact groups.Geometries stack paths t next ts all e follows = tag_before exact stack paths t next ts all e follows
-item_before exact groups.Dots stack paths (number n) next ts all e follows = bare_before exact stack paths n next ts all e follows
-item_before exact groups.Dots stack paths opening next ts all e follows = dot_before exact stack paths opening next ts all e follows
-item_before exact groups.Dots stack paths closing next ts all e follows = dot_before exact stack paths closing next ts all e follows
-item_before exact groups.Dots stack paths comma next ts all e follows = dot_before exact stack paths comma next ts all e follows
-item_before exact groups.Dots stack paths (word w) next ts all e follows = dot_before exact stack paths (word w) next ts all e follows
-item_before exact groups.Dots stack paths stray next ts all e follows = dot_before exact stack paths stray next ts all e follows
+item_before : (exact : Bool) (group : Group) (stack : List Group) (paths : List Path) (t : Token) (next : State)
+    (ts : List Token) (all : List Path)
+    → item_step exact group stack paths t ≡ Some next → Follows exact next ts all
+    → Begun exact group stack paths (t ∷ ts) all
+item_before exact groups.Rings stack paths t next ts all e follows =
+    enter_before exact (Points listings.Ring) stack paths t next ts all e follows
+item_before exact groups.Lists stack paths t next ts all e follows =
+    enter_before exact (Points listings.List) stack paths t next ts all e follows
+item_before exact groups.Polygons stack paths t next ts all e follows =
+    enter_before exact (Items groups.Rings) stack paths t next ts all e follows
+item_before exact groups.Geometries stack paths t next ts all e follows =
+    tag_before exact stack paths t next ts all e follows
+item_before exact groups.Dots stack paths (number n) next ts all e follows =
+    bare_before exact stack paths n next ts all e follows
+item_before exact groups.Dots stack paths opening next ts all e follows =
+    dot_before exact stack paths opening next ts all e follows
+item_before exact groups.Dots stack paths closing next ts all e follows =
+    dot_before exact stack paths closing next ts all e follows
+item_before exact groups.Dots stack paths comma next ts all e follows =
+    dot_before exact stack paths comma next ts all e follows
+item_before exact groups.Dots stack paths (word w) next ts all e follows =
+    dot_before exact stack paths (word w) next ts all e follows
+item_before exact groups.Dots stack paths stray next ts all e follows =
+    dot_before exact stack paths stray next ts all e follows
 
 -- behind an item
-comma_before : (exact : Bool) (group : Group) (outer : List Group) (paths : List Path) (ts : List Token) (all : List Path)
-    → Follows exact (state item (group ∷ outer) paths) ts all → (later : List Path) × Closes exact (group ∷ outer) (comma ∷ ts) later × (all ≡ paths ++ later)
-comma_before exact group outer paths ts all (later, (one, tokens, rest_paths, is, same, (more, rest, close, are, tokens_are, closes, more_paths), paths_are), all_are) = (
+comma_before : (exact : Bool) (group : Group) (outer : List Group) (paths : List Path) (ts : List Token)
+    (all : List Path)
+    → Follows exact (state item (group ∷ outer) paths) ts all
+    → (later : List Path) × Closes exact (group ∷ outer) (comma ∷ ts) later × (all ≡ paths ++ later)
+comma_before exact group outer paths ts all (
+  later,
+  (one, tokens, rest_paths, is, same, (more, rest, close, are, tokens_are, closes, more_paths), paths_are),
+  all_are,
+) = (
   later,
   (
     one_more group one more,
     rest,
     close,
     are_some exact (room (group ∷ outer)) group one more is are,
-    ap (λ x. comma ∷ x) (same ∙ ap (λ x. item_tokens group one ++ x) tokens_are ∙ sym (append_assoc (item_tokens group one) (more_tokens group more) rest))
+    ap (λ x. comma ∷ x) (same ∙ ap (λ x. item_tokens group one ++ x) tokens_are
+        ∙ sym (append_assoc (item_tokens group one) (more_tokens group more) rest))
         ∙ ap (λ x. x ++ rest) (sym (more_some group one more)),
     closes,
-    paths_are ∙ ap (λ x. item_paths group one ++ x) more_paths ∙ sym (append_assoc (item_paths group one) (items_paths group more) close)
+    paths_are ∙ ap (λ x. item_paths group one ++ x) more_paths
+        ∙ sym (append_assoc (item_paths group one) (items_paths group more) close)
         ∙ ap (λ x. x ++ close) (sym (paths_some group one more)),
   ),
   all_are,
 )
 
-closing_before : (exact : Bool) (group : Group) (outer : List Group) (paths : List Path) (ts : List Token) (all : List Path)
-    → Follows exact (state behind outer paths) ts all → (later : List Path) × Closes exact (group ∷ outer) (closing ∷ ts) later × (all ≡ paths ++ later)
+closing_before : (exact : Bool) (group : Group) (outer : List Group) (paths : List Path) (ts : List Token)
+    (all : List Path)
+    → Follows exact (state behind outer paths) ts all
+    → (later : List Path) × Closes exact (group ∷ outer) (closing ∷ ts) later × (all ≡ paths ++ later)
 closing_before exact group outer paths ts all (close, closes, same) = (
   close,
   (
@@ -247,62 +344,90 @@ closing_before exact group outer paths ts all (close, closes, same) = (
   same,
 )
 
-behind_before : (exact : Bool) (stack : List Group) (paths : List Path) (t : Token) (next : State) (ts : List Token) (all : List Path)
-    → behind_step stack paths t ≡ Some next → Follows exact next ts all → (later : List Path) × Closes exact stack (t ∷ ts) later × (all ≡ paths ++ later)
+behind_before : (exact : Bool) (stack : List Group) (paths : List Path) (t : Token) (next : State) (ts : List Token)
+    (all : List Path)
+    → behind_step stack paths t ≡ Some next → Follows exact next ts all
+    → (later : List Path) × Closes exact stack (t ∷ ts) later × (all ≡ paths ++ later)
 behind_before exact [] paths t next ts all e follows = cc
 behind_before exact (group ∷ outer) paths comma next ts all e follows =
-    comma_before exact group outer paths ts all (subst (λ s. Follows exact s ts all) (sym (same_Some (state item (group ∷ outer) paths) next e)) follows)
+    comma_before exact group outer paths ts all
+    (subst (λ s. Follows exact s ts all) (sym (same_Some (state item (group ∷ outer) paths) next e)) follows)
 behind_before exact (group ∷ outer) paths closing next ts all e follows =
-    closing_before exact group outer paths ts all (subst (λ s. Follows exact s ts all) (sym (same_Some (state behind outer paths) next e)) follows)
+    closing_before exact group outer paths ts all
+    (subst (λ s. Follows exact s ts all) (sym (same_Some (state behind outer paths) next e)) follows)
 behind_before exact (group ∷ outer) paths opening next ts all e follows = cc
 behind_before exact (group ∷ outer) paths (word w) next ts all e follows = cc
 behind_before exact (group ∷ outer) paths (number n) next ts all e follows = cc
 behind_before exact (group ∷ outer) paths stray next ts all e follows = cc
 
 -- behind a point in brackets
-next_before : (exact : Bool) (listing : Listing) (read : List Point) (stack : List Group) (paths : List Path) (ts : List Token) (all : List Path) → (listing ≡ listings.Dot → ⊥)
-    → Follows exact (state (first listing read) stack paths) ts all → (later : List Path) × ClosesPoints exact listing read stack (comma ∷ ts) later × (all ≡ paths ++ later)
-next_before exact listing read stack paths ts all no_dot (later, (p, tokens, is, same, (more, rest, close, are, on, tokens_are, closes, paths_are)), all_are) = (
-  later,
-  (
-    p ∷ more,
-    rest,
-    close,
-    (is, are),
-    on_before listing read p more no_dot on,
-    ap (λ x. comma ∷ x) (same ∙ ap (λ x. point_tokens p ++ x) tokens_are),
-    closes,
-    paths_are ∙ ap (λ x. path_of (kind_of listing) x ++ close) (append_assoc read (p ∷ []) more),
-  ),
-  all_are,
-)
+next_before : (exact : Bool) (listing : Listing) (read : List Point) (stack : List Group) (paths : List Path)
+    (ts : List Token) (all : List Path) → (listing ≡ listings.Dot → ⊥)
+    → Follows exact (state (first listing read) stack paths) ts all
+    → (later : List Path) × ClosesPoints exact listing read stack (comma ∷ ts) later × (all ≡ paths ++ later)
+next_before exact listing read stack paths ts all no_dot
+    (later, (p, tokens, is, same, (more, rest, close, are, on, tokens_are, closes, paths_are)), all_are) = (
+      later,
+      (
+        p ∷ more,
+        rest,
+        close,
+        (is, are),
+        on_before listing read p more no_dot on,
+        ap (λ x. comma ∷ x) (same ∙ ap (λ x. point_tokens p ++ x) tokens_are),
+        closes,
+        paths_are ∙ ap (λ x. path_of (kind_of listing) x ++ close) (append_assoc read (p ∷ []) more),
+      ),
+      all_are,
+    )
 
 may_on : (listing : Listing) (read : List Point) → may_end listing read ≡ true → GoOn listing read []
 may_on listings.Dot read may = refl
 may_on listings.List read may = tt
 may_on listings.Ring read may = subst IsClosed (sym (append-nil read)) (is_closed_is read may)
 
-end_before : (exact : Bool) (listing : Listing) (read : List Point) (stack : List Group) (paths : List Path) (next : State) (ts : List Token) (all : List Path)
-    → (if may_end listing read then Some (state behind stack (paths ++ path_of (kind_of listing) read)) else None) ≡ Some next → Follows exact next ts all
+end_before : (exact : Bool) (listing : Listing) (read : List Point) (stack : List Group) (paths : List Path)
+    (next : State) (ts : List Token) (all : List Path)
+    → (if may_end listing read then Some (state behind stack (paths ++ path_of (kind_of listing) read)) else None)
+    ≡ Some next → Follows exact next ts all
     → (later : List Path) × ClosesPoints exact listing read stack (closing ∷ ts) later × (all ≡ paths ++ later)
 end_before exact listing read stack paths next ts all e follows =
     let taken = if_some (may_end listing read) (state behind stack (paths ++ path_of (kind_of listing) read)) next e in
     let (close, closes, same) = subst (λ s. Follows exact s ts all) taken.1 follows in (
       path_of (kind_of listing) read ++ close,
-      ([], ts, close, tt, may_on listing read taken.0, refl, closes, ap (λ x. path_of (kind_of listing) x ++ close) (sym (append-nil read))),
+      (
+        [],
+        ts,
+        close,
+        tt,
+        may_on listing read taken.0,
+        refl,
+        closes,
+        ap (λ x. path_of (kind_of listing) x ++ close)
+            (sym (append-nil read)),
+      ),
       same ∙ append_assoc paths (path_of (kind_of listing) read) close,
     )
 
-whole_before : (exact : Bool) (listing : Listing) (read : List Point) (stack : List Group) (paths : List Path) (t : Token) (next : State) (ts : List Token) (all : List Path)
-    → whole_step listing read stack paths t ≡ Some next → Follows exact next ts all → (later : List Path) × ClosesPoints exact listing read stack (t ∷ ts) later × (all ≡ paths ++ later)
-whole_before exact listings.Dot read stack paths closing next ts all e follows = end_before exact listings.Dot read stack paths next ts all e follows
-whole_before exact listings.List read stack paths closing next ts all e follows = end_before exact listings.List read stack paths next ts all e follows
-whole_before exact listings.Ring read stack paths closing next ts all e follows = end_before exact listings.Ring read stack paths next ts all e follows
+whole_before : (exact : Bool) (listing : Listing) (read : List Point) (stack : List Group) (paths : List Path)
+    (t : Token) (next : State) (ts : List Token) (all : List Path)
+    → whole_step listing read stack paths t ≡ Some next → Follows exact next ts all
+    → (later : List Path) × ClosesPoints exact listing read stack (t ∷ ts) later × (all ≡ paths ++ later)
+whole_before exact listings.Dot read stack paths closing next ts all e follows =
+    end_before exact listings.Dot read stack paths next ts all e follows
+whole_before exact listings.List read stack paths closing next ts all e follows =
+    end_before exact listings.List read stack paths next ts all e follows
+whole_before exact listings.Ring read stack paths closing next ts all e follows =
+    end_before exact listings.Ring read stack paths next ts all e follows
 whole_before exact listings.Dot read stack paths comma next ts all e follows = cc
 whole_before exact listings.List read stack paths comma next ts all e follows =
-    next_before exact listings.List read stack paths ts all (λ e. cc) (subst (λ s. Follows exact s ts all) (sym (same_Some (state (first listings.List read) stack paths) next e)) follows)
+    next_before exact listings.List read stack paths ts all (λ e. cc)
+    (subst (λ s. Follows exact s ts all) (sym (same_Some (state (first listings.List read) stack paths) next e))
+    follows)
 whole_before exact listings.Ring read stack paths comma next ts all e follows =
-    next_before exact listings.Ring read stack paths ts all (λ e. cc) (subst (λ s. Follows exact s ts all) (sym (same_Some (state (first listings.Ring read) stack paths) next e)) follows)
+    next_before exact listings.Ring read stack paths ts all (λ e. cc)
+    (subst (λ s. Follows exact s ts all) (sym (same_Some (state (first listings.Ring read) stack paths) next e))
+    follows)
 whole_before exact listings.Dot read stack paths opening next ts all e follows = cc
 whole_before exact listings.List read stack paths opening next ts all e follows = cc
 whole_before exact listings.Ring read stack paths opening next ts all e follows = cc
@@ -317,37 +442,55 @@ whole_before exact listings.List read stack paths stray next ts all e follows = 
 whole_before exact listings.Ring read stack paths stray next ts all e follows = cc
 
 -- numbers
-first_before : (exact : Bool) (listing : Listing) (read : List Point) (n : Number) (stack : List Group) (paths : List Path) (ts : List Token) (all : List Path) → IsNumber exact n
-    → Follows exact (state (second listing read n) stack paths) ts all → Before exact (first listing read) stack paths (number n) ts all
+first_before : (exact : Bool) (listing : Listing) (read : List Point) (n : Number) (stack : List Group)
+    (paths : List Path) (ts : List Token) (all : List Path) → IsNumber exact n
+    → Follows exact (state (second listing read n) stack paths) ts all
+    → Before exact (first listing read) stack paths (number n) ts all
 first_before exact listing read n stack paths ts all fits (later, (y, rest, is_y, same, closes), all_are) =
     (later, (pair n y, rest, (fits, is_y), ap (λ x. number n ∷ x) same, closes), all_are)
 
-second_before : (exact : Bool) (listing : Listing) (read : List Point) (x n : Number) (stack : List Group) (paths : List Path) (ts : List Token) (all : List Path) → IsNumber exact n
-    → Follows exact (state (whole listing (read ++ pair x n ∷ [])) stack paths) ts all → Before exact (second listing read x) stack paths (number n) ts all
-second_before exact listing read x n stack paths ts all fits (later, closes, all_are) = (later, (n, ts, fits, refl, closes), all_are)
+second_before : (exact : Bool) (listing : Listing) (read : List Point) (x n : Number) (stack : List Group)
+    (paths : List Path) (ts : List Token) (all : List Path) → IsNumber exact n
+    → Follows exact (state (whole listing (read ++ pair x n ∷ [])) stack paths) ts all
+    → Before exact (second listing read x) stack paths (number n) ts all
+second_before exact listing read x n stack paths ts all fits (later, closes, all_are) =
+    (later, (n, ts, fits, refl, closes), all_are)
 
-bare_second_before : (exact : Bool) (x n : Number) (stack : List Group) (paths : List Path) (ts : List Token) (all : List Path) → IsNumber exact n
-    → Follows exact (state bare_whole stack (paths ++ path_of Dot (pair x n ∷ []))) ts all → Before exact (bare_second x) stack paths (number n) ts all
-bare_second_before exact x n stack paths ts all fits (close, closes, all_are) =
-    (path_of Dot (pair x n ∷ []) ++ close, (n, ts, close, fits, refl, closes, refl), all_are ∙ append_assoc paths (path_of Dot (pair x n ∷ [])) close)
+bare_second_before : (exact : Bool) (x n : Number) (stack : List Group) (paths : List Path) (ts : List Token)
+    (all : List Path) → IsNumber exact n
+    → Follows exact (state bare_whole stack (paths ++ path_of Dot (pair x n ∷ []))) ts all
+    → Before exact (bare_second x) stack paths (number n) ts all
+bare_second_before exact x n stack paths ts all fits (close, closes, all_are) = (
+  path_of Dot (pair x n ∷ []) ++ close,
+  (n, ts, close, fits, refl, closes, refl),
+  all_are
+      ∙ append_assoc paths (path_of Dot (pair x n ∷ [])) close,
+)
 
 -- a token that was taken stands before what follows
-pub token_before : (exact : Bool) (spot : Spot) (stack : List Group) (paths : List Path) (t : Token) (next : State) (ts : List Token) (all : List Path)
+pub token_before : (exact : Bool) (spot : Spot) (stack : List Group) (paths : List Path) (t : Token) (next : State)
+    (ts : List Token) (all : List Path)
     → step_at exact spot stack paths t ≡ Some next → Follows exact next ts all → Before exact spot stack paths t ts all
-token_before exact item stack paths t next ts all e follows = item_before exact (innermost stack) stack paths t next ts all e follows
-token_before exact (content inner) stack paths t next ts all e follows = enter_before exact inner stack paths t next ts all e follows
+token_before exact item stack paths t next ts all e follows =
+    item_before exact (innermost stack) stack paths t next ts all e follows
+token_before exact (content inner) stack paths t next ts all e follows =
+    enter_before exact inner stack paths t next ts all e follows
 token_before exact (first listing read) stack paths t next ts all e follows =
     let (n, is, fits, make) = number_taken exact (λ x. state (second listing read x) stack paths) t next e in
     subst (λ (token : Token). Before exact (first listing read) stack paths token ts all) (sym is)
     (first_before exact listing read n stack paths ts all fits (subst (λ s. Follows exact s ts all) make follows))
 token_before exact (second listing read x) stack paths t next ts all e follows =
-    let (n, is, fits, make) = number_taken exact (λ y. state (whole listing (read ++ pair x y ∷ [])) stack paths) t next e in
+    let (n, is, fits, make) = number_taken exact (λ y. state (whole listing (read ++ pair x y ∷ [])) stack paths) t next
+    e in
     subst (λ (token : Token). Before exact (second listing read x) stack paths token ts all) (sym is)
     (second_before exact listing read x n stack paths ts all fits (subst (λ s. Follows exact s ts all) make follows))
-token_before exact (whole listing read) stack paths t next ts all e follows = whole_before exact listing read stack paths t next ts all e follows
+token_before exact (whole listing read) stack paths t next ts all e follows =
+    whole_before exact listing read stack paths t next ts all e follows
 token_before exact (bare_second x) stack paths t next ts all e follows =
-    let (n, is, fits, make) = number_taken exact (λ y. state bare_whole stack (paths ++ path_of Dot (pair x y ∷ []))) t next e in
+    let (n, is, fits, make) = number_taken exact (λ y. state bare_whole stack (paths ++ path_of Dot (pair x y ∷ []))) t
+    next e in
     subst (λ (token : Token). Before exact (bare_second x) stack paths token ts all) (sym is)
     (bare_second_before exact x n stack paths ts all fits (subst (λ s. Follows exact s ts all) make follows))
-token_before exact bare_whole stack paths t next ts all e follows = behind_before exact stack paths t next ts all e follows
+token_before exact bare_whole stack paths t next ts all e follows =
+    behind_before exact stack paths t next ts all e follows
 token_before exact behind stack paths t next ts all e follows = behind_before exact stack paths t next ts all e follows

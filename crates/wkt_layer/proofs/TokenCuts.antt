@@ -1,12 +1,14 @@
 -- Cutting bytes between two tokens, and putting other bytes behind a token.
-use Rattle.std.proofs.Common.{◌≡◌, ℕ, suc, ◌+◌, ◌-◌, ◌==◌, Bool, true, false, List, [], ◌∷◌, ◌++◌, length, take, drop, refl, sym, ap, ◌∙◌, subst, append_assoc, arith, length-append}
+use Rattle.std.proofs.Common.{◌≡◌, ℕ, suc, ◌+◌, ◌-◌, ◌==◌, Bool, true, false, List, [], ◌∷◌, ◌++◌, length, take, drop}
+use Rattle.std.proofs.Common.{refl, sym, ap, ◌∙◌, subst, append_assoc, arith, length-append}
 use Rattle.std.specs.Prelude.{◌&&◌, ◌||◌, cond, if◌then◌else◌}
 use Rattle.std.specs.List.{list_all, prefix_len}
 use Rattle.std.specs.Char.{is_ascii_alphabetic}
 use Rattle.std.proofs.lemmas.Bool.{and_parts, eqb-true}
 use Rattle.std.proofs.lemmas.List.{length-take-le, take-append-drop}
 use Rattle.sheet_base.proofs.ListParts.{drop_front}
-use Rattle.wkt_layer.specs.Tokens.{Number, Token, opening, closing, comma, word, number, stray, is_blank, is_numeric, token_length, word_of, token_of, tokens_of, tokens_behind}
+use Rattle.wkt_layer.specs.Tokens.{Number, Token, opening, closing, comma, word, number, stray, is_blank, is_numeric}
+use Rattle.wkt_layer.specs.Tokens.{token_length, word_of, token_of, tokens_of, tokens_behind}
 use Rattle.wkt_layer.specs.declared.words.Word.{Word}
 use Rattle.wkt_layer.specs.Lines.{tokens_in}
 use Rattle.wkt_layer.proofs.EditOrder.{token_size}
@@ -27,22 +29,27 @@ pub record Clear (bytes : List ℕ) : Type 0 where
   pub numbers : Stops is_numeric bytes
 
 -- ---- the longest front that passes
-pub front_passes : (p : ℕ → Bool) (xs rest : List ℕ) → prefix_len p (xs ++ rest) ≡ length xs → (list_all p xs ≡ true) × Stops p rest
+pub front_passes : (p : ℕ → Bool) (xs rest : List ℕ) → prefix_len p (xs ++ rest) ≡ length xs
+    → (list_all p xs ≡ true) × Stops p rest
 front_passes p [] [] e = (refl, tt)
 front_passes p [] (b ∷ rest) e = (refl, by_test (p b) refl)
   where
     by_test : (t : Bool) → p b ≡ t → p b ≡ false
     by_test false is = is
-    by_test true is = let f : cond (p b) (1 + prefix_len p rest) 0 ≡ 1 + prefix_len p rest = rw is refl in absurd (omega (arith, e, f))
+    by_test true is = let f : cond (p b) (1 + prefix_len p rest) 0 ≡ 1 + prefix_len p rest =
+        rw is refl in absurd (omega (arith, e, f))
 front_passes p (x ∷ xs) rest e = by_test (p x) refl (front_passes p xs rest)
   where
-    by_test : (t : Bool) → p x ≡ t → (prefix_len p (xs ++ rest) ≡ length xs → (list_all p xs ≡ true) × Stops p rest) → ((p x && list_all p xs) ≡ true) × Stops p rest
+    by_test : (t : Bool) → p x ≡ t → (prefix_len p (xs ++ rest) ≡ length xs → (list_all p xs ≡ true) × Stops p rest)
+        → ((p x && list_all p xs) ≡ true) × Stops p rest
     by_test true is on =
         let f : cond (p x) (1 + prefix_len p (xs ++ rest)) 0 ≡ 1 + prefix_len p (xs ++ rest) = rw is refl in
         let (all, stops) = on (omega (arith, e, f)) in (rw is all, stops)
-    by_test false is on = let f : cond (p x) (1 + prefix_len p (xs ++ rest)) 0 ≡ 0 = rw is refl in absurd (omega (arith, e, f))
+    by_test false is on = let f : cond (p x) (1 + prefix_len p (xs ++ rest)) 0 ≡ 0 =
+        rw is refl in absurd (omega (arith, e, f))
 
-pub passes_front : (p : ℕ → Bool) (xs rest : List ℕ) → list_all p xs ≡ true → Stops p rest → prefix_len p (xs ++ rest) ≡ length xs
+pub passes_front : (p : ℕ → Bool) (xs rest : List ℕ) → list_all p xs ≡ true → Stops p rest
+    → prefix_len p (xs ++ rest) ≡ length xs
 passes_front p [] [] all stops = refl
 passes_front p [] (b ∷ rest) all stops = rw stops refl
 passes_front p (x ∷ xs) rest all stops =
@@ -51,42 +58,55 @@ passes_front p (x ∷ xs) rest all stops =
     rw parts.0 (omega (arith, on))
 
 -- ---- the token that begins with a byte
-pub word_case : (at byte : ℕ) (text : List ℕ) → is_ascii_alphabetic byte ≡ true → token_of at byte text ≡ word (word_of text)
+pub word_case : (at byte : ℕ) (text : List ℕ) → is_ascii_alphabetic byte ≡ true
+    → token_of at byte text ≡ word (word_of text)
 word_case at byte text e = rw e refl
 
-pub number_case : (at byte : ℕ) (text : List ℕ) → is_ascii_alphabetic byte ≡ false → is_numeric byte ≡ true → (let n : Number = record { start = at; text = text } in token_of at byte text ≡ number n)
+pub number_case : (at byte : ℕ) (text : List ℕ) → is_ascii_alphabetic byte ≡ false → is_numeric byte ≡ true
+    → (let n : Number = record { start = at; text = text } in token_of at byte text ≡ number n)
 number_case at byte text e f = rw (e, f) refl
 
-other_case : (at from byte : ℕ) (text other : List ℕ) → is_ascii_alphabetic byte ≡ false → is_numeric byte ≡ false → token_of at byte text ≡ token_of from byte other
+other_case : (at from byte : ℕ) (text other : List ℕ) → is_ascii_alphabetic byte ≡ false → is_numeric byte ≡ false
+    → token_of at byte text ≡ token_of from byte other
 other_case at from byte text other e f = rw (e, f) refl
 
-word_length : (byte : ℕ) (bytes : List ℕ) → is_ascii_alphabetic byte ≡ true → token_length byte bytes ≡ prefix_len is_ascii_alphabetic (byte ∷ bytes)
+word_length : (byte : ℕ) (bytes : List ℕ) → is_ascii_alphabetic byte ≡ true
+    → token_length byte bytes ≡ prefix_len is_ascii_alphabetic (byte ∷ bytes)
 word_length byte bytes e = rw e refl
 
-pub number_length : (byte : ℕ) (bytes : List ℕ) → is_ascii_alphabetic byte ≡ false → is_numeric byte ≡ true → token_length byte bytes ≡ prefix_len is_numeric (byte ∷ bytes)
+pub number_length : (byte : ℕ) (bytes : List ℕ) → is_ascii_alphabetic byte ≡ false → is_numeric byte ≡ true
+    → token_length byte bytes ≡ prefix_len is_numeric (byte ∷ bytes)
 number_length byte bytes e f = rw (e, f) refl
 
-other_length : (byte : ℕ) (bytes : List ℕ) → is_ascii_alphabetic byte ≡ false → is_numeric byte ≡ false → token_length byte bytes ≡ 1
+other_length : (byte : ℕ) (bytes : List ℕ) → is_ascii_alphabetic byte ≡ false → is_numeric byte ≡ false
+    → token_length byte bytes ≡ 1
 other_length byte bytes e f = rw (e, f) refl
 
 -- ---- blanks, and a token
-pub gap_lexed : (at : ℕ) (gap bytes : List ℕ) → list_all is_blank gap ≡ true → lexed at (gap ++ bytes) ≡ lexed (at + length gap) bytes
+pub gap_lexed : (at : ℕ) (gap bytes : List ℕ) → list_all is_blank gap ≡ true
+    → lexed at (gap ++ bytes) ≡ lexed (at + length gap) bytes
 gap_lexed at [] bytes all = let e : at ≡ at + 0 = omega arith in ap (λ n. lexed n bytes) e
 gap_lexed at (b ∷ gap) bytes all =
     let parts = and_parts (is_blank b) (list_all is_blank gap) all in
     let e : at + 1 + length gap ≡ at + suc (length gap) = omega arith in
-    ap tokens_in (blank_first at b (gap ++ bytes) parts.0) ∙ gap_lexed (at + 1) gap bytes parts.1 ∙ ap (λ n. lexed n bytes) e
+    ap tokens_in (blank_first at b (gap ++ bytes) parts.0) ∙ gap_lexed (at + 1) gap bytes parts.1
+    ∙ ap (λ n. lexed n bytes) e
 
-pub token_lexed : (at byte : ℕ) (more behind : List ℕ) → is_blank byte ≡ false → token_length byte (more ++ behind) ≡ length (byte ∷ more)
+pub token_lexed : (at byte : ℕ) (more behind : List ℕ) → is_blank byte ≡ false
+    → token_length byte (more ++ behind) ≡ length (byte ∷ more)
     → lexed at (byte ∷ (more ++ behind)) ≡ token_of at byte (byte ∷ more) ∷ lexed (at + length (byte ∷ more)) behind
 token_lexed at byte more behind black long =
     let one : token_length byte (more ++ behind) - 1 ≡ length more = omega (arith, long) in
     let place : at + 1 + length more ≡ at + suc (length more) = omega arith in
     ap tokens_in (black_first at byte (more ++ behind) black)
-    ∙ ap (λ n. token_of at byte (take n (byte ∷ (more ++ behind))) ∷ tokens_in (tokens_behind (token_length byte (more ++ behind) - 1) (at + 1) (more ++ behind))) long
-    ∙ ap (λ text. token_of at byte (byte ∷ text) ∷ tokens_in (tokens_behind (token_length byte (more ++ behind) - 1) (at + 1) (more ++ behind))) (take_front more behind)
+    ∙ ap (λ n. token_of at byte (take n (byte ∷ (more ++ behind)))
+    ∷ tokens_in (tokens_behind (token_length byte (more ++ behind) - 1) (at + 1) (more ++ behind))) long
+    ∙ ap (λ text. token_of at byte (byte ∷ text)
+    ∷ tokens_in (tokens_behind (token_length byte (more ++ behind) - 1) (at + 1) (more ++ behind)))
+    (take_front more behind)
     ∙ ap (λ ts. token_of at byte (byte ∷ more) ∷ ts)
-    (ap (λ n. tokens_in (tokens_behind n (at + 1) (more ++ behind))) one ∙ ap tokens_in (passed (length more) (at + 1) (more ++ behind))
+    (ap (λ n. tokens_in (tokens_behind n (at + 1) (more ++ behind))) one
+    ∙ ap tokens_in (passed (length more) (at + 1) (more ++ behind))
     ∙ ap (λ bytes. lexed (at + 1 + length more) bytes) (drop_front more behind) ∙ ap (λ n. lexed n behind) place)
 
 -- ---- the first token of bytes, and what stands behind it
@@ -102,7 +122,8 @@ pub record Cut (at : ℕ) (bytes : List ℕ) (t : Token) (others : List Token) :
   pub is : t ≡ token_of (at + length gap) byte (byte ∷ more)
   pub left : lexed (at + length gap + length (byte ∷ more)) rest ≡ others
 
-black_cut : (at byte : ℕ) (bytes : List ℕ) (t : Token) (others : List Token) → is_blank byte ≡ false → lexed at (byte ∷ bytes) ≡ t ∷ others → Cut at (byte ∷ bytes) t others
+black_cut : (at byte : ℕ) (bytes : List ℕ) (t : Token) (others : List Token) → is_blank byte ≡ false
+    → lexed at (byte ∷ bytes) ≡ t ∷ others → Cut at (byte ∷ bytes) t others
 black_cut at byte bytes t others black e =
     let (some, within) = token_size byte bytes in
     let n = token_length byte bytes - 1 in
@@ -110,7 +131,8 @@ black_cut at byte bytes t others black e =
     let rest = drop n bytes in
     let all : more ++ rest ≡ bytes = take-append-drop n bytes in
     let count : length more ≡ n = length-take-le n bytes (omega (arith, within)) in
-    let long : token_length byte (more ++ rest) ≡ suc (length more) = ap (token_length byte) all ∙ omega (arith, count, some) in
+    let long : token_length byte (more ++ rest) ≡ suc (length more) = ap (token_length byte) all
+    ∙ omega (arith, count, some) in
     let is = sym (token_lexed at byte more rest black long) ∙ ap (λ xs. lexed at (byte ∷ xs)) all ∙ e in
     let place : at + 0 ≡ at = omega arith in
     record {
@@ -122,11 +144,14 @@ black_cut at byte bytes t others black e =
       blank = refl;
       black = black;
       long = long;
-      is = let first : token_of at byte (byte ∷ more) ≡ t = cc in sym first ∙ ap (λ k. token_of k byte (byte ∷ more)) (sym place);
-      left = let later : lexed (at + suc (length more)) rest ≡ others = cc in ap (λ k. lexed (k + suc (length more)) rest) place ∙ later;
+      is = let first : token_of at byte (byte ∷ more) ≡ t = cc in sym first
+          ∙ ap (λ k. token_of k byte (byte ∷ more)) (sym place);
+      left = let later : lexed (at + suc (length more)) rest ≡ others =
+          cc in ap (λ k. lexed (k + suc (length more)) rest) place ∙ later;
     }
 
-pub first_cut : (at : ℕ) (bytes : List ℕ) (t : Token) (others : List Token) → lexed at bytes ≡ t ∷ others → Cut at bytes t others
+pub first_cut : (at : ℕ) (bytes : List ℕ) (t : Token) (others : List Token) → lexed at bytes ≡ t ∷ others
+    → Cut at bytes t others
 first_cut at [] t others e = cc
 first_cut at (byte ∷ bytes) t others e = by_test (is_blank byte) refl (first_cut (at + 1) bytes t others)
   where
@@ -146,7 +171,8 @@ first_cut at (byte ∷ bytes) t others e = by_test (is_blank byte) refl (first_c
           left = ap (λ k. lexed (k + suc (length c.more)) c.rest) (sym place) ∙ c.left;
         }
 
-    by_test : (b : Bool) → is_blank byte ≡ b → (lexed (at + 1) bytes ≡ t ∷ others → Cut (at + 1) bytes t others) → Cut at (byte ∷ bytes) t others
+    by_test : (b : Bool) → is_blank byte ≡ b → (lexed (at + 1) bytes ≡ t ∷ others → Cut (at + 1) bytes t others)
+        → Cut at (byte ∷ bytes) t others
     by_test true is on = longer (on (sym (ap tokens_in (blank_first at byte bytes is)) ∙ e)) is
     by_test false is on = black_cut at byte bytes t others is e
 
@@ -175,10 +201,12 @@ pub record Kept (at : ℕ) (bytes : List ℕ) (t : Token) (others : List Token) 
   pub split : bytes ≡ piece ++ rest
   pub left : lexed (at + length piece) rest ≡ others
   pub follows : MayFollow t rest
-  pub keeps : (from : ℕ) (behind : List ℕ) → MayFollow t behind → lexed from (piece ++ behind) ≡ t ∷ lexed (from + length piece) behind
+  pub keeps : (from : ℕ) (behind : List ℕ) → MayFollow t behind
+      → lexed from (piece ++ behind) ≡ t ∷ lexed (from + length piece) behind
   pub heads : Clear bytes → (behind : List ℕ) → Clear (piece ++ behind)
 
-not_word : (at byte : ℕ) (text : List ℕ) (w : Word) → is_ascii_alphabetic byte ≡ false → is_numeric byte ≡ false → word w ≡ token_of at byte text → ⊥
+not_word : (at byte : ℕ) (text : List ℕ) (w : Word) → is_ascii_alphabetic byte ≡ false → is_numeric byte ≡ false
+    → word w ≡ token_of at byte text → ⊥
 not_word at byte text w e f is = by_tests (byte == 40) (byte == 41) (byte == 44) (is ∙ rw (e, f) refl)
   where
     by_tests : (c d g : Bool) → word w ≡ (if c then opening else if d then closing else if g then comma else stray) → ⊥
@@ -190,9 +218,11 @@ not_word at byte text w e f is = by_tests (byte == 40) (byte == 41) (byte == 44)
 -- a token that is no number stays the same before other bytes
 pub record Stays (t : Token) (byte : ℕ) (more rest : List ℕ) : Type 0 where
   pub follows : MayFollow t rest
-  pub keeps : (from : ℕ) (behind : List ℕ) → MayFollow t behind → lexed from (byte ∷ (more ++ behind)) ≡ t ∷ lexed (from + length (byte ∷ more)) behind
+  pub keeps : (from : ℕ) (behind : List ℕ) → MayFollow t behind
+      → lexed from (byte ∷ (more ++ behind)) ≡ t ∷ lexed (from + length (byte ∷ more)) behind
 
-stays : (at : ℕ) (t : Token) (byte : ℕ) (more rest : List ℕ) → IsKept t → is_blank byte ≡ false → token_length byte (more ++ rest) ≡ length (byte ∷ more)
+stays : (at : ℕ) (t : Token) (byte : ℕ) (more rest : List ℕ) → IsKept t → is_blank byte ≡ false
+    → token_length byte (more ++ rest) ≡ length (byte ∷ more)
     → t ≡ token_of at byte (byte ∷ more) → Stays t byte more rest
 stays at t byte more rest kept black long is = by_letter (is_ascii_alphabetic byte) refl (is_numeric byte) refl
   where
@@ -208,11 +238,14 @@ stays at t byte more rest kept black long is = by_letter (is_ascii_alphabetic by
     by_letter : (a : Bool) → is_ascii_alphabetic byte ≡ a → (b : Bool) → is_numeric byte ≡ b → Stays t byte more rest
     by_letter true e b f =
         let w : t ≡ word (word_of (byte ∷ more)) = is ∙ word_case at byte (byte ∷ more) e in
-        let (all, stops) = front_passes is_ascii_alphabetic (byte ∷ more) rest (sym (word_length byte (more ++ rest) e) ∙ long) in
+        let (all, stops) = front_passes is_ascii_alphabetic (byte ∷ more) rest
+        (sym (word_length byte (more ++ rest) e) ∙ long) in
         record {
           follows = subst (λ x. MayFollow x rest) (sym w) stops;
           keeps = λ from behind may.
-              token_lexed from byte more behind black (word_length byte (more ++ behind) e ∙ passes_front is_ascii_alphabetic (byte ∷ more) behind all (subst (λ x. MayFollow x behind) w may))
+              token_lexed from byte more behind black
+              (word_length byte (more ++ behind) e
+              ∙ passes_front is_ascii_alphabetic (byte ∷ more) behind all (subst (λ x. MayFollow x behind) w may))
               ∙ ap (λ x. x ∷ lexed (from + length (byte ∷ more)) behind) (word_case from byte (byte ∷ more) e ∙ sym w);
         }
     by_letter false e true f = absurd (subst IsKept (is ∙ number_case at byte (byte ∷ more) e f) kept)
@@ -221,8 +254,10 @@ stays at t byte more rest kept black long is = by_letter (is_ascii_alphabetic by
         record {
           follows = before_any t rest kept unworded;
           keeps = λ from behind may.
-              token_lexed from byte more behind black (other_length byte (more ++ behind) e f ∙ sym (other_length byte (more ++ rest) e f) ∙ long)
-              ∙ ap (λ x. x ∷ lexed (from + length (byte ∷ more)) behind) (other_case from at byte (byte ∷ more) (byte ∷ more) e f ∙ sym is);
+              token_lexed from byte more behind black
+              (other_length byte (more ++ behind) e f ∙ sym (other_length byte (more ++ rest) e f) ∙ long)
+              ∙ ap (λ x. x ∷ lexed (from + length (byte ∷ more)) behind)
+              (other_case from at byte (byte ∷ more) (byte ∷ more) e f ∙ sym is);
         }
 
 -- what stands behind the first byte matters to no token before
@@ -230,7 +265,8 @@ clear_heads : (gap : List ℕ) (byte : ℕ) (xs ys : List ℕ) → Clear (gap ++
 clear_heads [] byte xs ys c = record { letters = c.letters; numbers = c.numbers }
 clear_heads (b ∷ gap) byte xs ys c = record { letters = c.letters; numbers = c.numbers }
 
-pub kept_cut : (at : ℕ) (bytes : List ℕ) (t : Token) (others : List Token) → IsKept t → lexed at bytes ≡ t ∷ others → Kept at bytes t others
+pub kept_cut : (at : ℕ) (bytes : List ℕ) (t : Token) (others : List Token) → IsKept t → lexed at bytes ≡ t ∷ others
+    → Kept at bytes t others
 kept_cut at bytes t others kept e = go (first_cut at bytes t others e)
   where
     go : Cut at bytes t others → Kept at bytes t others
@@ -239,8 +275,10 @@ kept_cut at bytes t others kept e = go (first_cut at bytes t others e)
         on : Stays t c.byte c.more c.rest → Kept at bytes t others
         on s =
             let piece = c.gap ++ c.byte ∷ c.more in
-            let size : (from : ℕ) → from + length c.gap + length (c.byte ∷ c.more) ≡ from + length piece = λ from. let l = length-append c.gap (c.byte ∷ c.more) in omega (arith, l) in
-            let along : (xs : List ℕ) → piece ++ xs ≡ c.gap ++ c.byte ∷ (c.more ++ xs) = λ xs. append_assoc c.gap (c.byte ∷ c.more) xs in
+            let size : (from : ℕ) → from + length c.gap + length (c.byte ∷ c.more) ≡ from + length piece =
+            λ from. let l = length-append c.gap (c.byte ∷ c.more) in omega (arith, l) in
+            let along : (xs : List ℕ) → piece ++ xs ≡ c.gap ++ c.byte ∷ (c.more ++ xs) =
+            λ xs. append_assoc c.gap (c.byte ∷ c.more) xs in
             record {
               piece = piece;
               rest = c.rest;
@@ -248,19 +286,23 @@ kept_cut at bytes t others kept e = go (first_cut at bytes t others e)
               left = ap (λ n. lexed n c.rest) (sym (size at)) ∙ c.left;
               follows = s.follows;
               keeps = λ from behind may.
-                  ap (lexed from) (along behind) ∙ gap_lexed from c.gap (c.byte ∷ (c.more ++ behind)) c.blank ∙ s.keeps (from + length c.gap) behind may
+                  ap (lexed from) (along behind) ∙ gap_lexed from c.gap (c.byte ∷ (c.more ++ behind)) c.blank
+                  ∙ s.keeps (from + length c.gap) behind may
                   ∙ ap (λ n. t ∷ lexed n behind) (size from);
-              heads = λ clear behind. subst Clear (sym (along behind)) (clear_heads c.gap c.byte (c.more ++ c.rest) (c.more ++ behind) (subst Clear c.split clear));
+              heads = λ clear behind. subst Clear (sym (along behind))
+                  (clear_heads c.gap c.byte (c.more ++ c.rest) (c.more ++ behind) (subst Clear c.split clear));
             }
 
 -- ---- where no token goes on
 blank_clear : (byte : ℕ) → is_blank byte ≡ true → (is_ascii_alphabetic byte ≡ false) × (is_numeric byte ≡ false)
 blank_clear byte is = by_tests (byte == 32) refl (byte == 9) refl (byte == 13) refl is
   where
-    plain : (b : ℕ) → byte ≡ b → (is_ascii_alphabetic b ≡ false) × (is_numeric b ≡ false) → (is_ascii_alphabetic byte ≡ false) × (is_numeric byte ≡ false)
+    plain : (b : ℕ) → byte ≡ b → (is_ascii_alphabetic b ≡ false) × (is_numeric b ≡ false)
+        → (is_ascii_alphabetic byte ≡ false) × (is_numeric byte ≡ false)
     plain b e both = subst (λ x. (is_ascii_alphabetic x ≡ false) × (is_numeric x ≡ false)) (sym e) both
 
-    by_tests : (c : Bool) → (byte == 32) ≡ c → (d : Bool) → (byte == 9) ≡ d → (e : Bool) → (byte == 13) ≡ e → (c || d || e) ≡ true
+    by_tests : (c : Bool) → (byte == 32) ≡ c → (d : Bool) → (byte == 9) ≡ d → (e : Bool) → (byte == 13) ≡ e
+        → (c || d || e) ≡ true
         → (is_ascii_alphabetic byte ≡ false) × (is_numeric byte ≡ false)
     by_tests true f d g e h all = plain 32 (eqb-true byte 32 f) (refl, refl)
     by_tests false f true g e h all = plain 9 (eqb-true byte 9 g) (refl, refl)
@@ -275,21 +317,25 @@ clear_gap (b ∷ gap) bytes all clear =
     record { letters = letters; numbers = numbers }
 
 -- a sign, or after a word another word
-sign_byte : (at byte : ℕ) (text : List ℕ) (t : Token) → IsKept t → ((w : Word) → t ≡ word w → ⊥) → t ≡ token_of at byte text → (is_ascii_alphabetic byte ≡ false) × (is_numeric byte ≡ false)
+sign_byte : (at byte : ℕ) (text : List ℕ) (t : Token) → IsKept t → ((w : Word) → t ≡ word w → ⊥)
+    → t ≡ token_of at byte text → (is_ascii_alphabetic byte ≡ false) × (is_numeric byte ≡ false)
 sign_byte at byte text t kept unworded is = by_letter (is_ascii_alphabetic byte) refl (is_numeric byte) refl
   where
-    by_letter : (a : Bool) → is_ascii_alphabetic byte ≡ a → (b : Bool) → is_numeric byte ≡ b → (is_ascii_alphabetic byte ≡ false) × (is_numeric byte ≡ false)
+    by_letter : (a : Bool) → is_ascii_alphabetic byte ≡ a → (b : Bool) → is_numeric byte ≡ b
+        → (is_ascii_alphabetic byte ≡ false) × (is_numeric byte ≡ false)
     by_letter true e b f = absurd (unworded (word_of text) (is ∙ word_case at byte text e))
     by_letter false e true f = absurd (subst IsKept (is ∙ number_case at byte text e f) kept)
     by_letter false e false f = (e, f)
 
-clear_token : (at : ℕ) (bytes : List ℕ) (t : Token) (others : List Token) → IsKept t → ((w : Word) → t ≡ word w → ⊥) → lexed at bytes ≡ t ∷ others → Clear bytes
+clear_token : (at : ℕ) (bytes : List ℕ) (t : Token) (others : List Token) → IsKept t → ((w : Word) → t ≡ word w → ⊥)
+    → lexed at bytes ≡ t ∷ others → Clear bytes
 clear_token at bytes t others kept unworded e = go (first_cut at bytes t others e)
   where
     go : Cut at bytes t others → Clear bytes
     go c =
         let (letters, numbers) = sign_byte (at + length c.gap) c.byte (c.byte ∷ c.more) t kept unworded c.is in
-        subst Clear (sym c.split) (clear_gap c.gap (c.byte ∷ (c.more ++ c.rest)) c.blank (record { letters = letters; numbers = numbers }))
+        subst Clear (sym c.split) (clear_gap c.gap (c.byte ∷ (c.more ++ c.rest)) c.blank
+        (record { letters = letters; numbers = numbers }))
 
 pub clear_opening : (at : ℕ) (bytes : List ℕ) (others : List Token) → lexed at bytes ≡ opening ∷ others → Clear bytes
 clear_opening at bytes others e = clear_token at bytes opening others tt (λ w is. cc) e
@@ -309,13 +355,15 @@ clear_end at (byte ∷ bytes) e = by_test (is_blank byte) refl
     by_test false is = let f = sym (ap tokens_in (black_first at byte bytes is)) ∙ e in cc
 
 -- between two words stands a blank
-pub clear_word : (at : ℕ) (bytes : List ℕ) (w : Word) (others : List Token) → Stops is_ascii_alphabetic bytes → lexed at bytes ≡ word w ∷ others → Clear bytes
+pub clear_word : (at : ℕ) (bytes : List ℕ) (w : Word) (others : List Token) → Stops is_ascii_alphabetic bytes
+    → lexed at bytes ≡ word w ∷ others → Clear bytes
 clear_word at bytes w others stops e = go (first_cut at bytes (word w) others e)
   where
     go : Cut at bytes (word w) others → Clear bytes
     go c = by_gap c.gap c.blank c.split
       where
-        by_gap : (gap : List ℕ) → list_all is_blank gap ≡ true → bytes ≡ gap ++ c.byte ∷ (c.more ++ c.rest) → Clear bytes
+        by_gap : (gap : List ℕ) → list_all is_blank gap ≡ true → bytes ≡ gap ++ c.byte ∷ (c.more ++ c.rest)
+            → Clear bytes
         by_gap (b ∷ gap) all split =
             let parts = and_parts (is_blank b) (list_all is_blank gap) all in
             let (letters, numbers) = blank_clear b parts.0 in

@@ -35,9 +35,11 @@ joined_points first (next ∷ more) = point_tokens first ++ comma ∷ joined_poi
 abbrev pub EndsInPoints : List Placed → ℕ → Type 0
 EndsInPoints front at =
     (before points : List Placed) × (first : Point) × (more : List Point)
-    × (front ≡ before ++ record { start = at; token = opening } ∷ points) × (tokens_in points ≡ joined_points first more)
+    × (front ≡ before ++ record { start = at; token = opening } ∷ points)
+    × (tokens_in points ≡ joined_points first more)
 
--- The rows of the table of refusals but the last one, in their order. Each says of a token that does not fit behind a front whether it speaks of it.
+-- The rows of the table of refusals but the last one, in their order. Each says of a token that does not fit behind a
+-- front whether it speaks of it.
 pub data Row : Type 0 where
   kind : Row
   height : Row
@@ -114,10 +116,12 @@ abbrev pub IsTokenFault : Bool → List Placed → Placed → LayerFault → Typ
 IsTokenFault exact front next (faults.Kind at) = (at ≡ next.start) × Decides exact front next.token kind
 IsTokenFault exact front next (faults.Height at) = (at ≡ next.start) × Decides exact front next.token height
 IsTokenFault exact front next (faults.Deep at) = (at ≡ next.start) × Decides exact front next.token deep
-IsTokenFault exact front next (faults.Number at fault) = (at ≡ next.start) × Decides exact front next.token unread × IsAnswer next.token fault
+IsTokenFault exact front next (faults.Number at fault) =
+    (at ≡ next.start) × Decides exact front next.token unread × IsAnswer next.token fault
 IsTokenFault exact front next (faults.Inexact at) = (at ≡ next.start) × Decides exact front next.token inexact
 IsTokenFault exact front next (faults.Ring at) = Decides exact front next.token ring × EndsInPoints front at
-IsTokenFault exact front next (faults.Bad at) = (at ≡ next.start) × ((row : Row) → Speaks exact front next.token row → ⊥)
+IsTokenFault exact front next (faults.Bad at) =
+    (at ≡ next.start) × ((row : Row) → Speaks exact front next.token row → ⊥)
 IsTokenFault exact front next fault = ⊥
 
 -- the fault at what stands behind a front: a token, or the line's end
@@ -125,7 +129,8 @@ abbrev pub IsFaultBehind : Bool → List Placed → List Placed → ℕ → Laye
 IsFaultBehind exact front (next ∷ more) end fault = IsTokenFault exact front next fault
 IsFaultBehind exact front [] end fault = fault ≡ faults.Bad end
 
--- The tokens, behind which the line ends at this place, are those of no well-formed line; the fault stands behind the longest front that begins one.
+-- The tokens, behind which the line ends at this place, are those of no well-formed line; the fault stands behind the
+-- longest front that begins one.
 pub record IsFaultOf (exact : Bool) (line : List Placed) (end : ℕ) (fault : LayerFault) : Type 0 where
   pub at : ℕ
   pub first : IsFirstFault (IsLine exact) (tokens_in line) at

@@ -1,4 +1,5 @@
--- The grammar of well-known text (OGC 06-103r4, section 7.2.2), in this project's profile: seven plane kinds, and in a multipoint points without brackets.
+-- The grammar of well-known text (OGC 06-103r4, section 7.2.2), in this project's profile: seven plane kinds, and in a
+-- multipoint points without brackets.
 use Rattle.std.specs.Prelude.{◌≡◌, ℕ, zero, suc, ◌≤◌, Bool, true, List, [], ◌∷◌, ◌++◌, length, map}
 use Rattle.std.specs.List.{AllByRecursion}
 use Rattle.sheet_base.specs.Rings.{is_closed}
@@ -54,7 +55,8 @@ member_tokens (bare p) = point_tokens p
 abbrev pub lists_tokens : List (List Point) → List Token
 lists_tokens lists = content_tokens points_tokens lists
 
--- geometry = POINT dot | LINESTRING list | POLYGON rings | MULTIPOINT dots | MULTILINESTRING lists | MULTIPOLYGON polygons | GEOMETRYCOLLECTION geometries
+-- geometry = POINT dot | LINESTRING list | POLYGON rings | MULTIPOINT dots | MULTILINESTRING lists | MULTIPOLYGON
+-- polygons | GEOMETRYCOLLECTION geometries
 abbrev mutual
   pub geometry_tokens : Geometry → List Token
   geometry_tokens (point points) = word (Tag kinds.Point) ∷ points_tokens points

@@ -17,14 +17,16 @@ lines_of text = slice_split (λ byte. byte == LINE_FEED) text
 abbrev pub AreLinesOf : Bool → ℕ → List (List ℕ) → List Path → Type 0
 AreLinesOf exact at [] paths = paths ≡ []
 AreLinesOf exact at (line ∷ lines) paths =
-    (here others : List Path) × IsLineOf exact (tokens_of at line) here × AreLinesOf exact (at + length line + 1) lines others × (paths ≡ here ++ others)
+    (here others : List Path) × IsLineOf exact (tokens_of at line) here
+    × AreLinesOf exact (at + length line + 1) lines others × (paths ≡ here ++ others)
 
 -- the fault of the first line that has one
 abbrev pub IsFirstLineFault : Bool → ℕ → List (List ℕ) → LayerFault → Type 0
 IsFirstLineFault exact at [] fault = ⊥
 IsFirstLineFault exact at (line ∷ lines) fault =
     IsLineFault exact (tokens_of at line) (at + length line) fault
-    ⊎ ((here : List Path) × IsLineOf exact (tokens_of at line) here × IsFirstLineFault exact (at + length line + 1) lines fault)
+    ⊎ ((here : List Path) × IsLineOf exact (tokens_of at line) here
+    × IsFirstLineFault exact (at + length line + 1) lines fault)
 
 -- the text is read as this sheet
 abbrev pub IsReadAs : Bool → List ℕ → Contents → Type 0

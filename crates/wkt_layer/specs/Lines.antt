@@ -6,7 +6,8 @@ use Rattle.wkt_layer.specs.Geometries.{Geometry, IsGeometry, geometry_tokens}
 use Rattle.wkt_layer.specs.Paths.{Path, geometry_paths}
 use Rattle.wkt_layer.specs.declared.limits.TheConstants.{DEEPEST}
 
--- the tokens are those of one geometry, in which collections nest at most DEEPEST deep; numbers fit and rings are closed
+-- the tokens are those of one geometry, in which collections nest at most DEEPEST deep; numbers fit and rings are
+-- closed
 abbrev pub IsLine : Bool → List Token → Type 0
 IsLine exact tokens = (of : Geometry) × IsGeometry exact DEEPEST of × (tokens ≡ geometry_tokens of)
 
@@ -21,4 +22,5 @@ tokens_in placed = map (λ (p : Placed). p.token) placed
 abbrev pub IsLineOf : Bool → List Placed → List Path → Type 0
 IsLineOf exact [] paths = paths ≡ []
 IsLineOf exact (first ∷ more) paths =
-    (of : Geometry) × IsGeometry exact DEEPEST of × (tokens_in (first ∷ more) ≡ geometry_tokens of) × (paths ≡ geometry_paths of)
+    (of : Geometry) × IsGeometry exact DEEPEST of × (tokens_in (first ∷ more) ≡ geometry_tokens of)
+    × (paths ≡ geometry_paths of)

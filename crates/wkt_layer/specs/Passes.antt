@@ -1,5 +1,6 @@
 -- What the code has read, as a state of the pass. Only private functions speak of it.
-use Rattle.std.specs.Prelude.{◌≡◌, ℕ, ◌+◌, ◌*◌, ◌≤◌, Bool, true, false, List, [], ◌∷◌, ◌++◌, length, take, map, flat_map, sum_by, Option, Some, None, Result, Ok, Err, ⊤}
+use Rattle.std.specs.Prelude.{◌≡◌, ℕ, ◌+◌, ◌*◌, ◌≤◌, Bool, true, false, List, [], ◌∷◌, ◌++◌, length, take, map}
+use Rattle.std.specs.Prelude.{flat_map, sum_by, Option, Some, None, Result, Ok, Err, ⊤}
 use Rattle.std.specs.Borrow.{Bor}
 use Rattle.std.specs.declared.alloc.AllocError.{AllocError}
 use Rattle.mm_decimal.specs.Measured.{measured}
@@ -9,7 +10,8 @@ use Rattle.sheet_base.specs.declared.paths.PathKind.{PathKind}
 use Rattle.sheet_base.specs.declared.paths.PathKind.TheVariants.{Dot, Line, Loop}
 use Rattle.sheet_base.specs.declared.faults.LayerFault.{LayerFault}
 use Rattle.sheet_base.specs.declared.faults.LayerFault.TheVariants as faults
-use Rattle.wkt_layer.specs.Tokens.{Number, Token, opening, closing, comma, word, number, stray, token_length, token_of, tokens_of, Placed}
+use Rattle.wkt_layer.specs.Tokens.{Number, Token, opening, closing, comma, word, number, stray, token_length, token_of}
+use Rattle.wkt_layer.specs.Tokens.{tokens_of, Placed}
 use Rattle.wkt_layer.specs.Reached.{Reached}
 use Rattle.wkt_layer.specs.Lines.{IsLineOf}
 use Rattle.wkt_layer.specs.Faults.{IsLineFault}
@@ -17,7 +19,8 @@ use Rattle.wkt_layer.specs.Layers.{lines_of, AreLinesOf, IsFirstLineFault}
 use Rattle.wkt_layer.specs.Numbers.{Point, does_fit, place_of, lost_of}
 use Rattle.wkt_layer.specs.Geometries.{last_behind}
 use Rattle.wkt_layer.specs.Paths.{Path, kept_points, lost_on, rows_from, edits_from}
-use Rattle.wkt_layer.specs.States.{Spot, item, content, first, second, whole, bare_second, bare_whole, behind, State, step, fault_of, opened_by}
+use Rattle.wkt_layer.specs.States.{Spot, item, content, first, second, whole, bare_second, bare_whole, behind, State}
+use Rattle.wkt_layer.specs.States.{step, fault_of, opened_by}
 use Rattle.wkt_layer.specs.declared.pass.Pass.{Pass}
 use Rattle.wkt_layer.specs.declared.places.Place.{Place}
 use Rattle.wkt_layer.specs.declared.places.Place.TheVariants as places
@@ -37,7 +40,8 @@ token_for at text signs.Stray = stray
 abbrev pub IsFirstToken : List ℕ → Sign → ℕ → Type 0
 IsFirstToken [] sign size = ⊥
 IsFirstToken (byte ∷ bytes) sign size =
-    (size ≡ token_length byte bytes) × ((at : ℕ) → token_of at byte (take size (byte ∷ bytes)) ≡ token_for at (take size (byte ∷ bytes)) sign)
+    (size ≡ token_length byte bytes) × ((at : ℕ)
+    → token_of at byte (take size (byte ∷ bytes)) ≡ token_for at (take size (byte ∷ bytes)) sign)
 
 -- the number fits, and this was read; or the token is no number that fits
 pub record IsFit (exact : Bool) (sign : Sign) (text : List ℕ) (read : MmRead) : Type 0 where
@@ -57,7 +61,8 @@ abbrev pub Shows : Place → Spot → Type 0
 Shows places.Item item = Unit {0}
 Shows (places.Content inner) (content other) = inner ≡ other
 Shows (places.First listing) (first other points) = listing ≡ other
-Shows (places.Second listing read at) (second other points x) = (listing ≡ other) × (measured x.text ≡ Ok read) × (at ≡ x.start)
+Shows (places.Second listing read at) (second other points x) =
+    (listing ≡ other) × (measured x.text ≡ Ok read) × (at ≡ x.start)
 Shows (places.Whole listing) (whole other points) = (listing ≡ other) × AreSome points
 Shows (places.BareSecond read at) (bare_second x) = (measured x.text ≡ Ok read) × (at ≡ x.start)
 Shows places.BareWhole bare_whole = Unit {0}
@@ -74,7 +79,8 @@ points_at spot = []
 -- from the first byte of the points' first number to the last byte of their last one
 abbrev pub AreFrom : List Point → ℕ → ℕ → Type 0
 AreFrom [] start end = Unit {0}
-AreFrom (one ∷ more) start end = (start ≡ one.x.start) × (end ≡ (last_behind one more).y.start + length (last_behind one more).y.text)
+AreFrom (one ∷ more) start end = (start ≡ one.x.start)
+    × (end ≡ (last_behind one more).y.start + length (last_behind one more).y.text)
 
 -- the sheet so far has these paths, and behind them these points
 pub record Held (pass : Pass) (done : List Path) (now : List Point) : Type 0 where
@@ -93,14 +99,18 @@ pub record Stands (pass : Pass) (place : Place) (before : List Path) (s : State)
 
 -- The code goes where the pass goes, or refuses the token, as the pass does, and keeps what it needs to name the fault.
 abbrev pub Goes : Option State → Token → ℕ → List Path → Pass → Result (Option Place) AllocError → Pass → Type 0
-Goes to token at before old (Ok (Some place)) new = (next : State) × (to ≡ Some next) × Stands new place before next × (new.opened ≡ opened_by token at old.opened)
+Goes to token at before old (Ok (Some place)) new =
+    (next : State) × (to ≡ Some next) × Stands new place before next × (new.opened ≡ opened_by token at old.opened)
 Goes to token at before old (Ok None) new = (to ≡ None) × (new.stack ≡ old.stack) × (new.opened ≡ old.opened)
 Goes to token at before old (Err fault) new = ⊤
 
 -- the same with the fault
 abbrev pub Leads : Bool → State → Token → ℕ → List Path → Pass → Result Place LayerFault → Pass → Type 0
-Leads exact s token at before old (Ok place) new = (next : State) × (step exact s token ≡ Some next) × Stands new place before next × (new.opened ≡ opened_by token at old.opened)
-Leads exact s token at before old (Err fault) new = (fault ≡ faults.NoMemory → ⊥) → (step exact s token ≡ None) × (fault ≡ fault_of exact s.spot s.stack token at old.opened)
+Leads exact s token at before old (Ok place) new =
+    (next : State) × (step exact s token ≡ Some next) × Stands new place before next
+    × (new.opened ≡ opened_by token at old.opened)
+Leads exact s token at before old (Err fault) new = (fault ≡ faults.NoMemory → ⊥)
+    → (step exact s token ≡ None) × (fault ≡ fault_of exact s.spot s.stack token at old.opened)
 
 -- the lists are no longer than the text before this place
 pub record HasRoom (pass : Pass) (at : ℕ) : Type 0 where
@@ -140,13 +150,17 @@ lines_behind (Some rest) = lines_of rest.now
 
 -- A token of a line was read, or is the line's fault.
 abbrev pub Reads : Bool → ℕ → List ℕ → List Path → Result (Place × ℕ) LayerFault → Pass → Type 0
-Reads exact base line before (Ok next) new = (front : List Placed) × (s : State) × Stands new next.0 before s × Reached exact base line next.1 front s new.opened
-Reads exact base line before (Err fault) new = (fault ≡ faults.NoMemory → ⊥) → IsLineFault exact (tokens_of base line) (base + length line) fault
+Reads exact base line before (Ok next) new =
+    (front : List Placed) × (s : State) × Stands new next.0 before s × Reached exact base line next.1 front s new.opened
+Reads exact base line before (Err fault) new = (fault ≡ faults.NoMemory → ⊥)
+    → IsLineFault exact (tokens_of base line) (base + length line) fault
 
 -- A line that begins at this place was read behind these paths, or is refused.
 abbrev pub ReadsLine : Bool → ℕ → List ℕ → List Path → Result (Unit {0}) LayerFault → Pass → Type 0
-ReadsLine exact at line before (Ok done) new = (here : List Path) × IsLineOf exact (tokens_of at line) here × Held new (before ++ here) [] × (new.stack ≡ [])
-ReadsLine exact at line before (Err fault) new = (fault ≡ faults.NoMemory → ⊥) → IsLineFault exact (tokens_of at line) (at + length line) fault
+ReadsLine exact at line before (Ok done) new =
+    (here : List Path) × IsLineOf exact (tokens_of at line) here × Held new (before ++ here) [] × (new.stack ≡ [])
+ReadsLine exact at line before (Err fault) new = (fault ≡ faults.NoMemory → ⊥)
+    → IsLineFault exact (tokens_of at line) (at + length line) fault
 
 abbrev pub IsWholeOf : PathKind → List Point → Type 0
 IsWholeOf Dot more = more ≡ []
@@ -160,11 +174,13 @@ IsWhole path = IsWholeOf path.kind path.more
 abbrev pub AreWhole : List Path → Type 0
 AreWhole paths = AllByRecursion IsWhole paths
 
--- how the text of a line goes on: all that is read of the rest is read of the whole behind the paths so far, and a fault of the rest is one of the whole
-pub record GoesOn (exact : Bool) (all : List (List ℕ)) (base : ℕ) (rest : List (List ℕ)) (done : List Path) : Type 0 where
-  pub onward : (others : List Path) → AreLinesOf exact base rest others → AreLinesOf exact 0 all (done ++ others)
-  pub faults : (fault : LayerFault) → IsFirstLineFault exact base rest fault → IsFirstLineFault exact 0 all fault
-  pub whole : AreWhole done
+-- how the text of a line goes on: all that is read of the rest is read of the whole behind the paths so far, and a
+-- fault of the rest is one of the whole
+pub record GoesOn (exact : Bool) (all : List (List ℕ)) (base : ℕ) (rest : List (List ℕ)) (done : List Path) : Type 0
+  where
+    pub onward : (others : List Path) → AreLinesOf exact base rest others → AreLinesOf exact 0 all (done ++ others)
+    pub faults : (fault : LayerFault) → IsFirstLineFault exact base rest fault → IsFirstLineFault exact 0 all fault
+    pub whole : AreWhole done
 
 -- the rest of a text begins at this place, where there is one
 abbrev pub RestsAt : Option (Bor (List ℕ)) → ℕ → ℕ → Type 0

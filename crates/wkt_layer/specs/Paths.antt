@@ -9,7 +9,9 @@ use Rattle.sheet_base.specs.declared.edits.What.TheVariants.{WktList, WktRing}
 use Rattle.sheet_base.specs.Sheets.{Contents}
 use Rattle.plane_base.specs.declared.shapes.Pt.{Pt}
 use Rattle.wkt_layer.specs.Numbers.{Point, place_of, lost_of}
-use Rattle.wkt_layer.specs.Geometries.{Member, dot, bare, Geometry, point, line_string, polygon, multi_point, multi_line_string, multi_polygon, collection, Geometries, no_geometry, geometry, last_behind}
+use Rattle.wkt_layer.specs.Geometries.{Member, dot, bare, Geometry, point, line_string, polygon, multi_point}
+use Rattle.wkt_layer.specs.Geometries.{multi_line_string, multi_polygon, collection, Geometries, no_geometry, geometry}
+use Rattle.wkt_layer.specs.Geometries.{last_behind}
 
 -- a path with its points as they stand in the text, a ring's closing point too
 pub record Path : Type 0 where
@@ -61,14 +63,16 @@ lost_on path = sum_by lost_of (path.first ∷ path.more)
 abbrev pub rows_from : ℕ → List Path → List PathRow
 rows_from first [] = []
 rows_from first (path ∷ paths) =
-    record { kind = path.kind; first = first; past = first + length (kept_points path) } ∷ rows_from (first + length (kept_points path)) paths
+    record { kind = path.kind; first = first; past = first + length (kept_points path) }
+    ∷ rows_from (first + length (kept_points path)) paths
 
 abbrev pub text_for : PathKind → ℕ → What
 text_for Dot number = WktList number
 text_for Line number = WktList number
 text_for Loop number = WktRing number
 
--- the images of a path take the place of its points: from the first byte of the first number to the last byte of the last one
+-- the images of a path take the place of its points: from the first byte of the first number to the last byte of the
+-- last one
 abbrev pub edit_of : ℕ → Path → Edit
 edit_of number path =
     let last = (last_behind path.first path.more).y in

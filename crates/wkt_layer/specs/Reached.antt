@@ -14,17 +14,20 @@ read_tokens (one ∷ more) = joined_points one more ++ comma ∷ []
 
 -- the last of the tokens are an opening bracket at this place, and these behind it
 abbrev pub EndsIn : List Placed → ℕ → List Token → Type 0
-EndsIn front opened tokens = (before points : List Placed) × (front ≡ before ++ record { start = opened; token = opening } ∷ points) × (tokens_in points ≡ tokens)
+EndsIn front opened tokens = (before points : List Placed)
+    × (front ≡ before ++ record { start = opened; token = opening } ∷ points) × (tokens_in points ≡ tokens)
 
 -- the points that were read stand in the brackets that were opened last
 abbrev pub IsIn : List Placed → ℕ → Spot → Type 0
 IsIn front opened (first listing read) = EndsIn front opened (read_tokens read)
 IsIn front opened (second listing read x) = EndsIn front opened (read_tokens read ++ number x ∷ [])
-IsIn front opened (whole listing read) = (one : Point) × (more : List Point) × (read ≡ one ∷ more) × EndsIn front opened (joined_points one more)
+IsIn front opened (whole listing read) = (one : Point) × (more : List Point) × (read ≡ one ∷ more)
+    × EndsIn front opened (joined_points one more)
 IsIn front opened spot = Unit {0}
 
 -- the tokens so far lead to a state
-pub record Reached (exact : Bool) (base : ℕ) (line : List ℕ) (at : ℕ) (front : List Placed) (s : State) (opened : ℕ) : Type 0 where
+pub record Reached (exact : Bool) (base : ℕ) (line : List ℕ) (at : ℕ) (front : List Placed) (s : State)
+    (opened : ℕ) : Type 0 where
   pub lexed : tokens_of base line ≡ front ++ tokens_of (base + at) (drop at line)
   pub ran : run (step exact) start (tokens_in front) ≡ Some s
   pub inside : IsIn front opened s.spot

@@ -1,5 +1,6 @@
 -- The states of a pass over the tokens of a line. Only private functions speak of them.
-use Rattle.std.specs.Prelude.{◌≡◌, ℕ, ◌&&◌, Bool, true, false, not, nat_lt, if◌then◌else◌, List, [], ◌∷◌, ◌++◌, length, map, Option, Some, None, Result, Ok, Err}
+use Rattle.std.specs.Prelude.{◌≡◌, ℕ, ◌&&◌, Bool, true, false, not, nat_lt, if◌then◌else◌, List, [], ◌∷◌, ◌++◌, length}
+use Rattle.std.specs.Prelude.{map, Option, Some, None, Result, Ok, Err}
 use Rattle.mm_decimal.specs.Measured.{measured}
 use Rattle.mm_decimal.specs.declared.reading.MmRead.{MmRead}
 use Rattle.mm_decimal.specs.declared.reading.NumFault.{NumFault}
@@ -23,8 +24,8 @@ use Rattle.wkt_layer.specs.declared.places.Listing.TheVariants as listings
 use Rattle.wkt_layer.specs.declared.places.Group.{Group}
 use Rattle.wkt_layer.specs.declared.places.Group.TheVariants as groups
 
--- what may come next: an item; a content; a point in brackets behind others; its second number; what stands behind it; the second number of a point without
--- brackets; what stands behind that one; what stands behind another item
+-- what may come next: an item; a content; a point in brackets behind others; its second number; what stands behind it;
+-- the second number of a point without brackets; what stands behind that one; what stands behind another item
 pub data Spot : Type 0 where
   item : Spot
   content : Content → Spot
@@ -87,7 +88,8 @@ item_step exact groups.Rings stack paths token = enter_step (Points listings.Rin
 item_step exact groups.Lists stack paths token = enter_step (Points listings.List) stack paths token
 item_step exact groups.Polygons stack paths token = enter_step (Items groups.Rings) stack paths token
 item_step exact groups.Geometries stack paths token = tag_step stack paths token
-item_step exact groups.Dots stack paths (number n) = number_step exact (λ x. state (bare_second x) stack paths) (number n)
+item_step exact groups.Dots stack paths (number n) =
+    number_step exact (λ x. state (bare_second x) stack paths) (number n)
 item_step exact groups.Dots stack paths token = enter_step (Points listings.Dot) stack paths token
 
 abbrev pub kind_of : Listing → PathKind
@@ -119,10 +121,13 @@ behind_step stack paths token = None
 abbrev pub step_at : Bool → Spot → List Group → List Path → Token → Option State
 step_at exact item stack paths token = item_step exact (innermost stack) stack paths token
 step_at exact (content inner) stack paths token = enter_step inner stack paths token
-step_at exact (first listing points) stack paths token = number_step exact (λ x. state (second listing points x) stack paths) token
-step_at exact (second listing points x) stack paths token = number_step exact (λ y. state (whole listing (points ++ pair x y ∷ [])) stack paths) token
+step_at exact (first listing points) stack paths token =
+    number_step exact (λ x. state (second listing points x) stack paths) token
+step_at exact (second listing points x) stack paths token =
+    number_step exact (λ y. state (whole listing (points ++ pair x y ∷ [])) stack paths) token
 step_at exact (whole listing points) stack paths token = whole_step listing points stack paths token
-step_at exact (bare_second x) stack paths token = number_step exact (λ y. state bare_whole stack (paths ++ path_of Dot (pair x y ∷ []))) token
+step_at exact (bare_second x) stack paths token =
+    number_step exact (λ y. state bare_whole stack (paths ++ path_of Dot (pair x y ∷ []))) token
 step_at exact bare_whole stack paths token = behind_step stack paths token
 step_at exact behind stack paths token = behind_step stack paths token
 

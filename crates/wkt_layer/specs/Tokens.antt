@@ -1,9 +1,11 @@
--- The tokens of a line of well-known text (OGC 06-103r4, section 7.2): brackets, commas, words and numbers, with blanks between them or none.
+-- The tokens of a line of well-known text (OGC 06-103r4, section 7.2): brackets, commas, words and numbers, with blanks
+-- between them or none.
 use Rattle.std.specs.Prelude.{ℕ, zero, suc, ◌+◌, ◌-◌, ◌==◌, ◌||◌, Bool, if◌then◌else◌, List, [], ◌∷◌, ◌++◌, take, codes}
 use Rattle.std.specs.List.{prefix_len}
 use Rattle.std.specs.Char.{is_ascii_alphabetic, is_ascii_digit}
 use Rattle.std.specs.Str.{str_eq_ignore_ascii_case}
-use Rattle.wkt_layer.specs.declared.words.Kind.TheVariants.{Point, LineString, Polygon, MultiPoint, MultiLineString, MultiPolygon, Collection}
+use Rattle.wkt_layer.specs.declared.words.Kind.TheVariants.{Point, LineString, Polygon, MultiPoint, MultiLineString}
+use Rattle.wkt_layer.specs.declared.words.Kind.TheVariants.{MultiPolygon, Collection}
 use Rattle.wkt_layer.specs.declared.words.Word.{Word}
 use Rattle.wkt_layer.specs.declared.words.Word.TheVariants.{Tag, Empty, Height, Other}
 
@@ -45,11 +47,12 @@ word_of text =
     else if str_eq_ignore_ascii_case text (codes "MULTIPOLYGON") then Tag MultiPolygon
     else if str_eq_ignore_ascii_case text (codes "GEOMETRYCOLLECTION") then Tag Collection
     else if str_eq_ignore_ascii_case text (codes "EMPTY") then Empty
-    else if str_eq_ignore_ascii_case text (codes "Z") || str_eq_ignore_ascii_case text (codes "M") || str_eq_ignore_ascii_case text (codes "ZM") then Height
+    else if str_eq_ignore_ascii_case text (codes "Z") || str_eq_ignore_ascii_case text (codes "M") ||
+    str_eq_ignore_ascii_case text (codes "ZM") then Height
     else Other
 
--- how long the token is that begins with this byte before the others: a word is the longest run of letters, a number the longest run of its bytes that
--- begins with no letter
+-- how long the token is that begins with this byte before the others: a word is the longest run of letters, a number
+-- the longest run of its bytes that begins with no letter
 abbrev pub token_length : ℕ → List ℕ → ℕ
 token_length byte bytes =
     if is_ascii_alphabetic byte then prefix_len is_ascii_alphabetic (byte ∷ bytes)
@@ -76,7 +79,7 @@ token_at at byte bytes =
 abbrev pub bytes_behind : ℕ → List ℕ → ℕ
 bytes_behind byte bytes = if is_blank byte then 0 else token_length byte bytes - 1
 
--- the tokens of bytes that begin at this place, but for the first so many bytes, which belong to a token before
+-- the tokens of bytes that begin at this place, except the first so many bytes, which belong to a token before
 abbrev pub tokens_behind : ℕ → ℕ → List ℕ → List Placed
 tokens_behind passed at [] = []
 tokens_behind (suc passed) at (byte ∷ bytes) = tokens_behind passed (at + 1) bytes

@@ -4,6 +4,7 @@ ghost use Rattle.std.specs.Prelude.{◌≡◌, ℕ, List, Bool};
 ghost use Rattle.sheet_base.specs.Sheets.{Contents};
 ghost use Rattle.sheet_base.specs.Outcomes.{HasOutcome};
 ghost use Rattle.sheet_base.specs.declared.faults.LayerFault.{LayerFault};
+ghost use Rattle.wkt_layer.specs.declared.limits.TheConstants.{DEEPEST, LINE_FEED};
 ghost use Rattle.wkt_layer.specs.Layers.{IsReadAs, IsRefusedBy};
 
 /// A layer is read as one sheet, and none that is read is refused.
@@ -20,4 +21,10 @@ pub fn fault_is_one()
 /// Each text is a layer of some sheet, or has a first fault.
 pub fn text_outcome_exists()
     ensures { (exact : Bool) → (bytes : List ℕ) → HasOutcome (IsReadAs exact bytes) (IsRefusedBy exact bytes) }
+{}
+
+/// Laws: collections nest at most so deep, and a line ends with this byte.
+pub fn limits_are_stated()
+    ensures deepest { DEEPEST ≡ 64 }
+    ensures line_feed { LINE_FEED ≡ 10 }
 {}

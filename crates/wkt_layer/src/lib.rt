@@ -13,5 +13,5 @@ mod texts;
 mod tokens;
 mod words;
 
-pub use laws::{fault_is_one, sheet_is_one, text_outcome_exists};
+pub use laws::{fault_is_one, limits_are_stated, sheet_is_one, text_outcome_exists};
 pub use layer::Wkt;

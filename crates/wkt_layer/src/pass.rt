@@ -1,7 +1,8 @@
 //! The sheet so far, while a layer is read.
 
 ghost use Rattle.plane_base.specs.declared.shapes.Pt.{Pt};
-ghost use Rattle.std.specs.Prelude.{if◌then◌else◌, ◌≡◌, ◌+◌, ◌-◌, ◌^◌, ◌<◌, ◌≤◌, [], ◌∷◌, ◌++◌, ℕ, List, length, OnOk, IfOk, Ok};
+ghost use Rattle.std.specs.Prelude.{if◌then◌else◌, ◌≡◌, ◌+◌, ◌-◌, ◌^◌, ◌<◌, ◌≤◌, [], ◌∷◌, ◌++◌, ℕ, List, length, OnOk};
+ghost use Rattle.std.specs.Prelude.{IfOk, Ok};
 ghost use Rattle.sheet_base.specs.declared.paths.PathKind.TheVariants.{Loop};
 ghost use Rattle.mm_decimal.specs.Measured.{measured};
 ghost use Rattle.wkt_layer.specs.Numbers.{Point, lost_in};

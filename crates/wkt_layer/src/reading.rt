@@ -1,6 +1,7 @@
 //! Reading a layer line by line.
 
-ghost use Rattle.std.specs.Prelude.{◌≡◌, ◌≢◌, ◌+◌, ◌*◌, ◌^◌, ◌<◌, ◌≤◌, ◌∷◌, [], List, length, OnOk, IfOk, IsErrOf, false, slice_index};
+ghost use Rattle.std.specs.Prelude.{◌≡◌, ◌≢◌, ◌+◌, ◌*◌, ◌^◌, ◌<◌, ◌≤◌, ◌∷◌, [], List, length, OnOk, IfOk, IsErrOf};
+ghost use Rattle.std.specs.Prelude.{false, slice_index};
 ghost use Rattle.std.specs.List.{list_all};
 ghost use Rattle.sheet_base.specs.Splices.{AreInOrder};
 ghost use Rattle.sheet_base.specs.declared.faults.LayerFault.{LayerFault};

@@ -1,12 +1,17 @@
 //! One token of a line.
 
-ghost use Rattle.std.specs.Prelude.{◌≡◌, ◌<◌, ◌≤◌, ◌+◌, ◌^◌, ◌++◌, ◌∷◌, [], List, ℕ, None, Ok, Some, length, map, MatchOption, OnOk, IfOk, IsTrue, ◌↔◌, Option};
+ghost use Rattle.std.specs.Prelude.{◌≡◌, ◌<◌, ◌≤◌, ◌+◌, ◌^◌, ◌++◌, ◌∷◌, [], List, ℕ, None, Ok, Some, length, map};
+ghost use Rattle.std.specs.Prelude.{MatchOption, OnOk, IfOk, IsTrue, ◌↔◌, Option};
 ghost use Rattle.mm_decimal.specs.Measured.{measured};
 ghost use Rattle.wkt_layer.specs.Tokens.{Number};
 ghost use Rattle.wkt_layer.specs.Numbers.{Point, does_fit, place_of};
 ghost use Rattle.wkt_layer.specs.Paths.{Path, path_of};
-ghost use Rattle.wkt_layer.specs.States.{State, Spot, IsEnd, state, innermost, pair, kind_of, may_end, is_geometry_spot, other_fault, word_fault, answer_fault, number_fault, closing_fault, fault_of, tag_step, enter_step, number_step, item_step, whole_step, behind_step, step};
-ghost use Rattle.wkt_layer.specs.Passes.{token_for, IsFit, IsUnfit, Shows, Held, Stands, Goes, Leads, HasRoom, BeginsBefore, LeavesRoom, SameSheet};
+ghost use Rattle.wkt_layer.specs.States.{State, Spot, IsEnd, state, innermost, pair, kind_of, may_end};
+ghost use Rattle.wkt_layer.specs.States.{is_geometry_spot, other_fault, word_fault, answer_fault, number_fault};
+ghost use Rattle.wkt_layer.specs.States.{closing_fault, fault_of, tag_step, enter_step, number_step, item_step};
+ghost use Rattle.wkt_layer.specs.States.{whole_step, behind_step, step};
+ghost use Rattle.wkt_layer.specs.Passes.{token_for, IsFit, IsUnfit, Shows, Held, Stands, Goes, Leads, HasRoom};
+ghost use Rattle.wkt_layer.specs.Passes.{BeginsBefore, LeavesRoom, SameSheet};
 ghost use Rattle.sheet_base.specs.declared.paths.PathKind.TheVariants.{Dot};
 
 use crate::limits::DEEPEST;

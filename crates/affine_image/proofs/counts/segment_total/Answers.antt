@@ -11,9 +11,12 @@ use Rattle.affine_image.proofs.counts.segment_total.Goals as goal
 pub overflow_sub-result : goal.overflow_sub-result
 overflow_sub-result c =
     let all = begun_by_points c.args.sheet.now c.points.ensures.sheet in
-    let points : length c.points.result.now ≡ length c.args.sheet.now.points = ap (λ (ps : List Pt). length ps) c.points.ensures.points in
-    let ends : c.open_count.result ≡ count_by ends_open c.args.sheet.now.paths = c.open_count.ensures ∙ ap (λ (rows : List PathRow). count_by ends_open rows) c.paths.ensures.paths in
-    less (length (sheet_segments c.args.sheet.now)) (count_by ends_open c.args.sheet.now.paths) (length c.args.sheet.now.points) c.open_count.result (length c.points.result.now) all points ends
+    let points : length c.points.result.now ≡ length c.args.sheet.now.points =
+    ap (λ (ps : List Pt). length ps) c.points.ensures.points in
+    let ends : c.open_count.result ≡ count_by ends_open c.args.sheet.now.paths = c.open_count.ensures
+    ∙ ap (λ (rows : List PathRow). count_by ends_open rows) c.paths.ensures.paths in
+    less (length (sheet_segments c.args.sheet.now)) (count_by ends_open c.args.sheet.now.paths)
+    (length c.args.sheet.now.points) c.open_count.result (length c.points.result.now) all points ends
   where
     less : (s o p k n : ℕ) → s + o ≡ p → n ≡ p → k ≡ o → k ≤ n
     less s o p k n e f g = omega arith
@@ -21,9 +24,12 @@ overflow_sub-result c =
 pub returns : goal.returns
 returns c =
     let all = begun_by_points c.args.sheet.now c.points.ensures.sheet in
-    let points : length c.points.result.now ≡ length c.args.sheet.now.points = ap (λ (ps : List Pt). length ps) c.points.ensures.points in
-    let ends : c.open_count.result ≡ count_by ends_open c.args.sheet.now.paths = c.open_count.ensures ∙ ap (λ (rows : List PathRow). count_by ends_open rows) c.paths.ensures.paths in
-    rest (length (sheet_segments c.args.sheet.now)) (count_by ends_open c.args.sheet.now.paths) (length c.args.sheet.now.points) c.open_count.result (length c.points.result.now) all points ends
+    let points : length c.points.result.now ≡ length c.args.sheet.now.points =
+    ap (λ (ps : List Pt). length ps) c.points.ensures.points in
+    let ends : c.open_count.result ≡ count_by ends_open c.args.sheet.now.paths = c.open_count.ensures
+    ∙ ap (λ (rows : List PathRow). count_by ends_open rows) c.paths.ensures.paths in
+    rest (length (sheet_segments c.args.sheet.now)) (count_by ends_open c.args.sheet.now.paths)
+    (length c.args.sheet.now.points) c.open_count.result (length c.points.result.now) all points ends
   where
     rest : (s o p k n : ℕ) → s + o ≡ p → n ≡ p → k ≡ o → n - k ≡ s
     rest s o p k n e f g = omega arith

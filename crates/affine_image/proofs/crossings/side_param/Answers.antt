@@ -11,4 +11,6 @@ edge_param-requires-clause-near_q c = c.requires.near_to c.place-2.result c.plac
 
 pub edge_param-requires-clause-near_pq : goal.edge_param-requires-clause-near_pq
 edge_param-requires-clause-near_pq c =
-    near_points c.args.tin.now Source c.args.side.from c.args.side.to c.place.result c.place-2.result c.place.ensures.limits c.requires.from_in_range c.requires.to_in_range c.place.ensures.place c.place-2.ensures.place
+    near_points c.args.tin.now Source c.args.side.from c.args.side.to c.place.result c.place-2.result
+    c.place.ensures.limits c.requires.from_in_range c.requires.to_in_range c.place.ensures.place
+    c.place-2.ensures.place

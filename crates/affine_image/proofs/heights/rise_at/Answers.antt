@@ -16,7 +16,8 @@ overflow_cast-result c =
     let eu : u ≡ n *ℤ z = simp to_z-of_z at c.share.ensures.value in
     let er : r ≡ half_up_of u d = simp to_z-of_z at c.round_half_up.ensures in
     let is : r ≡ half_up_of (n *ℤ z) d = er ∙ ap (λ (y : ℤ). half_up_of y d) eu in
-    let size : unsigned_abs r ≤ 2 * LIMIT = subst (λ (y : ℤ). unsigned_abs y ≤ 2 * LIMIT) (sym is) (rise_size n d z c.args.s.positive c.requires.between.1 c.requires.between.2 c.requires.rise) in
+    let size : unsigned_abs r ≤ 2 * LIMIT = subst (λ (y : ℤ). unsigned_abs y ≤ 2 * LIMIT) (sym is)
+    (rise_size n d z c.args.s.positive c.requires.between.1 c.requires.between.2 c.requires.rise) in
     simp to_z-of_z (rise_fits r size)
 
 pub returns-clause-value : goal.returns-clause-value
@@ -28,11 +29,13 @@ returns-clause-value c =
     let eu : u ≡ n *ℤ z = simp to_z-of_z at c.share.ensures.value in
     let er : r ≡ half_up_of u d = simp to_z-of_z at c.round_half_up.ensures in
     let is : r ≡ half_up_of (n *ℤ z) d = er ∙ ap (λ (y : ℤ). half_up_of y d) eu in
-    let size : unsigned_abs r ≤ 2 * LIMIT = subst (λ (y : ℤ). unsigned_abs y ≤ 2 * LIMIT) (sym is) (rise_size n d z c.args.s.positive c.requires.between.1 c.requires.between.2 c.requires.rise) in
+    let size : unsigned_abs r ≤ 2 * LIMIT = subst (λ (y : ℤ). unsigned_abs y ≤ 2 * LIMIT) (sym is)
+    (rise_size n d z c.args.s.positive c.requires.between.1 c.requires.between.2 c.requires.rise) in
     let fits : SFits w64 r = rise_fits r size in
     simp to_z-of_z is
 
 pub returns-clause-size : goal.returns-clause-size
 returns-clause-size c =
     let n = c.args.s.num in let d = c.args.s.den in let z = c.args.rise in
-    subst (λ (y : ℤ). unsigned_abs y ≤ 2 * LIMIT) (sym (returns-clause-value c)) (rise_size n d z c.args.s.positive c.requires.between.1 c.requires.between.2 c.requires.rise)
+    subst (λ (y : ℤ). unsigned_abs y ≤ 2 * LIMIT) (sym (returns-clause-value c))
+    (rise_size n d z c.args.s.positive c.requires.between.1 c.requires.between.2 c.requires.rise)

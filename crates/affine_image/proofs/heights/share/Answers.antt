@@ -15,12 +15,14 @@ pub returns-clause-value : goal.returns-clause-value
 returns-clause-value c =
     let a : to_z w128 (of_z w128 c.from.result) ≡ c.args.rise = omega (arith, ints) in
     let w = c.ranges.weight in
-    let f : SFits w128 (c.args.weight *ℤ c.args.rise) = share_fits c.args.weight c.args.rise c.requires.weight c.requires.rise in
+    let f : SFits w128 (c.args.weight *ℤ c.args.rise) =
+    share_fits c.args.weight c.args.rise c.requires.weight c.requires.rise in
     simp (a, to_z-of_z)
 
 pub returns-clause-size : goal.returns-clause-size
 returns-clause-size c =
     let a : to_z w128 (of_z w128 c.from.result) ≡ c.args.rise = omega (arith, ints) in
     let w = c.ranges.weight in
-    let f : SFits w128 (c.args.weight *ℤ c.args.rise) = share_fits c.args.weight c.args.rise c.requires.weight c.requires.rise in
+    let f : SFits w128 (c.args.weight *ℤ c.args.rise) =
+    share_fits c.args.weight c.args.rise c.requires.weight c.requires.rise in
     simp (a, to_z-of_z) (share_small c.args.weight c.args.rise c.requires.weight c.requires.rise)

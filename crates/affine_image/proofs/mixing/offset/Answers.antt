@@ -25,38 +25,49 @@ overflow_cast-result c =
     let w = c.args.w in let s = c.args.to_second in let t = c.args.to_third in
     let u = c.part.result in let v = c.part-2.result in
     let f : SFits w128 u = search rules in let g : SFits w128 v = search rules in
-    let f2 : SFits w128 w.second = search rules in let f3 : SFits w128 w.third = search rules in let fw : SFits w128 w.whole = search rules in
+    let f2 : SFits w128 w.second = search rules in let f3 : SFits w128 w.third =
+    search rules in let fw : SFits w128 w.whole = search rules in
     let fs : SFits w64 s = search rules in let ft : SFits w64 t = search rules in
     let fr : SFits w128 c.round_half_up.result = search rules in
     let h = sum_fits u v c.part.ensures.size c.part-2.ensures.size in
     let e : c.round_half_up.result ≡ half_up_of (u +ℤ v) w.whole = simp to_z-of_z at c.round_half_up.ensures in
     let eu : u ≡ w.second *ℤ s = simp to_z-of_z at c.part.ensures.value in
     let ev : v ≡ w.third *ℤ t = simp to_z-of_z at c.part-2.ensures.value in
-    let is : c.round_half_up.result ≡ half_up_of (w.second *ℤ s +ℤ w.third *ℤ t) w.whole = e ∙ ap₂ (λ (a b : ℤ). half_up_of (a +ℤ b) w.whole) eu ev in
-    simp to_z-of_z (offset_fits w.second w.third w.whole s t c.round_half_up.result w.positive w.second_kept w.third_kept w.rest_kept c.requires.second c.requires.third is)
+    let is : c.round_half_up.result ≡ half_up_of (w.second *ℤ s +ℤ w.third *ℤ t) w.whole = e
+    ∙ ap₂ (λ (a b : ℤ). half_up_of (a +ℤ b) w.whole) eu ev in
+    simp to_z-of_z (offset_fits w.second w.third w.whole s t c.round_half_up.result w.positive w.second_kept
+    w.third_kept w.rest_kept c.requires.second c.requires.third is)
 
 pub returns-clause-value : goal.returns-clause-value
 returns-clause-value c =
     let w = c.args.w in let s = c.args.to_second in let t = c.args.to_third in
     let u = c.part.result in let v = c.part-2.result in
     let f : SFits w128 u = search rules in let g : SFits w128 v = search rules in
-    let f2 : SFits w128 w.second = search rules in let f3 : SFits w128 w.third = search rules in let fw : SFits w128 w.whole = search rules in
+    let f2 : SFits w128 w.second = search rules in let f3 : SFits w128 w.third =
+    search rules in let fw : SFits w128 w.whole = search rules in
     let fs : SFits w64 s = search rules in let ft : SFits w64 t = search rules in
     let fr : SFits w128 c.round_half_up.result = search rules in
     let h = sum_fits u v c.part.ensures.size c.part-2.ensures.size in
     let e : c.round_half_up.result ≡ half_up_of (u +ℤ v) w.whole = simp to_z-of_z at c.round_half_up.ensures in
     let eu : u ≡ w.second *ℤ s = simp to_z-of_z at c.part.ensures.value in
     let ev : v ≡ w.third *ℤ t = simp to_z-of_z at c.part-2.ensures.value in
-    let is : c.round_half_up.result ≡ half_up_of (w.second *ℤ s +ℤ w.third *ℤ t) w.whole = e ∙ ap₂ (λ (a b : ℤ). half_up_of (a +ℤ b) w.whole) eu ev in
-    let fo : SFits w64 c.round_half_up.result = offset_fits w.second w.third w.whole s t c.round_half_up.result w.positive w.second_kept w.third_kept w.rest_kept c.requires.second c.requires.third is in
+    let is : c.round_half_up.result ≡ half_up_of (w.second *ℤ s +ℤ w.third *ℤ t) w.whole = e
+    ∙ ap₂ (λ (a b : ℤ). half_up_of (a +ℤ b) w.whole) eu ev in
+    let fo : SFits w64 c.round_half_up.result =
+    offset_fits w.second w.third w.whole s t c.round_half_up.result w.positive w.second_kept w.third_kept
+    w.rest_kept c.requires.second c.requires.third is in
     simp to_z-of_z is
 
 pub returns-clause-low : goal.returns-clause-low
 returns-clause-low c = λ least l0 ls lt.
     let w = c.args.w in
-    subst (λ (z : ℤ). least ≤ℤ z) (sym (returns-clause-value c)) (mix_not_below w.second w.third w.whole c.args.to_second c.args.to_third least w.positive w.second_kept w.third_kept w.rest_kept l0 ls lt)
+    subst (λ (z : ℤ). least ≤ℤ z) (sym (returns-clause-value c))
+    (mix_not_below w.second w.third w.whole c.args.to_second c.args.to_third least w.positive w.second_kept
+    w.third_kept w.rest_kept l0 ls lt)
 
 pub returns-clause-high : goal.returns-clause-high
 returns-clause-high c = λ most m0 sm tm.
     let w = c.args.w in
-    subst (λ (z : ℤ). z ≤ℤ most) (sym (returns-clause-value c)) (mix_not_above w.second w.third w.whole c.args.to_second c.args.to_third most w.positive w.second_kept w.third_kept w.rest_kept m0 sm tm)
+    subst (λ (z : ℤ). z ≤ℤ most) (sym (returns-clause-value c))
+    (mix_not_above w.second w.third w.whole c.args.to_second c.args.to_third most w.positive w.second_kept
+    w.third_kept w.rest_kept m0 sm tm)

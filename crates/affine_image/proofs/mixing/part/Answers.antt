@@ -9,13 +9,15 @@ pub overflow_mul-result : goal.overflow_mul-result
 overflow_mul-result c =
     let a : to_z w128 (of_z w128 c.from.result) ≡ c.args.way = omega (arith, ints) in
     let w = c.ranges.weight in
-    simp (a, to_z-of_z) (part_fits (c.args.weight *ℤ c.args.way) (part_size c.args.weight c.args.way c.requires.weight c.requires.way))
+    simp (a, to_z-of_z) (part_fits (c.args.weight *ℤ c.args.way)
+    (part_size c.args.weight c.args.way c.requires.weight c.requires.way))
 
 pub returns-clause-value : goal.returns-clause-value
 returns-clause-value c =
     let a : to_z w128 (of_z w128 c.from.result) ≡ c.args.way = omega (arith, ints) in
     let w = c.ranges.weight in
-    let f : SFits w128 (c.args.weight *ℤ c.args.way) = part_fits (c.args.weight *ℤ c.args.way) (part_size c.args.weight c.args.way c.requires.weight c.requires.way) in
+    let f : SFits w128 (c.args.weight *ℤ c.args.way) =
+    part_fits (c.args.weight *ℤ c.args.way) (part_size c.args.weight c.args.way c.requires.weight c.requires.way) in
     simp (a, to_z-of_z)
 
 pub returns-clause-size : goal.returns-clause-size

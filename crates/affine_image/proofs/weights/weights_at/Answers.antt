@@ -25,7 +25,8 @@ invariant_of-result c =
     simp to_z-of_z (record {
       second_kept = kept.0;
       third_kept = kept.1;
-      rest_kept = within_whole t p u v d c.requires.positive c.requires.inside c.turn.ensures.value c.turn-2.ensures.value c.turn-3.ensures.value;
+      rest_kept = within_whole t p u v d c.requires.positive c.requires.inside c.turn.ensures.value
+          c.turn-2.ensures.value c.turn-3.ensures.value;
       positive = positive_by t d c.requires.positive c.turn-3.ensures.value;
       small = c.turn-3.ensures.size;
     })

@@ -15,5 +15,6 @@ pub invariant_of-result-clause-rest_kept : goal.invariant_of-result-clause-rest_
 invariant_of-result-clause-rest_kept c =
     let s = c.args.s in
     let f : SFits w128 s.num = search rules in let g : SFits w128 s.den = search rules in
-    let n : to_z w128 (of_z w128 s.num) ≡ s.num = simp to_z-of_z in let d : to_z w128 (of_z w128 s.den) ≡ s.den = simp to_z-of_z in
+    let n : to_z w128 (of_z w128 s.num) ≡ s.num = simp to_z-of_z in let d : to_z w128 (of_z w128 s.den) ≡ s.den =
+    simp to_z-of_z in
     no_more s.num s.den (to_z w128 (of_z w128 s.num)) (to_z w128 (of_z w128 s.den)) n d c.requires.2

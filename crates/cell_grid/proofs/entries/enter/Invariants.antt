@@ -4,4 +4,5 @@ use Rattle.cell_grid.specs.Entries.{entered}
 use Rattle.cell_grid.proofs.entries.enter.Given as goal
 
 abbrev pub invariant-loop-place : goal.invariant-loop-place
-invariant-loop-place l = l.entries.items ≡ l.initial.entries.items ++ map (entered l.number) (take l.place-index l.places)
+invariant-loop-place l = l.entries.items ≡ l.initial.entries.items
+    ++ map (entered l.number) (take l.place-index l.places)

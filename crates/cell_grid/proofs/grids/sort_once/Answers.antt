@@ -11,5 +11,10 @@ returns c =
     let moved = c.sort_unstable.ensures.permutation in
     record {
       ascending = rw is (IsStrictlyIncreasing-dedup _ c.sort_unstable.ensures.sorted);
-      same = λ x. (λ h. Contains-permutation _ _ x (IsPermutation-sym _ _ moved) (Contains-from_dedup _ _ x (rw is at h)), λ h. rw is (Contains-dedup_nat _ x (Contains-permutation _ _ x moved h)));
+      same = λ x. (
+        λ h. Contains-permutation _ _ x (IsPermutation-sym _ _ moved)
+            (Contains-from_dedup _ _ x (rw is at h)),
+        λ h. rw is
+            (Contains-dedup_nat _ x (Contains-permutation _ _ x moved h)),
+      );
     }

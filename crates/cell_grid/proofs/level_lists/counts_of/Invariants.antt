@@ -9,6 +9,7 @@ invariant-loop-rect l =
     record {
       of_levels : AreOfLevels (length l.counts.items) l.boxes;
       few : length l.counts.items ≤ 32;
-      some : (k : ℕ) (d : Rect) → k < l.rect-index → 0 < slice_index l.counts.items (level_of (slice_index_or l.boxes k d));
+      some : (k : ℕ) (d : Rect) → k < l.rect-index
+          → 0 < slice_index l.counts.items (level_of (slice_index_or l.boxes k d));
       counted : All (λ count. count ≤ l.rect-index) l.counts.items;
     }

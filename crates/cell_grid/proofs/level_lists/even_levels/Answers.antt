@@ -15,8 +15,12 @@ loop-number-preserved c =
     let made = c.new-level.ensures in
     record {
       count = ap length now ∙ (length_push old level ∙ ap (λ n. n + 1) inv.count);
-      laid = subst (λ (l : List Level). AreLaid l) (sym now) (laid_more old level c.loop-number.number c.loop-number.base inv.laid inv.count (omega (arith, c.loop-number-test.true, c.requires)) inv.before made.base made.number);
+      laid = subst (λ (l : List Level). AreLaid l) (sym now)
+          (laid_more old level c.loop-number.number c.loop-number.base inv.laid inv.count
+          (omega (arith, c.loop-number-test.true, c.requires)) inv.before made.base made.number);
       low = all_push (λ v. v.low ≡ c.args.low) old c.push.new.self.items level now inv.low made.low;
-      before = all_push (λ v. v.base + v.mask < level.base + level.mask + 1) old c.push.new.self.items level now (before_more old c.loop-number.base (level.base + level.mask + 1) (omega (arith, made.base)) inv.before) (omega arith);
+      before = all_push (λ v. v.base + v.mask < level.base + level.mask + 1) old c.push.new.self.items level now
+          (before_more old c.loop-number.base (level.base + level.mask + 1) (omega (arith, made.base)) inv.before)
+          (omega arith);
       base = made.few;
     }

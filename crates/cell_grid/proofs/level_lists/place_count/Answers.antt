@@ -3,4 +3,5 @@ use Rattle.cell_grid.proofs.Entered.{last_all}
 use Rattle.cell_grid.proofs.level_lists.place_count.Goals as goal
 
 pub returns-in-Some-clause-all : goal.returns-in-Some-clause-all
-returns-in-Some-clause-all c = last_all c.args.levels.now c.in-Some.level.now c.requires c.in-Some.ensures.item.3.0 c.in-Some.ensures.item.1
+returns-in-Some-clause-all c = last_all c.args.levels.now c.in-Some.level.now c.requires c.in-Some.ensures.item.3.0
+    c.in-Some.ensures.item.1

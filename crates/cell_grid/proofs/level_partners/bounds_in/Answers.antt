@@ -14,6 +14,11 @@ returns-then-start-first c =
 pub returns : goal.returns
 returns c =
     let shift = c.args.level.now.shift in
-    bounds_of shift c.args.stripe c.args.first c.args.last (c.args.stripe * c.width.result) c.min-2.result c.requires.from c.requires.to
-    (c.min-2.ensures ∙ ap₂ (λ (m n : ℕ). min c.args.last (c.args.stripe * m + (n - 1))) c.width.ensures c.width-2.ensures)
-    (inr (subst (λ (w : ℕ). c.args.first < c.args.stripe * w) c.width.ensures (omega (arith, c.if-start-first.false)), ap (λ (w : ℕ). c.args.stripe * w) c.width.ensures))
+    bounds_of shift c.args.stripe c.args.first c.args.last (c.args.stripe * c.width.result) c.min-2.result
+    c.requires.from c.requires.to
+    (c.min-2.ensures ∙ ap₂ (λ (m n : ℕ). min c.args.last (c.args.stripe * m + (n - 1))) c.width.ensures
+    c.width-2.ensures)
+    (inr (
+      subst (λ (w : ℕ). c.args.first < c.args.stripe * w) c.width.ensures (omega (arith, c.if-start-first.false)),
+      ap (λ (w : ℕ). c.args.stripe * w) c.width.ensures,
+    ))

@@ -4,4 +4,5 @@ use Rattle.cell_grid.specs.Searches.{DoesFind, StandsBefore}
 use Rattle.cell_grid.proofs.searches.find_in_block.Given as goal
 
 abbrev pub invariant-loop-index : goal.invariant-loop-index
-invariant-loop-index l = DoesFind l.boxes.boxes l.r (StandsBefore l.cells (place_at l.level l.block) l.index) l.initial.found.items l.found.items
+invariant-loop-index l = DoesFind l.boxes.boxes l.r (StandsBefore l.cells (place_at l.level l.block) l.index)
+    l.initial.found.items l.found.items

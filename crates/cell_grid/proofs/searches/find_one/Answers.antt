@@ -7,4 +7,8 @@ use Rattle.cell_grid.proofs.searches.find_one.Goals as goal
 
 pub returns : goal.returns
 returns c =
-    find_one c.args.boxes.now.boxes c.args.r.now c.args.number c.args.found.now.items c.push.new.self.items (c.requires.number, subst (λ (r : Rect). ShareAPoint r c.args.r.now) c.rect.ensures (c.if-not-shares_a_point.ensures.0 refl)) c.in_ok-push.ensures.items
+    find_one c.args.boxes.now.boxes c.args.r.now c.args.number c.args.found.now.items c.push.new.self.items (
+      c.requires.number,
+      subst (λ (r : Rect). ShareAPoint r c.args.r.now) c.rect.ensures
+          (c.if-not-shares_a_point.ensures.0 refl),
+    ) c.in_ok-push.ensures.items

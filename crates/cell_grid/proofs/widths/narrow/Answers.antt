@@ -8,4 +8,6 @@ loop-number-init c = same_none c.args.levels.now.items
 
 pub loop-number-preserved : goal.loop-number-preserved
 loop-number-preserved c =
-    same_set c.args.levels.now.items c.loop-number.levels.items c.loop-number.number c.index.result.now c.fitted-level.result c.loop-number.invariant (omega (arith, c.loop-number.invariant.count)) c.index.ensures c.fitted-level.ensures
+    same_set c.args.levels.now.items c.loop-number.levels.items c.loop-number.number c.index.result.now
+    c.fitted-level.result c.loop-number.invariant (omega (arith, c.loop-number.invariant.count)) c.index.ensures
+    c.fitted-level.ensures

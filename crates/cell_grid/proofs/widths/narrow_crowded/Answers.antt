@@ -6,13 +6,18 @@ pub loop-round-init : goal.loop-round-init
 loop-round-init c = same_none c.args.levels.now.items
 
 pub pairs_in_places-requires-clause-laid : goal.pairs_in_places-requires-clause-laid
-pairs_in_places-requires-clause-laid c = rw c.deref-in-loop-round.ensures.value (same_laid c.args.levels.now.items c.loop-round.levels.items c.loop-round.invariant c.requires.laid)
+pairs_in_places-requires-clause-laid c = rw c.deref-in-loop-round.ensures.value
+    (same_laid c.args.levels.now.items c.loop-round.levels.items c.loop-round.invariant c.requires.laid)
 
 pub pairs_in_places-requires-clause-past : goal.pairs_in_places-requires-clause-past
-pairs_in_places-requires-clause-past c = rw c.deref-in-loop-round.ensures.value (same_past c.args.levels.now.items c.loop-round.levels.items c.args.boxes.now c.loop-round.invariant c.requires.past)
+pairs_in_places-requires-clause-past c = rw c.deref-in-loop-round.ensures.value
+    (same_past c.args.levels.now.items c.loop-round.levels.items c.args.boxes.now c.loop-round.invariant
+    c.requires.past)
 
 pub loop-round-preserved : goal.loop-round-preserved
-loop-round-preserved c = same_then c.args.levels.now.items c.loop-round.levels.items c.narrow.new.levels.items c.loop-round.invariant c.narrow.ensures
+loop-round-preserved c = same_then c.args.levels.now.items c.loop-round.levels.items c.narrow.new.levels.items
+    c.loop-round.invariant c.narrow.ensures
 
 pub returns-then-not-narrow : goal.returns-then-not-narrow
-returns-then-not-narrow c = same_then c.args.levels.now.items c.loop-round.levels.items c.narrow.new.levels.items c.loop-round.invariant c.narrow.ensures
+returns-then-not-narrow c = same_then c.args.levels.now.items c.loop-round.levels.items c.narrow.new.levels.items
+    c.loop-round.invariant c.narrow.ensures

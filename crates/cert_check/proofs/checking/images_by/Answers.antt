@@ -7,10 +7,12 @@ use Rattle.cert_check.proofs.SheetLaws.{has_lines, no_head, right_all, image_cau
 use Rattle.cert_check.proofs.checking.images_by.Goals as goal
 
 pub returns-in_default-clause-cause : goal.returns-in_default-clause-cause
-returns-in_default-clause-cause c = absurd (no_head c.args.cert.now (length (sheet_segments c.args.sheet.now)) c.requires.lists c.in_default.ensures.none)
+returns-in_default-clause-cause c = absurd
+    (no_head c.args.cert.now (length (sheet_segments c.args.sheet.now)) c.requires.lists c.in_default.ensures.none)
 
 pub pass_paths-requires-clause-lines : goal.pass_paths-requires-clause-lines
-pass_paths-requires-clause-lines c = has_lines c.args.cert.now c.in-Some.lines.now (length (sheet_segments c.args.sheet.now)) c.in-Some.ensures.some c.requires.lists
+pass_paths-requires-clause-lines c = has_lines c.args.cert.now c.in-Some.lines.now
+    (length (sheet_segments c.args.sheet.now)) c.in-Some.ensures.some c.requires.lists
 
 pub pass_paths-requires-clause-few : goal.pass_paths-requires-clause-few
 pass_paths-requires-clause-few c = text_short c.args.cert.now c.in-Some.lines.now c.in-Some.ensures.some c.requires.few
@@ -25,11 +27,20 @@ returns-in-Ok-clause-fits c =
     let listed : length c.in-Ok.gathered.points.items ≡ vec_len c.in-Ok.gathered.points = omega arith in
     let below : length c.of-in-Ok-2.result.points < 2 ^ 32 = omega arith in
     images_fit c.args.tin.now c.args.sheet.now c.of-in-Ok-2.result c.known.ensures.limits c.sheet_known.ensures
-    (record { runs = imaged.runs; of_vertices = imaged.of_vertices; points = points ∙ imaged.points_are; run = run ∙ imaged.run_are }) below
+    (record {
+      runs = imaged.runs;
+      of_vertices = imaged.of_vertices;
+      points = points ∙ imaged.points_are;
+      run = run
+          ∙ imaged.run_are;
+    }) below
 
 pub returns-in-Ok-clause-right : goal.returns-in-Ok-clause-right
 returns-in-Ok-clause-right c =
-    right_all c.args.tin.now (sheet_vertices c.args.sheet.now) c.in-Ok.gathered.points.items c.in-Ok.gathered.run.items c.args.cert.now c.in-Some.lines.now c.in-Ok.gathered.rest.now c.in-Some.ensures.some c.requires.lists c.in-Ok.ensures.imaged
+    right_all c.args.tin.now (sheet_vertices c.args.sheet.now) c.in-Ok.gathered.points.items c.in-Ok.gathered.run.items
+    c.args.cert.now c.in-Some.lines.now c.in-Ok.gathered.rest.now c.in-Some.ensures.some c.requires.lists
+    c.in-Ok.ensures.imaged
 
 pub returns-in-Err-clause-cause : goal.returns-in-Err-clause-cause
-returns-in-Err-clause-cause c = image_cause c.args.tin.now (sheet_segments c.args.sheet.now) c.args.cert.now c.in-Some.lines.now c.in-Err.fault c.in-Some.ensures.some c.requires.lists c.in-Err.ensures.cause
+returns-in-Err-clause-cause c = image_cause c.args.tin.now (sheet_segments c.args.sheet.now) c.args.cert.now
+    c.in-Some.lines.now c.in-Err.fault c.in-Some.ensures.some c.requires.lists c.in-Err.ensures.cause

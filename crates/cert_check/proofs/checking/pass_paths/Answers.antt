@@ -11,33 +11,43 @@ use Rattle.cert_check.proofs.checking.pass_paths.Goals as goal
 
 pub loop-path-init : goal.loop-path-init
 loop-path-init c =
-    sheet_start c.args.tin.now c.points-points.result.now c.args.sheet.now.paths c.in_ok-with_capacity.field-0.items c.in_ok-with_capacity-2.field-0.items c.args.lines.now c.args.lines.now c.in_ok-with_capacity.ensures.items
+    sheet_start c.args.tin.now c.points-points.result.now c.args.sheet.now.paths c.in_ok-with_capacity.field-0.items
+    c.in_ok-with_capacity-2.field-0.items c.args.lines.now c.args.lines.now c.in_ok-with_capacity.ensures.items
     c.in_ok-with_capacity-2.ensures.items refl
 
 pub overflow_cast-track : goal.overflow_cast-track
 overflow_cast-track c =
     let few = few_paths c.args.sheet.now c.points-points.ensures.sheet in
-    let rows : length c.paths-row-items.result.now ≡ length c.args.sheet.now.paths = ap (λ (rs : List PathRow). length rs) c.paths-row-items.ensures.paths in
+    let rows : length c.paths-row-items.result.now ≡ length c.args.sheet.now.paths =
+    ap (λ (rs : List PathRow). length rs) c.paths-row-items.ensures.paths in
     omega arith
 
 pub pass_path-requires-clause-path : goal.pass_path-requires-clause-path
 pass_path-requires-clause-path c =
     let h : c.loop-path.path < length c.paths-row-items.result.now = omega arith in
-    let row = row_of c.args.sheet.now c.points-points.result.now c.paths-row-items.result.now c.loop-path.path c.points-points.ensures.sheet c.points-points.ensures.points c.paths-row-items.ensures.paths h in row.path
+    let row = row_of c.args.sheet.now c.points-points.result.now c.paths-row-items.result.now c.loop-path.path
+    c.points-points.ensures.sheet c.points-points.ensures.points c.paths-row-items.ensures.paths h in row.path
 
 pub pass_path-requires-clause-in_range : goal.pass_path-requires-clause-in_range
 pass_path-requires-clause-in_range c =
     let h : c.loop-path.path < length c.paths-row-items.result.now = omega arith in
-    let row = row_of c.args.sheet.now c.points-points.result.now c.paths-row-items.result.now c.loop-path.path c.points-points.ensures.sheet c.points-points.ensures.points c.paths-row-items.ensures.paths h in row.upto
+    let row = row_of c.args.sheet.now c.points-points.result.now c.paths-row-items.result.now c.loop-path.path
+    c.points-points.ensures.sheet c.points-points.ensures.points c.paths-row-items.ensures.paths h in row.upto
 
 pub pass_path-requires-clause-lines : goal.pass_path-requires-clause-lines
 pass_path-requires-clause-lines c =
     let read : c.loop-path.path < length c.paths-row-items.result.now = omega arith in
-    let h : c.loop-path.path < length c.args.sheet.now.paths = subst (λ (rs : List PathRow). c.loop-path.path < length rs) c.paths-row-items.ensures.paths read in
-    let row = row_of c.args.sheet.now c.points-points.result.now c.paths-row-items.result.now c.loop-path.path c.points-points.ensures.sheet c.points-points.ensures.points c.paths-row-items.ensures.paths read in
-    sheet_lines c.args.tin.now c.points-points.result.now c.args.sheet.now.paths c.loop-path.gathered.points.items c.loop-path.gathered.run.items c.args.lines.now c.loop-path.gathered.rest.now c.loop-path.path (length (sheet_segments c.args.sheet.now)) (get_or c.paths-row-items.result.now c.loop-path.path no_row) h
-    (row_read c.args.sheet.now.paths c.paths-row-items.result.now c.loop-path.path c.paths-row-items.ensures.paths read) row.path
-    (ap (λ (points : List Pt). length (segments_begun (vertices_from points 0 c.args.sheet.now.paths))) (sym c.points-points.ensures.points)) c.requires.lines c.loop-path.invariant
+    let h : c.loop-path.path < length c.args.sheet.now.paths =
+    subst (λ (rs : List PathRow). c.loop-path.path < length rs) c.paths-row-items.ensures.paths read in
+    let row = row_of c.args.sheet.now c.points-points.result.now c.paths-row-items.result.now c.loop-path.path
+    c.points-points.ensures.sheet c.points-points.ensures.points c.paths-row-items.ensures.paths read in
+    sheet_lines c.args.tin.now c.points-points.result.now c.args.sheet.now.paths c.loop-path.gathered.points.items
+    c.loop-path.gathered.run.items c.args.lines.now c.loop-path.gathered.rest.now c.loop-path.path
+    (length (sheet_segments c.args.sheet.now)) (get_or c.paths-row-items.result.now c.loop-path.path no_row) h
+    (row_read c.args.sheet.now.paths c.paths-row-items.result.now c.loop-path.path c.paths-row-items.ensures.paths read)
+    row.path
+    (ap (λ (points : List Pt). length (segments_begun (vertices_from points 0 c.args.sheet.now.paths)))
+    (sym c.points-points.ensures.points)) c.requires.lines c.loop-path.invariant
 
 pub pass_path-requires-clause-few : goal.pass_path-requires-clause-few
 pass_path-requires-clause-few c =
@@ -49,26 +59,41 @@ pass_path-requires-clause-few c =
 pub returns-in_err-pass_path-clause-cause : goal.returns-in_err-pass_path-clause-cause
 returns-in_err-pass_path-clause-cause c =
     let read : c.loop-path.path < length c.paths-row-items.result.now = omega arith in
-    let h : c.loop-path.path < length c.args.sheet.now.paths = subst (λ (rs : List PathRow). c.loop-path.path < length rs) c.paths-row-items.ensures.paths read in
+    let h : c.loop-path.path < length c.args.sheet.now.paths =
+    subst (λ (rs : List PathRow). c.loop-path.path < length rs) c.paths-row-items.ensures.paths read in
     let fault = c.in_err-pass_path.field-0.0 in
-    exits (λ fault. IsStopCause c.args.tin.now (sheet_segments c.args.sheet.now) c.args.lines.now fault) fault c.from_residual-in_err-pass_path.result c.from_residual-in_err-pass_path.ensures.1
-    (subst (λ (points : List Pt). IsStopCause c.args.tin.now (segments_begun (vertices_from points 0 c.args.sheet.now.paths)) c.args.lines.now fault) c.points-points.ensures.points
-    (sheet_cause c.args.tin.now c.points-points.result.now c.args.sheet.now.paths c.loop-path.gathered.points.items c.loop-path.gathered.run.items c.args.lines.now c.loop-path.gathered.rest.now c.loop-path.path (get_or c.paths-row-items.result.now c.loop-path.path no_row) fault h
-    (row_read c.args.sheet.now.paths c.paths-row-items.result.now c.loop-path.path c.paths-row-items.ensures.paths read) c.loop-path.invariant c.in_err-pass_path.ensures.cause))
+    exits (λ fault. IsStopCause c.args.tin.now (sheet_segments c.args.sheet.now) c.args.lines.now fault) fault
+    c.from_residual-in_err-pass_path.result c.from_residual-in_err-pass_path.ensures.1
+    (subst (λ (points : List Pt). IsStopCause c.args.tin.now
+    (segments_begun (vertices_from points 0 c.args.sheet.now.paths)) c.args.lines.now fault)
+    c.points-points.ensures.points
+    (sheet_cause c.args.tin.now c.points-points.result.now c.args.sheet.now.paths c.loop-path.gathered.points.items
+    c.loop-path.gathered.run.items c.args.lines.now c.loop-path.gathered.rest.now c.loop-path.path
+    (get_or c.paths-row-items.result.now c.loop-path.path no_row) fault h
+    (row_read c.args.sheet.now.paths c.paths-row-items.result.now c.loop-path.path c.paths-row-items.ensures.paths read)
+    c.loop-path.invariant c.in_err-pass_path.ensures.cause))
 
 pub loop-path-preserved : goal.loop-path-preserved
 loop-path-preserved c =
     let read : c.loop-path.path < length c.paths-row-items.result.now = omega arith in
-    let h : c.loop-path.path < length c.args.sheet.now.paths = subst (λ (rs : List PathRow). c.loop-path.path < length rs) c.paths-row-items.ensures.paths read in
+    let h : c.loop-path.path < length c.args.sheet.now.paths =
+    subst (λ (rs : List PathRow). c.loop-path.path < length rs) c.paths-row-items.ensures.paths read in
     let few = c.in_ok-pass_path.ensures.few in
-    sheet_next c.args.tin.now c.points-points.result.now c.args.sheet.now.paths c.loop-path.gathered.points.items c.pass_path.new.gathered.points.items c.loop-path.gathered.run.items c.pass_path.new.gathered.run.items c.args.lines.now c.loop-path.gathered.rest.now c.pass_path.new.gathered.rest.now
-    c.loop-path.path (get_or c.paths-row-items.result.now c.loop-path.path no_row) h (row_read c.args.sheet.now.paths c.paths-row-items.result.now c.loop-path.path c.paths-row-items.ensures.paths read) c.loop-path.invariant c.in_ok-pass_path.ensures.imaged (omega arith)
+    sheet_next c.args.tin.now c.points-points.result.now c.args.sheet.now.paths c.loop-path.gathered.points.items
+    c.pass_path.new.gathered.points.items c.loop-path.gathered.run.items c.pass_path.new.gathered.run.items
+    c.args.lines.now c.loop-path.gathered.rest.now c.pass_path.new.gathered.rest.now
+    c.loop-path.path (get_or c.paths-row-items.result.now c.loop-path.path no_row) h
+    (row_read c.args.sheet.now.paths c.paths-row-items.result.now c.loop-path.path c.paths-row-items.ensures.paths
+    read) c.loop-path.invariant c.in_ok-pass_path.ensures.imaged (omega arith)
 
 pub returns-clause-imaged : goal.returns-clause-imaged
 returns-clause-imaged c =
-    let rows : length c.paths-row-items.result.now ≡ length c.args.sheet.now.paths = ap (λ (rs : List PathRow). length rs) c.paths-row-items.ensures.paths in
+    let rows : length c.paths-row-items.result.now ≡ length c.args.sheet.now.paths =
+    ap (λ (rs : List PathRow). length rs) c.paths-row-items.ensures.paths in
     let all : c.loop-path.path ≡ length c.args.sheet.now.paths = omega arith in
-    sheet_all c.args.tin.now c.points-points.result.now c.args.sheet.now.points c.args.sheet.now.paths c.loop-path.gathered.points.items c.loop-path.gathered.run.items c.args.lines.now c.loop-path.gathered.rest.now c.loop-path.path all c.points-points.ensures.points c.loop-path.invariant
+    sheet_all c.args.tin.now c.points-points.result.now c.args.sheet.now.points c.args.sheet.now.paths
+    c.loop-path.gathered.points.items c.loop-path.gathered.run.items c.args.lines.now c.loop-path.gathered.rest.now
+    c.loop-path.path all c.points-points.ensures.points c.loop-path.invariant
 
 pub returns-clause-few : goal.returns-clause-few
 returns-clause-few c =

@@ -8,4 +8,5 @@ use Rattle.cert_check.proofs.laws.certificates_are_one.Goals as goal
 pub returns : goal.returns
 returns c =
     λ bytes lists others h k.
-    one_certificate lists others h.are_lists k.are_lists (append_cancel_left head_text (lines_text lists) (lines_text others) (sym h.spelled ∙ k.spelled))
+    one_certificate lists others h.are_lists k.are_lists
+    (append_cancel_left head_text (lines_text lists) (lines_text others) (sym h.spelled ∙ k.spelled))

@@ -6,4 +6,5 @@ pub loop-rest-smaller : goal.loop-rest-smaller
 loop-rest-smaller c = line_shorter c.loop-rest.rest.now c.in-Some.behind.now c.in-Some.ensures.some
 
 pub loop-rest-preserved : goal.loop-rest-preserved
-loop-rest-preserved c = lines_more c.args.text.now c.loop-rest.rest.now c.in-Some.behind.now c.loop-rest.count c.loop-rest.invariant c.in-Some.ensures.some
+loop-rest-preserved c = lines_more c.args.text.now c.loop-rest.rest.now c.in-Some.behind.now c.loop-rest.count
+    c.loop-rest.invariant c.in-Some.ensures.some

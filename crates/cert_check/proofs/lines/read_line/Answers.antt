@@ -5,11 +5,16 @@ use Rattle.cert_check.proofs.lines.read_line.Goals as goal
 
 pub loop-ended-preserved : goal.loop-ended-preserved
 loop-ended-preserved c =
-    read_more c.args.text.now c.loop-ended.rest.now c.loop-ended.numbers.items c.push.new.self.items c.in-Some.ended.number c.in-Some.ended.last c.in-Some.ended.rest.now c.loop-ended.invariant c.if-ended.false c.in-Some.ensures.some c.in_ok-push.ensures.items
+    read_more c.args.text.now c.loop-ended.rest.now c.loop-ended.numbers.items c.push.new.self.items
+    c.in-Some.ended.number c.in-Some.ended.last c.in-Some.ended.rest.now c.loop-ended.invariant c.if-ended.false
+    c.in-Some.ensures.some c.in_ok-push.ensures.items
 
 pub returns-then-ended-clause-some : goal.returns-then-ended-clause-some
 returns-then-ended-clause-some c =
-    read_last c.args.text.now c.loop-ended.rest.now c.loop-ended.numbers.items c.push.new.self.items c.in-Some.ended.number c.in-Some.ended.last c.in-Some.ended.rest.now c.loop-ended.invariant c.if-ended.true c.in-Some.ensures.some c.in_ok-push.ensures.items
+    read_last c.args.text.now c.loop-ended.rest.now c.loop-ended.numbers.items c.push.new.self.items
+    c.in-Some.ended.number c.in-Some.ended.last c.in-Some.ended.rest.now c.loop-ended.invariant c.if-ended.true
+    c.in-Some.ensures.some c.in_ok-push.ensures.items
 
 pub returns-clause-none : goal.returns-clause-none
-returns-clause-none c = let so_far = c.loop-ended.invariant in on_none c.args.text.now c.loop-ended.rest.now so_far.on c.in_default.ensures.none
+returns-clause-none c = let so_far = c.loop-ended.invariant in on_none c.args.text.now c.loop-ended.rest.now so_far.on
+    c.in_default.ensures.none

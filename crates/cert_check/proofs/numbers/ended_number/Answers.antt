@@ -9,4 +9,5 @@ returns-in_default-rest-clause-none c =
     nothing_behind c.args.text.now c.in-Some.front.number c.in-Some.front.rest.now c.in-Some.ensures.some none
 
 pub returns-in-None-clause-none : goal.returns-in-None-clause-none
-returns-in-None-clause-none c = not_ended c.args.text.now c.in-Some.front.number c.in-Some.front.rest.now c.in-Some.ensures.some c.in-None.ensures.none
+returns-in-None-clause-none c = not_ended c.args.text.now c.in-Some.front.number c.in-Some.front.rest.now
+    c.in-Some.ensures.some c.in-None.ensures.none

@@ -9,15 +9,19 @@ pub returns-then-not-are_near-clause-none : goal.returns-then-not-are_near-claus
 returns-then-not-are_near-clause-none c =
     λ inside s h.
     refused c.are_near.result _ c.if-not-are_near.true c.are_near.ensures
-    (ends_near c.args.tin.now c.args.a c.args.b c.args.triangle c.tri-corners.ensures.limits c.requires.in_range inside c.tri-corners.result c.tri-corners.ensures.corners)
+    (ends_near c.args.tin.now c.args.a c.args.b c.args.triangle c.tri-corners.ensures.limits c.requires.in_range inside
+    c.tri-corners.result c.tri-corners.ensures.corners)
 
 pub returns-clause-some : goal.returns-clause-some
 returns-clause-some c =
-    slice_told c.args.tin.now c.args.a c.args.b c.tri-corners.result c.args.triangle c.slice.result c.tri-corners.ensures.corners c.slice.ensures.common c.slice.ensures.ends c.slice.ensures.point
+    slice_told c.args.tin.now c.args.a c.args.b c.tri-corners.result c.args.triangle c.slice.result
+    c.tri-corners.ensures.corners c.slice.ensures.common c.slice.ensures.ends c.slice.ensures.point
 
 pub returns-clause-near : goal.returns-clause-near
 returns-clause-near c =
-    near_some c.slice.result _ (near_told c.args.tin.now c.args.a c.args.b c.args.triangle c.tri-corners.result c.tri-corners.ensures.corners (c.are_near.ensures.0 c.if-not-are_near.false))
+    near_some c.slice.result _ (near_told c.args.tin.now c.args.a c.args.b c.args.triangle c.tri-corners.result
+    c.tri-corners.ensures.corners (c.are_near.ensures.0 c.if-not-are_near.false))
 
 pub returns-clause-none : goal.returns-clause-none
-returns-clause-none c = none_shared c.args.tin.now c.args.a c.args.b c.args.triangle c.tri-corners.result c.slice.result c.tri-corners.ensures.corners c.slice.ensures.common
+returns-clause-none c = none_shared c.args.tin.now c.args.a c.args.b c.args.triangle c.tri-corners.result c.slice.result
+    c.tri-corners.ensures.corners c.slice.ensures.common

@@ -7,16 +7,21 @@ use Rattle.affine_image.specs.Rounded.{IsRoundedImage}
 use Rattle.affine_image.specs.SheetSegments.{path_vertices, segments_begun}
 use Rattle.affine_image.proofs.PathVertices.{few}
 use Rattle.cert_check.specs.SheetLists.{IsStopCause, IsTriangleWith}
-use Rattle.cert_check.proofs.PathLists.{path_start, path_line, path_next, path_all, path_but_last, but_last, path_cause, last_place, exits}
+use Rattle.cert_check.proofs.PathLists.{path_start, path_line, path_next, path_all, path_but_last, but_last, path_cause}
+use Rattle.cert_check.proofs.PathLists.{last_place, exits}
 use Rattle.cert_check.proofs.paths.pass_path.Goals as goal
 
 pub loop-number-init : goal.loop-number-init
-loop-number-init c = path_start c.args.tin.now c.args.points.now c.args.track.path c.args.track.row c.args.gathered.now.points.items c.args.gathered.now.run.items c.args.gathered.now.rest.now 0
+loop-number-init c = path_start c.args.tin.now c.args.points.now c.args.track.path c.args.track.row
+    c.args.gathered.now.points.items c.args.gathered.now.run.items c.args.gathered.now.rest.now 0
 
 pub pass_segment-requires-clause-line : goal.pass_segment-requires-clause-line
 pass_segment-requires-clause-line c =
     let here : c.loop-number.number < segments_in c.args.track.row = omega arith in
-    path_line c.args.tin.now c.args.points.now c.args.track.path c.args.track.row c.args.gathered.now.points.items c.loop-number.gathered.points.items c.args.gathered.now.run.items c.loop-number.gathered.run.items c.args.gathered.now.rest.now c.loop-number.gathered.rest.now c.loop-number.number c.loop-number.triangle c.requires.lines here c.loop-number.invariant
+    path_line c.args.tin.now c.args.points.now c.args.track.path c.args.track.row c.args.gathered.now.points.items
+    c.loop-number.gathered.points.items c.args.gathered.now.run.items c.loop-number.gathered.run.items
+    c.args.gathered.now.rest.now c.loop-number.gathered.rest.now c.loop-number.number c.loop-number.triangle
+    c.requires.lines here c.loop-number.invariant
 
 pub pass_segment-requires-clause-few : goal.pass_segment-requires-clause-few
 pass_segment-requires-clause-few c =
@@ -29,22 +34,47 @@ pass_segment-requires-clause-few c =
 pub returns-in_err-triangle-clause-cause : goal.returns-in_err-triangle-clause-cause
 returns-in_err-triangle-clause-cause c =
     let here : c.loop-number.number < segments_in c.args.track.row = omega arith in
-    exits (λ fault. IsStopCause c.args.tin.now (segments_begun (path_vertices c.args.points.now c.args.track.path c.args.track.row)) c.args.gathered.now.rest.now fault) c.in_err-triangle.field-0.0 c.from_residual.result c.from_residual.ensures.1
-    (path_cause c.args.tin.now c.args.points.now c.args.track c.args.gathered.now.points.items c.loop-number.gathered.points.items c.args.gathered.now.run.items c.loop-number.gathered.run.items c.args.gathered.now.rest.now c.loop-number.gathered.rest.now c.loop-number.number c.loop-number.triangle c.way_at-way.result
-    c.in_err-triangle.field-0.0 c.requires.path here c.loop-number.invariant (record { path = c.way_at-way.ensures.path; number = c.way_at-way.ensures.number; a = c.way_at-way.ensures.a; b = c.way_at-way.ensures.b }) c.in_err-triangle.ensures.cause)
+    exits (λ fault. IsStopCause c.args.tin.now
+    (segments_begun (path_vertices c.args.points.now c.args.track.path c.args.track.row))
+    c.args.gathered.now.rest.now fault) c.in_err-triangle.field-0.0 c.from_residual.result c.from_residual.ensures.1
+    (path_cause c.args.tin.now c.args.points.now c.args.track c.args.gathered.now.points.items
+    c.loop-number.gathered.points.items c.args.gathered.now.run.items c.loop-number.gathered.run.items
+    c.args.gathered.now.rest.now c.loop-number.gathered.rest.now c.loop-number.number c.loop-number.triangle
+    c.way_at-way.result
+    c.in_err-triangle.field-0.0 c.requires.path here c.loop-number.invariant
+    (record {
+      path = c.way_at-way.ensures.path;
+      number = c.way_at-way.ensures.number;
+      a =
+          c.way_at-way.ensures.a;
+      b = c.way_at-way.ensures.b;
+    }) c.in_err-triangle.ensures.cause)
 
 pub loop-number-preserved : goal.loop-number-preserved
 loop-number-preserved c =
     let here : c.loop-number.number < segments_in c.args.track.row = omega arith in
     let less = c.in_ok-triangle.ensures.few in
-    path_next c.args.tin.now c.args.points.now c.args.track c.args.gathered.now.points.items c.loop-number.gathered.points.items c.pass_segment.new.gathered.points.items c.args.gathered.now.run.items c.loop-number.gathered.run.items c.pass_segment.new.gathered.run.items c.args.gathered.now.rest.now c.loop-number.gathered.rest.now
-    c.pass_segment.new.gathered.rest.now c.loop-number.number c.loop-number.triangle c.in_ok-triangle.triangle c.way_at-way.result c.requires.path here c.loop-number.invariant
-    (record { path = c.way_at-way.ensures.path; number = c.way_at-way.ensures.number; a = c.way_at-way.ensures.a; b = c.way_at-way.ensures.b }) c.in_ok-triangle.ensures.imaged c.in_ok-triangle.ensures.last (omega arith)
+    path_next c.args.tin.now c.args.points.now c.args.track c.args.gathered.now.points.items
+    c.loop-number.gathered.points.items c.pass_segment.new.gathered.points.items c.args.gathered.now.run.items
+    c.loop-number.gathered.run.items c.pass_segment.new.gathered.run.items c.args.gathered.now.rest.now
+    c.loop-number.gathered.rest.now
+    c.pass_segment.new.gathered.rest.now c.loop-number.number c.loop-number.triangle c.in_ok-triangle.triangle
+    c.way_at-way.result c.requires.path here c.loop-number.invariant
+    (record {
+      path = c.way_at-way.ensures.path;
+      number = c.way_at-way.ensures.number;
+      a = c.way_at-way.ensures.a;
+      b =
+          c.way_at-way.ensures.b;
+    }) c.in_ok-triangle.ensures.imaged c.in_ok-triangle.ensures.last (omega arith)
 
 pub returns-then-segment_count-point_count-clause-imaged : goal.returns-then-segment_count-point_count-clause-imaged
 returns-then-segment_count-point_count-clause-imaged c =
     let all : c.loop-number.number ≡ points_in c.args.track.row = omega arith in
-    path_all c.args.tin.now c.args.points.now c.args.track.path c.args.track.row c.args.gathered.now.points.items c.loop-number.gathered.points.items c.args.gathered.now.run.items c.loop-number.gathered.run.items c.args.gathered.now.rest.now c.loop-number.gathered.rest.now c.loop-number.number c.loop-number.triangle all c.loop-number.invariant
+    path_all c.args.tin.now c.args.points.now c.args.track.path c.args.track.row c.args.gathered.now.points.items
+    c.loop-number.gathered.points.items c.args.gathered.now.run.items c.loop-number.gathered.run.items
+    c.args.gathered.now.rest.now c.loop-number.gathered.rest.now c.loop-number.number c.loop-number.triangle all
+    c.loop-number.invariant
 
 pub returns-then-segment_count-point_count-clause-few : goal.returns-then-segment_count-point_count-clause-few
 returns-then-segment_count-point_count-clause-few c =
@@ -62,7 +92,9 @@ push_point-requires-clause-triangle c =
     let f = few c.args.track.row c.requires.path in
     let some = f.some in
     let path = c.requires.path in
-    subst (λ (n : ℕ). IsTriangleWith c.args.tin.now c.loop-number.triangle (point_at c.args.points.now n)) (last_place c.args.track.row c.loop-number.number path.some next) (state.last (omega (arith, some, all)) (omega (arith, next)))
+    subst (λ (n : ℕ). IsTriangleWith c.args.tin.now c.loop-number.triangle (point_at c.args.points.now n))
+    (last_place c.args.track.row c.loop-number.number path.some next)
+    (state.last (omega (arith, some, all)) (omega (arith, next)))
 
 pub push_point-requires-clause-few : goal.push_point-requires-clause-few
 push_point-requires-clause-few c =
@@ -79,10 +111,15 @@ returns-clause-imaged c =
     let next = but_last c.args.track.row c.loop-number.number c.requires.path all (λ e. omega arith) in
     let image = c.in_ok-push_point.ensures.image in
     let path = c.requires.path in
-    path_but_last c.args.tin.now c.args.points.now c.args.track.path c.args.track.row c.args.gathered.now.points.items c.loop-number.gathered.points.items c.push_point.new.gathered.points.items c.args.gathered.now.run.items c.loop-number.gathered.run.items c.push_point.new.gathered.run.items c.args.gathered.now.rest.now c.loop-number.gathered.rest.now c.push_point.new.gathered.rest.now
+    path_but_last c.args.tin.now c.args.points.now c.args.track.path c.args.track.row c.args.gathered.now.points.items
+    c.loop-number.gathered.points.items c.push_point.new.gathered.points.items c.args.gathered.now.run.items
+    c.loop-number.gathered.run.items c.push_point.new.gathered.run.items c.args.gathered.now.rest.now
+    c.loop-number.gathered.rest.now c.push_point.new.gathered.rest.now
     c.loop-number.number c.loop-number.triangle image.0 c.requires.path all (λ e. omega arith) c.loop-number.invariant
-    (subst (λ (n : ℕ). IsRoundedImage c.args.tin.now (point_at c.args.points.now n) image.0) (sym (last_place c.args.track.row c.loop-number.number path.some next)) image.1) image.2
-    (c.in_ok-push_point.ensures.run ∙ ap (λ (n : ℕ). c.loop-number.gathered.run.items ++ n ∷ []) (sym points)) c.in_ok-push_point.ensures.rest
+    (subst (λ (n : ℕ). IsRoundedImage c.args.tin.now (point_at c.args.points.now n) image.0)
+    (sym (last_place c.args.track.row c.loop-number.number path.some next)) image.1) image.2
+    (c.in_ok-push_point.ensures.run ∙ ap (λ (n : ℕ). c.loop-number.gathered.run.items ++ n ∷ []) (sym points))
+    c.in_ok-push_point.ensures.rest
 
 pub returns-clause-few : goal.returns-clause-few
 returns-clause-few c =
@@ -92,7 +129,8 @@ returns-clause-few c =
     let old : length c.args.gathered.now.points.items ≡ vec_len c.args.gathered.now.points = omega arith in
     let last : length c.push_point.new.gathered.points.items ≡ vec_len c.push_point.new.gathered.points = omega arith in
     let image = c.in_ok-push_point.ensures.image in
-    let more = ap (λ (ps : List Pt). length ps) image.2 ∙ length-append c.loop-number.gathered.points.items (image.0 ∷ []) in
+    let more = ap (λ (ps : List Pt). length ps) image.2
+    ∙ length-append c.loop-number.gathered.points.items (image.0 ∷ []) in
     let rest = ap (λ (bs : List ℕ). length bs) c.in_ok-push_point.ensures.rest in
     let all : c.loop-number.number ≡ segments_in c.args.track.row = omega arith in
     let f = few c.args.track.row c.requires.path in

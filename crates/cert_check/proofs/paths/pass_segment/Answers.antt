@@ -9,20 +9,25 @@ use Rattle.cert_check.proofs.paths.pass_segment.Goals as goal
 
 pub returns-in_default-clause-cause : goal.returns-in_default-clause-cause
 returns-in_default-clause-cause c =
-    absurd ((none_told (HasNoLine c.args.gathered.now.rest.now) c.in_ok-rest.field-0 c.in_default.is c.in_ok-rest.ensures.none) (c.requires.line).0 (c.requires.line).1)
+    absurd ((none_told (HasNoLine c.args.gathered.now.rest.now) c.in_ok-rest.field-0 c.in_default.is
+    c.in_ok-rest.ensures.none) (c.requires.line).0 (c.requires.line).1)
 
 pub returns-then-not-is_right-clause-cause : goal.returns-then-not-is_right-clause-cause
 returns-then-not-is_right-clause-cause c = (
   refl,
   refl,
-  wrong_line c.args.tin.now c.args.way.a c.args.way.b c.args.gathered.now.rest.now c.read_line.new.numbers.items c.deref.result.now c.in-Some.rest.now
-      (some_told (λ (rest : Bor (List ℕ)). IsLine c.args.gathered.now.rest.now c.read_line.new.numbers.items rest.now) c.in_ok-rest.field-0 c.in-Some.rest c.in-Some.is c.in_ok-rest.ensures.some) c.deref.ensures.value
-      (refused c.is_right.result (IsRightList c.args.tin.now c.args.way.a c.args.way.b c.deref.result.now) c.if-not-is_right.true c.is_right.ensures),
+  wrong_line c.args.tin.now c.args.way.a c.args.way.b c.args.gathered.now.rest.now c.read_line.new.numbers.items
+      c.deref.result.now c.in-Some.rest.now
+      (some_told (λ (rest : Bor (List ℕ)). IsLine c.args.gathered.now.rest.now c.read_line.new.numbers.items rest.now)
+      c.in_ok-rest.field-0 c.in-Some.rest c.in-Some.is c.in_ok-rest.ensures.some) c.deref.ensures.value
+      (refused c.is_right.result (IsRightList c.args.tin.now c.args.way.a c.args.way.b c.deref.result.now)
+      c.if-not-is_right.true c.is_right.ensures),
 )
 
 pub returns-clause-few : goal.returns-clause-few
 returns-clause-few c =
-    let line = some_told (λ (rest : Bor (List ℕ)). IsLine c.args.gathered.now.rest.now c.read_line.new.numbers.items rest.now) c.in_ok-rest.field-0 c.in-Some.rest c.in-Some.is c.in_ok-rest.ensures.some in
+    let line = some_told (λ (rest : Bor (List ℕ)). IsLine c.args.gathered.now.rest.now c.read_line.new.numbers.items
+    rest.now) c.in_ok-rest.field-0 c.in-Some.rest c.in-Some.is c.in_ok-rest.ensures.some in
     let long = line_long c.args.gathered.now.rest.now c.read_line.new.numbers.items c.in-Some.rest.now line in
     let list = line.list in
     let some = list.some in

@@ -6,8 +6,11 @@ pub returns-in_ok-push : goal.returns-in_ok-push
 returns-in_ok-push c = (
   c.end_image.result,
   c.in_ok-push.ensures.items,
-  end_told c.args.tin.now c.args.a c.args.b c.args.triangle c.in-Some.stretch c.end_image.result c.known.ensures.limits (part_range c.args.tin.now c.args.a c.args.b c.args.triangle c.requires.part) c.in-Some.ensures.some c.end_image.ensures,
+  end_told c.args.tin.now c.args.a c.args.b c.args.triangle c.in-Some.stretch c.end_image.result c.known.ensures.limits
+      (part_range c.args.tin.now c.args.a c.args.b c.args.triangle c.requires.part) c.in-Some.ensures.some
+      c.end_image.ensures,
 )
 
 pub returns-in_default : goal.returns-in_default
-returns-in_default c = absurd (part_shared c.args.tin.now c.args.a c.args.b c.args.triangle c.requires.part (c.in_default.ensures.none c.requires.inside))
+returns-in_default c = absurd (part_shared c.args.tin.now c.args.a c.args.b c.args.triangle c.requires.part
+    (c.in_default.ensures.none c.requires.inside))

@@ -6,5 +6,7 @@ use Rattle.cert_check.proofs.writing.write_cert.Goals as goal
 
 pub loop-piece-preserved : goal.loop-piece-preserved
 loop-piece-preserved c =
-    written_more c.loop-piece.out.items c.push_number.new.out.items c.args.pieces.now c.loop-piece.rest.now c.in-Some.behind.now c.in-Some.piece.now c.loop-piece.invariant c.in-Some.ensures.cases.0
-    (c.in_ok-push_number.ensures ∙ ap (λ (last : Bool). c.loop-piece.out.items ++ (decimal c.in-Some.piece.now.tri ++ separator last ∷ [])) c.ends_segment.ensures)
+    written_more c.loop-piece.out.items c.push_number.new.out.items c.args.pieces.now c.loop-piece.rest.now
+    c.in-Some.behind.now c.in-Some.piece.now c.loop-piece.invariant c.in-Some.ensures.cases.0
+    (c.in_ok-push_number.ensures ∙ ap (λ (last : Bool). c.loop-piece.out.items
+    ++ (decimal c.in-Some.piece.now.tri ++ separator last ∷ [])) c.ends_segment.ensures)

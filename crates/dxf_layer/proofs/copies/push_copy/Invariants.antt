@@ -7,4 +7,5 @@ use Rattle.dxf_layer.proofs.copies.push_copy.Given as goal
 
 abbrev pub invariant-loop-pair : goal.invariant-loop-pair
 invariant-loop-pair l =
-    l.out.items ++ copied_from l.bytes l.copied (entity_end (told l.entity)) (drop l.pair-index l.pair-items) l.from ≡ l.fn.out.items ++ copy_text l.bytes l.copied (told l.entity)
+    l.out.items ++ copied_from l.bytes l.copied (entity_end (told l.entity)) (drop l.pair-index l.pair-items) l.from
+    ≡ l.fn.out.items ++ copy_text l.bytes l.copied (told l.entity)

@@ -6,4 +6,5 @@ use Rattle.dxf_layer.proofs.counting.first_handle.Goals as goal
 
 pub handle_number-requires : goal.handle_number-requires
 handle_number-requires c =
-    rw c.value_in.ensures (seed_is c.args.page.now.bytes.now Outside c.args.page.now.pairs.now c.in-Some.pair (sym c.seed_of.ensures ∙ c.in-Some.is))
+    rw c.value_in.ensures (seed_is c.args.page.now.bytes.now Outside c.args.page.now.pairs.now c.in-Some.pair
+    (sym c.seed_of.ensures ∙ c.in-Some.is))

@@ -6,4 +6,5 @@ use Rattle.dxf_layer.proofs.Lists.{some_pass}
 use Rattle.dxf_layer.proofs.counting.has_handle.Goals as goal
 
 pub returns : goal.returns
-returns c = c.has_field.ensures ∙ (some_pass (has_code (pos 5)) c.fields_of.result.now ∙ ap (λ fields. nat_lt 0 (length (filter (has_code (pos 5)) fields))) c.fields_of.ensures)
+returns c = c.has_field.ensures ∙ (some_pass (has_code (pos 5)) c.fields_of.result.now
+    ∙ ap (λ fields. nat_lt 0 (length (filter (has_code (pos 5)) fields))) c.fields_of.ensures)

@@ -6,7 +6,8 @@ use Rattle.dxf_layer.proofs.entities.pairs_before_head.Given as goal
 
 abbrev pub invariant-loop-count : goal.invariant-loop-count
 invariant-loop-count l =
-    (l.count ≤ length l.pairs) × (l.count + prefix_len (is_no_head) (drop l.count l.pairs) ≡ prefix_len (is_no_head) l.pairs)
+    (l.count ≤ length l.pairs) × (l.count + prefix_len (is_no_head) (drop l.count l.pairs)
+    ≡ prefix_len (is_no_head) l.pairs)
 
 abbrev pub decreases-loop-count : goal.decreases-loop-count
 decreases-loop-count l = length l.pairs - l.count

@@ -5,4 +5,5 @@ use Rattle.dxf_layer.specs.Walks.{is_upright}
 use Rattle.dxf_layer.proofs.extrusions.are_upright.Given as goal
 
 abbrev pub invariant-loop-pair : goal.invariant-loop-pair
-invariant-loop-pair l = list_all (is_upright l.bytes) (drop l.pair-index l.fields) ≡ list_all (is_upright l.bytes) l.fields
+invariant-loop-pair l = list_all (is_upright l.bytes) (drop l.pair-index l.fields)
+    ≡ list_all (is_upright l.bytes) l.fields

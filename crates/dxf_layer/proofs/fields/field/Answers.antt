@@ -10,6 +10,7 @@ returns-then-is_some c =
     let fits : FitsSigned w32 c.args.code = search rules in
     let so_far = simp to_z-of_z at c.loop-pair.invariant in
     let here = simp to_z-of_z at c.has_code.ensures in
-    let found = second_found (has_code c.args.code) c.fields_of-pair-items.result.now c.loop-pair.pair-index _ c.loop-pair.found c.loop-pair-test.true so_far
+    let found = second_found (has_code c.args.code) c.fields_of-pair-items.result.now c.loop-pair.pair-index _
+    c.loop-pair.found c.loop-pair-test.true so_far
     (sym c.is_some.ensures ∙ c.if-is_some.true) (sym here ∙ c.if-has_code.true) in
     rw c.from.ensures (rw (← c.fields_of-pair-items.ensures) found)

@@ -6,7 +6,8 @@ use Rattle.dxf_layer.proofs.fields.fields_of.Given as goal
 
 abbrev pub invariant-loop-count : goal.invariant-loop-count
 invariant-loop-count l =
-    (l.count ≤ length l.pairs) × (l.count + prefix_len (λ pair. int_lt pair.code (pos 1000)) (drop l.count l.pairs) ≡ prefix_len (λ pair. int_lt pair.code (pos 1000)) l.pairs)
+    (l.count ≤ length l.pairs) × (l.count + prefix_len (λ pair. int_lt pair.code (pos 1000)) (drop l.count l.pairs)
+    ≡ prefix_len (λ pair. int_lt pair.code (pos 1000)) l.pairs)
 
 abbrev pub decreases-loop-count : goal.decreases-loop-count
 decreases-loop-count l = length l.pairs - l.count

@@ -15,11 +15,15 @@ returns-after-loop-number c =
 pub loop-number-preserved : goal.loop-number-preserved
 loop-number-preserved c =
     let pairs = c.args.page.now.pairs.now in
-    let here : nat_lt (get_or pairs c.loop-number.number no_pair).start c.args.place ≡ true = grind (arith, nat_tests, c.if-page-number.true) in
-    passed (starts_before c.args.place) pairs c.loop-number.number no_pair c.loop-number.invariant c.loop-number-test.true here
+    let here : nat_lt (get_or pairs c.loop-number.number no_pair).start c.args.place ≡ true =
+    grind (arith, nat_tests, c.if-page-number.true) in
+    passed (starts_before c.args.place) pairs c.loop-number.number no_pair c.loop-number.invariant
+    c.loop-number-test.true here
 
 pub returns-else-page-number : goal.returns-else-page-number
 returns-else-page-number c =
     let pairs = c.args.page.now.pairs.now in
-    let here : nat_lt (get_or pairs c.loop-number.number no_pair).start c.args.place ≡ false = grind (arith, nat_tests, c.if-page-number.false) in
-    stopped (starts_before c.args.place) pairs c.loop-number.number no_pair c.loop-number.invariant c.loop-number-test.true here
+    let here : nat_lt (get_or pairs c.loop-number.number no_pair).start c.args.place ≡ false =
+    grind (arith, nat_tests, c.if-page-number.false) in
+    stopped (starts_before c.args.place) pairs c.loop-number.number no_pair c.loop-number.invariant
+    c.loop-number-test.true here

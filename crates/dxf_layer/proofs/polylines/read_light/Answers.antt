@@ -12,43 +12,75 @@ use Rattle.dxf_layer.proofs.polylines.read_light.Goals as goal
 
 pub point-past-requires : goal.point-past-requires
 point-past-requires c =
-    let short : length c.fields_of.result.now ≤ length c.args.entity.now.pairs.now = rw c.fields_of.ensures (taken_short (λ (pair : Pair). int_lt pair.code (pos 1000)) c.args.entity.now.pairs.now) in
-    holds_more (2 ^ 30 + length c.fields_of.result.now) (2 ^ 31) (seen c.read_vertices.new.drawing) (c.in_ok-read_vertices.ensures.grown (2 ^ 30) c.requires.room) (omega (arith, short, c.requires.few))
+    let short : length c.fields_of.result.now ≤ length c.args.entity.now.pairs.now =
+    rw c.fields_of.ensures (taken_short (λ (pair : Pair). int_lt pair.code (pos 1000))
+    c.args.entity.now.pairs.now) in
+    holds_more (2 ^ 30 + length c.fields_of.result.now) (2 ^ 31) (seen c.read_vertices.new.drawing)
+    (c.in_ok-read_vertices.ensures.grown (2 ^ 30) c.requires.room) (omega (arith, short, c.requires.few))
 
 pub overflow_sub-past : goal.overflow_sub-past
 overflow_sub-past c =
-    omega (arith, c.point-first.ensures, c.point-past.ensures, no_fewer (seen c.args.drawing.now) (seen c.read_vertices.new.drawing) (vertices_in c.args.bytes.now c.args.exact c.fields_of.result.now) c.in_ok-read_vertices.ensures.reads)
+    omega (
+      arith,
+      c.point-first.ensures,
+      c.point-past.ensures,
+      no_fewer (seen c.args.drawing.now)
+          (seen c.read_vertices.new.drawing) (vertices_in c.args.bytes.now c.args.exact c.fields_of.result.now)
+          c.in_ok-read_vertices.ensures.reads,
+    )
 
 pub returns-in_err-count-clause-reads : goal.returns-in_err-count-clause-reads
 returns-in_err-count-clause-reads c =
     let fault = c.in_err-count.field-0.0 in
-    let read = subst (λ fields. AddsVertices (seen c.args.drawing.now) (vertices_in c.args.bytes.now c.args.exact fields) (seen c.read_vertices.new.drawing)) c.fields_of.ensures c.in_ok-read_vertices.ensures.reads in
-    let counted : count_of c.args.bytes.now (length (seen c.read_vertices.new.drawing).points - length (seen c.args.drawing.now).points) (told c.args.entity.now) ≡ Err fault =
+    let read = subst (λ fields. AddsVertices (seen c.args.drawing.now)
+    (vertices_in c.args.bytes.now c.args.exact fields) (seen c.read_vertices.new.drawing)) c.fields_of.ensures
+    c.in_ok-read_vertices.ensures.reads in
+    let counted : count_of c.args.bytes.now (length (seen c.read_vertices.new.drawing).points - length
+    (seen c.args.drawing.now).points) (told c.args.entity.now) ≡ Err fault =
     rw (← c.point-past.ensures, ← c.point-first.ensures) (sym c.in_err-count.ensures) in
-    handed_on (light_shapes c.args.bytes.now c.args.exact (told c.args.entity.now)) (seen c.args.drawing.now) (seen c.read_vertices.new.drawing) fault c.from_residual-in_err-count.result c.from_residual-in_err-count.ensures.1
-    (λ memory. light_miscounted c.args.bytes.now c.args.exact (told c.args.entity.now) c.in_ok-kind.kind fault (seen c.args.drawing.now) (seen c.read_vertices.new.drawing) (sym c.in_ok-kind.ensures) read counted)
+    handed_on (light_shapes c.args.bytes.now c.args.exact (told c.args.entity.now)) (seen c.args.drawing.now)
+    (seen c.read_vertices.new.drawing) fault c.from_residual-in_err-count.result
+    c.from_residual-in_err-count.ensures.1
+    (λ memory. light_miscounted c.args.bytes.now c.args.exact (told c.args.entity.now) c.in_ok-kind.kind fault
+    (seen c.args.drawing.now) (seen c.read_vertices.new.drawing) (sym c.in_ok-kind.ensures) read counted)
 
 pub add_path_from-requires : goal.add_path_from-requires
 add_path_from-requires c =
-    let short : length c.fields_of.result.now ≤ length c.args.entity.now.pairs.now = rw c.fields_of.ensures (taken_short (λ (pair : Pair). int_lt pair.code (pos 1000)) c.args.entity.now.pairs.now) in
-    let there : HoldsAtMost (2 ^ 31) (seen c.read_vertices.new.drawing) = holds_more (2 ^ 30 + length c.fields_of.result.now) (2 ^ 31) (seen c.read_vertices.new.drawing) (c.in_ok-read_vertices.ensures.grown (2 ^ 30) c.requires.room) (omega (arith, short, c.requires.few)) in
+    let short : length c.fields_of.result.now ≤ length c.args.entity.now.pairs.now =
+    rw c.fields_of.ensures (taken_short (λ (pair : Pair). int_lt pair.code (pos 1000))
+    c.args.entity.now.pairs.now) in
+    let there : HoldsAtMost (2 ^ 31) (seen c.read_vertices.new.drawing) =
+    holds_more (2 ^ 30 + length c.fields_of.result.now) (2 ^ 31) (seen c.read_vertices.new.drawing)
+    (c.in_ok-read_vertices.ensures.grown (2 ^ 30) c.requires.room) (omega (arith, short, c.requires.few)) in
     record { room = rw c.in_ok-add_edit.ensures (edited_holds (2 ^ 31) (seen c.read_vertices.new.drawing) _ there) }
 
 pub returns-clause-reads : goal.returns-clause-reads
 returns-clause-reads c =
-    let read = subst (λ fields. AddsVertices (seen c.args.drawing.now) (vertices_in c.args.bytes.now c.args.exact fields) (seen c.read_vertices.new.drawing)) c.fields_of.ensures c.in_ok-read_vertices.ensures.reads in
-    let counted : count_of c.args.bytes.now (length (seen c.read_vertices.new.drawing).points - length (seen c.args.drawing.now).points) (told c.args.entity.now) ≡ Ok c.in_ok-count.count =
+    let read = subst (λ fields. AddsVertices (seen c.args.drawing.now)
+    (vertices_in c.args.bytes.now c.args.exact fields) (seen c.read_vertices.new.drawing)) c.fields_of.ensures
+    c.in_ok-read_vertices.ensures.reads in
+    let counted : count_of c.args.bytes.now (length (seen c.read_vertices.new.drawing).points - length
+    (seen c.args.drawing.now).points) (told c.args.entity.now) ≡ Ok c.in_ok-count.count =
     rw (← c.point-past.ensures, ← c.point-first.ensures) (sym c.in_ok-count.ensures) in
-    light_added c.args.bytes.now c.args.exact (told c.args.entity.now) c.in_ok-kind.kind c.in_ok-count.count (seen c.args.drawing.now) (seen c.read_vertices.new.drawing) (seen c.add_path_from.new.drawing)
+    light_added c.args.bytes.now c.args.exact (told c.args.entity.now) c.in_ok-kind.kind c.in_ok-count.count
+    (seen c.args.drawing.now) (seen c.read_vertices.new.drawing) (seen c.add_path_from.new.drawing)
     (sym c.in_ok-kind.ensures) read counted
-    (finished_by c.in_ok-kind.kind c.in_ok-count.count c.point-first.result c.point-past.result (length (seen c.args.drawing.now).points) c.value_edit.result (seen c.read_vertices.new.drawing) (seen c.add_edit.new.self)
-    (seen c.add_path_from.new.drawing) c.in_ok-add_path_from.ensures.added c.in_ok-add_edit.ensures c.value_edit.ensures c.point-first.ensures c.point-past.ensures)
+    (finished_by c.in_ok-kind.kind c.in_ok-count.count c.point-first.result c.point-past.result
+    (length (seen c.args.drawing.now).points) c.value_edit.result (seen c.read_vertices.new.drawing)
+    (seen c.add_edit.new.self)
+    (seen c.add_path_from.new.drawing) c.in_ok-add_path_from.ensures.added c.in_ok-add_edit.ensures c.value_edit.ensures
+    c.point-first.ensures c.point-past.ensures)
 
 pub returns-clause-grown : goal.returns-clause-grown
 returns-clause-grown c =
-    let short : length c.fields_of.result.now ≤ length c.args.entity.now.pairs.now = rw c.fields_of.ensures (taken_short (λ (pair : Pair). int_lt pair.code (pos 1000)) c.args.entity.now.pairs.now) in
+    let short : length c.fields_of.result.now ≤ length c.args.entity.now.pairs.now =
+    rw c.fields_of.ensures (taken_short (λ (pair : Pair). int_lt pair.code (pos 1000))
+    c.args.entity.now.pairs.now) in
     λ count room.
     let there = c.in_ok-read_vertices.ensures.grown count room in
-    let edited : HoldsAtMost (count + length c.fields_of.result.now) (seen c.add_edit.new.self) = rw c.in_ok-add_edit.ensures (edited_holds (count + length c.fields_of.result.now) (seen c.read_vertices.new.drawing) _ there) in
-    holds_more ((count + length c.fields_of.result.now) + 1) (count + (length c.args.entity.now.pairs.now + 1)) (seen c.add_path_from.new.drawing)
+    let edited : HoldsAtMost (count + length c.fields_of.result.now) (seen c.add_edit.new.self) =
+    rw c.in_ok-add_edit.ensures (edited_holds (count + length c.fields_of.result.now)
+    (seen c.read_vertices.new.drawing) _ there) in
+    holds_more ((count + length c.fields_of.result.now) + 1) (count + (length c.args.entity.now.pairs.now + 1))
+    (seen c.add_path_from.new.drawing)
     (c.in_ok-add_path_from.ensures.grown (count + length c.fields_of.result.now) edited) (omega (arith, short))

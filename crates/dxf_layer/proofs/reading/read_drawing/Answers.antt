@@ -7,17 +7,27 @@ use Rattle.dxf_layer.proofs.Whole.{few_pairs, read_whole}
 use Rattle.dxf_layer.proofs.reading.read_drawing.Goals as goal
 
 pub read_entities-requires-clause-few : goal.read_entities-requires-clause-few
-read_entities-requires-clause-few c = rw c.deref-2.ensures.value (omega (arith, few_pairs c.args.bytes.now c.in-Ok.pairs.items c.in-Ok.ensures.tile, c.requires))
+read_entities-requires-clause-few c = rw c.deref-2.ensures.value
+    (omega (arith, few_pairs c.args.bytes.now c.in-Ok.pairs.items c.in-Ok.ensures.tile, c.requires))
 
 pub of-requires-4 : goal.of-requires-4
 of-requires-4 c =
-    let made = read_whole c.args.bytes.now c.args.how c.in-Ok.pairs.items c.deref.result.now c.deref-2.result.now c.seed_of-seed.result (seen c.in_ok-drawing.drawing) (seen c.read_entities.new.drawing)
-    c.in-Ok.ensures.tile c.deref.ensures.value c.deref-2.ensures.value c.seed_of-seed.ensures c.in_ok-drawing.ensures c.in_ok-read_entities.ensures.reads in
-    rw (c.of.ensures, c.of-2.ensures) (record { tiled = made.0; few = omega (arith, c.in_ok-read_entities.ensures.room.points) })
+    let made = read_whole c.args.bytes.now c.args.how c.in-Ok.pairs.items c.deref.result.now c.deref-2.result.now
+    c.seed_of-seed.result (seen c.in_ok-drawing.drawing) (seen c.read_entities.new.drawing)
+    c.in-Ok.ensures.tile c.deref.ensures.value c.deref-2.ensures.value c.seed_of-seed.ensures c.in_ok-drawing.ensures
+    c.in_ok-read_entities.ensures.reads in
+    rw (c.of.ensures, c.of-2.ensures) (record {
+      tiled = made.0;
+      few =
+          omega (arith, c.in_ok-read_entities.ensures.room.points);
+    })
 
 pub returns-clause-edits : goal.returns-clause-edits
 returns-clause-edits c =
-    let made = read_whole c.args.bytes.now c.args.how c.in-Ok.pairs.items c.deref.result.now c.deref-2.result.now c.seed_of-seed.result (seen c.in_ok-drawing.drawing) (seen c.read_entities.new.drawing)
-    c.in-Ok.ensures.tile c.deref.ensures.value c.deref-2.ensures.value c.seed_of-seed.ensures c.in_ok-drawing.ensures c.in_ok-read_entities.ensures.reads in
-    let edits : c.of-4.result.edits ≡ in_order (seen c.read_entities.new.drawing).edits = ap (λ (s : Contents). s.edits) c.of-4.ensures ∙ (c.of-3.ensures ∙ c.in_order-edits.ensures) in
+    let made = read_whole c.args.bytes.now c.args.how c.in-Ok.pairs.items c.deref.result.now c.deref-2.result.now
+    c.seed_of-seed.result (seen c.in_ok-drawing.drawing) (seen c.read_entities.new.drawing)
+    c.in-Ok.ensures.tile c.deref.ensures.value c.deref-2.ensures.value c.seed_of-seed.ensures c.in_ok-drawing.ensures
+    c.in_ok-read_entities.ensures.reads in
+    let edits : c.of-4.result.edits ≡ in_order (seen c.read_entities.new.drawing).edits =
+    ap (λ (s : Contents). s.edits) c.of-4.ensures ∙ (c.of-3.ensures ∙ c.in_order-edits.ensures) in
     rw edits made.1

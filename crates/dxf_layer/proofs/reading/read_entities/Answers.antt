@@ -12,11 +12,13 @@ use Rattle.dxf_layer.proofs.Visits.{IsWalkedTo, nothing_walked, pair_walked, wal
 use Rattle.dxf_layer.proofs.reading.read_entities.Goals as goal
 
 pub loop-number-init : goal.loop-number-init
-loop-number-init c = nothing_walked c.args.source.now.bytes.now c.args.source.now.how c.args.source.now.seed c.args.pairs.now (seen c.args.drawing.now) c.requires.room
+loop-number-init c = nothing_walked c.args.source.now.bytes.now c.args.source.now.how c.args.source.now.seed
+    c.args.pairs.now (seen c.args.drawing.now) c.requires.room
 
 pub visit-requires-clause-room : goal.visit-requires-clause-room
 visit-requires-clause-room c =
-    holds_more (2 * c.loop-number.number + room_before (drop c.loop-number.number c.args.pairs.now)) (2 ^ 30) (seen c.loop-number.drawing) c.loop-number.invariant.room
+    holds_more (2 * c.loop-number.number + room_before (drop c.loop-number.number c.args.pairs.now)) (2 ^ 30)
+    (seen c.loop-number.drawing) c.loop-number.invariant.room
     (omega (arith, room_short c.loop-number.number c.args.pairs.now, c.requires.few, c.loop-number-test.true))
 
 pub loop-number-preserved : goal.loop-number-preserved
@@ -27,13 +29,19 @@ loop-number-preserved c =
     let how = c.args.source.now.how in
     let seed = c.args.source.now.seed in
     let so_far = c.loop-number.invariant in
-    let goes : GoesTo (visited bytes how seed c.loop-number.section so_far.spot (drop number pairs)) (with_shapes (seen c.args.drawing.now) so_far.shapes) c.in_ok-place.place (seen c.visit.new.drawing) =
-    subst (λ left. GoesTo (visited bytes how seed c.loop-number.section so_far.spot left) (with_shapes (seen c.args.drawing.now) so_far.shapes) c.in_ok-place.place (seen c.visit.new.drawing)) (rest_is pairs number)
+    let goes : GoesTo (visited bytes how seed c.loop-number.section so_far.spot (drop number pairs))
+    (with_shapes (seen c.args.drawing.now) so_far.shapes) c.in_ok-place.place (seen c.visit.new.drawing) =
+    subst (λ left. GoesTo (visited bytes how seed c.loop-number.section so_far.spot left)
+    (with_shapes (seen c.args.drawing.now) so_far.shapes) c.in_ok-place.place (seen c.visit.new.drawing))
+    (rest_is pairs number)
     (c.in_ok-place.ensures.goes (with_shapes (seen c.args.drawing.now) so_far.shapes) so_far.spot so_far.stands) in
     let grown : GrowsAlong (drop number pairs) (seen c.loop-number.drawing) (seen c.visit.new.drawing) =
-    subst (λ left. GrowsAlong left (seen c.loop-number.drawing) (seen c.visit.new.drawing)) (rest_is pairs number) c.in_ok-place.ensures.grown in
-    subst (λ section. IsWalkedTo bytes how seed pairs section c.in_ok-place.place (number + 1) (seen c.args.drawing.now) (seen c.visit.new.drawing)) (sym c.behind-section.ensures)
-    (pair_walked bytes how seed pairs c.loop-number.section c.loop-number.place c.in_ok-place.place number (seen c.args.drawing.now) (seen c.loop-number.drawing) (seen c.visit.new.drawing) (get_or pairs number no_pair)
+    subst (λ left. GrowsAlong left (seen c.loop-number.drawing) (seen c.visit.new.drawing)) (rest_is pairs number)
+    c.in_ok-place.ensures.grown in
+    subst (λ section. IsWalkedTo bytes how seed pairs section c.in_ok-place.place (number + 1) (seen c.args.drawing.now)
+    (seen c.visit.new.drawing)) (sym c.behind-section.ensures)
+    (pair_walked bytes how seed pairs c.loop-number.section c.loop-number.place c.in_ok-place.place number
+    (seen c.args.drawing.now) (seen c.loop-number.drawing) (seen c.visit.new.drawing) (get_or pairs number no_pair)
     so_far (drop_more pairs number no_pair c.loop-number-test.true) goes grown)
 
 pub returns-in_err-place-clause-reads : goal.returns-in_err-place-clause-reads
@@ -45,8 +53,11 @@ returns-in_err-place-clause-reads c =
     let seed = c.args.source.now.seed in
     let so_far = c.loop-number.invariant in
     let fault = c.in_err-place.field-0.0 in
-    handed_on (walked bytes how seed free (entities_of bytes pairs)) (seen c.args.drawing.now) (seen c.visit.new.drawing) fault c.from_residual.result c.from_residual.ensures.1
-    (λ memory. walk_refused bytes how seed pairs c.loop-number.section c.loop-number.place number (seen c.args.drawing.now) (seen c.loop-number.drawing) (get_or pairs number no_pair) fault
+    handed_on (walked bytes how seed free (entities_of bytes pairs)) (seen c.args.drawing.now)
+    (seen c.visit.new.drawing) fault c.from_residual.result c.from_residual.ensures.1
+    (λ memory. walk_refused bytes how seed pairs c.loop-number.section c.loop-number.place number
+    (seen c.args.drawing.now) (seen c.loop-number.drawing) (get_or pairs number no_pair) fault
     so_far (drop_more pairs number no_pair c.loop-number-test.true)
     (subst (λ left. visited bytes how seed c.loop-number.section so_far.spot left ≡ Err fault) (rest_is pairs number)
-    (c.in_err-place.ensures.goes (with_shapes (seen c.args.drawing.now) so_far.shapes) so_far.spot so_far.stands memory)))
+    (c.in_err-place.ensures.goes (with_shapes (seen c.args.drawing.now) so_far.shapes) so_far.spot so_far.stands
+    memory)))

@@ -13,6 +13,8 @@ pub returns-then-begins_entity-clause-grown : goal.returns-then-begins_entity-cl
 returns-then-begins_entity-clause-grown c =
     let pairs = c.args.pairs.now in
     let size : length c.pairs_before_head.result.now ≡ room_before (drop 1 pairs) =
-    ap (λ (found : List Pair). length found) (c.pairs_before_head.ensures ∙ ap (take_while is_no_head) (rest_is pairs 1)) ∙ length-prefix_len is_no_head (drop 1 pairs) in
-    grows_along c.args.section pairs no_pair (length c.pairs_before_head.result.now) (seen c.args.drawing.now) (seen c.step.new.drawing) c.step.result c.requires.some
+    ap (λ (found : List Pair). length found) (c.pairs_before_head.ensures
+    ∙ ap (take_while is_no_head) (rest_is pairs 1)) ∙ length-prefix_len is_no_head (drop 1 pairs) in
+    grows_along c.args.section pairs no_pair (length c.pairs_before_head.result.now) (seen c.args.drawing.now)
+    (seen c.step.new.drawing) c.step.result c.requires.some
     (sym c.begins_entity.ensures ∙ c.if-begins_entity.true) size c.step.ensures.grown

@@ -10,7 +10,8 @@ use Rattle.dxf_layer.proofs.rendering.render_page.Goals as goal
 
 pub number_at-number-requires : goal.number_at-number-requires
 number_at-number-requires c =
-    passed_before (read_of c.args.page.now) c.edits-edit-items.result.now c.loop-edit.edit-index c.loop-edit.number c.loop-edit.next c.loop-edit-test.true c.loop-edit.invariant.counted
+    passed_before (read_of c.args.page.now) c.edits-edit-items.result.now c.loop-edit.edit-index c.loop-edit.number
+    c.loop-edit.next c.loop-edit-test.true c.loop-edit.invariant.counted
 
 pub push_text-requires-clause-within : goal.push_text-requires-clause-within
 push_text-requires-clause-within c = rw c.number_at-number.ensures (number_within (read_of c.args.page.now) _)
@@ -19,8 +20,10 @@ pub push_text-requires-clause-next : goal.push_text-requires-clause-next
 push_text-requires-clause-next c =
     omega (
       arith,
-      counts_small (read_of c.args.page.now) c.edits-edit-items.result.now c.loop-edit.edit-index c.loop-edit.number c.loop-edit.next c.requires.few c.requires.short
-          (rw (← c.first_handle-first.ensures.number) c.first_handle-first.ensures.small) c.loop-edit-test.true c.loop-edit.invariant.counted,
+      counts_small (read_of c.args.page.now) c.edits-edit-items.result.now c.loop-edit.edit-index c.loop-edit.number
+          c.loop-edit.next c.requires.few c.requires.short
+          (rw (← c.first_handle-first.ensures.number) c.first_handle-first.ensures.small) c.loop-edit-test.true
+          c.loop-edit.invariant.counted,
     )
 
 pub taken-next-requires-clause-within : goal.taken-next-requires-clause-within
@@ -31,8 +34,10 @@ overflow_add-next c =
     omega (
       arith,
       c.taken-next.ensures,
-      counts_small (read_of c.args.page.now) c.edits-edit-items.result.now c.loop-edit.edit-index c.loop-edit.number c.loop-edit.next c.requires.few c.requires.short
-          (rw (← c.first_handle-first.ensures.number) c.first_handle-first.ensures.small) c.loop-edit-test.true c.loop-edit.invariant.counted,
+      counts_small (read_of c.args.page.now) c.edits-edit-items.result.now c.loop-edit.edit-index c.loop-edit.number
+          c.loop-edit.next c.requires.few c.requires.short
+          (rw (← c.first_handle-first.ensures.number) c.first_handle-first.ensures.small) c.loop-edit-test.true
+          c.loop-edit.invariant.counted,
     )
 
 pub loop-edit-preserved : goal.loop-edit-preserved
@@ -40,15 +45,22 @@ loop-edit-preserved c =
     let read = read_of c.args.page.now in
     let edits = c.edits-edit-items.result.now in
     let edit : Edit = slice_index_or edits c.loop-edit.edit-index no_edit in
-    let order : AreInOrder 0 edits (length c.args.page.now.bytes.now) = rw c.edits-edit-items.ensures c.requires.order in
-    let here : next_at read edit.start ≡ c.loop-edit.next = next_is read edits c.loop-edit.edit-index c.loop-edit.number c.loop-edit.next c.edits-edit-items.ensures order c.loop-edit-test.true c.loop-edit.invariant.counted in
+    let order : AreInOrder 0 edits (length c.args.page.now.bytes.now) =
+    rw c.edits-edit-items.ensures c.requires.order in
+    let here : next_at read edit.start ≡ c.loop-edit.next =
+    next_is read edits c.loop-edit.edit-index c.loop-edit.number c.loop-edit.next c.edits-edit-items.ensures order
+    c.loop-edit-test.true c.loop-edit.invariant.counted in
     let kept = c.in_ok-extend_from_slice.ensures.items ∙ ap (λ part. c.loop-edit.out.items ++ part) c.between.ensures in
     record {
       counted =
-          one_counted read edits c.loop-edit.edit-index c.loop-edit.number c.loop-edit.next c.number_at-number.result c.taken-next.result
-          c.requires.few c.loop-edit-test.true c.loop-edit.invariant.counted (omega (arith, c.number_at-number.ensures)) c.taken-next.ensures;
+          one_counted read edits c.loop-edit.edit-index c.loop-edit.number c.loop-edit.next c.number_at-number.result
+          c.taken-next.result
+          c.requires.few c.loop-edit-test.true c.loop-edit.invariant.counted (omega (arith, c.number_at-number.ensures))
+          c.taken-next.ensures;
       written =
-          one_more c.args.page.now.bytes.now (text_of read) edits c.loop-edit.edit-index c.loop-edit.from c.loop-edit.out.items c.extend_from_slice.new.self.items
+          one_more c.args.page.now.bytes.now (text_of read) edits c.loop-edit.edit-index c.loop-edit.from
+          c.loop-edit.out.items c.extend_from_slice.new.self.items
           c.loop-edit-test.true c.loop-edit.invariant.written kept c.push_text.new.out.items
-          (c.in_ok-push_text.ensures ∙ ap (λ next. c.extend_from_slice.new.self.items ++ text_as read next edit edit.what) (sym here));
+          (c.in_ok-push_text.ensures ∙ ap (λ next. c.extend_from_slice.new.self.items
+          ++ text_as read next edit edit.what) (sym here));
     }

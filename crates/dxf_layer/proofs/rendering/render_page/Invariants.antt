@@ -9,5 +9,6 @@ use Rattle.dxf_layer.proofs.rendering.render_page.Given as goal
 abbrev pub invariant-loop-edit : goal.invariant-loop-edit
 invariant-loop-edit l = record {
   counted : AreCounted (read_of l.page) l.edit-items (length l.page.bytes.now) l.edit-index l.number l.next;
-  written : IsSpliced l.page.bytes.now (text_of (read_of l.page)) l.edit-items (drop l.edit-index l.edit-items) l.from l.out.items;
+  written : IsSpliced l.page.bytes.now (text_of (read_of l.page)) l.edit-items (drop l.edit-index l.edit-items) l.from
+      l.out.items;
 }

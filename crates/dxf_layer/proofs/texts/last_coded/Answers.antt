@@ -11,15 +11,19 @@ returns-then-has_code c =
     let fits : FitsSigned w32 c.args.code = search rules in
     let so_far = simp to_z-of_z at c.loop-left.invariant.1 in
     let here = simp to_z-of_z at c.has_code.ensures in
-    let yes : has_code c.args.code (get_or c.args.pairs.now (c.loop-left.left - 1) no_pair) ≡ true = sym here ∙ c.if-has_code.true in
-    sym (last_at c.args.code c.args.pairs.now c.loop-left.left c.loop-left-test.true c.loop-left.invariant.0 ∙ rw yes refl) ∙ so_far
+    let yes : has_code c.args.code (get_or c.args.pairs.now (c.loop-left.left - 1) no_pair) ≡ true = sym here
+    ∙ c.if-has_code.true in
+    sym (last_at c.args.code c.args.pairs.now c.loop-left.left c.loop-left-test.true c.loop-left.invariant.0
+    ∙ rw yes refl) ∙ so_far
 
 pub loop-left-preserved : goal.loop-left-preserved
 loop-left-preserved c =
     let fits : FitsSigned w32 c.args.code = search rules in
     let so_far = simp to_z-of_z at c.loop-left.invariant.1 in
     let here = simp to_z-of_z at c.has_code.ensures in
-    let not_here : has_code c.args.code (get_or c.args.pairs.now (c.loop-left.left - 1) no_pair) ≡ false = sym here ∙ c.if-has_code.false in (
+    let not_here : has_code c.args.code (get_or c.args.pairs.now (c.loop-left.left - 1) no_pair) ≡ false = sym here
+    ∙ c.if-has_code.false in (
       omega (arith, c.loop-left.invariant.0),
-      simp to_z-of_z (sym (last_at c.args.code c.args.pairs.now c.loop-left.left c.loop-left-test.true c.loop-left.invariant.0 ∙ rw not_here refl) ∙ so_far),
+      simp to_z-of_z (sym (last_at c.args.code c.args.pairs.now c.loop-left.left c.loop-left-test.true
+          c.loop-left.invariant.0 ∙ rw not_here refl) ∙ so_far),
     )

@@ -7,5 +7,6 @@ use Rattle.dxf_layer.proofs.texts.push_vertices.Given as goal
 
 abbrev pub invariant-loop-image : goal.invariant-loop-image
 invariant-loop-image l =
-    (l.out.items ++ vertices_left l.bytes (told l.entity) l.handle l.next (drop l.image-index l.images) ≡ l.fn.out.items ++ vertex_copies l.bytes (told l.entity) true l.initial.next l.images)
+    (l.out.items ++ vertices_left l.bytes (told l.entity) l.handle l.next (drop l.image-index l.images) ≡ l.fn.out.items
+    ++ vertex_copies l.bytes (told l.entity) true l.initial.next l.images)
     × IsFirst l.initial.next l.image-index l.handle l.next

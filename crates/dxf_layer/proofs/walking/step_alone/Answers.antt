@@ -8,5 +8,8 @@ use Rattle.dxf_layer.proofs.walking.step_alone.Goals as goal
 
 pub returns-clause-goes : goal.returns-clause-goes
 returns-clause-goes c =
-    let flat : upright c.args.source.now.bytes.now (told c.args.entity.now) ≡ Ok tt = sym c.in_ok-check_upright.ensures in
-    rw flat (alone_goes (shapes_of c.args.source.now.bytes.now c.args.source.now.how c.args.source.now.seed (told c.args.entity.now)) (seen c.args.drawing.now) (seen c.read_alone.new.drawing) c.in_ok-read_alone.ensures.reads)
+    let flat : upright c.args.source.now.bytes.now (told c.args.entity.now) ≡ Ok tt =
+    sym c.in_ok-check_upright.ensures in
+    rw flat (alone_goes (shapes_of c.args.source.now.bytes.now c.args.source.now.how c.args.source.now.seed
+    (told c.args.entity.now)) (seen c.args.drawing.now) (seen c.read_alone.new.drawing)
+    c.in_ok-read_alone.ensures.reads)

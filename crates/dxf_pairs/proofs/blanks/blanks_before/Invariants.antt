@@ -5,7 +5,8 @@ use Rattle.dxf_pairs.specs.Values.{is_blank}
 use Rattle.dxf_pairs.proofs.blanks.blanks_before.Given as goal
 
 abbrev pub invariant-loop-count : goal.invariant-loop-count
-invariant-loop-count l = (l.count ≤ length l.text) × (l.count + prefix_len is_blank (drop l.count l.text) ≡ prefix_len is_blank l.text)
+invariant-loop-count l = (l.count ≤ length l.text)
+    × (l.count + prefix_len is_blank (drop l.count l.text) ≡ prefix_len is_blank l.text)
 
 abbrev pub decreases-loop-count : goal.decreases-loop-count
 decreases-loop-count l = length l.text - l.count

@@ -5,7 +5,8 @@ use Rattle.dxf_pairs.specs.Values.{is_blank}
 use Rattle.dxf_pairs.proofs.blanks.length_before_blanks.Given as goal
 
 abbrev pub invariant-loop-count : goal.invariant-loop-count
-invariant-loop-count l = (l.count ≤ length l.text) × (l.count + suffix_len is_blank l.text ≡ length l.text + suffix_len is_blank (take l.count l.text))
+invariant-loop-count l = (l.count ≤ length l.text)
+    × (l.count + suffix_len is_blank l.text ≡ length l.text + suffix_len is_blank (take l.count l.text))
 
 abbrev pub decreases-loop-count : goal.decreases-loop-count
 decreases-loop-count l = l.count

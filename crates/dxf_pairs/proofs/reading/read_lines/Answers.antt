@@ -13,7 +13,10 @@ loop-start-preserved c =
     record {
       within = c.in_ok-pair.ensures.within;
       numbered = omega arith;
-      read = go_on (reading (lines c.args.bytes.now)) (reading (lines_from c.args.bytes.now c.loop-start.start c.loop-start.line)) c.loop-start.pairs.items c.push.new.self.items c.in_ok-pair.pair
-          (is_last c.in_ok-pair.pair.code (value_in c.args.bytes.now c.in_ok-pair.pair)) (reading (lines_from c.args.bytes.now c.in_ok-pair.pair.end (c.loop-start.line + 2)))
+      read = go_on (reading (lines c.args.bytes.now))
+          (reading (lines_from c.args.bytes.now c.loop-start.start c.loop-start.line)) c.loop-start.pairs.items
+          c.push.new.self.items c.in_ok-pair.pair
+          (is_last c.in_ok-pair.pair.code (value_in c.args.bytes.now c.in_ok-pair.pair))
+          (reading (lines_from c.args.bytes.now c.in_ok-pair.pair.end (c.loop-start.line + 2)))
           c.loop-start.invariant.read c.in_ok-pair.ensures.ok c.if-is_last.ensures c.in_ok-push.ensures.items;
     }

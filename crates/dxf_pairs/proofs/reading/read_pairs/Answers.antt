@@ -8,7 +8,8 @@ use Rattle.dxf_pairs.proofs.reading.read_pairs.Goals as goal
 pub returns : goal.returns
 returns c =
     let whole : drawing c.args.bytes.now ≡ Ok c.in_ok-pairs.pairs.items =
-    text_form c.args.bytes.now (Ok c.in_ok-pairs.pairs.items) c.starts_with.result c.starts_with.ensures.value c.if-starts_with.false c.in_ok-pairs.ensures.ok in
+    text_form c.args.bytes.now (Ok c.in_ok-pairs.pairs.items) c.starts_with.result c.starts_with.ensures.value
+    c.if-starts_with.false c.in_ok-pairs.ensures.ok in
     record {
       ok = whole;
       err = tt;

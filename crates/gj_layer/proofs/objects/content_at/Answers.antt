@@ -3,8 +3,11 @@ use Rattle.gj_layer.proofs.Finding.{found_within, content_found}
 use Rattle.gj_layer.proofs.objects.content_at.Goals as goal
 
 pub node_at-node-requires : goal.node_at-node-requires
-node_at-node-requires c = let (bytes, object, past, one, are) = c.requires in found_within c.args.doc.now.nodes bytes object past c.args.content c.in-Some.value one c.in-Some.is are
+node_at-node-requires c = let (bytes, object, past, one, are) =
+    c.requires in found_within c.args.doc.now.nodes bytes object past c.args.content c.in-Some.value one c.in-Some.is
+    are
 
 pub returns-in-Some : goal.returns-in-Some
 returns-in-Some c bytes object past one are =
-    content_found c.args.doc.now.nodes bytes object past c.args.content c.in-Some.value one c.node_at-node.result c.in-Some.is are c.node_at-node.ensures
+    content_found c.args.doc.now.nodes bytes object past c.args.content c.in-Some.value one c.node_at-node.result
+    c.in-Some.is are c.node_at-node.ensures

@@ -14,7 +14,8 @@ use Rattle.gj_layer.proofs.objects.look.Goals as goal
 
 pub type_in-requires-clause-told : goal.type_in-requires-clause-told
 type_in-requires-clause-told c =
-    let (start, blank, members, h) = object_there c.args.doc.now c.args.bytes.now c.args.object c.requires.read c.requires.kind in
+    let (start, blank, members, h) = object_there c.args.doc.now c.args.bytes.now c.args.object c.requires.read
+    c.requires.kind in
     let (one, is, are) = c.in_ok-told.ensures start blank members h in
     (c.args.object + node_count (object blank members), one, are)
 
@@ -33,12 +34,16 @@ returns-in_err-kind-2 c start blank members h =
     let (content, content_is, content_found) = c.in_ok-content.ensures start blank members h in
     let fault = c.in_err-kind-2.field-0.0 in
     let past = c.args.object + node_count (object blank members) in
-    let starts = ap (λ (n : Node). n.start) (first_is nodes bytes c.args.object start (object blank members) c.node_at.result h c.node_at.ensures) in
-    looks_fault nodes bytes c.args.holder c.args.object past all c.from_residual-in_err-kind-2.result (object_type c.args.holder start all) fault
+    let starts = ap (λ (n : Node). n.start) (first_is nodes bytes c.args.object start (object blank members)
+    c.node_at.result h c.node_at.ensures) in
+    looks_fault nodes bytes c.args.holder c.args.object past all c.from_residual-in_err-kind-2.result
+    (object_type c.args.holder start all) fault
     (passed_on fault c.from_residual-in_err-kind-2.result c.from_residual-in_err-kind-2.ensures.1)
     (type_so c.args.holder start all told bbox crs type told_is bbox_is crs_is (sym type_is)
-    ∙ ap (λ k. and_then (with_content type start) (find_member k all)) (sym c.content_key.ensures) ∙ ap (and_then (with_content type start)) content_is
-    ∙ ap (λ n. with_content type n content) (sym starts) ∙ sym (c.in_err-kind-2.ensures nodes bytes c.args.object past content content_found))
+    ∙ ap (λ k. and_then (with_content type start) (find_member k all)) (sym c.content_key.ensures)
+    ∙ ap (and_then (with_content type start)) content_is
+    ∙ ap (λ n. with_content type n content) (sym starts)
+    ∙ sym (c.in_err-kind-2.ensures nodes bytes c.args.object past content content_found))
 
 pub returns : goal.returns
 returns c start blank members h =
@@ -51,11 +56,13 @@ returns c start blank members h =
     let type_is = c.in_ok-kind.ensures start _ (object blank members) told h told_found in
     let (content, content_is, content_found) = c.in_ok-content.ensures start blank members h in
     let past = c.args.object + node_count (object blank members) in
-    let starts = ap (λ (n : Node). n.start) (first_is nodes bytes c.args.object start (object blank members) c.node_at.result h c.node_at.ensures) in
+    let starts = ap (λ (n : Node). n.start) (first_is nodes bytes c.args.object start (object blank members)
+    c.node_at.result h c.node_at.ensures) in
     let with = c.in_ok-kind-2.ensures nodes bytes c.args.object past content content_found in
     let same = kept_type type c.node_at.result.start content c.in_ok-kind-2.kind with in
     let key = ap (λ k. find_member k all) (sym c.content_key.ensures) ∙ content_is in (
-      type_so c.args.holder start all told bbox crs type told_is bbox_is crs_is (sym type_is) ∙ ap (and_then (with_content type start)) key
+      type_so c.args.holder start all told bbox crs type told_is bbox_is crs_is (sym type_is)
+          ∙ ap (and_then (with_content type start)) key
           ∙ ap (λ n. with_content type n content) (sym starts) ∙ sym with,
       record {
         bbox = bbox;

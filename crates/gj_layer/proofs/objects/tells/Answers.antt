@@ -4,4 +4,5 @@ use Rattle.jtext.proofs.SameTexts.{says_quoted}
 use Rattle.gj_layer.proofs.objects.tells.Goals as goal
 
 pub returns : goal.returns
-returns c start chars h = says_quoted chars c.args.text.now c.same_text.result (c.same_text.ensures start (quoted chars) h)
+returns c start chars h = says_quoted chars c.args.text.now c.same_text.result
+    (c.same_text.ensures start (quoted chars) h)

@@ -9,14 +9,20 @@ use Rattle.gj_layer.proofs.Finding.{found_within, value_found, none_found}
 use Rattle.gj_layer.proofs.objects.type_in.Goals as goal
 
 pub type_of-requires-clause-value : goal.type_of-requires-clause-value
-type_of-requires-clause-value c = let (past, one, are) = c.requires.told in found_within c.args.doc.now.nodes c.args.bytes.now c.args.object past c.args.told c.in-Some.value one c.in-Some.is are
+type_of-requires-clause-value c = let (past, one, are) =
+    c.requires.told in found_within c.args.doc.now.nodes c.args.bytes.now c.args.object past c.args.told c.in-Some.value
+    one c.in-Some.is are
 
 pub returns-in-Some : goal.returns-in-Some
 returns-in-Some c start past whole one there are =
-    let (member, is, h) = value_found c.args.doc.now.nodes c.args.bytes.now c.args.object past c.args.told c.in-Some.value one c.in-Some.is are in
+    let (member, is, h) = value_found c.args.doc.now.nodes c.args.bytes.now c.args.object past c.args.told
+    c.in-Some.value one c.in-Some.is are in
     c.type_of.ensures start member.start whole member.value there h ∙ ap (type_in c.args.holder start) (sym is)
 
 pub returns-in-None : goal.returns-in-None
 returns-in-None c start past whole one there are =
-    ap Err c.shape_at.ensures ∙ ap (λ (n : Node). Err (Shape n.start)) (first_is c.args.doc.now.nodes c.args.bytes.now c.args.object start whole c.node_at.result there c.node_at.ensures)
-    ∙ ap (type_in c.args.holder start) (sym (none_found c.args.doc.now.nodes c.args.bytes.now c.args.object past c.args.told one c.in-None.is are))
+    ap Err c.shape_at.ensures ∙ ap (λ (n : Node). Err (Shape n.start))
+    (first_is c.args.doc.now.nodes c.args.bytes.now c.args.object start whole c.node_at.result there
+    c.node_at.ensures)
+    ∙ ap (type_in c.args.holder start) (sym (none_found c.args.doc.now.nodes c.args.bytes.now c.args.object past
+    c.args.told one c.in-None.is are))

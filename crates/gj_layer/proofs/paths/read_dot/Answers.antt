@@ -36,10 +36,14 @@ returns-clause-path c start is part h held =
     let number = length part.paths in
     let path = run_path Dot (c.point_of.result ∷ []) c.lost_of.result one.start one.end in (
       path_part number path,
-      dot_traced c.args.exact number start is one c.lost_of.result (c.in_ok-position.ensures start is h) c.lost_of.ensures.value
-          ∙ ap (λ p. Ok (path_part number (run_path Dot (p ∷ []) c.lost_of.result one.start one.end))) (sym c.point_of.ensures),
-      c.in_ok-end_path.ensures.holds part (c.point_of.result ∷ []) (held_more c.args.pass.now _ part (c.point_of.result ∷ []) held refl c.in_ok-push.ensures.items refl refl)
-          (let long : vec_len c.args.pass.now.points ≡ length c.args.pass.now.points.items = omega arith in c.len-first.ensures ∙ long ∙ held_first c.args.pass.now part held),
+      dot_traced c.args.exact number start is one c.lost_of.result (c.in_ok-position.ensures start is h)
+          c.lost_of.ensures.value
+          ∙ ap (λ p. Ok (path_part number (run_path Dot (p ∷ []) c.lost_of.result one.start one.end)))
+          (sym c.point_of.ensures),
+      c.in_ok-end_path.ensures.holds part (c.point_of.result ∷ [])
+          (held_more c.args.pass.now _ part (c.point_of.result ∷ []) held refl c.in_ok-push.ensures.items refl refl)
+          (let long : vec_len c.args.pass.now.points ≡ length c.args.pass.now.points.items =
+          omega arith in c.len-first.ensures ∙ long ∙ held_first c.args.pass.now part held),
     )
 
 pub returns-clause-grows : goal.returns-clause-grows

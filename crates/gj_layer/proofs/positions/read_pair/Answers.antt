@@ -13,64 +13,85 @@ use Rattle.gj_layer.proofs.positions.read_pair.Goals as goal
 
 pub overflow_add-first : goal.overflow_add-first
 overflow_add-first c =
-    let s = seen c.args.doc.now c.args.bytes.now c.args.value c.node_at-array.result c.requires.read (kind_within c.args.doc.now.nodes c.args.value kinds.Array c.requires.kind) c.node_at-array.ensures in
+    let s = seen c.args.doc.now c.args.bytes.now c.args.value c.node_at-array.result c.requires.read
+    (kind_within c.args.doc.now.nodes c.args.value kinds.Array c.requires.kind) c.node_at-array.ensures in
     omega (arith, s.onward, c.node_at-array.type_inv)
 
 pub returns-then-first-array : goal.returns-then-first-array
 returns-then-first-array c start blank elements h =
-    let nodes = c.args.doc.now.nodes in let bytes = c.args.bytes.now in let node = c.node_at-array.result in let got = c.node_at-array.ensures in
-    ap Err c.shape_at.ensures ∙ ap (λ (n : Node). Err (Shape n.start)) (first_is nodes bytes c.args.value start (array blank elements) node h got)
-    ∙ no_first nodes bytes c.args.exact start (start + length (spelling (array blank elements))) (c.args.value + 1) node.next (inner_place start blank) elements
+    let nodes = c.args.doc.now.nodes in let bytes = c.args.bytes.now in let node = c.node_at-array.result in let got =
+    c.node_at-array.ensures in
+    ap Err c.shape_at.ensures ∙ ap (λ (n : Node). Err (Shape n.start))
+    (first_is nodes bytes c.args.value start (array blank elements) node h got)
+    ∙ no_first nodes bytes c.args.exact start (start + length (spelling (array blank elements))) (c.args.value + 1)
+    node.next (inner_place start blank) elements
     (array_left nodes bytes c.args.value start blank elements node h got) c.if-first-array.true
 
 pub node_at-second-requires : goal.node_at-second-requires
 node_at-second-requires c =
-    let s = seen c.args.doc.now c.args.bytes.now c.args.value c.node_at-array.result c.requires.read (kind_within c.args.doc.now.nodes c.args.value kinds.Array c.requires.kind) c.node_at-array.ensures in
+    let s = seen c.args.doc.now c.args.bytes.now c.args.value c.node_at-array.result c.requires.read
+    (kind_within c.args.doc.now.nodes c.args.value kinds.Array c.requires.kind) c.node_at-array.ensures in
     omega (arith, s.inside, c.if-first-array.false)
 
 pub returns-then-second-array : goal.returns-then-second-array
 returns-then-second-array c start blank elements h =
-    let nodes = c.args.doc.now.nodes in let bytes = c.args.bytes.now in let node = c.node_at-array.result in let got = c.node_at-array.ensures in
-    ap Err c.shape_at-then-second-array.ensures ∙ ap (λ (n : Node). Err (Shape n.start)) (first_is nodes bytes c.args.value start (array blank elements) node h got)
-    ∙ no_second nodes bytes c.args.exact start (start + length (spelling (array blank elements))) (c.args.value + 1) node.next (inner_place start blank) elements c.node_at-second.result
-    (array_left nodes bytes c.args.value start blank elements node h got) c.node_at-second.ensures (omega (arith, c.if-first-array.false)) c.if-second-array.true
+    let nodes = c.args.doc.now.nodes in let bytes = c.args.bytes.now in let node = c.node_at-array.result in let got =
+    c.node_at-array.ensures in
+    ap Err c.shape_at-then-second-array.ensures
+    ∙ ap (λ (n : Node). Err (Shape n.start))
+    (first_is nodes bytes c.args.value start (array blank elements) node h got)
+    ∙ no_second nodes bytes c.args.exact start (start + length (spelling (array blank elements))) (c.args.value + 1)
+    node.next (inner_place start blank) elements c.node_at-second.result
+    (array_left nodes bytes c.args.value start blank elements node h got) c.node_at-second.ensures
+    (omega (arith, c.if-first-array.false)) c.if-second-array.true
 
 pub node_at-third-requires : goal.node_at-third-requires
 node_at-third-requires c =
-    let s = seen c.args.doc.now c.args.bytes.now c.args.value c.node_at-array.result c.requires.read (kind_within c.args.doc.now.nodes c.args.value kinds.Array c.requires.kind) c.node_at-array.ensures in
+    let s = seen c.args.doc.now c.args.bytes.now c.args.value c.node_at-array.result c.requires.read
+    (kind_within c.args.doc.now.nodes c.args.value kinds.Array c.requires.kind) c.node_at-array.ensures in
     omega (arith, s.inside, c.if-second-array.false)
 
 pub node_at-requires : goal.node_at-requires
 node_at-requires c =
-    let s = seen c.args.doc.now c.args.bytes.now c.args.value c.node_at-array.result c.requires.read (kind_within c.args.doc.now.nodes c.args.value kinds.Array c.requires.kind) c.node_at-array.ensures in
+    let s = seen c.args.doc.now c.args.bytes.now c.args.value c.node_at-array.result c.requires.read
+    (kind_within c.args.doc.now.nodes c.args.value kinds.Array c.requires.kind) c.node_at-array.ensures in
     omega (arith, s.inside, c.if-third-array.true)
 
 pub returns-then-third-array : goal.returns-then-third-array
 returns-then-third-array c start blank elements h =
-    let nodes = c.args.doc.now.nodes in let bytes = c.args.bytes.now in let node = c.node_at-array.result in let got = c.node_at-array.ensures in
+    let nodes = c.args.doc.now.nodes in let bytes = c.args.bytes.now in let node = c.node_at-array.result in let got =
+    c.node_at-array.ensures in
     ap (λ at. Err (Height at)) c.from.ensures
-    ∙ third_there nodes bytes c.args.exact start (start + length (spelling (array blank elements))) (c.args.value + 1) node.next (inner_place start blank) elements
+    ∙ third_there nodes bytes c.args.exact start (start + length (spelling (array blank elements))) (c.args.value + 1)
+    node.next (inner_place start blank) elements
     c.node_at-second.result c.node_at-third.result c.node_at.result
-    (array_left nodes bytes c.args.value start blank elements node h got) c.node_at-second.ensures c.node_at-third.ensures c.node_at.ensures
+    (array_left nodes bytes c.args.value start blank elements node h got) c.node_at-second.ensures
+    c.node_at-third.ensures c.node_at.ensures
     (omega (arith, c.if-first-array.false)) (omega (arith, c.if-second-array.false)) c.if-third-array.true
 
 pub read_number-x-requires-clause-node : goal.read_number-x-requires-clause-node
 read_number-x-requires-clause-node c =
-    let s = seen c.args.doc.now c.args.bytes.now c.args.value c.node_at-array.result c.requires.read (kind_within c.args.doc.now.nodes c.args.value kinds.Array c.requires.kind) c.node_at-array.ensures in
+    let s = seen c.args.doc.now c.args.bytes.now c.args.value c.node_at-array.result c.requires.read
+    (kind_within c.args.doc.now.nodes c.args.value kinds.Array c.requires.kind) c.node_at-array.ensures in
     omega (arith, s.inside, c.if-first-array.false)
 
 pub read_number-y-requires-clause-node : goal.read_number-y-requires-clause-node
 read_number-y-requires-clause-node c =
-    let s = seen c.args.doc.now c.args.bytes.now c.args.value c.node_at-array.result c.requires.read (kind_within c.args.doc.now.nodes c.args.value kinds.Array c.requires.kind) c.node_at-array.ensures in
+    let s = seen c.args.doc.now c.args.bytes.now c.args.value c.node_at-array.result c.requires.read
+    (kind_within c.args.doc.now.nodes c.args.value kinds.Array c.requires.kind) c.node_at-array.ensures in
     omega (arith, s.inside, c.if-second-array.false)
 
 pub returns : goal.returns
 returns c start blank elements h =
-    let nodes = c.args.doc.now.nodes in let bytes = c.args.bytes.now in let node = c.node_at-array.result in let got = c.node_at-array.ensures in
+    let nodes = c.args.doc.now.nodes in let bytes = c.args.bytes.now in let node = c.node_at-array.result in let got =
+    c.node_at-array.ensures in
     let is = first_is nodes bytes c.args.value start (array blank elements) node h got in
     c.combine.ensures ∙ ap (λ (n : Node). position_from n.start n.end c.read_number-x.result c.read_number-y.result) is
-    ∙ both_there nodes bytes c.args.exact start (start + length (spelling (array blank elements))) (c.args.value + 1) node.next (inner_place start blank) elements
+    ∙ both_there nodes bytes c.args.exact start (start + length (spelling (array blank elements))) (c.args.value + 1)
+    node.next (inner_place start blank) elements
     c.node_at-second.result c.node_at-third.result c.read_number-x.result c.read_number-y.result
-    (array_left nodes bytes c.args.value start blank elements node h got) c.node_at-second.ensures c.node_at-third.ensures
-    (omega (arith, c.if-first-array.false)) (omega (arith, c.if-second-array.false)) (omega (arith, c.if-third-array.false))
+    (array_left nodes bytes c.args.value start blank elements node h got) c.node_at-second.ensures
+    c.node_at-third.ensures
+    (omega (arith, c.if-first-array.false)) (omega (arith, c.if-second-array.false))
+    (omega (arith, c.if-third-array.false))
     c.read_number-x.ensures c.read_number-y.ensures

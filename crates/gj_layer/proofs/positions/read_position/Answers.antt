@@ -11,16 +11,27 @@ use Rattle.gj_layer.proofs.Pairs.{no_position}
 use Rattle.gj_layer.proofs.positions.read_position.Goals as goal
 
 pub read_pair-requires-clause-kind : goal.read_pair-requires-clause-kind
-read_pair-requires-clause-kind c = (c.node_at-node.result, c.node_at-node.ensures, c.is_kind.ensures.0 c.if-is_kind.true)
+read_pair-requires-clause-kind c = (
+  c.node_at-node.result,
+  c.node_at-node.ensures,
+  c.is_kind.ensures.0
+      c.if-is_kind.true,
+)
 
 pub returns-then-is_kind : goal.returns-then-is_kind
 returns-then-is_kind c start is h =
-    let nodes = c.args.doc.now.nodes in let bytes = c.args.bytes.now in let node = c.node_at-node.result in let got = c.node_at-node.ensures in
-    let (blank, elements, same) = array_of is (kind_there nodes bytes c.args.value start is node kinds.Array h got (c.is_kind.ensures.0 c.if-is_kind.true)) in
-    c.read_pair.ensures start blank elements (subst (Stands nodes bytes c.args.value start) same h) ∙ ap (position c.args.exact start) (sym same)
+    let nodes = c.args.doc.now.nodes in let bytes = c.args.bytes.now in let node = c.node_at-node.result in let got =
+    c.node_at-node.ensures in
+    let (blank, elements, same) = array_of is
+    (kind_there nodes bytes c.args.value start is node kinds.Array h got (c.is_kind.ensures.0 c.if-is_kind.true)) in
+    c.read_pair.ensures start blank elements (subst (Stands nodes bytes c.args.value start) same h)
+    ∙ ap (position c.args.exact start) (sym same)
 
 pub returns-else-is_kind : goal.returns-else-is_kind
 returns-else-is_kind c start is h =
-    let nodes = c.args.doc.now.nodes in let bytes = c.args.bytes.now in let node = c.node_at-node.result in let got = c.node_at-node.ensures in
-    ap Err c.shape_at.ensures ∙ ap (λ (n : Node). Err (Shape n.start)) (first_is nodes bytes c.args.value start is node h got)
-    ∙ no_position c.args.exact start is (kind_not_there nodes bytes c.args.value start is node kinds.Array h got (λ k. let no = c.if-is_kind.false in let yes = c.is_kind.ensures.1 k in cc))
+    let nodes = c.args.doc.now.nodes in let bytes = c.args.bytes.now in let node = c.node_at-node.result in let got =
+    c.node_at-node.ensures in
+    ap Err c.shape_at.ensures ∙ ap (λ (n : Node). Err (Shape n.start))
+    (first_is nodes bytes c.args.value start is node h got)
+    ∙ no_position c.args.exact start is (kind_not_there nodes bytes c.args.value start is node kinds.Array h got
+    (λ k. let no = c.if-is_kind.false in let yes = c.is_kind.ensures.1 k in cc))

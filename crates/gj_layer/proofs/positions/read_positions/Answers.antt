@@ -14,12 +14,14 @@ use Rattle.gj_layer.proofs.positions.read_positions.Goals as goal
 
 pub overflow_add-at : goal.overflow_add-at
 overflow_add-at c =
-    let s = seen c.args.doc.now c.args.bytes.now c.args.array c.node_at-end.result c.requires.read (kind_within c.args.doc.now.nodes c.args.array kinds.Array c.requires.kind) c.node_at-end.ensures in
+    let s = seen c.args.doc.now c.args.bytes.now c.args.array c.node_at-end.result c.requires.read
+    (kind_within c.args.doc.now.nodes c.args.array kinds.Array c.requires.kind) c.node_at-end.ensures in
     omega (arith, s.onward, c.node_at-end.type_inv)
 
 pub loop-at-init : goal.loop-at-init
 loop-at-init c =
-    let s = seen c.args.doc.now c.args.bytes.now c.args.array c.node_at-end.result c.requires.read (kind_within c.args.doc.now.nodes c.args.array kinds.Array c.requires.kind) c.node_at-end.ensures in
+    let s = seen c.args.doc.now c.args.bytes.now c.args.array c.node_at-end.result c.requires.read
+    (kind_within c.args.doc.now.nodes c.args.array kinds.Array c.requires.kind) c.node_at-end.ensures in
     record {
       begun = omega arith;
       within = omega (arith, s.onward);
@@ -27,43 +29,59 @@ loop-at-init c =
       points = omega arith;
       lost = omega arith;
       walked = λ start blank elements h.
-          walk_begins c.args.doc.now.nodes c.args.bytes.now c.args.exact c.node_at-end.result.next (inner_place start blank) elements (c.args.array + 1) c.args.points.now.items
-          (record { start = 0; end = 0; lost = 0 }) refl (array_left c.args.doc.now.nodes c.args.bytes.now c.args.array start blank elements c.node_at-end.result h c.node_at-end.ensures);
+          walk_begins c.args.doc.now.nodes c.args.bytes.now c.args.exact c.node_at-end.result.next
+          (inner_place start blank) elements (c.args.array + 1) c.args.points.now.items
+          (record { start = 0; end = 0; lost = 0 }) refl
+          (array_left c.args.doc.now.nodes c.args.bytes.now c.args.array start blank elements c.node_at-end.result h
+          c.node_at-end.ensures);
     }
 
 pub read_position-requires-clause-node : goal.read_position-requires-clause-node
 read_position-requires-clause-node c =
-    let s = seen c.args.doc.now c.args.bytes.now c.args.array c.node_at-end.result c.requires.read (kind_within c.args.doc.now.nodes c.args.array kinds.Array c.requires.kind) c.node_at-end.ensures in
+    let s = seen c.args.doc.now c.args.bytes.now c.args.array c.node_at-end.result c.requires.read
+    (kind_within c.args.doc.now.nodes c.args.array kinds.Array c.requires.kind) c.node_at-end.ensures in
     omega (arith, s.inside, c.loop-at-test.true)
 
 pub node_at-at-requires : goal.node_at-at-requires
 node_at-at-requires c =
-    let s = seen c.args.doc.now c.args.bytes.now c.args.array c.node_at-end.result c.requires.read (kind_within c.args.doc.now.nodes c.args.array kinds.Array c.requires.kind) c.node_at-end.ensures in
+    let s = seen c.args.doc.now c.args.bytes.now c.args.array c.node_at-end.result c.requires.read
+    (kind_within c.args.doc.now.nodes c.args.array kinds.Array c.requires.kind) c.node_at-end.ensures in
     omega (arith, s.inside, c.loop-at-test.true)
 
 pub returns-in_err-position-clause-run : goal.returns-in_err-position-clause-run
 returns-in_err-position-clause-run c start blank elements h =
     let all = positions c.args.exact (inner_place start blank) elements in
     let fault = c.in_err-position.field-0.0 in
-    give_fault (IsRun c.args.points.now.items c.loop-at.points.items) c.from_residual.result all fault (passed_on fault c.from_residual.result c.from_residual.ensures.1)
-    (λ _. (next_is c.args.doc.now.nodes c.args.bytes.now c.args.exact all (c.args.array + 1) c.loop-at.at c.node_at-end.result.next
-    c.args.points.now.items c.loop-at.points.items c.loop-at.run (c.loop-at.invariant.walked start blank elements h) c.loop-at-test.true
+    give_fault (IsRun c.args.points.now.items c.loop-at.points.items) c.from_residual.result all fault
+    (passed_on fault c.from_residual.result c.from_residual.ensures.1)
+    (λ _. (next_is c.args.doc.now.nodes c.args.bytes.now c.args.exact all (c.args.array + 1) c.loop-at.at
+    c.node_at-end.result.next
+    c.args.points.now.items c.loop-at.points.items c.loop-at.run (c.loop-at.invariant.walked start blank elements h)
+    c.loop-at-test.true
     (Err fault) c.in_err-position.ensures).fault fault refl)
 
 pub loop-at-smaller : goal.loop-at-smaller
 loop-at-smaller c =
-    let s = seen c.args.doc.now c.args.bytes.now c.loop-at.at c.node_at-at.result c.requires.read (let t = seen c.args.doc.now c.args.bytes.now c.args.array c.node_at-end.result c.requires.read (kind_within c.args.doc.now.nodes c.args.array kinds.Array c.requires.kind) c.node_at-end.ensures in
+    let s = seen c.args.doc.now c.args.bytes.now c.loop-at.at c.node_at-at.result c.requires.read
+    (let t = seen c.args.doc.now c.args.bytes.now c.args.array c.node_at-end.result c.requires.read
+    (kind_within c.args.doc.now.nodes c.args.array kinds.Array c.requires.kind) c.node_at-end.ensures in
     omega (arith, t.inside, c.loop-at-test.true)) c.node_at-at.ensures in
     omega (arith, s.onward, c.loop-at-test.true)
 
 pub loop-at-preserved : goal.loop-at-preserved
 loop-at-preserved c =
-    let t = seen c.args.doc.now c.args.bytes.now c.args.array c.node_at-end.result c.requires.read (kind_within c.args.doc.now.nodes c.args.array kinds.Array c.requires.kind) c.node_at-end.ensures in
-    let s = seen c.args.doc.now c.args.bytes.now c.loop-at.at c.node_at-at.result c.requires.read (omega (arith, t.inside, c.loop-at-test.true)) c.node_at-at.ensures in
+    let t = seen c.args.doc.now c.args.bytes.now c.args.array c.node_at-end.result c.requires.read
+    (kind_within c.args.doc.now.nodes c.args.array kinds.Array c.requires.kind) c.node_at-end.ensures in
+    let s = seen c.args.doc.now c.args.bytes.now c.loop-at.at c.node_at-at.result c.requires.read
+    (omega (arith, t.inside, c.loop-at-test.true)) c.node_at-at.ensures in
     let size = length-append c.loop-at.points.items (c.point_of.result ∷ []) in
-    let (array_start, array_blank, array_elements, there) = array_there c.args.doc.now c.args.bytes.now c.args.array c.requires.read c.requires.kind in
-    let left_here = walk_within c.args.doc.now.nodes c.args.bytes.now c.args.exact (positions c.args.exact (inner_place array_start array_blank) array_elements) (c.args.array + 1) c.loop-at.at
-    c.node_at-end.result.next c.args.points.now.items c.loop-at.points.items c.loop-at.run (c.loop-at.invariant.walked array_start array_blank array_elements there) c.loop-at-test.true c.node_at-at.result c.node_at-at.ensures in
+    let (array_start, array_blank, array_elements, there) =
+    array_there c.args.doc.now c.args.bytes.now c.args.array c.requires.read c.requires.kind in
+    let left_here = walk_within c.args.doc.now.nodes c.args.bytes.now c.args.exact
+    (positions c.args.exact (inner_place array_start array_blank) array_elements) (c.args.array + 1) c.loop-at.at
+    c.node_at-end.result.next c.args.points.now.items c.loop-at.points.items c.loop-at.run
+    (c.loop-at.invariant.walked array_start array_blank array_elements there) c.loop-at-test.true
+    c.node_at-at.result c.node_at-at.ensures in
     record {
       begun = omega (arith, s.onward, c.loop-at.invariant.begun);
       within = left_here;
@@ -72,13 +90,21 @@ loop-at-preserved c =
       lost = omega (arith, s.onward, c.loop-at.invariant.lost, c.longer-run.ensures.few);
       walked = λ start blank elements h.
           rw (c.in_ok-push.ensures.items, c.point_of.ensures)
-          ((next_is c.args.doc.now.nodes c.args.bytes.now c.args.exact (positions c.args.exact (inner_place start blank) elements) (c.args.array + 1) c.loop-at.at c.node_at-end.result.next
-          c.args.points.now.items c.loop-at.points.items c.loop-at.run (c.loop-at.invariant.walked start blank elements h) c.loop-at-test.true
-          (Ok c.in_ok-position.position) c.in_ok-position.ensures).onward c.in_ok-position.position c.node_at-at.result c.longer-run.result _ refl c.node_at-at.ensures
-          (eqb-true c.loop-at.at (c.args.array + 1)) (eq-eqb c.loop-at.at (c.args.array + 1)) c.longer-run.ensures.start c.longer-run.ensures.end c.longer-run.ensures.lost);
+          ((next_is c.args.doc.now.nodes c.args.bytes.now c.args.exact
+          (positions c.args.exact (inner_place start blank) elements) (c.args.array + 1) c.loop-at.at
+          c.node_at-end.result.next
+          c.args.points.now.items c.loop-at.points.items c.loop-at.run
+          (c.loop-at.invariant.walked start blank elements h) c.loop-at-test.true
+          (Ok c.in_ok-position.position) c.in_ok-position.ensures).onward c.in_ok-position.position c.node_at-at.result
+          c.longer-run.result _ refl c.node_at-at.ensures
+          (eqb-true c.loop-at.at (c.args.array + 1)) (eq-eqb c.loop-at.at (c.args.array + 1)) c.longer-run.ensures.start
+          c.longer-run.ensures.end c.longer-run.ensures.lost);
     }
 
 pub returns-clause-run : goal.returns-clause-run
 returns-clause-run c start blank elements h =
-    walk_ends c.args.doc.now.nodes c.args.bytes.now c.args.exact (positions c.args.exact (inner_place start blank) elements) (c.args.array + 1) c.loop-at.at c.node_at-end.result.next
-    c.args.points.now.items c.loop-at.points.items c.loop-at.run (c.loop-at.invariant.walked start blank elements h) c.loop-at-test.false
+    walk_ends c.args.doc.now.nodes c.args.bytes.now c.args.exact
+    (positions c.args.exact (inner_place start blank) elements) (c.args.array + 1) c.loop-at.at
+    c.node_at-end.result.next
+    c.args.points.now.items c.loop-at.points.items c.loop-at.run (c.loop-at.invariant.walked start blank elements h)
+    c.loop-at-test.false

@@ -14,8 +14,10 @@ invariant-loop-at l = record {
   more : length l.fn.points.items ≤ length l.points.items;
   points : length l.points.items + (l.array + 1) ≤ length l.fn.points.items + l.at;
   lost : l.run.lost + 2 * (l.array + 1) ≤ 2 * l.at;
-  walked : (start : ℕ) (blank : List ℕ) (elements : Elements) → Stands l.doc.nodes l.bytes l.array start (array blank elements)
-      → IsWalked l.doc.nodes l.bytes l.exact (positions l.exact (inner_place start blank) elements) (l.array + 1) l.at l.end l.fn.points.items l.points.items l.run;
+  walked : (start : ℕ) (blank : List ℕ) (elements : Elements)
+      → Stands l.doc.nodes l.bytes l.array start (array blank elements)
+      → IsWalked l.doc.nodes l.bytes l.exact (positions l.exact (inner_place start blank) elements) (l.array + 1) l.at
+      l.end l.fn.points.items l.points.items l.run;
 }
 
 abbrev pub decreases-loop-at : goal.decreases-loop-at

@@ -16,8 +16,10 @@ pub returns-then-not-is_kind-clause-opens : goal.returns-then-not-is_kind-clause
 returns-then-not-is_kind-clause-opens c bytes exact start is part h =
     let nodes = c.args.doc.now.nodes in let node = c.node_at-node.result in let got = c.node_at-node.ensures in
     no_array exact c.args.items (length part.paths) start is
-    (kind_not_there nodes bytes c.args.array start is node kinds.Array h got (λ k. let no = c.if-not-is_kind.true in let yes = c.is_kind.ensures.1 k in cc))
-    ∙ ap (λ (n : Node). Err (Shape n.start)) (sym (first_is nodes bytes c.args.array start is node h got)) ∙ ap Err (sym c.shape_at.ensures)
+    (kind_not_there nodes bytes c.args.array start is node kinds.Array h got
+    (λ k. let no = c.if-not-is_kind.true in let yes = c.is_kind.ensures.1 k in cc))
+    ∙ ap (λ (n : Node). Err (Shape n.start)) (sym (first_is nodes bytes c.args.array start is node h got))
+    ∙ ap Err (sym c.shape_at.ensures)
 
 pub overflow_add-result : goal.overflow_add-result
 overflow_add-result c =
@@ -28,9 +30,13 @@ overflow_add-result c =
 pub returns-clause-opens : goal.returns-clause-opens
 returns-clause-opens c bytes exact start is part h =
     let nodes = c.args.doc.now.nodes in let node = c.node_at-node.result in let got = c.node_at-node.ensures in
-    let (blank, elements, same) = array_of is (kind_there nodes bytes c.args.array start is node kinds.Array h got (c.is_kind.ensures.0 c.if-not-is_kind.false)) in
-    opens_same nodes bytes exact part _ (forms.List c.args.items) (length part.paths) start is (array blank elements) same
-    (list_opens nodes bytes exact c.args.items c.args.array start blank elements part node c.form.result c.form.ensures (subst (Stands nodes bytes c.args.array start) same h) got)
+    let (blank, elements, same) = array_of is
+    (kind_there nodes bytes c.args.array start is node kinds.Array h got
+    (c.is_kind.ensures.0 c.if-not-is_kind.false)) in
+    opens_same nodes bytes exact part _ (forms.List c.args.items) (length part.paths) start is (array blank elements)
+    same
+    (list_opens nodes bytes exact c.args.items c.args.array start blank elements part node c.form.result c.form.ensures
+    (subst (Stands nodes bytes c.args.array start) same h) got)
 
 pub returns-clause-within : goal.returns-clause-within
 returns-clause-within c node got =

@@ -8,8 +8,11 @@ use Rattle.gj_layer.proofs.reading.read_all.Goals as goal
 
 pub step_in-requires-clause-going : goal.step_in-requires-clause-going
 step_in-requires-clause-going c =
-    let (wanted, begun) = c.requires.going in
-    (wanted, subst (λ (fs : List Frame). Going c.args.exact c.args.doc.now.nodes c.args.bytes.now fs c.loop-frame.pass wanted) c.in-Some.ensures (c.loop-frame.invariant.going wanted begun))
+    let (wanted, begun) = c.requires.going in (
+      wanted,
+      subst (λ (fs : List Frame). Going c.args.exact c.args.doc.now.nodes c.args.bytes.now fs c.loop-frame.pass
+          wanted) c.in-Some.ensures (c.loop-frame.invariant.going wanted begun),
+    )
 
 pub step_out-requires-clause-going : goal.step_out-requires-clause-going
 step_out-requires-clause-going c =
@@ -20,7 +23,8 @@ step_out-requires-clause-going c =
       c.args.exact,
       (
         wanted,
-        subst (λ (fs : List Frame). Going c.args.exact c.args.doc.now.nodes c.args.bytes.now fs c.loop-frame.pass wanted) c.in-Some.ensures (c.loop-frame.invariant.going wanted begun),
+        subst (λ (fs : List Frame). Going c.args.exact c.args.doc.now.nodes c.args.bytes.now fs c.loop-frame.pass
+            wanted) c.in-Some.ensures (c.loop-frame.invariant.going wanted begun),
       ),
     )
 
@@ -28,8 +32,10 @@ pub loop-frame-preserved : goal.loop-frame-preserved
 loop-frame-preserved c = record {
   room = c.in_ok-step_out.ensures.room (left_in c.pop.new.self)
       (room_less c.loop-frame.pass (left_in (c.in-Some.frame ∷ c.pop.new.self)) (left_in c.pop.new.self)
-      (subst (λ (fs : List Frame). HasRoom c.loop-frame.pass (left_in fs)) c.in-Some.ensures c.loop-frame.invariant.room) (omega arith));
+      (subst (λ (fs : List Frame). HasRoom c.loop-frame.pass (left_in fs)) c.in-Some.ensures
+      c.loop-frame.invariant.room) (omega arith));
   going = λ wanted begun.
       c.in_ok-step_out.ensures.goes c.args.doc.now.nodes c.args.bytes.now c.pop.new.self c.args.exact wanted
-      (subst (λ (fs : List Frame). Going c.args.exact c.args.doc.now.nodes c.args.bytes.now fs c.loop-frame.pass wanted) c.in-Some.ensures (c.loop-frame.invariant.going wanted begun));
+      (subst (λ (fs : List Frame). Going c.args.exact c.args.doc.now.nodes c.args.bytes.now fs c.loop-frame.pass wanted)
+      c.in-Some.ensures (c.loop-frame.invariant.going wanted begun));
 }

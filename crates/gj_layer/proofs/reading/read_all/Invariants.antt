@@ -10,7 +10,8 @@ use Rattle.gj_layer.proofs.reading.read_all.Given as goal
 abbrev pub invariant-loop-frame : goal.invariant-loop-frame
 invariant-loop-frame l = record {
   room : HasRoom l.pass (left_in l.frames);
-  going : (wanted : Result Part LayerFault) → Going l.exact l.doc.nodes l.bytes l.fn.frames l.fn.pass wanted → Going l.exact l.doc.nodes l.bytes l.frames l.pass wanted;
+  going : (wanted : Result Part LayerFault) → Going l.exact l.doc.nodes l.bytes l.fn.frames l.fn.pass wanted
+      → Going l.exact l.doc.nodes l.bytes l.frames l.pass wanted;
 }
 
 abbrev pub decreases-loop-frame : goal.decreases-loop-frame

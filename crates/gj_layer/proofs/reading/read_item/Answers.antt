@@ -20,18 +20,22 @@ pub returns-in_err-read_path-in-Path-clause-takes : goal.returns-in_err-read_pat
 returns-in_err-read_path-in-Path-clause-takes c start is part h held =
     let nodes = c.args.doc.now.nodes in let bytes = c.args.bytes.now in
     let fault = c.in_err-read_path-in-Path.field-0.0 in
-    takes_fault nodes bytes c.args.exact part _ c.from_residual-in_err-read_path-in-Path.result (reading c.args.exact c.args.form (length part.paths) start is) fault
+    takes_fault nodes bytes c.args.exact part _ c.from_residual-in_err-read_path-in-Path.result
+    (reading c.args.exact c.args.form (length part.paths) start is) fault
     (passed_on fault c.from_residual-in_err-read_path-in-Path.result c.from_residual-in_err-read_path-in-Path.ensures.1)
-    (λ memory. ap (λ f. reading c.args.exact f (length part.paths) start is) c.in-Path.is ∙ path_read c.args.exact c.in-Path.trace (length part.paths) start is
+    (λ memory. ap (λ f. reading c.args.exact f (length part.paths) start is) c.in-Path.is
+    ∙ path_read c.args.exact c.in-Path.trace (length part.paths) start is
     ∙ c.in_err-read_path-in-Path.ensures.path start is part h held memory)
 
 pub returns-in_err-frame-in-List-clause-takes : goal.returns-in_err-frame-in-List-clause-takes
 returns-in_err-frame-in-List-clause-takes c start is part h held =
     let nodes = c.args.doc.now.nodes in let bytes = c.args.bytes.now in
     let fault = c.in_err-frame-in-List.field-0.0 in
-    takes_fault nodes bytes c.args.exact part _ c.from_residual-in_err-frame-in-List.result (reading c.args.exact c.args.form (length part.paths) start is) fault
+    takes_fault nodes bytes c.args.exact part _ c.from_residual-in_err-frame-in-List.result
+    (reading c.args.exact c.args.form (length part.paths) start is) fault
     (passed_on fault c.from_residual-in_err-frame-in-List.result c.from_residual-in_err-frame-in-List.ensures.1)
-    (λ memory. ap (λ f. reading c.args.exact f (length part.paths) start is) c.in-List.is ∙ c.in_err-frame-in-List.ensures.opens bytes c.args.exact start is part h)
+    (λ memory. ap (λ f. reading c.args.exact f (length part.paths) start is) c.in-List.is
+    ∙ c.in_err-frame-in-List.ensures.opens bytes c.args.exact start is part h)
 
 pub returns-in_ok-frame-in-Object-clause-takes : goal.returns-in_ok-frame-in-Object-clause-takes
 returns-in_ok-frame-in-Object-clause-takes c start is part h held =
@@ -40,10 +44,15 @@ returns-in_ok-frame-in-Object-clause-takes c start is part h held =
 
 pub returns-in_ok-read_path-in-Path-clause-takes : goal.returns-in_ok-read_path-in-Path-clause-takes
 returns-in_ok-read_path-in-Path-clause-takes c start is part h held =
-    let (more, read, holds) = c.in_ok-read_path-in-Path.ensures.path start is part h held in
-    (more, ap (λ f. reading c.args.exact f (length part.paths) start is) c.in-Path.is ∙ path_read c.args.exact c.in-Path.trace (length part.paths) start is ∙ read, holds)
+    let (more, read, holds) = c.in_ok-read_path-in-Path.ensures.path start is part h held in (
+      more,
+      ap (λ f. reading c.args.exact f (length part.paths) start is) c.in-Path.is
+          ∙ path_read c.args.exact c.in-Path.trace (length part.paths) start is ∙ read,
+      holds,
+    )
 
 pub returns-in_ok-frame-in-List-clause-takes : goal.returns-in_ok-frame-in-List-clause-takes
 returns-in_ok-frame-in-List-clause-takes c start is part h held =
-    let (level, frame, none, whole) = c.in_ok-frame-in-List.ensures.opens c.args.bytes.now c.args.exact start is part h in
+    let (level, frame, none, whole) = c.in_ok-frame-in-List.ensures.opens c.args.bytes.now c.args.exact start is part
+    h in
     ((level, frame, none, ap (λ f. reading c.args.exact f (length part.paths) start is) c.in-List.is ∙ whole), held)

@@ -10,20 +10,26 @@ pub end_object-requires-clause-edits : goal.end_object-requires-clause-edits
 end_object-requires-clause-edits c =
     let (nodes, bytes, frames, exact, going) = c.requires.going in
     let ends = end_there exact nodes bytes c.args.frame going.0 c.requires.ended frames c.args.pass.now going.1 in
-    let (own, own_is, is) = ending_some c.args.frame.ending c.in-Some.ending ends.own (length ends.before.paths) ends.before c.in-Some.is ends.ending_is in
+    let (own, own_is, is) = ending_some c.args.frame.ending c.in-Some.ending ends.own (length ends.before.paths)
+    ends.before c.in-Some.is ends.ending_is in
     omega (arith, is.edits, edits_within c.args.pass.now ends.before ends.done ends.held)
 
 pub returns-in_ok-end_object-in-Some-clause-goes : goal.returns-in_ok-end_object-in-Some-clause-goes
 returns-in_ok-end_object-in-Some-clause-goes c nodes bytes frames exact wanted going =
     let ends = end_there exact nodes bytes c.args.frame wanted c.requires.ended frames c.args.pass.now going in
-    let (own, own_is, is) = ending_some c.args.frame.ending c.in-Some.ending ends.own (length ends.before.paths) ends.before c.in-Some.is ends.ending_is in
+    let (own, own_is, is) = ending_some c.args.frame.ending c.in-Some.ending ends.own (length ends.before.paths)
+    ends.before c.in-Some.is ends.ending_is in
     ends.onward c.end_object.new.pass
-    (subst (λ o. Holds c.end_object.new.pass (joined ends.before (ended o (length ends.before.paths) ends.done))) (sym own_is)
-    (c.in_ok-end_object-in-Some.ensures.holds own ends.before ends.done is (λ b. ap (λ (p : Part). p.edits) (ends.bare (subst IsBare (sym own_is) b))) ends.held))
+    (subst (λ o. Holds c.end_object.new.pass (joined ends.before (ended o (length ends.before.paths) ends.done)))
+    (sym own_is)
+    (c.in_ok-end_object-in-Some.ensures.holds own ends.before ends.done is
+    (λ b. ap (λ (p : Part). p.edits) (ends.bare (subst IsBare (sym own_is) b))) ends.held))
 
 pub returns-in-None-clause-goes : goal.returns-in-None-clause-goes
 returns-in-None-clause-goes c nodes bytes frames exact wanted going =
     let ends = end_there exact nodes bytes c.args.frame wanted c.requires.ended frames c.args.pass.now going in
-    let none = ending_none c.args.frame.ending ends.own (length ends.before.paths) ends.before c.in-None.is ends.ending_is in
+    let none = ending_none c.args.frame.ending ends.own (length ends.before.paths) ends.before c.in-None.is
+    ends.ending_is in
     ends.onward c.args.pass.now
-    (subst (λ o. Holds c.args.pass.now (joined ends.before (ended o (length ends.before.paths) ends.done))) (sym none) ends.held)
+    (subst (λ o. Holds c.args.pass.now (joined ends.before (ended o (length ends.before.paths) ends.done))) (sym none)
+    ends.held)

@@ -14,5 +14,6 @@ returns c =
     let images = c.args.images.now in
     let done : drop c.loop-row.row-index rows ≡ [] = drop_all c.loop-row.row-index rows c.loop-row-test.false in
     let is : c.loop-row.bounds ≡ widened_by None (flat_map (row_images images) rows) =
-    sym (ap (λ (rest : List PathRow). widened_by c.loop-row.bounds (flat_map (row_images images) rest)) done) ∙ c.loop-row.invariant in
+    sym (ap (λ (rest : List PathRow). widened_by c.loop-row.bounds (flat_map (row_images images) rest)) done)
+    ∙ c.loop-row.invariant in
     ap bounded_text is ∙ bounds_are (flat_map (row_images images) rows)

@@ -6,7 +6,8 @@ use mir.Syntax.{w64}
 use Rattle.gj_layer.specs.Texts.{pair_text}
 use Rattle.gj_layer.proofs.texts.push_box.Goals as goal
 
-joined_box : (out a b : List ℕ) → (((((out ++ 91 ∷ []) ++ a) ++ 44 ∷ []) ++ b) ++ 93 ∷ []) ≡ out ++ (91 ∷ (a ++ (44 ∷ (b ++ 93 ∷ []))))
+joined_box : (out a b : List ℕ) → (((((out ++ 91 ∷ []) ++ a) ++ 44 ∷ []) ++ b) ++ 93 ∷ []) ≡ out
+    ++ (91 ∷ (a ++ (44 ∷ (b ++ 93 ∷ []))))
 joined_box out a b = simp append_assoc
 
 pub returns : goal.returns
@@ -21,4 +22,5 @@ returns c =
     (second ∙ ap (λ t. t ++ pair_text c.args.bounds.x1 c.args.bounds.y1)
     (c.in_ok-push-2.ensures.items ∙ ap (λ t. t ++ 44 ∷ [])
     (first ∙ ap (λ t. t ++ pair_text c.args.bounds.x0 c.args.bounds.y0) c.in_ok-push.ensures.items)))
-    ∙ joined_box c.args.out.now.items (pair_text c.args.bounds.x0 c.args.bounds.y0) (pair_text c.args.bounds.x1 c.args.bounds.y1)
+    ∙ joined_box c.args.out.now.items (pair_text c.args.bounds.x0 c.args.bounds.y0)
+    (pair_text c.args.bounds.x1 c.args.bounds.y1)

@@ -4,7 +4,8 @@ use Rattle.std.specs.List.{list_any}
 use Rattle.std.specs.Str.{bytes_eq}
 use Rattle.job_words.specs.declared.faults.WordsFault.TheVariants.{SameName}
 use Rattle.job_words.specs.Names.{last_part}
-use Rattle.job_words.proofs.Again.{Scanned, among-behind, behind, next-text, part-at, parts-length, put-behind, text-again}
+use Rattle.job_words.proofs.Again.{Scanned, among-behind, behind, next-text, part-at, parts-length, put-behind}
+use Rattle.job_words.proofs.Again.{text-again}
 use Rattle.job_words.proofs.Deciding.{not-false, not-true}
 use Rattle.job_words.proofs.checks.check_last_parts.Goals as goal
 
@@ -16,8 +17,10 @@ returns-then-not-is_new c =
     let parts = map last_part (behind c.args.layers.now) in
     let within : number < length parts = rw (parts-length c.args.layers.now) c.loop-number-test.true in
     let is = c.last_part-part.ensures ∙ sym (part-at c.args.layers.now number _ part c.loop-number-test.true) in
-    let known : list_any (λ other. bytes_eq part other.now) keys ≡ true = not-false _ (sym c.if-not-is_new.true ∙ c.in_ok-is_new.ensures.added) in
-    inr (ap (option_map SameName) (text-again (behind keys) parts number part c.loop-number.invariant within is (sym (among-behind part keys) ∙ known)))
+    let known : list_any (λ other. bytes_eq part other.now) keys ≡ true =
+    not-false _ (sym c.if-not-is_new.true ∙ c.in_ok-is_new.ensures.added) in
+    inr (ap (option_map SameName) (text-again (behind keys) parts number part c.loop-number.invariant within is
+    (sym (among-behind part keys) ∙ known)))
 
 pub loop-number-preserved : goal.loop-number-preserved
 loop-number-preserved c =
@@ -27,7 +30,9 @@ loop-number-preserved c =
     let parts = map last_part (behind c.args.layers.now) in
     let within : number < length parts = rw (parts-length c.args.layers.now) c.loop-number-test.true in
     let is = c.last_part-part.ensures ∙ sym (part-at c.args.layers.now number _ part c.loop-number-test.true) in
-    let new : list_any (λ other. bytes_eq part other.now) keys ≡ false = not-true _ (sym c.if-not-is_new.false ∙ c.in_ok-is_new.ensures.added) in
-    let scanned = next-text (behind keys) parts number part c.loop-number.invariant within is (sym (among-behind part keys) ∙ new) in
+    let new : list_any (λ other. bytes_eq part other.now) keys ≡ false =
+    not-true _ (sym c.if-not-is_new.false ∙ c.in_ok-is_new.ensures.added) in
+    let scanned = next-text (behind keys) parts number part c.loop-number.invariant within is
+    (sym (among-behind part keys) ∙ new) in
     let now = ap behind c.in_ok-is_new.ensures.keys ∙ put-behind keys c.last_part-part.result new in
     subst (λ (seen : List (List ℕ)). Scanned seen parts (number + 1)) (sym now) scanned

@@ -5,4 +5,5 @@ use Rattle.job_words.proofs.Again.{Scanned}
 use Rattle.job_words.proofs.checks.check_last_parts.Given as goal
 
 abbrev pub invariant-loop-number : goal.invariant-loop-number
-invariant-loop-number l = Scanned (map (λ part. part.now) l.parts.keys) (map last_part (map (λ layer. layer.now) l.layers)) l.number
+invariant-loop-number l = Scanned (map (λ part. part.now) l.parts.keys)
+    (map last_part (map (λ layer. layer.now) l.layers)) l.number

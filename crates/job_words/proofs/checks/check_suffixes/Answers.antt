@@ -7,10 +7,12 @@ use Rattle.job_words.proofs.checks.check_suffixes.Goals as goal
 
 pub returns-in-Some : goal.returns-in-Some
 returns-in-Some c =
-    let place = position-map (λ name. not (is_some (format_of name))) (λ (layer : Bor (List ℕ)). layer.now) c.args.layers.now in
+    let place = position-map (λ name. not (is_some (format_of name))) (λ (layer : Bor (List ℕ)). layer.now)
+    c.args.layers.now in
     inr (ap (option_map Suffix) (sym (c.in-Some.ensures.first ∙ place)))
 
 pub returns-in-None : goal.returns-in-None
 returns-in-None c =
-    let place = position-map (λ name. not (is_some (format_of name))) (λ (layer : Bor (List ℕ)). layer.now) c.args.layers.now in
+    let place = position-map (λ name. not (is_some (format_of name))) (λ (layer : Bor (List ℕ)). layer.now)
+    c.args.layers.now in
     ap (option_map Suffix) (sym (c.in-None.ensures.first ∙ place))

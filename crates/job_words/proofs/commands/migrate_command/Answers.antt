@@ -5,7 +5,8 @@ use Rattle.job_words.proofs.commands.migrate_command.Goals as goal
 
 pub returns : goal.returns
 returns c =
-    let start = ap app_of_fields c.disable_help_flag.ensures ∙ ap (on_top (λ (shape : Shape). record shape { disable_help_flag = true })) c.new.ensures.app in
+    let start = ap app_of_fields c.disable_help_flag.ensures
+    ∙ ap (on_top (λ (shape : Shape). record shape { disable_help_flag = true })) c.new.ensures.app in
     let tin = c.in_ok-arg.ensures.shape c.option.ensures.local ∙ ap₂ with_rule start c.option.ensures.rule in
     let out = c.in_ok-arg-2.ensures.shape c.option-2.ensures.local ∙ ap₂ with_rule tin c.option-2.ensures.rule in
     let inverse = c.in_ok-arg-3.ensures.shape c.flag.ensures.local ∙ ap₂ with_rule out c.flag.ensures.rule in

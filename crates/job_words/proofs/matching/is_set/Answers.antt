@@ -9,5 +9,7 @@ use Rattle.job_words.proofs.matching.is_set.Goals as goal
 
 pub returns : goal.returns
 returns c =
-    let read = flag-read _ (one_text (found_of c.args.matches.now) c.args.id.now) c.get_one.result c.get_one.ensures.none c.get_one.ensures.value in
-    c.unwrap_or.ensures ∙ read ∙ ap (λ text. option_map_or (bytes_eq (codes "true")) text false) (one_text-rows (found_of c.args.matches.now) c.args.id.now)
+    let read = flag-read _ (one_text (found_of c.args.matches.now) c.args.id.now) c.get_one.result
+    c.get_one.ensures.none c.get_one.ensures.value in
+    c.unwrap_or.ensures ∙ read ∙ ap (λ text. option_map_or (bytes_eq (codes "true")) text false)
+    (one_text-rows (found_of c.args.matches.now) c.args.id.now)

@@ -10,7 +10,8 @@ use Rattle.job_words.proofs.Refusals.{refused}
 use Rattle.job_words.proofs.SimpleCommands.{simple-and-free}
 use Rattle.job_words.proofs.matching.read_matches.Goals as goal
 
-if-error : {T E : Type 0} (P Q : E → Type 0) (answer : Result T E) → IsErrAnd answer P → ((e : E) → P e → Q e) → IfErr answer Q
+if-error : {T E : Type 0} (P Q : E → Type 0) (answer : Result T E) → IsErrAnd answer P → ((e : E) → P e → Q e)
+    → IfErr answer Q
 if-error P Q (Ok v) is follows = tt
 if-error P Q (Err e) is follows = follows e is
 
@@ -19,9 +20,14 @@ returns-in_err-matches-clause-refused c =
     let mode = c.args.mode in
     let words = map string_bytes c.args.words.now in
     let simple = ap is_simple_and_free c.in_ok-command.ensures ∙ simple-and-free mode in
-    let kinds = subst (λ (app : App). HasKind (fault_of app words) c.in_err-matches.field-0.0) c.in_ok-command.ensures (c.in_err-matches.ensures.kinds simple) in
+    let kinds = subst (λ (app : App). HasKind (fault_of app words) c.in_err-matches.field-0.0) c.in_ok-command.ensures
+    (c.in_err-matches.ensures.kinds simple) in
     if-error _ _ c.from_residual-in_err-matches.result c.from_residual-in_err-matches.ensures.1
     (λ fault is. elim (refused (fault_of (command_for mode) words) c.in_err-matches.field-0.0 fault kinds is) [
       | inl memory ↦ inl memory
-      | inr parse ↦ inr (parse.0, ap (λ none. if none then Some (matches_of (command_for mode) words) else None) parse.1)
+      | inr parse ↦ inr (
+        parse.0,
+        ap (λ none. if none then Some (matches_of (command_for mode) words) else None)
+            parse.1,
+      )
     ])

@@ -8,4 +8,5 @@ use Rattle.job_words.proofs.matching.text_in.Goals as goal
 pub returns : goal.returns
 returns c =
     let is = ap (λ text. text.now) c.unwrap_or.ensures ∙ text-or c.get_str.result _ in
-    is ∙ ap (λ text. unwrap_or text []) (c.get_str.ensures ∙ first_value-rows (found_of c.args.matches.now) c.args.id.now)
+    is ∙ ap (λ text. unwrap_or text []) (c.get_str.ensures
+    ∙ first_value-rows (found_of c.args.matches.now) c.args.id.now)

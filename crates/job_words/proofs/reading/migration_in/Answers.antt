@@ -16,22 +16,27 @@ pub returns-in_err-check_migration : goal.returns-in_err-check_migration
 returns-in_err-check_migration c =
     let rows = rows_of (found_of c.args.matches.now) in
     let texts = ap behind (ap (λ t. t.now) c.unwrap_or-layers.ensures) ∙ texts-or c.get_strs.result _ refl in
-    let named : AreNamed rows c.text_in-tin.result.now c.text_in-out.result.now (behind c.unwrap_or-layers.result.now) = record {
+    let named : AreNamed rows c.text_in-tin.result.now c.text_in-out.result.now (behind c.unwrap_or-layers.result.now) =
+    record {
       tin = c.text_in-tin.ensures;
       out = c.text_in-out.ensures;
-      layers = texts ∙ ap (λ t. unwrap_or t []) (c.get_strs.ensures ∙ raw_values-rows (found_of c.args.matches.now) (codes "layer"));
+      layers = texts ∙ ap (λ t. unwrap_or t [])
+          (c.get_strs.ensures ∙ raw_values-rows (found_of c.args.matches.now) (codes "layer"));
     } in
     let refused = names-refused rows _ _ _ c.in_err-check_migration.field-0.0 named c.in_err-check_migration.ensures in
-    subst (λ (answer : Result Job WordsFault). IsAnswer (job_in Migrate rows) answer) (sym (handed-on c.from_residual.result _ c.from_residual.ensures.1)) refused
+    subst (λ (answer : Result Job WordsFault). IsAnswer (job_in Migrate rows) answer)
+    (sym (handed-on c.from_residual.result _ c.from_residual.ensures.1)) refused
 
 pub returns : goal.returns
 returns c =
     let rows = rows_of (found_of c.args.matches.now) in
     let texts = ap behind (ap (λ t. t.now) c.unwrap_or-layers.ensures) ∙ texts-or c.get_strs.result _ refl in
-    let named : AreNamed rows c.text_in-tin.result.now c.text_in-out.result.now (behind c.unwrap_or-layers.result.now) = record {
+    let named : AreNamed rows c.text_in-tin.result.now c.text_in-out.result.now (behind c.unwrap_or-layers.result.now) =
+    record {
       tin = c.text_in-tin.ensures;
       out = c.text_in-out.ensures;
-      layers = texts ∙ ap (λ t. unwrap_or t []) (c.get_strs.ensures ∙ raw_values-rows (found_of c.args.matches.now) (codes "layer"));
+      layers = texts ∙ ap (λ t. unwrap_or t [])
+          (c.get_strs.ensures ∙ raw_values-rows (found_of c.args.matches.now) (codes "layer"));
     } in
     let kept : AreNamed rows c.in_ok-of.field-0 c.in_ok-of-2.field-0 c.in_ok-names_of.field-0 = record {
       tin = c.in_ok-of.ensures ∙ named.tin;

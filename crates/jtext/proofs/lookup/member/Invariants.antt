@@ -9,8 +9,10 @@ use Rattle.jtext.proofs.lookup.member.Given as goal
 abbrev pub invariant-loop-at : goal.invariant-loop-at
 invariant-loop-at l = record {
   same_nodes : l.nodes ≡ l.doc.nodes;
-  going : (start : ℕ) (blank : List ℕ) (members : Members) → Stands l.doc.nodes l.bytes l.object start (Json.object blank members)
-      → Going l.doc.nodes l.bytes l.key l.end l.at l.found (entries_at (l.object + 1) (inner_place start blank) members);
+  going : (start : ℕ) (blank : List ℕ) (members : Members)
+      → Stands l.doc.nodes l.bytes l.object start (Json.object blank members)
+      → Going l.doc.nodes l.bytes l.key l.end l.at l.found
+      (entries_at (l.object + 1) (inner_place start blank) members);
 }
 
 abbrev pub decreases-loop-at : goal.decreases-loop-at

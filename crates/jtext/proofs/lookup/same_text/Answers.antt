@@ -20,7 +20,10 @@ between_marks-requires-clause-within c =
 pub returns-in-Text : goal.returns-in-Text
 returns-in-Text c start value s =
     let kind : (get_or c.args.doc.now.nodes c.args.node no_node).kind ≡ Text = rw c.items.ensures at c.in-Text.is in
-    let raw : c.between_marks.result.now ≡ slice_range c.args.bytes.now ((get_or c.args.doc.now.nodes c.args.node no_node).start + 1) ((get_or c.args.doc.now.nodes c.args.node no_node).end - 1) =
+    let raw : c.between_marks.result.now ≡ slice_range c.args.bytes.now
+    ((get_or c.args.doc.now.nodes c.args.node no_node).start + 1)
+    ((get_or c.args.doc.now.nodes c.args.node no_node).end - 1) =
     rw c.items.ensures at c.between_marks.ensures in
-    says_value c.args.doc.now.nodes c.args.bytes.now c.args.node start value no_node c.args.text.now c.says.result c.requires.node s kind
+    says_value c.args.doc.now.nodes c.args.bytes.now c.args.node start value no_node c.args.text.now c.says.result
+    c.requires.node s kind
     (λ chars all is. c.says.ensures chars all (raw ∙ is))

@@ -8,5 +8,6 @@ pub loop-at-preserved : goal.loop-at-preserved
 loop-at-preserved c = record {
   begun = omega arith;
   within = omega arith;
-  digits = all_more IsDigit c.args.bytes.now c.args.from c.loop-at.at (omega arith) (omega arith) c.loop-at.invariant.digits (c.is_digit.ensures.0 c.if-is_digit.true);
+  digits = all_more IsDigit c.args.bytes.now c.args.from c.loop-at.at (omega arith) (omega arith)
+      c.loop-at.invariant.digits (c.is_digit.ensures.0 c.if-is_digit.true);
 }

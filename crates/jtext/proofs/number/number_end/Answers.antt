@@ -10,7 +10,9 @@ loop-at-preserved c =
     record {
       begun = omega (arith, digits.ensures.within.0);
       within = omega (arith, digits.ensures.within.1);
-      passes = passes_on number_step c.args.first c.args.bytes.now c.args.from (c.loop-at.at + 1) digits.result c.in-Some.next c.in-Some.next (omega arith) digits.ensures.within.0 digits.ensures.within.1
-          (passes_more number_step c.args.first c.args.bytes.now c.args.from c.loop-at.at c.loop-at.place c.in-Some.next (omega arith) (omega arith) c.loop-at.invariant.passes (sym c.after.ensures ∙ c.in-Some.is))
+      passes = passes_on number_step c.args.first c.args.bytes.now c.args.from (c.loop-at.at + 1) digits.result
+          c.in-Some.next c.in-Some.next (omega arith) digits.ensures.within.0 digits.ensures.within.1
+          (passes_more number_step c.args.first c.args.bytes.now c.args.from c.loop-at.at c.loop-at.place c.in-Some.next
+          (omega arith) (omega arith) c.loop-at.invariant.passes (sym c.after.ensures ∙ c.in-Some.is))
           digits.ensures.passes;
     }

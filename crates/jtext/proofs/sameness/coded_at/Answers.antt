@@ -9,5 +9,6 @@ returns-then-raw-at-lt4-clause-unit c char rest is text =
 
 pub returns-clause-unit : goal.returns-clause-unit
 returns-clause-unit c char rest is text =
-    coded_value c.args.raw.now c.args.at char rest (omega arith) is text c.digit_of.result c.digit_of-2.result c.digit_of-3.result c.digit_of-4.result
+    coded_value c.args.raw.now c.args.at char rest (omega arith) is text c.digit_of.result c.digit_of-2.result
+    c.digit_of-3.result c.digit_of-4.result
     c.digit_of.ensures.value c.digit_of-2.ensures.value c.digit_of-3.ensures.value c.digit_of-4.ensures.value

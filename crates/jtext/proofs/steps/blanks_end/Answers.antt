@@ -8,5 +8,6 @@ pub loop-at-preserved : goal.loop-at-preserved
 loop-at-preserved c = record {
   begun = omega arith;
   within = omega arith;
-  blank = all_more IsBlank c.args.bytes.now c.args.from c.loop-at.at (omega arith) (omega arith) c.loop-at.invariant.blank (c.is_blank.ensures.0 c.if-is_blank.true);
+  blank = all_more IsBlank c.args.bytes.now c.args.from c.loop-at.at (omega arith) (omega arith)
+      c.loop-at.invariant.blank (c.is_blank.ensures.0 c.if-is_blank.true);
 }

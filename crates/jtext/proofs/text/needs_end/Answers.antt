@@ -10,7 +10,10 @@ pub loop-need-preserved : goal.loop-need-preserved
 loop-need-preserved c = record {
   place = omega arith;
   within = omega arith;
-  passes = passes_more inner_step (needing c.args.needs.now) c.args.bytes.now c.args.from c.loop-need.at (needing (drop c.loop-need.need-index c.args.needs.now))
-      (needing (drop (c.loop-need.need-index + 1) c.args.needs.now)) (omega arith) (omega arith) c.loop-need.invariant.passes
-      (need_goes c.args.needs.now c.loop-need.need-index (get_or c.args.bytes.now c.loop-need.at 0) Tail (omega arith) (sym c.takes.ensures ∙ c.if-not-takes.false));
+  passes = passes_more inner_step (needing c.args.needs.now) c.args.bytes.now c.args.from c.loop-need.at
+      (needing (drop c.loop-need.need-index c.args.needs.now))
+      (needing (drop (c.loop-need.need-index + 1) c.args.needs.now)) (omega arith) (omega arith)
+      c.loop-need.invariant.passes
+      (need_goes c.args.needs.now c.loop-need.need-index (get_or c.args.bytes.now c.loop-need.at 0) Tail (omega arith)
+      (sym c.takes.ensures ∙ c.if-not-takes.false));
 }

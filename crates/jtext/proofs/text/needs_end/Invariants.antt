@@ -9,5 +9,6 @@ abbrev pub invariant-loop-need : goal.invariant-loop-need
 invariant-loop-need l = record {
   place : l.at ≡ l.from + l.need-index;
   within : l.at ≤ length l.bytes;
-  passes : run inner_step (needing l.needs) (slice_range l.bytes l.from l.at) ≡ Some (needing (drop l.need-index l.needs));
+  passes : run inner_step (needing l.needs) (slice_range l.bytes l.from l.at)
+      ≡ Some (needing (drop l.need-index l.needs));
 }

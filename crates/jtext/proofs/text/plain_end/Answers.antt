@@ -8,6 +8,7 @@ pub loop-at-preserved : goal.loop-at-preserved
 loop-at-preserved c = record {
   begun = omega arith;
   within = omega arith;
-  passes = passes_more inner_step Inner.plain c.args.bytes.now c.args.from c.loop-at.at Inner.plain Inner.plain (omega arith) (omega arith) c.loop-at.invariant.passes
+  passes = passes_more inner_step Inner.plain c.args.bytes.now c.args.from c.loop-at.at Inner.plain Inner.plain
+      (omega arith) (omega arith) c.loop-at.invariant.passes
       (ap after_text_sign (sym c.of.ensures ∙ c.is_plain.ensures.0 c.if-is_plain.true));
 }

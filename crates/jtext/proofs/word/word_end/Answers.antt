@@ -22,14 +22,17 @@ returns-then-bytes-at c = (
   drop c.loop-letter.letter-index c.args.word.now,
   c.loop-letter.invariant.passes,
   word_open c.args.word.now c.loop-letter.letter-index c.loop-letter-test.true,
-  λ within. word_stops c.args.word.now c.loop-letter.letter-index (get_or c.args.bytes.now c.loop-letter.at 0) c.loop-letter-test.true c.if-bytes-at.true,
+  λ within. word_stops c.args.word.now c.loop-letter.letter-index (get_or c.args.bytes.now c.loop-letter.at 0)
+      c.loop-letter-test.true c.if-bytes-at.true,
 )
 
 pub loop-letter-preserved : goal.loop-letter-preserved
 loop-letter-preserved c = record {
   place = omega arith;
   within = omega arith;
-  passes = passes_more word_step c.args.word.now c.args.bytes.now c.args.from c.loop-letter.at (drop c.loop-letter.letter-index c.args.word.now)
+  passes = passes_more word_step c.args.word.now c.args.bytes.now c.args.from c.loop-letter.at
+      (drop c.loop-letter.letter-index c.args.word.now)
       (drop (c.loop-letter.letter-index + 1) c.args.word.now) (omega arith) (omega arith) c.loop-letter.invariant.passes
-      (word_goes c.args.word.now c.loop-letter.letter-index (get_or c.args.bytes.now c.loop-letter.at 0) (omega arith) c.if-bytes-at.false);
+      (word_goes c.args.word.now c.loop-letter.letter-index (get_or c.args.bytes.now c.loop-letter.at 0) (omega arith)
+      c.if-bytes-at.false);
 }

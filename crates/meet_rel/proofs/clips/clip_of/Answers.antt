@@ -11,4 +11,5 @@ pub returns-clause-proper : goal.returns-clause-proper
 returns-clause-proper c =
     let piece = c.args.piece.now in
     let clip : Clip = record { a = piece.a; b = piece.b; tri = c.tri.result } in
-    proper_of c.args.tin.now piece clip c.tri.ensures.limits c.requires (record { a_is = refl; b_is = refl; tri_is = c.tri.ensures.corners }) c.tri.ensures.near c.tri.ensures.positive
+    proper_of c.args.tin.now piece clip c.tri.ensures.limits c.requires
+    (record { a_is = refl; b_is = refl; tri_is = c.tri.ensures.corners }) c.tri.ensures.near c.tri.ensures.positive

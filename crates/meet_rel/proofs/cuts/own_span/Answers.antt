@@ -11,16 +11,19 @@ pub returns-clause-cut : goal.returns-clause-cut
 returns-clause-cut c =
     let clip = c.args.clip.now in
     own_cut clip (different_of clip.a clip.b c.requires.differ) c.unwrap-stretch.result
-    (common_of clip.a clip.b clip.tri c.slice.result c.unwrap-stretch.result c.slice.ensures.common c.unwrap-stretch.ensures)
+    (common_of clip.a clip.b clip.tri c.slice.result c.unwrap-stretch.result c.slice.ensures.common
+    c.unwrap-stretch.ensures)
 
 pub returns-clause-lo : goal.returns-clause-lo
 returns-clause-lo c =
     let clip = c.args.clip.now in
-    let common = common_of clip.a clip.b clip.tri c.slice.result c.unwrap-stretch.result c.slice.ensures.common c.unwrap-stretch.ensures in
+    let common = common_of clip.a clip.b clip.tri c.slice.result c.unwrap-stretch.result c.slice.ensures.common
+    c.unwrap-stretch.ensures in
     common.0.0
 
 pub returns-clause-hi : goal.returns-clause-hi
 returns-clause-hi c =
     let clip = c.args.clip.now in
-    let common = common_of clip.a clip.b clip.tri c.slice.result c.unwrap-stretch.result c.slice.ensures.common c.unwrap-stretch.ensures in
+    let common = common_of clip.a clip.b clip.tri c.slice.result c.unwrap-stretch.result c.slice.ensures.common
+    c.unwrap-stretch.ensures in
     common.1.0

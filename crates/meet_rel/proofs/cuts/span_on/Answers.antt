@@ -6,14 +6,17 @@ use Rattle.meet_rel.proofs.cuts.span_on.Goals as goal
 
 pub unwrap-stretch-requires : goal.unwrap-stretch-requires
 unwrap-stretch-requires c =
-    way_some c.args.clip.now c.args.u c.args.v c.param_on-a.result c.param_on-b.result c.slice.result c.requires.proper c.param_on-a.ensures c.param_on-b.ensures c.slice.ensures.common
+    way_some c.args.clip.now c.args.u c.args.v c.param_on-a.result c.param_on-b.result c.slice.result c.requires.proper
+    c.param_on-a.ensures c.param_on-b.ensures c.slice.ensures.common
 
 pub returns : goal.returns
 returns c =
     let clip = c.args.clip.now in let u = c.args.u in let v = c.args.v in let s = c.unwrap-stretch.result in
-    let near = c.earlier.ensures in let far = c.later-2.ensures in let lo = c.later.ensures in let hi = c.earlier-2.ensures in
+    let near = c.earlier.ensures in let far = c.later-2.ensures in let lo = c.later.ensures in let hi =
+    c.earlier-2.ensures in
     let proper = c.requires.proper in
-    cut_on clip u v s c.param_on-a.result c.param_on-b.result c.earlier.result c.later-2.result c.later.result c.earlier-2.result
+    cut_on clip u v s c.param_on-a.result c.param_on-b.result c.earlier.result c.later-2.result c.later.result
+    c.earlier-2.result
     (record {
       different = different_before u v c.requires.before;
       common = common_of u v clip.tri c.slice.result s c.slice.ensures.common c.unwrap-stretch.ensures;

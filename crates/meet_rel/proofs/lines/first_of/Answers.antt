@@ -10,4 +10,5 @@ returns c =
     let a = c.ranges.a in let b = c.ranges.b in let d = c.ranges.c in let e = c.ranges.d in
     let f : SFits w64 c.min.result = search rules in let g : SFits w64 c.min-2.result = search rules in
     let h : SFits w64 c.max.result = search rules in
-    simp to_z-of_z ((simp to_z-of_z at c.max.ensures.value) ∙ ap₂ int_max (simp to_z-of_z at c.min.ensures.value) (simp to_z-of_z at c.min-2.ensures.value))
+    simp to_z-of_z ((simp to_z-of_z at c.max.ensures.value)
+    ∙ ap₂ int_max (simp to_z-of_z at c.min.ensures.value) (simp to_z-of_z at c.min-2.ensures.value))

@@ -24,4 +24,5 @@ returns-else-are_same c =
     let fd : SFits w64 d.x = search rules in let fe : SFits w64 e.x = search rules in
     let h = simp to_z-of_z at c.are_same.ensures in
     let k = simp to_z-of_z at c.rel_of_spans-else-are_same.ensures in
-    by_first a b d e c.requires (λ i j l. false≢true (sym c.if-are_same.false ∙ h.1 (i, j, l))) c.rel_of_spans-else-are_same.result k
+    by_first a b d e c.requires (λ i j l. false≢true (sym c.if-are_same.false ∙ h.1 (i, j, l)))
+    c.rel_of_spans-else-are_same.result k

@@ -14,22 +14,28 @@ returns-then-of_start-ne0 c =
     let fs : SFits w128 s = search rules in let ft : SFits w128 t = search rules in
     let e : s ≡ t = sym (to_z-of_z w128 s fs) ∙ ap (to_z w128) c.if-of_start-of_end.false ∙ to_z-of_z w128 t ft in
     apart_told p q (apart_by_second p.a p.b q.a q.b
-    (side_moved s t _ _ c.turn-of_start.ensures.value c.turn-of_end.ensures.value (one_side s t e (λ (z : s ≡ pos 0). c.if-of_start-ne0.true (ap (of_z w128) z)))))
+    (side_moved s t _ _ c.turn-of_start.ensures.value c.turn-of_end.ensures.value
+    (one_side s t e (λ (z : s ≡ pos 0). c.if-of_start-ne0.true (ap (of_z w128) z)))))
 
 pub returns-then-turn-ne0 : goal.returns-then-turn-ne0
 returns-then-turn-ne0 c =
-    let p = c.args.p.now in let q = c.args.q.now in let s = c.turn-of_start.result in let t = c.turn-of_end.result in let u = c.turn.result in
+    let p = c.args.p.now in let q = c.args.q.now in let s = c.turn-of_start.result in let t =
+    c.turn-of_end.result in let u = c.turn.result in
     let fs : SFits w128 s = search rules in let ft : SFits w128 t = search rules in
     let e : s ≡ t = sym (to_z-of_z w128 s fs) ∙ ap (to_z w128) c.if-of_start-of_end.false ∙ to_z-of_z w128 t ft in
-    let same : turn_of (whole q.a) (whole q.b) (whole p.a) ≡ turn_of (whole q.a) (whole q.b) (whole p.b) = other_equal p.a p.b q.a q.b (sym c.turn-of_start.ensures.value ∙ e ∙ c.turn-of_end.ensures.value) in
+    let same : turn_of (whole q.a) (whole q.b) (whole p.a) ≡ turn_of (whole q.a) (whole q.b) (whole p.b) =
+    other_equal p.a p.b q.a q.b (sym c.turn-of_start.ensures.value ∙ e ∙ c.turn-of_end.ensures.value) in
     apart_told p q (apart_by_first p.a p.b q.a q.b
     (one_side (turn_of (whole q.a) (whole q.b) (whole p.a)) (turn_of (whole q.a) (whole q.b) (whole p.b)) same
-    (λ (z : turn_of (whole q.a) (whole q.b) (whole p.a) ≡ pos 0). c.if-turn-ne0.true (ap (of_z w128) (c.turn.ensures.value ∙ z)))))
+    (λ (z : turn_of (whole q.a) (whole q.b) (whole p.a) ≡ pos 0). c.if-turn-ne0.true
+    (ap (of_z w128) (c.turn.ensures.value ∙ z)))))
 
 pub rel_of_cuts-requires-clause-line : goal.rel_of_cuts-requires-clause-line
 rel_of_cuts-requires-clause-line c =
-    let p = c.args.p.now in let q = c.args.q.now in let s = c.turn-of_start.result in let t = c.turn-of_end.result in let u = c.turn.result in
-    let fs : SFits w128 s = search rules in let ft : SFits w128 t = search rules in let fu : SFits w128 u = search rules in
+    let p = c.args.p.now in let q = c.args.q.now in let s = c.turn-of_start.result in let t =
+    c.turn-of_end.result in let u = c.turn.result in
+    let fs : SFits w128 s = search rules in let ft : SFits w128 t = search rules in let fu : SFits w128 u =
+    search rules in
     let e : s ≡ t = sym (to_z-of_z w128 s fs) ∙ ap (to_z w128) c.if-of_start-of_end.false ∙ to_z-of_z w128 t ft in
     let zs : s ≡ pos 0 = sym (to_z-of_z w128 s fs) ∙ ap (to_z w128) c.if-of_start-ne0.false in
     let zu : u ≡ pos 0 = sym (to_z-of_z w128 u fu) ∙ ap (to_z w128) c.if-turn-ne0.false in

@@ -7,7 +7,8 @@ use Rattle.meet_rel.proofs.pieces.piece_rel.Goals as goal
 pub clip_rel-requires-clause-close : goal.clip_rel-requires-clause-close
 clip_rel-requires-clause-close c =
     let i = c.clip_of.ensures in let j = c.clip_of-2.ensures in
-    close_of c.args.tin.now c.args.p.now c.args.q.now c.clip_of.result c.clip_of-2.result i.limits c.requires.p c.requires.q
+    close_of c.args.tin.now c.args.p.now c.args.q.now c.clip_of.result c.clip_of-2.result i.limits c.requires.p
+    c.requires.q
     (record { a_is = i.a; b_is = i.b; tri_is = i.tri }) (record { a_is = j.a; b_is = j.b; tri_is = j.tri })
 
 pub returns : goal.returns

@@ -11,12 +11,15 @@ own_span-requires-clause-differ c = λ e. c.requires.differ (sym c.clip_of.ensur
 
 pub returns-clause-points : goal.returns-clause-points
 returns-clause-points c = λ part of r hr.
-    let piece = c.args.piece.now in let clip = c.clip_of.result in let i = c.clip_of.ensures in let span = c.own_span.result in
+    let piece = c.args.piece.now in let clip = c.clip_of.result in let i = c.clip_of.ensures in let span =
+    c.own_span.result in
     let ends = piece_ends c.args.tin.now piece clip part (record { a_is = i.a; b_is = i.b; tri_is = i.tri }) of in
     let cut : IsCut clip piece.a piece.b span.lo span.hi =
-    subst (λ (b : Pt). IsCut clip piece.a b span.lo span.hi) i.b (subst (λ (a : Pt). IsCut clip a clip.b span.lo span.hi) i.a c.own_span.ensures.cut) in
+    subst (λ (b : Pt). IsCut clip piece.a b span.lo span.hi) i.b
+    (subst (λ (a : Pt). IsCut clip a clip.b span.lo span.hi) i.a c.own_span.ensures.cut) in
     (λ m. cut.back r hr (ends.forth r hr m), λ m. ends.back r hr (cut.forth r hr m))
 
 pub returns-clause-near : goal.returns-clause-near
 returns-clause-near c =
-    let i = c.clip_of.ensures in subst (λ (b : Pt). IsNear c.args.piece.now.a b) i.b (subst (λ (a : Pt). IsNear a c.clip_of.result.b) i.a i.proper.near_ab)
+    let i = c.clip_of.ensures in subst (λ (b : Pt). IsNear c.args.piece.now.a b) i.b
+    (subst (λ (a : Pt). IsNear a c.clip_of.result.b) i.a i.proper.near_ab)

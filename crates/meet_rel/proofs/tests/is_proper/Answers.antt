@@ -14,4 +14,5 @@ pub returns : goal.returns
 returns c = λ h.
     let f : SFits w128 c.turn.result = search rules in
     let above : pos 0 <ℤ c.turn.result = omega (arith, ints) in
-    proper c.args.clip.now c.slice.result c.requires (subst (λ (z : ℤ). pos 0 <ℤ z) c.turn.ensures.value above) c.slice.ensures.common (sym c.is_some.ensures ∙ h)
+    proper c.args.clip.now c.slice.result c.requires (subst (λ (z : ℤ). pos 0 <ℤ z) c.turn.ensures.value above)
+    c.slice.ensures.common (sym c.is_some.ensures ∙ h)

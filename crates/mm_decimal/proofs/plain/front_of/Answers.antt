@@ -26,5 +26,6 @@ loop-count-preserved c =
     let digit : IsDigit (get_or text loop.count 0) = c.if-is_ascii_digit.ensures.cases in (
       omega (arith, c.loop-count-test.true),
       rw c.from.ensures (writes_more text loop.count loop.number c.loop-count-test.true digit loop.invariant.1),
-      rw c.from.ensures (stays_small loop.number loop.count (get_or text loop.count 0 - 48) loop.invariant.2 (omega (arith, digit.1))),
+      rw c.from.ensures (stays_small loop.number loop.count (get_or text loop.count 0 - 48) loop.invariant.2
+          (omega (arith, digit.1))),
     )

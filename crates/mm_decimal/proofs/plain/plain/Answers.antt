@@ -8,7 +8,8 @@ pub returns-in-Some : goal.returns-in-Some
 returns-in-Some c =
     let text = c.args.text.now in
     some_read c.read_of.result true c.in-Some.size text c.read_of.ensures.limit c.read_of.ensures.read
-    (reads_minus text (take (length text - 1) (drop 1 text)) c.in-Some.size (c.if-begins_with.ensures.first refl) (take_rest text 1) c.in-Some.ensures.plain c.in-Some.ensures.short)
+    (reads_minus text (take (length text - 1) (drop 1 text)) c.in-Some.size (c.if-begins_with.ensures.first refl)
+    (take_rest text 1) c.in-Some.ensures.plain c.in-Some.ensures.short)
 
 pub returns-in-Some-size_of : goal.returns-in-Some-size_of
 returns-in-Some-size_of c =

@@ -10,5 +10,7 @@ returns c =
     let digits = pair_at c.args.number in
     puts_then c.args.out.now c.put_byte-at.new.out c.put_byte.new.out c.args.at c.put_byte-at.result c.put_byte.result
     (digit_text (c.args.number / 10)) (digit_text c.args.number)
-    (subst (λ d. Puts c.args.out.now c.put_byte-at.new.out c.args.at c.put_byte-at.result (d ∷ [])) digits.0 c.put_byte-at.ensures)
-    (subst (λ d. Puts c.put_byte-at.new.out c.put_byte.new.out c.put_byte-at.result c.put_byte.result (d ∷ [])) digits.1 c.put_byte.ensures)
+    (subst (λ d. Puts c.args.out.now c.put_byte-at.new.out c.args.at c.put_byte-at.result (d ∷ [])) digits.0
+    c.put_byte-at.ensures)
+    (subst (λ d. Puts c.put_byte-at.new.out c.put_byte.new.out c.put_byte-at.result c.put_byte.result (d ∷ [])) digits.1
+    c.put_byte.ensures)

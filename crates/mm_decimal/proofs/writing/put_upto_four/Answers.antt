@@ -8,10 +8,17 @@ pub put_upto_two-at-requires-clause-room : goal.put_upto_two-at-requires-clause-
 put_upto_two-at-requires-clause-room c = omega (arith, two_longer c.args.number c.if-number-lt100.false (omega arith))
 
 pub put_pair-requires : goal.put_pair-requires
-put_pair-requires c = omega (arith, two_longer c.args.number c.if-number-lt100.false (omega arith), c.put_upto_two-at.ensures.ends)
+put_pair-requires c = omega (
+  arith,
+  two_longer c.args.number c.if-number-lt100.false (omega arith),
+  c.put_upto_two-at.ensures.ends,
+)
 
 pub returns-else-number-lt100 : goal.returns-else-number-lt100
 returns-else-number-lt100 c =
-    subst (Puts c.args.out.now c.put_pair.new.out c.args.at c.put_pair.result) (last_two c.args.number c.if-number-lt100.false (omega arith))
-    (puts_then c.args.out.now c.put_upto_two-at.new.out c.put_pair.new.out c.args.at c.put_upto_two-at.result c.put_pair.result
-    (decimal (c.args.number / 100)) (digit_text (c.args.number / 10) ++ digit_text c.args.number) c.put_upto_two-at.ensures c.put_pair.ensures)
+    subst (Puts c.args.out.now c.put_pair.new.out c.args.at c.put_pair.result)
+    (last_two c.args.number c.if-number-lt100.false (omega arith))
+    (puts_then c.args.out.now c.put_upto_two-at.new.out c.put_pair.new.out c.args.at c.put_upto_two-at.result
+    c.put_pair.result
+    (decimal (c.args.number / 100)) (digit_text (c.args.number / 10) ++ digit_text c.args.number)
+    c.put_upto_two-at.ensures c.put_pair.ensures)

@@ -12,8 +12,10 @@ put_pair-requires c = omega (arith, two_long c.args.number c.if-number-lt10.fals
 
 pub returns-then-number-lt10 : goal.returns-then-number-lt10
 returns-then-number-lt10 c =
-    subst (Puts c.args.out.now c.put_digit.new.out c.args.at c.put_digit.result) (one_digit c.args.number c.if-number-lt10.true) c.put_digit.ensures
+    subst (Puts c.args.out.now c.put_digit.new.out c.args.at c.put_digit.result)
+    (one_digit c.args.number c.if-number-lt10.true) c.put_digit.ensures
 
 pub returns-else-number-lt10 : goal.returns-else-number-lt10
 returns-else-number-lt10 c =
-    subst (Puts c.args.out.now c.put_pair.new.out c.args.at c.put_pair.result) (two_digits c.args.number c.if-number-lt10.false c.requires.few) c.put_pair.ensures
+    subst (Puts c.args.out.now c.put_pair.new.out c.args.at c.put_pair.result)
+    (two_digits c.args.number c.if-number-lt10.false c.requires.few) c.put_pair.ensures

@@ -10,7 +10,8 @@ returns-clause-rest c =
     let d = c.put_byte-at in
     let e = c.put_digit-at in
     let f = c.put_pair in
-    let first = rest_then old a.new.out b.new.out a.result b.result _ a.ensures.puts.rest b.ensures.rest b.ensures.ends in
+    let first = rest_then old a.new.out b.new.out a.result b.result _ a.ensures.puts.rest b.ensures.rest
+    b.ensures.ends in
     let second = rest_then old b.new.out d.new.out b.result d.result _ first d.ensures.rest d.ensures.ends in
     let third = rest_then old d.new.out e.new.out d.result e.result _ second e.ensures.rest e.ensures.ends in
     rest_then old e.new.out f.new.out e.result f.result _ third f.ensures.rest f.ensures.ends

@@ -7,4 +7,5 @@ use Rattle.plane_base.proofs.courses.is_zero_at.Goals as goal
 pub returns-then-course : goal.returns-then-course
 returns-then-course c =
     zero_by_order c.args.course.start c.args.course.end c.zero_of.result c.args.at c.order.result c.eq.result
-    (λ e. c.if-course.true (ap (of_z w128) e)) c.zero_of.ensures.zero c.zero_of.ensures.once c.order.ensures.cases c.eq.ensures
+    (λ e. c.if-course.true (ap (of_z w128) e)) c.zero_of.ensures.zero c.zero_of.ensures.once c.order.ensures.cases
+    c.eq.ensures

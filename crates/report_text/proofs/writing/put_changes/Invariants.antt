@@ -6,4 +6,6 @@ use Rattle.report_text.specs.ReportText.{change_line, text_of_lines}
 use Rattle.report_text.proofs.writing.put_changes.Given as goal
 
 abbrev pub invariant-loop-change : goal.invariant-loop-change
-invariant-loop-change l = (l.out.items ≡ l.initial.out.items ++ text_of_lines (map change_line (take l.change-index l.changes))) × AllByRecursion IsChangeHeld (take l.change-index l.changes)
+invariant-loop-change l = (l.out.items ≡ l.initial.out.items
+    ++ text_of_lines (map change_line (take l.change-index l.changes)))
+    × AllByRecursion IsChangeHeld (take l.change-index l.changes)

@@ -6,4 +6,5 @@ use Rattle.report_text.specs.ReportText.{layer_lines, text_of_lines}
 use Rattle.report_text.proofs.writing.put_layers.Given as goal
 
 abbrev pub invariant-loop-number : goal.invariant-loop-number
-invariant-loop-number l = (l.out.items ≡ l.initial.out.items ++ text_of_lines (layer_lines 0 (take l.number l.rows))) × AllByRecursion IsLayerHeld (take l.number l.rows)
+invariant-loop-number l = (l.out.items ≡ l.initial.out.items ++ text_of_lines (layer_lines 0 (take l.number l.rows)))
+    × AllByRecursion IsLayerHeld (take l.number l.rows)

@@ -13,11 +13,15 @@ returns-clause-text c =
     let first : c.put.new.out.items ≡ title ++ LINE_FEED ∷ [] = rw title_text (search rules) in
     let second : c.put_tin.new.out.items ≡ c.put.new.out.items ++ tin_line report = search rules in
     let third : c.put-2.new.out.items ≡ c.put_tin.new.out.items ++ LINE_FEED ∷ [] = search rules in
-    let fourth : c.put_layers.new.out.items ≡ c.put-2.new.out.items ++ text_of_lines (layer_lines 0 report.layers) = search rules in
-    let fifth : c.put_count.new.out.items ≡ c.put_layers.new.out.items ++ count_line (length report.changes) = search rules in
+    let fourth : c.put_layers.new.out.items ≡ c.put-2.new.out.items ++ text_of_lines (layer_lines 0 report.layers) =
+    search rules in
+    let fifth : c.put_count.new.out.items ≡ c.put_layers.new.out.items ++ count_line (length report.changes) =
+    search rules in
     let sixth : c.put-3.new.out.items ≡ c.put_count.new.out.items ++ LINE_FEED ∷ [] = search rules in
-    let seventh : c.put_changes.new.out.items ≡ c.put-3.new.out.items ++ text_of_lines (map change_line report.changes) = search rules in
-    let eighth : c.put-4.new.out.items ≡ c.put_changes.new.out.items ++ (end_line ++ LINE_FEED ∷ []) = rw end_text (search rules) in
+    let seventh : c.put_changes.new.out.items ≡ c.put-3.new.out.items
+    ++ text_of_lines (map change_line report.changes) = search rules in
+    let eighth : c.put-4.new.out.items ≡ c.put_changes.new.out.items ++ (end_line ++ LINE_FEED ∷ []) =
+    rw end_text (search rules) in
     parts _ _ _ _ _ _ _ _ _ _ _ _ _ _ first second third fourth fifth sixth seventh eighth
 
 pub returns-clause-read : goal.returns-clause-read

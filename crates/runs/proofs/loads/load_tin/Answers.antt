@@ -12,6 +12,7 @@ returns-clause-refused g c =
     (λ refusal why.
     no_tin c.deref.result.now
     (rw (sym c.deref.ensures.value)
-    at (has_file (g.S.Shelf.files c.args.shelf.now) c.args.name.now c.in_ok-text.text.items c.in_ok-text.ensures.ok (subst (λ n. n ≤ MOST_BYTES) c.in_ok-text.text.ok.0 c.in_ok-text.ensures.within)))
+    at (has_file (g.S.Shelf.files c.args.shelf.now) c.args.name.now c.in_ok-text.text.items c.in_ok-text.ensures.ok
+    (subst (λ n. n ≤ MOST_BYTES) c.in_ok-text.text.ok.0 c.in_ok-text.ensures.within)))
     why)
     c.sound_tin.ensures.refused

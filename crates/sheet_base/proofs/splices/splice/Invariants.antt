@@ -4,4 +4,5 @@ use Rattle.sheet_base.proofs.Splicing.{IsSpliced}
 use Rattle.sheet_base.proofs.splices.splice.Given as goal
 
 abbrev pub invariant-loop-edit : goal.invariant-loop-edit
-invariant-loop-edit g l = IsSpliced l.bytes (g.T.EditTexts.text l.texts) l.edits (drop l.edit-index l.edits) l.from l.out.items
+invariant-loop-edit g l = IsSpliced l.bytes (g.T.EditTexts.text l.texts) l.edits (drop l.edit-index l.edits) l.from
+    l.out.items

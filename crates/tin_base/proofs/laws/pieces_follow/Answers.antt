@@ -3,4 +3,5 @@ use Rattle.tin_base.proofs.Chain.{chain, covered}
 use Rattle.tin_base.proofs.laws.pieces_follow.Goals as goal
 
 pub returns : goal.returns
-returns c = λ tin sound a b differ inside parts pieces. (chain tin a b parts sound differ inside pieces, covered tin a b parts sound differ inside pieces)
+returns c = λ tin sound a b differ inside parts pieces.
+    (chain tin a b parts sound differ inside pieces, covered tin a b parts sound differ inside pieces)

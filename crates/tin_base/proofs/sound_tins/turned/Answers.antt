@@ -6,4 +6,5 @@ use Rattle.tin_base.proofs.Converse.{turned_sound}
 use Rattle.tin_base.proofs.sound_tins.turned.Goals as goal
 
 pub invariant_of-result : goal.invariant_of-result
-invariant_of-result c = subst (λ (tin : Triangulation). IsSound tin) (sym c.turned.ensures) (turned_sound c.tin.inside.tin c.tin.invariant)
+invariant_of-result c = subst (λ (tin : Triangulation). IsSound tin) (sym c.turned.ensures)
+    (turned_sound c.tin.inside.tin c.tin.invariant)

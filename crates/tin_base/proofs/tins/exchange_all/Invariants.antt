@@ -5,4 +5,5 @@ use Rattle.tin_base.proofs.tins.exchange_all.Given as goal
 
 -- the corners before the present one are exchanged
 abbrev pub invariant-loop-corner : goal.invariant-loop-corner
-invariant-loop-corner l = l.corners ≡ map exchanged (take l.corner-index l.initial.corners) ++ drop l.corner-index l.initial.corners
+invariant-loop-corner l = l.corners ≡ map exchanged (take l.corner-index l.initial.corners)
+    ++ drop l.corner-index l.initial.corners

@@ -6,4 +6,9 @@ use Rattle.tin_check.proofs.InBoxes.{box_is}
 use Rattle.tin_check.proofs.boxes.box_in.Goals as goal
 
 pub returns : goal.returns
-returns c = record { tri = c.tri.result; is = c.tri.ensures.corners; of = subst (λ (box : Rect). IsBoxOf c.tri.result box) (sym c.of_triangle.ensures) (box_is c.tri.result) }
+returns c = record {
+  tri = c.tri.result;
+  is = c.tri.ensures.corners;
+  of =
+      subst (λ (box : Rect). IsBoxOf c.tri.result box) (sym c.of_triangle.ensures) (box_is c.tri.result);
+}

@@ -12,4 +12,6 @@ pub returns-in-Ok-None : goal.returns-in-Ok-None
 returns-in-Ok-None c =
     let tin = c.args.tin.now in let s = c.args.source in
     subst (λ (fault : CheckFault). IsCause tin fault) (sym c.meets.ensures)
-    (source_before tin s.first s.second c.requires.positive c.requires.source (subst (λ (found : Option Pair). IsFirstFoundBelow tin Target (s.first + 1) found) c.in-Ok-None.field-0-is c.in-Ok-None.ensures))
+    (source_before tin s.first s.second c.requires.positive c.requires.source
+    (subst (λ (found : Option Pair). IsFirstFoundBelow tin Target (s.first + 1) found) c.in-Ok-None.field-0-is
+    c.in-Ok-None.ensures))

@@ -5,10 +5,15 @@ use Rattle.tin_check.proofs.Counting.{counted_same, second_near, second_meet, th
 use Rattle.tin_check.proofs.fitting.fit_at_corner.Goals as goal
 
 pub meet_at_corner-requires-clause-near : goal.meet_at_corner-requires-clause-near
-meet_at_corner-requires-clause-near c = second_near c.args.t.now c.args.u.now c.counted_from.result c.counted_from.ensures.counted c.requires.near
+meet_at_corner-requires-clause-near c = second_near c.args.t.now c.args.u.now c.counted_from.result
+    c.counted_from.ensures.counted c.requires.near
 
 pub meet_at_corner-requires-clause-u_positive : goal.meet_at_corner-requires-clause-u_positive
-meet_at_corner-requires-clause-u_positive c = let same = counted_same c.args.u.now c.counted_from.result c.counted_from.ensures.counted in same.positive c.requires.u_positive
+meet_at_corner-requires-clause-u_positive c = let same =
+    counted_same c.args.u.now c.counted_from.result c.counted_from.ensures.counted in same.positive
+    c.requires.u_positive
 
 pub returns : goal.returns
-returns c = through c.meet_at_corner.ensures (second_meet c.args.t.now c.args.u.now c.counted_from.result (whole c.args.t.now.a ∷ []) c.counted_from.ensures.counted)
+returns c = through c.meet_at_corner.ensures
+    (second_meet c.args.t.now c.args.u.now c.counted_from.result (whole c.args.t.now.a ∷ [])
+    c.counted_from.ensures.counted)

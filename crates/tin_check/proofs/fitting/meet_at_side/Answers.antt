@@ -4,4 +4,5 @@ use Rattle.tin_check.proofs.fitting.meet_at_side.Goals as goal
 
 pub returns : goal.returns
 returns c =
-    side_tells c.args.t.now c.args.u.now c.is_same.result c.requires.t_positive c.requires.u_positive c.requires.second c.requires.first c.is_same.ensures
+    side_tells c.args.t.now c.args.u.now c.is_same.result c.requires.t_positive c.requires.u_positive c.requires.second
+    c.requires.first c.is_same.ensures

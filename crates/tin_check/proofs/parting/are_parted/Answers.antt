@@ -13,5 +13,6 @@ returns c =
     let cf : FitsSigned w128 c.turn-4.result = search rules in
     let told = simp to_z-of_z at c.do_part.ensures in
     λ yes.
-    parted_meet c.args.t.now c.args.u.now c.turn.result c.turn-2.result c.turn-3.result c.turn-4.result c.requires.same c.requires.t_positive c.requires.u_positive
+    parted_meet c.args.t.now c.args.u.now c.turn.result c.turn-2.result c.turn-3.result c.turn-4.result c.requires.same
+    c.requires.t_positive c.requires.u_positive
     c.turn.ensures.value c.turn-2.ensures.value c.turn-3.ensures.value c.turn-4.ensures.value (told yes)

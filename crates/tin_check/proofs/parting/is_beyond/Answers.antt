@@ -4,10 +4,12 @@ use Rattle.tin_check.proofs.Parted.{beyond_first, beyond_second, beyond_third}
 use Rattle.tin_check.proofs.parting.is_beyond.Goals as goal
 
 pub returns-then-is_right_of : goal.returns-then-is_right_of
-returns-then-is_right_of c = λ yes. beyond_first c.args.t.now c.args.u.now c.requires.positive (c.if-is_right_of.ensures refl)
+returns-then-is_right_of c = λ yes. beyond_first c.args.t.now c.args.u.now c.requires.positive
+    (c.if-is_right_of.ensures refl)
 
 pub returns-then-is_right_of-2 : goal.returns-then-is_right_of-2
-returns-then-is_right_of-2 c = λ yes. beyond_second c.args.t.now c.args.u.now c.requires.positive (c.if-is_right_of-2.ensures refl)
+returns-then-is_right_of-2 c = λ yes. beyond_second c.args.t.now c.args.u.now c.requires.positive
+    (c.if-is_right_of-2.ensures refl)
 
 pub returns : goal.returns
 returns c = λ yes. beyond_third c.args.t.now c.args.u.now c.requires.positive (c.is_right_of-3.ensures yes)

@@ -7,4 +7,5 @@ use Rattle.tin_file.specs.Standing.{AreThere}
 use Rattle.tin_file.proofs.columns.are_texts.Given as goal
 
 abbrev pub invariant-loop-value : goal.invariant-loop-value
-invariant-loop-value l = (all : List Json) → AreThere l.doc.nodes l.bytes l.values all → list_all is_text all ≡ list_all is_text (drop l.value-index all)
+invariant-loop-value l = (all : List Json) → AreThere l.doc.nodes l.bytes l.values all
+    → list_all is_text all ≡ list_all is_text (drop l.value-index all)

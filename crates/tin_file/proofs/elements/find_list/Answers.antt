@@ -9,12 +9,14 @@ pub holds_array-requires : goal.holds_array-requires
 holds_array-requires c =
     let nodes = c.args.doc.now.nodes in let bytes = c.args.bytes.now in
     let (members, h) = members_there c.args.doc.now bytes c.requires.read c.requires.object in
-    node_within nodes bytes c.in_ok-value.value (value_found nodes bytes c.in_ok-value.value (needed c.args.which members) (c.in_ok-value.ensures members h))
+    node_within nodes bytes c.in_ok-value.value
+    (value_found nodes bytes c.in_ok-value.value (needed c.args.which members) (c.in_ok-value.ensures members h))
 
 pub returns-then-not-holds_array : goal.returns-then-not-holds_array
 returns-then-not-holds_array c members h =
     let nodes = c.args.doc.now.nodes in let bytes = c.args.bytes.now in
-    list_not_found nodes bytes c.args.which c.in_ok-value.value (needed c.args.which members) (c.in_ok-value.ensures members h)
+    list_not_found nodes bytes c.args.which c.in_ok-value.value (needed c.args.which members)
+    (c.in_ok-value.ensures members h)
     (λ value there. sym c.if-not-holds_array.true ∙ c.holds_array.ensures bytes value there)
 
 pub list_elements-requires : goal.list_elements-requires
@@ -29,6 +31,7 @@ list_elements-requires c =
 pub returns : goal.returns
 returns c members h =
     let nodes = c.args.doc.now.nodes in let bytes = c.args.bytes.now in
-    list_found nodes bytes c.args.which c.in_ok-value.value (needed c.args.which members) (c.in_ok-value.ensures members h)
+    list_found nodes bytes c.args.which c.in_ok-value.value (needed c.args.which members)
+    (c.in_ok-value.ensures members h)
     (λ value there. sym c.if-not-holds_array.false ∙ c.holds_array.ensures bytes value there)
     c.list_elements.new.numbers.items c.in_ok-list_elements.ensures

@@ -9,10 +9,13 @@ node_at-node-requires c = node_within c.args.doc.now.nodes c.args.bytes.now c.ar
 
 pub part-requires : goal.part-requires
 part-requires c = record {
-  order = text_begins c.args.doc.now.nodes c.args.bytes.now c.args.value c.node_at-node.result c.node_at-node.ensures c.requires;
-  within = text_ends c.args.doc.now.nodes c.args.bytes.now c.args.value c.node_at-node.result c.node_at-node.ensures c.requires;
+  order = text_begins c.args.doc.now.nodes c.args.bytes.now c.args.value c.node_at-node.result c.node_at-node.ensures
+      c.requires;
+  within = text_ends c.args.doc.now.nodes c.args.bytes.now c.args.value c.node_at-node.result c.node_at-node.ensures
+      c.requires;
 }
 
 pub returns : goal.returns
 returns c is there =
-    c.part.ensures ∙ text_is c.args.doc.now.nodes c.args.bytes.now c.args.value c.node_at-node.result c.node_at-node.ensures is there
+    c.part.ensures ∙ text_is c.args.doc.now.nodes c.args.bytes.now c.args.value c.node_at-node.result
+    c.node_at-node.ensures is there

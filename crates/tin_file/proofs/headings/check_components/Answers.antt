@@ -16,21 +16,25 @@ check_components_in-requires-clause-nodes c =
     let nodes = c.args.doc.now.nodes in let bytes = c.args.bytes.now in
     let (members, h) = members_there c.args.doc.now bytes c.requires.read c.requires.object in
     subst (AreNodes nodes bytes) (sym c.deref.ensures.value)
-    (values_found nodes bytes c.find_list.new.numbers.items (needed_list tops.Components members) (c.in_ok-find_list.ensures members h))
+    (values_found nodes bytes c.find_list.new.numbers.items (needed_list tops.Components members)
+    (c.in_ok-find_list.ensures members h))
 
 pub returns : goal.returns
 unfolding components
 returns c members h =
     let nodes = c.args.doc.now.nodes in let bytes = c.args.bytes.now in
-    then_made (λ (done : Unit {0}) (values : List Json). AreThere nodes bytes c.find_list.new.numbers.items values) (λ one other. one ≡ other) components_in c.in_ok-find_list.field-0 (needed_list tops.Components members)
+    then_made (λ (done : Unit {0}) (values : List Json). AreThere nodes bytes c.find_list.new.numbers.items values)
+    (λ one other. one ≡ other) components_in c.in_ok-find_list.field-0 (needed_list tops.Components members)
     c.check_components_in.result (c.in_ok-find_list.ensures members h)
     (λ values there. equals_is c.check_components_in.result (components_in values)
-    (c.check_components_in.ensures values (subst (λ numbers. AreThere nodes bytes numbers values) (sym c.deref.ensures.value) there)))
+    (c.check_components_in.ensures values (subst (λ numbers. AreThere nodes bytes numbers values)
+    (sym c.deref.ensures.value) there)))
 
 pub returns-in_err-find_list : goal.returns-in_err-find_list
 unfolding components
 returns-in_err-find_list c members h =
     let fault = c.in_err-find_list.field-0.0 in
     rw (passed_on fault c.from_residual.result c.from_residual.ensures.1)
-    (fault_stays (λ (done : Unit {0}) (values : List Json). AreThere c.args.doc.now.nodes c.args.bytes.now c.find_list.new.numbers.items values) (λ one other. one ≡ other) components_in fault
+    (fault_stays (λ (done : Unit {0}) (values : List Json). AreThere c.args.doc.now.nodes c.args.bytes.now
+    c.find_list.new.numbers.items values) (λ one other. one ≡ other) components_in fault
     (needed_list tops.Components members) (c.in_err-find_list.ensures members h))

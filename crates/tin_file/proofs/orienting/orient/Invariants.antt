@@ -5,4 +5,5 @@ use Rattle.tin_file.proofs.orienting.orient.Given as goal
 
 -- the triangles before the present one are turned
 abbrev pub invariant-loop-triangle : goal.invariant-loop-triangle
-invariant-loop-triangle l = l.triangles ≡ map (oriented l.corners) (take l.triangle-index l.initial.triangles) ++ drop l.triangle-index l.initial.triangles
+invariant-loop-triangle l = l.triangles ≡ map (oriented l.corners) (take l.triangle-index l.initial.triangles)
+    ++ drop l.triangle-index l.initial.triangles

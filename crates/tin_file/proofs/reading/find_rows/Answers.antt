@@ -7,11 +7,16 @@ use Rattle.tin_file.proofs.reading.find_rows.Goals as goal
 
 pub returns-then-len-most-clause-rows : goal.returns-then-len-most-clause-rows
 returns-then-len-most-clause-rows c members h =
-    too_many c.args.doc.now.nodes c.args.bytes.now c.args.list c.args.most c.find_list.new.numbers.items (needed_list c.args.which members)
-    (c.in_ok-find_list.ensures members h) (omega (arith, c.if-len-most.true, c.len.ensures, c.find_list.new.numbers.ok.0))
+    too_many c.args.doc.now.nodes c.args.bytes.now c.args.list c.args.most c.find_list.new.numbers.items
+    (needed_list c.args.which members)
+    (c.in_ok-find_list.ensures members h) (omega
+    (arith, c.if-len-most.true, c.len.ensures, c.find_list.new.numbers.ok.0))
 
 pub returns-clause-rows : goal.returns-clause-rows
 returns-clause-rows c members h =
-    with_rows c.args.doc.now.nodes c.args.bytes.now c.find_list.new.numbers (and_then (few c.args.list c.args.most) (needed_list c.args.which members))
-    (few_pass c.args.doc.now.nodes c.args.bytes.now c.args.list c.args.most c.find_list.new.numbers.items (needed_list c.args.which members)
-    (c.in_ok-find_list.ensures members h) (omega (arith, c.if-len-most.false, c.len.ensures, c.find_list.new.numbers.ok.0)))
+    with_rows c.args.doc.now.nodes c.args.bytes.now c.find_list.new.numbers
+    (and_then (few c.args.list c.args.most) (needed_list c.args.which members))
+    (few_pass c.args.doc.now.nodes c.args.bytes.now c.args.list c.args.most c.find_list.new.numbers.items
+    (needed_list c.args.which members)
+    (c.in_ok-find_list.ensures members h) (omega
+    (arith, c.if-len-most.false, c.len.ensures, c.find_list.new.numbers.ok.0)))

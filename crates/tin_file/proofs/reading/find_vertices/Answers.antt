@@ -21,15 +21,21 @@ returns-in_err-rows c members h =
     let AreRows : Vec ℕ Global → List Json → Type 0 = λ rows values. AreThere nodes bytes rows.items values in
     let Made = AreGathered in
     let fault = c.in_err-rows.field-0.0 in
-    subst (λ r. Gives Made r (and_then (vertex_rows c.args.how c.args.columns 0) (and_then (few lists.Vertices MOST_CORNERS) (needed_list tops.Vertices members)))) (sym (passed_on fault c.from_residual.result c.from_residual.ensures.1))
-    (fault_stays AreRows Made (vertex_rows c.args.how c.args.columns 0) fault (and_then (few lists.Vertices MOST_CORNERS) (needed_list tops.Vertices members)) (c.in_err-rows.ensures.rows members h))
+    subst (λ r. Gives Made r (and_then (vertex_rows c.args.how c.args.columns 0)
+    (and_then (few lists.Vertices MOST_CORNERS) (needed_list tops.Vertices members))))
+    (sym (passed_on fault c.from_residual.result c.from_residual.ensures.1))
+    (fault_stays AreRows Made (vertex_rows c.args.how c.args.columns 0) fault
+    (and_then (few lists.Vertices MOST_CORNERS) (needed_list tops.Vertices members))
+    (c.in_err-rows.ensures.rows members h))
 
 pub read_vertices-requires-clause-nodes : goal.read_vertices-requires-clause-nodes
 read_vertices-requires-clause-nodes c =
     let nodes = c.args.doc.now.nodes in let bytes = c.args.bytes.now in
     let (members, h) = members_there c.args.doc.now bytes c.requires.read c.requires.object in
     subst (AreNodes nodes bytes) (sym c.deref.ensures.value)
-    (rows_found nodes bytes c.in_ok-rows.rows (and_then (few lists.Vertices MOST_CORNERS) (needed_list tops.Vertices members)) (c.in_ok-rows.ensures.rows members h))
+    (rows_found nodes bytes c.in_ok-rows.rows
+    (and_then (few lists.Vertices MOST_CORNERS) (needed_list tops.Vertices members))
+    (c.in_ok-rows.ensures.rows members h))
 
 pub returns : goal.returns
 unfolding vertices
@@ -37,6 +43,8 @@ returns c members h =
     let nodes = c.args.doc.now.nodes in let bytes = c.args.bytes.now in
     let AreRows : Vec ℕ Global → List Json → Type 0 = λ rows values. AreThere nodes bytes rows.items values in
     let Made = AreGathered in
-    then_made AreRows Made (vertex_rows c.args.how c.args.columns 0) c.in_ok-rows.rows (and_then (few lists.Vertices MOST_CORNERS) (needed_list tops.Vertices members)) c.read_vertices.result
+    then_made AreRows Made (vertex_rows c.args.how c.args.columns 0) c.in_ok-rows.rows
+    (and_then (few lists.Vertices MOST_CORNERS) (needed_list tops.Vertices members)) c.read_vertices.result
     (c.in_ok-rows.ensures.rows members h)
-    (λ values are. c.read_vertices.ensures values (subst (λ numbers. AreThere nodes bytes numbers values) (sym c.deref.ensures.value) are))
+    (λ values are. c.read_vertices.ensures values
+    (subst (λ numbers. AreThere nodes bytes numbers values) (sym c.deref.ensures.value) are))

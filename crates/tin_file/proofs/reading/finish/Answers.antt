@@ -18,30 +18,40 @@ check_spans-requires c =
 
 pub orient-requires-clause-near : goal.orient-requires-clause-near
 orient-requires-clause-near c =
-    near_all c.deref-2.result.now (subst AreNarrow (c.deref.ensures.value ∙ sym c.deref-2.ensures.value) (narrow c.deref.result.now c.in_ok-check_spans.ensures)) frames.Source
+    near_all c.deref-2.result.now (subst AreNarrow (c.deref.ensures.value ∙ sym c.deref-2.ensures.value)
+    (narrow c.deref.result.now c.in_ok-check_spans.ensures)) frames.Source
 
 pub orient-requires-clause-faces : goal.orient-requires-clause-faces
 orient-requires-clause-faces c =
     let (rows, faces, h) = c.requires in
     subst (λ (cs : List Corner). AreFacesOf cs c.deref_mut.result.now) (sym c.deref-2.ensures.value)
-    (subst (AreFacesOf c.args.vertices.corners.items) (sym c.deref_mut.ensures.value) (triangles_faces c.args.vertices c.args.triangles.items rows faces h))
+    (subst (AreFacesOf c.args.vertices.corners.items) (sym c.deref_mut.ensures.value)
+    (triangles_faces c.args.vertices c.args.triangles.items rows faces h))
 
 pub of-requires : goal.of-requires
 of-requires c =
     let (rows, faces, h) = c.requires in
     let corners = c.args.vertices.corners.items in
     let made : c.orient.new.triangles ≡ map (oriented corners) c.args.triangles.items =
-    c.orient.ensures ∙ ap (λ (cs : List Corner). map (oriented cs) c.deref_mut.result.now) c.deref-2.ensures.value ∙ ap (map (oriented corners)) c.deref_mut.ensures.value in
-    let whole : length c.orient.new.triangles ≡ c.args.triangles.len = ap length made ∙ length-map c.args.triangles.items (oriented corners) ∙ sym c.args.triangles.ok.0 in
-    subst (λ (ts : List (List ℕ)). IsWithinLimits (triangulation corners ts c.args.vertices.inexact)) (sym (with_items_is c.args.triangles c.orient.new.triangles whole ∙ made))
-    (limits c.args.vertices c.args.triangles.items rows faces h (subst AreNarrow c.deref.ensures.value (narrow c.deref.result.now c.in_ok-check_spans.ensures)) c.args.vertices.inexact)
+    c.orient.ensures ∙ ap (λ (cs : List Corner). map (oriented cs) c.deref_mut.result.now) c.deref-2.ensures.value
+    ∙ ap (map (oriented corners)) c.deref_mut.ensures.value in
+    let whole : length c.orient.new.triangles ≡ c.args.triangles.len = ap length made
+    ∙ length-map c.args.triangles.items (oriented corners) ∙ sym c.args.triangles.ok.0 in
+    subst (λ (ts : List (List ℕ)). IsWithinLimits (triangulation corners ts c.args.vertices.inexact))
+    (sym (with_items_is c.args.triangles c.orient.new.triangles whole ∙ made))
+    (limits c.args.vertices c.args.triangles.items rows faces h
+    (subst AreNarrow c.deref.ensures.value (narrow c.deref.result.now c.in_ok-check_spans.ensures))
+    c.args.vertices.inexact)
 
 pub returns : goal.returns
 returns c rows faces h =
     let corners = c.args.vertices.corners.items in
     let made : c.orient.new.triangles ≡ map (oriented corners) c.args.triangles.items =
-    c.orient.ensures ∙ ap (λ (cs : List Corner). map (oriented cs) c.deref_mut.result.now) c.deref-2.ensures.value ∙ ap (map (oriented corners)) c.deref_mut.ensures.value in
-    let whole : length c.orient.new.triangles ≡ c.args.triangles.len = ap length made ∙ length-map c.args.triangles.items (oriented corners) ∙ sym c.args.triangles.ok.0 in
-    ap Ok (c.of.ensures ∙ ap (λ (ts : List (List ℕ)). triangulation corners ts c.args.vertices.inexact) (with_items_is c.args.triangles c.orient.new.triangles whole ∙ made))
+    c.orient.ensures ∙ ap (λ (cs : List Corner). map (oriented cs) c.deref_mut.result.now) c.deref-2.ensures.value
+    ∙ ap (map (oriented corners)) c.deref_mut.ensures.value in
+    let whole : length c.orient.new.triangles ≡ c.args.triangles.len = ap length made
+    ∙ length-map c.args.triangles.items (oriented corners) ∙ sym c.args.triangles.ok.0 in
+    ap Ok (c.of.ensures ∙ ap (λ (ts : List (List ℕ)). triangulation corners ts c.args.vertices.inexact)
+    (with_items_is c.args.triangles c.orient.new.triangles whole ∙ made))
     ∙ spans_pass c.args.vertices c.args.triangles.items rows faces h
     (subst (λ (cs : List Corner). Ok tt ≡ spans cs) c.deref.ensures.value c.in_ok-check_spans.ensures)

@@ -9,4 +9,5 @@ use Rattle.tin_file.proofs.triangles.read_digits.Given as goal
 
 abbrev pub invariant-loop-byte : goal.invariant-loop-byte
 invariant-loop-byte l =
-    (list_all is_ascii_digit l.text ≡ list_all is_ascii_digit (drop l.byte-index l.text)) × (l.number ≡ min (number_after 0 (take l.byte-index l.text)) MOST_CORNERS)
+    (list_all is_ascii_digit l.text ≡ list_all is_ascii_digit (drop l.byte-index l.text))
+    × (l.number ≡ min (number_after 0 (take l.byte-index l.text)) MOST_CORNERS)

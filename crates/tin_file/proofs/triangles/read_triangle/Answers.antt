@@ -13,7 +13,8 @@ holds_array-requires c = node_within c.args.doc.now.nodes c.args.bytes.now c.arg
 
 pub returns-then-not-holds_array : goal.returns-then-not-holds_array
 returns-then-not-holds_array c is there =
-    no_triangle_row c.args.columns (length c.args.numbers.now) c.args.triangle is (sym c.if-not-holds_array.true ∙ c.holds_array.ensures c.args.bytes.now is there)
+    no_triangle_row c.args.columns (length c.args.numbers.now) c.args.triangle is
+    (sym c.if-not-holds_array.true ∙ c.holds_array.ensures c.args.bytes.now is there)
 
 pub list_elements-requires : goal.list_elements-requires
 list_elements-requires c = (
@@ -35,10 +36,14 @@ read_elements-requires c = record {
 
 pub returns : goal.returns
 returns c is there =
-    placed_gives c.args.numbers.now c.read_elements.result (triangle_of c.args.columns (length c.args.numbers.now) c.args.triangle is)
+    placed_gives c.args.numbers.now c.read_elements.result
+    (triangle_of c.args.columns (length c.args.numbers.now) c.args.triangle is)
     (of_elements c.args.doc.now.nodes c.args.bytes.now c.args.value
-    (λ value. placed_or_fault c.args.numbers.now (triangle_of c.args.columns (length c.args.numbers.now) c.args.triangle value))
-    (λ all. placed_or_fault c.args.numbers.now (triangle_in c.args.columns (length c.args.numbers.now) c.args.triangle all))
+    (λ value. placed_or_fault c.args.numbers.now
+    (triangle_of c.args.columns (length c.args.numbers.now) c.args.triangle value))
+    (λ all. placed_or_fault c.args.numbers.now
+    (triangle_in c.args.columns (length c.args.numbers.now) c.args.triangle all))
     (λ _ _. refl) is there (sym c.if-not-holds_array.false ∙ c.holds_array.ensures c.args.bytes.now is there)
     c.list_elements.new.numbers.items c.in_ok-list_elements.ensures c.read_elements.result
-    (λ all are. c.read_elements.ensures all (subst (λ numbers. AreThere c.args.doc.now.nodes c.args.bytes.now numbers all) (sym c.deref.ensures.value) are)))
+    (λ all are. c.read_elements.ensures all (subst
+    (λ numbers. AreThere c.args.doc.now.nodes c.args.bytes.now numbers all) (sym c.deref.ensures.value) are)))

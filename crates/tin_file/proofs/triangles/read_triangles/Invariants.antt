@@ -11,5 +11,6 @@ abbrev pub invariant-loop-triangle : goal.invariant-loop-triangle
 invariant-loop-triangle l =
     (all : List Json) → AreThere l.doc.nodes l.bytes l.rows all
     → (done : List (List ℕ)) × (l.triangles.items ≡ map (placed l.numbers) done)
-    × AreRead (triangle_of l.columns (length l.numbers)) (triangle_rows l.columns (length l.numbers)) done l.triangle (drop l.triangle all)
+    × AreRead (triangle_of l.columns (length l.numbers)) (triangle_rows l.columns (length l.numbers)) done l.triangle
+    (drop l.triangle all)
     (triangle_rows l.columns (length l.numbers) 0 all)

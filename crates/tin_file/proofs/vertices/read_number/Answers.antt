@@ -16,4 +16,5 @@ returns-then-holds_number c is there =
 
 pub returns-else-holds_number : goal.returns-else-holds_number
 returns-else-holds_number c is there =
-    not_number_so c.args.how c.args.row is (sym c.if-holds_number.false ∙ c.holds_number.ensures c.args.bytes.now is there)
+    not_number_so c.args.how c.args.row is (sym c.if-holds_number.false
+    ∙ c.holds_number.ensures c.args.bytes.now is there)

@@ -12,7 +12,8 @@ holds_array-requires c = node_within c.args.doc.now.nodes c.args.bytes.now c.arg
 
 pub returns-then-not-holds_array-clause-vertex : goal.returns-then-not-holds_array-clause-vertex
 returns-then-not-holds_array-clause-vertex c is there =
-    no_vertex_row c.args.how c.args.columns c.args.row is (sym c.if-not-holds_array.true ∙ c.holds_array.ensures c.args.bytes.now is there)
+    no_vertex_row c.args.how c.args.columns c.args.row is
+    (sym c.if-not-holds_array.true ∙ c.holds_array.ensures c.args.bytes.now is there)
 
 pub list_elements-requires : goal.list_elements-requires
 list_elements-requires c = (
@@ -34,7 +35,10 @@ read_elements-requires c = record {
 pub returns-clause-vertex : goal.returns-clause-vertex
 returns-clause-vertex c is there =
     equals_is c.read_elements.result (vertex_of c.args.how c.args.columns c.args.row is)
-    (of_elements c.args.doc.now.nodes c.args.bytes.now c.args.value (vertex_of c.args.how c.args.columns c.args.row) (vertex_in c.args.how c.args.columns c.args.row)
+    (of_elements c.args.doc.now.nodes c.args.bytes.now c.args.value (vertex_of c.args.how c.args.columns c.args.row)
+    (vertex_in c.args.how c.args.columns c.args.row)
     (λ _ _. refl) is there (sym c.if-not-holds_array.false ∙ c.holds_array.ensures c.args.bytes.now is there)
     c.list_elements.new.numbers.items c.in_ok-list_elements.ensures c.read_elements.result
-    (λ all are. c.read_elements.ensures.vertex all (subst (λ numbers. AreThere c.args.doc.now.nodes c.args.bytes.now numbers all) (sym c.deref.ensures.value) are)))
+    (λ all are. c.read_elements.ensures.vertex all
+    (subst (λ numbers. AreThere c.args.doc.now.nodes c.args.bytes.now numbers all) (sym c.deref.ensures.value)
+    are)))

@@ -12,19 +12,24 @@ use Rattle.tin_file.proofs.vertices.read_vertices.Goals as goal
 
 pub read_vertex-requires-clause-node : goal.read_vertex-requires-clause-node
 read_vertex-requires-clause-node c =
-    node_at_place c.args.doc.now.nodes c.args.bytes.now c.args.rows.now c.loop-row.row 0 c.requires.nodes c.loop-row-test.true
+    node_at_place c.args.doc.now.nodes c.args.bytes.now c.args.rows.now c.loop-row.row 0 c.requires.nodes
+    c.loop-row-test.true
 
 pub returns-in_err-vertex : goal.returns-in_err-vertex
 returns-in_err-vertex c all h =
     let nodes = c.args.doc.now.nodes in let bytes = c.args.bytes.now in let i = c.loop-row.row in
     let of_row = vertex_of c.args.how c.args.columns in let rows = vertex_rows c.args.how c.args.columns in
     let (done, are, read) = c.loop-row.invariant.2 all h in
-    let here = subst (λ rest. AreRead of_row rows done i rest (rows 0 all)) (values_on nodes bytes c.args.rows.now all h i c.loop-row-test.true) read in
+    let here = subst (λ rest. AreRead of_row rows done i rest (rows 0 all))
+    (values_on nodes bytes c.args.rows.now all h i c.loop-row-test.true) read in
     let fault = c.in_err-vertex.field-0.0 in
-    subst (λ r. Gives AreGathered r (rows 0 all)) (sym (passed_on fault c.from_residual-in_err-vertex.result c.from_residual-in_err-vertex.ensures.1))
+    subst (λ r. Gives AreGathered r (rows 0 all))
+    (sym (passed_on fault c.from_residual-in_err-vertex.result c.from_residual-in_err-vertex.ensures.1))
     (fault_of_part AreGathered fault (of_row i (get_or all i null)) (rows 0 all)
-    (c.in_err-vertex.ensures.vertex (get_or all i null) (there_at nodes bytes c.args.rows.now all i 0 null h c.loop-row-test.true))
-    (row_refused of_row rows ((λ n. refl), (λ n value values. refl)) done i (rows 0 all) (get_or all i null) (drop (i + 1) all) fault here))
+    (c.in_err-vertex.ensures.vertex (get_or all i null)
+    (there_at nodes bytes c.args.rows.now all i 0 null h c.loop-row-test.true))
+    (row_refused of_row rows ((λ n. refl), (λ n value values. refl)) done i (rows 0 all) (get_or all i null)
+    (drop (i + 1) all) fault here))
 
 pub loop-row-preserved : goal.loop-row-preserved
 loop-row-preserved c = (
@@ -34,12 +39,15 @@ loop-row-preserved c = (
       let nodes = c.args.doc.now.nodes in let bytes = c.args.bytes.now in let i = c.loop-row.row in
       let of_row = vertex_of c.args.how c.args.columns in let rows = vertex_rows c.args.how c.args.columns in
       let (done, are, read) = c.loop-row.invariant.2 all h in
-      let here = subst (λ rest. AreRead of_row rows done i rest (rows 0 all)) (values_on nodes bytes c.args.rows.now all h i c.loop-row-test.true) read in (
+      let here = subst (λ rest. AreRead of_row rows done i rest (rows 0 all))
+      (values_on nodes bytes c.args.rows.now all h i c.loop-row-test.true) read in (
         done ++ c.in_ok-vertex.vertex ∷ [],
         c.in_ok-add.ensures.added done are,
-        row_read of_row rows ((λ n. refl), (λ n value values. refl)) done i (rows 0 all) (get_or all i null) (drop (i + 1) all) c.in_ok-vertex.vertex here
+        row_read of_row rows ((λ n. refl), (λ n value values. refl)) done i (rows 0 all) (get_or all i null)
+            (drop (i + 1) all) c.in_ok-vertex.vertex here
             (equals_ok c.in_ok-vertex.vertex (of_row i (get_or all i null))
-            (c.in_ok-vertex.ensures.vertex (get_or all i null) (there_at nodes bytes c.args.rows.now all i 0 null h c.loop-row-test.true))),
+            (c.in_ok-vertex.ensures.vertex (get_or all i null)
+            (there_at nodes bytes c.args.rows.now all i 0 null h c.loop-row-test.true))),
       ),
 )
 
@@ -48,5 +56,7 @@ returns c all h =
     let nodes = c.args.doc.now.nodes in let bytes = c.args.bytes.now in let i = c.loop-row.row in
     let of_row = vertex_of c.args.how c.args.columns in let rows = vertex_rows c.args.how c.args.columns in
     let (done, are, read) = c.loop-row.invariant.2 all h in
-    let here = subst (λ rest. AreRead of_row rows done i rest (rows 0 all)) (values_done nodes bytes c.args.rows.now all h i c.loop-row-test.false) read in
-    subst (Gives AreGathered (Ok c.loop-row.vertices)) (sym (rows_end of_row rows ((λ n. refl), (λ n value values. refl)) done i (rows 0 all) here)) are.gathered
+    let here = subst (λ rest. AreRead of_row rows done i rest (rows 0 all))
+    (values_done nodes bytes c.args.rows.now all h i c.loop-row-test.false) read in
+    subst (Gives AreGathered (Ok c.loop-row.vertices))
+    (sym (rows_end of_row rows ((λ n. refl), (λ n value values. refl)) done i (rows 0 all) here)) are.gathered

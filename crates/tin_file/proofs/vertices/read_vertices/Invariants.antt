@@ -14,4 +14,5 @@ invariant-loop-row l =
     (index_set_len l.seen ≤ l.row) × (l.vertices.inexact ≤ 4 * l.row)
     × ((all : List Json) → AreThere l.doc.nodes l.bytes l.rows all
     → (done : List Vertex) × AreCollected l.vertices l.seen done
-    × AreRead (vertex_of l.how l.columns) (vertex_rows l.how l.columns) done l.row (drop l.row all) (vertex_rows l.how l.columns 0 all))
+    × AreRead (vertex_of l.how l.columns) (vertex_rows l.how l.columns) done l.row (drop l.row all)
+    (vertex_rows l.how l.columns 0 all))

@@ -11,10 +11,16 @@ loop-place-init c = round_none c.args.tin.now c.of_point-round.result
 pub loop-place-preserved : goal.loop-place-preserved
 loop-place-preserved c =
     elim c.if-place-eq0.branch [
-      | then-place-eq0 w ↦ round_first c.args.tin.now c.at-p.result c.if-place-eq0.round c.loop-place.place w.if-place-eq0.true
-          (at_corner c.args.tin.now c.corners-corners.result.now c.loop-place.place c.at-p.result c.corners-corners.ensures.corners c.loop-place-test.true c.at-p.ensures) (w.round-is ∙ w.of_point-round-then-place-eq0.ensures)
-      | else-place-eq0 w ↦ round_more c.args.tin.now c.at-p.result c.loop-place.round c.if-place-eq0.round c.loop-place.place w.if-place-eq0.false
-          (at_corner c.args.tin.now c.corners-corners.result.now c.loop-place.place c.at-p.result c.corners-corners.ensures.corners c.loop-place-test.true c.at-p.ensures) c.loop-place.invariant (w.round-is ∙ w.with_point-round.ensures)
+      | then-place-eq0 w ↦ round_first c.args.tin.now c.at-p.result c.if-place-eq0.round c.loop-place.place
+          w.if-place-eq0.true
+          (at_corner c.args.tin.now c.corners-corners.result.now c.loop-place.place c.at-p.result
+          c.corners-corners.ensures.corners c.loop-place-test.true c.at-p.ensures)
+          (w.round-is ∙ w.of_point-round-then-place-eq0.ensures)
+      | else-place-eq0 w ↦ round_more c.args.tin.now c.at-p.result c.loop-place.round c.if-place-eq0.round
+          c.loop-place.place w.if-place-eq0.false
+          (at_corner c.args.tin.now c.corners-corners.result.now c.loop-place.place c.at-p.result
+          c.corners-corners.ensures.corners c.loop-place-test.true c.at-p.ensures) c.loop-place.invariant
+          (w.round-is ∙ w.with_point-round.ensures)
     ]
 
 pub returns : goal.returns

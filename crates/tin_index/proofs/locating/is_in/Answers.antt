@@ -4,4 +4,5 @@ use Rattle.plane_base.specs.Plane.{Point, IsMix, whole}
 use Rattle.tin_index.proofs.locating.is_in.Goals as goal
 
 pub returns : goal.returns
-returns c = subst (λ (cs : List Point). IsTrue c.has_point.result ↔ IsMix (whole c.args.p) cs) c.tri.ensures.corners c.has_point.ensures
+returns c = subst (λ (cs : List Point). IsTrue c.has_point.result ↔ IsMix (whole c.args.p) cs) c.tri.ensures.corners
+    c.has_point.ensures

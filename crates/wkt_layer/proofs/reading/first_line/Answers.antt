@@ -4,7 +4,8 @@ use Rattle.wkt_layer.proofs.FirstLines.{one_line, line_before, rest_to_end}
 use Rattle.wkt_layer.proofs.reading.first_line.Goals as goal
 
 pub returns-in-Some-clause-lines : goal.returns-in-Some-clause-lines
-returns-in-Some-clause-lines c = rw (rest_to_end c.args.text.now (c.in-Some.end + 1)) (line_before c.args.text.now c.in-Some.end c.in-Some.ensures.0 c.in-Some.ensures.1)
+returns-in-Some-clause-lines c = rw (rest_to_end c.args.text.now (c.in-Some.end + 1))
+    (line_before c.args.text.now c.in-Some.end c.in-Some.ensures.0 c.in-Some.ensures.1)
 
 pub returns-in-None-clause-lines : goal.returns-in-None-clause-lines
 returns-in-None-clause-lines c = one_line c.args.text.now c.in-None.ensures

@@ -11,7 +11,8 @@ invariant-loop-rest l = record {
   size : RestsAt l.rest l.base (length l.bytes);
   few : l.base ≤ length l.bytes + 1;
   room : HasRoom l.pass l.base;
-  read : (done : List Path) × Held l.pass done [] × (l.pass.stack ≡ []) × GoesOn l.exact (lines_of l.bytes) l.base (lines_behind l.rest) done
+  read : (done : List Path) × Held l.pass done [] × (l.pass.stack ≡ [])
+      × GoesOn l.exact (lines_of l.bytes) l.base (lines_behind l.rest) done
       × ((past : ℕ) × (past ≤ l.base) × (past ≤ length l.bytes) × Ascend 0 (flat_map path_numbers done) past);
 }
 

@@ -14,7 +14,12 @@ loop-at-init c = record {
   reached = λ before held none. (
     [],
     start,
-    record { stack = none; held = subst (λ done. Held c.args.pass.now done []) (sym (append-nil before)) held; shows = tt },
+    record {
+      stack = none;
+      held = subst (λ done. Held c.args.pass.now done []) (sym (append-nil before)) held;
+      shows =
+          tt;
+    },
     reached_start c.args.exact c.args.base c.args.line.now c.args.pass.now.opened,
   );
 }
@@ -25,7 +30,8 @@ returns-then-is_end-clause-reads c = λ before held none.
     let end = (c.is_end.ensures before s stands).0 c.if-is_end.true in
     let over : length c.args.line.now ≤ c.loop-at.at = omega arith in (
       s.paths,
-      reached_end c.args.exact c.args.base c.args.line.now c.loop-at.at front s c.loop-at.pass.opened over (black_tokens c.args.base c.args.line.now c.requires.some) r end,
+      reached_end c.args.exact c.args.base c.args.line.now c.loop-at.at front s c.loop-at.pass.opened over
+          (black_tokens c.args.base c.args.line.now c.requires.some) r end,
       subst (Held c.loop-at.pass (before ++ s.paths)) (last_points s.spot end.last) stands.held,
       stands.stack ∙ end.closed,
     )
@@ -34,5 +40,7 @@ pub returns-else-is_end-clause-reads : goal.returns-else-is_end-clause-reads
 returns-else-is_end-clause-reads c = λ before held none memory.
     let (front, s, stands, r) = c.loop-at.invariant.reached before held none in
     let over : length c.args.line.now ≤ c.loop-at.at = omega arith in
-    reached_open c.args.exact c.args.base c.args.line.now c.loop-at.at front s c.loop-at.pass.opened over (black_tokens c.args.base c.args.line.now c.requires.some) r
-    (λ end. let yes = (c.is_end.ensures before s stands).1 end in let never : false ≡ true = sym c.if-is_end.false ∙ yes in cc)
+    reached_open c.args.exact c.args.base c.args.line.now c.loop-at.at front s c.loop-at.pass.opened over
+    (black_tokens c.args.base c.args.line.now c.requires.some) r
+    (λ end. let yes = (c.is_end.ensures before s stands).1 end in let never : false ≡ true = sym c.if-is_end.false
+    ∙ yes in cc)

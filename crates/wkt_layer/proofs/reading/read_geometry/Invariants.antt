@@ -12,7 +12,8 @@ invariant-loop-at l = record {
   within : l.at ≤ length l.line;
   room : HasRoom l.pass (l.base + l.at);
   begins : BeginsBefore l.place (l.base + l.at);
-  reached : (before : List Path) → Held l.initial.pass before [] → l.initial.pass.stack ≡ [] → (front : List Placed) × (s : State) × Stands l.pass l.place before s
+  reached : (before : List Path) → Held l.initial.pass before [] → l.initial.pass.stack ≡ []
+      → (front : List Placed) × (s : State) × Stands l.pass l.place before s
       × Reached l.exact l.base l.line l.at front s l.pass.opened;
 }
 

@@ -13,13 +13,18 @@ returns-in_ok-end_path-in-Some-clause-goes c = λ before paths x held reads begi
     let y : Number = record { start = c.args.token.start; text = c.args.text.now } in
     let added = c.in_ok-add_point-in-Some.ensures in
     let ended = c.in_ok-end_path-in-Some.ensures in
-    let whole = added.held (before ++ paths) [] (pair x y) held reads c.in-Some.ensures.reads begins c.requires.size in (
+    let whole = added.held (before ++ paths) [] (pair x y) held reads c.in-Some.ensures.reads begins
+    c.requires.size in (
       state bare_whole c.args.pass.now.stack (paths ++ path_of Dot (pair x y ∷ [])),
-      number_goes c.args.exact (λ y. state bare_whole c.args.pass.now.stack (paths ++ path_of Dot (pair x y ∷ []))) c.args.token.start c.args.text.now c.args.token.sign c.in-Some.y c.in-Some.ensures,
+      number_goes c.args.exact (λ y. state bare_whole c.args.pass.now.stack (paths ++ path_of Dot (pair x y ∷ [])))
+          c.args.token.start c.args.text.now c.args.token.sign c.in-Some.y c.in-Some.ensures,
       record {
         stack = ended.stack ∙ added.stack;
-        held = subst (λ done. Held c.end_path.new.self done []) (append_assoc before paths (path_of Dot (pair x y ∷ []))) (ended.held (before ++ paths) (pair x y) [] whole);
+        held = subst (λ done. Held c.end_path.new.self done [])
+            (append_assoc before paths (path_of Dot (pair x y ∷ [])))
+            (ended.held (before ++ paths) (pair x y) [] whole);
         shows = tt;
       },
-      ended.opened ∙ added.opened ∙ opened_number c.args.exact c.args.token.start c.args.pass.now.opened c.args.text.now c.args.token.sign c.in-Some.y c.in-Some.ensures,
+      ended.opened ∙ added.opened ∙ opened_number c.args.exact c.args.token.start c.args.pass.now.opened c.args.text.now
+          c.args.token.sign c.in-Some.y c.in-Some.ensures,
     )

@@ -9,14 +9,39 @@ returns-in-Some-clause-goes c = λ before paths text held.
     let some = c.in-Some.ensures in (
       state item c.args.pass.now.stack paths,
       item_goes _ some.0 c.args.pass.now.stack paths c.args.token.start text c.args.token.sign c.in-Comma.is some.1,
-      record { stack = refl; held = record { paths = held.paths; points = held.points; edits = held.edits; inexact = held.inexact; first = held.first; ends = held.ends }; shows = tt },
+      record {
+        stack = refl;
+        held = record {
+          paths = held.paths;
+          points = held.points;
+          edits = held.edits;
+          inexact =
+              held.inexact;
+          first = held.first;
+          ends = held.ends;
+        };
+        shows = tt;
+      },
       opened_comma c.args.token.start c.args.pass.now.opened text c.args.token.sign c.in-Comma.is,
     )
 
 pub returns-in-Some-pop-clause-goes : goal.returns-in-Some-pop-clause-goes
 returns-in-Some-pop-clause-goes c = λ before paths text held. (
   state behind c.pop.new.self paths,
-  close_goes _ c.pop.new.self c.args.pass.now.stack paths c.args.token.start text c.args.token.sign c.in-Closing.is c.in-Some-pop.ensures,
-  record { stack = refl; held = record { paths = held.paths; points = held.points; edits = held.edits; inexact = held.inexact; first = held.first; ends = held.ends }; shows = tt },
+  close_goes _ c.pop.new.self c.args.pass.now.stack paths c.args.token.start text c.args.token.sign c.in-Closing.is
+      c.in-Some-pop.ensures,
+  record {
+    stack = refl;
+    held = record {
+      paths = held.paths;
+      points = held.points;
+      edits = held.edits;
+      inexact =
+          held.inexact;
+      first = held.first;
+      ends = held.ends;
+    };
+    shows = tt;
+  },
   opened_closing c.args.token.start c.args.pass.now.opened text c.args.token.sign c.in-Closing.is,
 )

@@ -10,7 +10,8 @@ use Rattle.wkt_layer.proofs.steps.behind_point.Goals as goal
 pub returns-in-List-clause-goes : goal.returns-in-List-clause-goes
 returns-in-List-clause-goes c = λ before paths one more text held. (
   state (first listings.List (one ∷ more)) c.args.pass.now.stack paths,
-  comma_goes c.args.listing (one ∷ more) c.args.pass.now.stack paths c.args.token.start text c.args.token.sign listings.List c.in-Comma.is c.in-List.is (λ e. cc),
+  comma_goes c.args.listing (one ∷ more) c.args.pass.now.stack paths c.args.token.start text c.args.token.sign
+      listings.List c.in-Comma.is c.in-List.is (λ e. cc),
   record { stack = refl; held = held; shows = refl },
   opened_comma c.args.token.start c.args.pass.now.opened text c.args.token.sign c.in-Comma.is,
 )
@@ -18,7 +19,8 @@ returns-in-List-clause-goes c = λ before paths one more text held. (
 pub returns-in-Ring-clause-goes : goal.returns-in-Ring-clause-goes
 returns-in-Ring-clause-goes c = λ before paths one more text held. (
   state (first listings.Ring (one ∷ more)) c.args.pass.now.stack paths,
-  comma_goes c.args.listing (one ∷ more) c.args.pass.now.stack paths c.args.token.start text c.args.token.sign listings.Ring c.in-Comma.is c.in-Ring.is (λ e. cc),
+  comma_goes c.args.listing (one ∷ more) c.args.pass.now.stack paths c.args.token.start text c.args.token.sign
+      listings.Ring c.in-Comma.is c.in-Ring.is (λ e. cc),
   record { stack = refl; held = held; shows = refl },
   opened_comma c.args.token.start c.args.pass.now.opened text c.args.token.sign c.in-Comma.is,
 )
@@ -29,11 +31,14 @@ returns-in_ok-end_path-in-Closing-clause-goes c = λ before paths one more text 
     let ends = c.in_ok-end_path-in-Closing.ensures in
     let now = ends.held (before ++ paths) one more held in (
       state behind c.args.pass.now.stack (paths ++ path_of (kind_of c.args.listing) (one ∷ more)),
-      closing_goes c.args.listing (one ∷ more) c.args.pass.now.stack paths c.args.token.start text c.args.token.sign c.in-Closing.is may,
+      closing_goes c.args.listing (one ∷ more) c.args.pass.now.stack paths c.args.token.start text c.args.token.sign
+          c.in-Closing.is may,
       record {
         stack = ends.stack;
-        held = subst (λ done. Held c.end_path.new.self done []) (append_assoc before paths (path_of (kind_of c.args.listing) (one ∷ more)))
-            (subst (λ kind. Held c.end_path.new.self ((before ++ paths) ++ path_of kind (one ∷ more)) []) c.path_kind.ensures now);
+        held = subst (λ done. Held c.end_path.new.self done [])
+            (append_assoc before paths (path_of (kind_of c.args.listing) (one ∷ more)))
+            (subst (λ kind. Held c.end_path.new.self ((before ++ paths) ++ path_of kind (one ∷ more)) [])
+            c.path_kind.ensures now);
         shows = tt;
       },
       ends.opened ∙ opened_closing c.args.token.start c.args.pass.now.opened text c.args.token.sign c.in-Closing.is,

@@ -8,21 +8,27 @@ use Rattle.wkt_layer.proofs.steps.next.Goals as goal
 pub returns-in-Second-clause-goes : goal.returns-in-Second-clause-goes
 returns-in-Second-clause-goes c = λ before s stands.
     let t = token_for c.args.token.start c.args.text.now c.args.token.sign in
-    at_second c.in-Second.listing c.in-Second.x c.in-Second.start s.spot (subst (λ place. Shows place s.spot) c.in-Second.is stands.shows)
+    at_second c.in-Second.listing c.in-Second.x c.in-Second.start s.spot
+    (subst (λ place. Shows place s.spot) c.in-Second.is stands.shows)
     (λ (spot : Spot). Held c.args.pass.now (before ++ s.paths) (points_at spot)
-    → Goes (step_at c.args.exact spot s.stack s.paths t) t c.args.token.start before c.args.pass.now c.second.result c.second.new.pass)
+    → Goes (step_at c.args.exact spot s.stack s.paths t) t c.args.token.start before c.args.pass.now c.second.result
+    c.second.new.pass)
     (λ points x reads begins held.
-    subst (λ stack. Goes (step_at c.args.exact (second c.in-Second.listing points x) stack s.paths t) t c.args.token.start before c.args.pass.now c.second.result c.second.new.pass)
+    subst (λ stack. Goes (step_at c.args.exact (second c.in-Second.listing points x) stack s.paths t) t
+    c.args.token.start before c.args.pass.now c.second.result c.second.new.pass)
     stands.stack (c.second.ensures.goes before s.paths points x held reads begins))
     stands.held
 
 pub returns-in-BareSecond-clause-goes : goal.returns-in-BareSecond-clause-goes
 returns-in-BareSecond-clause-goes c = λ before s stands.
     let t = token_for c.args.token.start c.args.text.now c.args.token.sign in
-    at_bare_second c.in-BareSecond.x c.in-BareSecond.start s.spot (subst (λ place. Shows place s.spot) c.in-BareSecond.is stands.shows)
+    at_bare_second c.in-BareSecond.x c.in-BareSecond.start s.spot
+    (subst (λ place. Shows place s.spot) c.in-BareSecond.is stands.shows)
     (λ (spot : Spot). Held c.args.pass.now (before ++ s.paths) (points_at spot)
-    → Goes (step_at c.args.exact spot s.stack s.paths t) t c.args.token.start before c.args.pass.now c.bare_second.result c.bare_second.new.pass)
+    → Goes (step_at c.args.exact spot s.stack s.paths t) t c.args.token.start before c.args.pass.now
+    c.bare_second.result c.bare_second.new.pass)
     (λ x reads begins held.
-    subst (λ stack. Goes (step_at c.args.exact (bare_second x) stack s.paths t) t c.args.token.start before c.args.pass.now c.bare_second.result c.bare_second.new.pass)
+    subst (λ stack. Goes (step_at c.args.exact (bare_second x) stack s.paths t) t c.args.token.start before
+    c.args.pass.now c.bare_second.result c.bare_second.new.pass)
     stands.stack (c.bare_second.ensures.goes before s.paths x held reads begins))
     stands.held

@@ -10,11 +10,13 @@ returns-in_ok-add_point-in-Some-clause-goes c = λ before paths points x held re
     let y : Number = record { start = c.args.token.start; text = c.args.text.now } in
     let added = c.in_ok-add_point-in-Some.ensures in (
       state (whole c.args.listing (points ++ pair x y ∷ [])) c.args.pass.now.stack paths,
-      number_goes c.args.exact (λ y. state (whole c.args.listing (points ++ pair x y ∷ [])) c.args.pass.now.stack paths) c.args.token.start c.args.text.now c.args.token.sign c.in-Some.y c.in-Some.ensures,
+      number_goes c.args.exact (λ y. state (whole c.args.listing (points ++ pair x y ∷ [])) c.args.pass.now.stack paths)
+          c.args.token.start c.args.text.now c.args.token.sign c.in-Some.y c.in-Some.ensures,
       record {
         stack = added.stack;
         held = added.held (before ++ paths) points (pair x y) held reads c.in-Some.ensures.reads begins c.requires.size;
         shows = (refl, some_push points (pair x y));
       },
-      added.opened ∙ opened_number c.args.exact c.args.token.start c.args.pass.now.opened c.args.text.now c.args.token.sign c.in-Some.y c.in-Some.ensures,
+      added.opened ∙ opened_number c.args.exact c.args.token.start c.args.pass.now.opened c.args.text.now
+          c.args.token.sign c.in-Some.y c.in-Some.ensures,
     )

@@ -13,7 +13,8 @@ overflow_sub-result c =
     let x1 : FitsSigned w64 c.args.rect.now.x1 = search rules in
     let first = simp to_z-of_z at c.column-column.ensures.column in
     let last = simp to_z-of_z at c.column.ensures.column in
-    rw (first, last) (stripe_up c.args.level.now.low.x c.args.level.now.shift c.args.rect.now.x0 c.args.rect.now.x1 c.requires.left.0 c.requires.ordered.0)
+    rw (first, last) (stripe_up c.args.level.now.low.x c.args.level.now.shift c.args.rect.now.x0 c.args.rect.now.x1
+    c.requires.left.0 c.requires.ordered.0)
 
 pub overflow_sub-result-2 : goal.overflow_sub-result-2
 overflow_sub-result-2 c =
@@ -21,7 +22,8 @@ overflow_sub-result-2 c =
     let y1 : FitsSigned w64 c.args.rect.now.y1 = search rules in
     let first = simp to_z-of_z at c.row-row.ensures.row in
     let last = simp to_z-of_z at c.row.ensures.row in
-    rw (first, last) (stripe_up c.args.level.now.low.y c.args.level.now.shift c.args.rect.now.y0 c.args.rect.now.y1 c.requires.bottom.0 c.requires.ordered.1)
+    rw (first, last) (stripe_up c.args.level.now.low.y c.args.level.now.shift c.args.rect.now.y0 c.args.rect.now.y1
+    c.requires.bottom.0 c.requires.ordered.1)
 
 pub returns : goal.returns
 returns c =
@@ -29,10 +31,14 @@ returns c =
     let x1 : FitsSigned w64 c.args.rect.now.x1 = search rules in
     let y0 : FitsSigned w64 c.args.rect.now.y0 = search rules in
     let y1 : FitsSigned w64 c.args.rect.now.y1 = search rules in
-    let column : c.column-column.result ≡ column_of c.args.level.now c.args.rect.now.x0 = simp to_z-of_z at c.column-column.ensures.column in
-    let last : c.column.result ≡ column_of c.args.level.now c.args.rect.now.x1 = simp to_z-of_z at c.column.ensures.column in
+    let column : c.column-column.result ≡ column_of c.args.level.now c.args.rect.now.x0 =
+    simp to_z-of_z at c.column-column.ensures.column in
+    let last : c.column.result ≡ column_of c.args.level.now c.args.rect.now.x1 =
+    simp to_z-of_z at c.column.ensures.column in
     let row : c.row-row.result ≡ row_of c.args.level.now c.args.rect.now.y0 = simp to_z-of_z at c.row-row.ensures.row in
     let top : c.row.result ≡ row_of c.args.level.now c.args.rect.now.y1 = simp to_z-of_z at c.row.ensures.row in
-    let up = stripe_up c.args.level.now.low.x c.args.level.now.shift c.args.rect.now.x0 c.args.rect.now.x1 c.requires.left.0 c.requires.ordered.0 in
-    let higher = stripe_up c.args.level.now.low.y c.args.level.now.shift c.args.rect.now.y0 c.args.rect.now.y1 c.requires.bottom.0 c.requires.ordered.1 in
+    let up = stripe_up c.args.level.now.low.x c.args.level.now.shift c.args.rect.now.x0 c.args.rect.now.x1
+    c.requires.left.0 c.requires.ordered.0 in
+    let higher = stripe_up c.args.level.now.low.y c.args.level.now.shift c.args.rect.now.y0 c.args.rect.now.y1
+    c.requires.bottom.0 c.requires.ordered.1 in
     record { column = column; row = row; columns = omega arith; rows = omega arith }

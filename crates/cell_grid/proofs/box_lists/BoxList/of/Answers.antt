@@ -12,15 +12,18 @@ use Rattle.cell_grid.proofs.Placed.{placed, placed_more}
 use Rattle.cell_grid.proofs.box_lists.BoxList.of.Goals as goal
 
 pub of-requires : goal.of-requires
-of-requires c = boxes_past c.args.boxes.now c.args.around (corner_of c.args.around) c.requires.ordered c.requires.around refl c.loop-rect.rect-index no_box c.loop-rect-test.true
+of-requires c = boxes_past c.args.boxes.now c.args.around (corner_of c.args.around) c.requires.ordered c.requires.around
+    refl c.loop-rect.rect-index no_box c.loop-rect-test.true
 
 pub loop-rect-preserved : goal.loop-rect-preserved
 loop-rect-preserved c =
-    placed_more c.args.around c.args.boxes.now c.loop-rect.rect-index c.loop-rect.items.items c.push.new.self.items c.of.result c.loop-rect-test.true c.of.ensures c.in_ok-push.ensures.items c.loop-rect.invariant
+    placed_more c.args.around c.args.boxes.now c.loop-rect.rect-index c.loop-rect.items.items c.push.new.self.items
+    c.of.result c.loop-rect-test.true c.of.ensures c.in_ok-push.ensures.items c.loop-rect.invariant
 
 pub invariant_of-result : goal.invariant_of-result
 invariant_of-result c =
-    let all : placed c.args.around c.loop-rect.items.items ≡ c.args.boxes.now = c.loop-rect.invariant ∙ take_all c.loop-rect.rect-index c.args.boxes.now c.loop-rect-test.false in
+    let all : placed c.args.around c.loop-rect.items.items ≡ c.args.boxes.now = c.loop-rect.invariant
+    ∙ take_all c.loop-rect.rect-index c.args.boxes.now c.loop-rect-test.false in
     let right : FitsSigned w64 c.args.around.x1 = search rules in
     let top : FitsSigned w64 c.args.around.y1 = search rules in
     record {

@@ -10,36 +10,46 @@ use Rattle.cell_grid.proofs.box_lists.BoxList.rect.Goals as goal
 
 pub number_at-requires : goal.number_at-requires
 number_at-requires c =
-    let within = placed_within c.self.inside.around c.self.inside.items.items c.args.self.now c.args.number c.self.view_is c.requires in
-    let is = placed_inside c.self.inside.around c.self.inside.items.items c.args.number c.index-offsets.result.now c.self.invariant.ordered c.self.invariant.around within c.index-offsets.ensures in
+    let within = placed_within c.self.inside.around c.self.inside.items.items c.args.self.now c.args.number
+    c.self.view_is c.requires in
+    let is = placed_inside c.self.inside.around c.self.inside.items.items c.args.number c.index-offsets.result.now
+    c.self.invariant.ordered c.self.invariant.around within c.index-offsets.ensures in
     let low : FitsSigned w64 c.self.inside.around.x0 = search rules in
     simp to_z-of_z (omega (arith, ints, is.0.0, is.1.right, c.self.invariant.right))
 
 pub number_at-requires-2 : goal.number_at-requires-2
 number_at-requires-2 c =
-    let within = placed_within c.self.inside.around c.self.inside.items.items c.args.self.now c.args.number c.self.view_is c.requires in
-    let is = placed_inside c.self.inside.around c.self.inside.items.items c.args.number c.index-offsets.result.now c.self.invariant.ordered c.self.invariant.around within c.index-offsets.ensures in
+    let within = placed_within c.self.inside.around c.self.inside.items.items c.args.self.now c.args.number
+    c.self.view_is c.requires in
+    let is = placed_inside c.self.inside.around c.self.inside.items.items c.args.number c.index-offsets.result.now
+    c.self.invariant.ordered c.self.invariant.around within c.index-offsets.ensures in
     let low : FitsSigned w64 c.self.inside.around.y0 = search rules in
     simp to_z-of_z (omega (arith, ints, is.0.1, is.1.top, c.self.invariant.top))
 
 pub number_at-requires-3 : goal.number_at-requires-3
 number_at-requires-3 c =
-    let within = placed_within c.self.inside.around c.self.inside.items.items c.args.self.now c.args.number c.self.view_is c.requires in
-    let is = placed_inside c.self.inside.around c.self.inside.items.items c.args.number c.index-offsets.result.now c.self.invariant.ordered c.self.invariant.around within c.index-offsets.ensures in
+    let within = placed_within c.self.inside.around c.self.inside.items.items c.args.self.now c.args.number
+    c.self.view_is c.requires in
+    let is = placed_inside c.self.inside.around c.self.inside.items.items c.args.number c.index-offsets.result.now
+    c.self.invariant.ordered c.self.invariant.around within c.index-offsets.ensures in
     let low : FitsSigned w64 c.self.inside.around.x0 = search rules in
     simp to_z-of_z (omega (arith, ints, is.1.right, c.self.invariant.right))
 
 pub number_at-requires-4 : goal.number_at-requires-4
 number_at-requires-4 c =
-    let within = placed_within c.self.inside.around c.self.inside.items.items c.args.self.now c.args.number c.self.view_is c.requires in
-    let is = placed_inside c.self.inside.around c.self.inside.items.items c.args.number c.index-offsets.result.now c.self.invariant.ordered c.self.invariant.around within c.index-offsets.ensures in
+    let within = placed_within c.self.inside.around c.self.inside.items.items c.args.self.now c.args.number
+    c.self.view_is c.requires in
+    let is = placed_inside c.self.inside.around c.self.inside.items.items c.args.number c.index-offsets.result.now
+    c.self.invariant.ordered c.self.invariant.around within c.index-offsets.ensures in
     let low : FitsSigned w64 c.self.inside.around.y0 = search rules in
     simp to_z-of_z (omega (arith, ints, is.1.top, c.self.invariant.top))
 
 pub returns : goal.returns
 returns c =
-    let within = placed_within c.self.inside.around c.self.inside.items.items c.args.self.now c.args.number c.self.view_is c.requires in
-    let at = placed_at c.self.inside.around c.self.inside.items.items c.args.number c.index-offsets.result.now within c.index-offsets.ensures in
+    let within = placed_within c.self.inside.around c.self.inside.items.items c.args.self.now c.args.number
+    c.self.view_is c.requires in
+    let at = placed_at c.self.inside.around c.self.inside.items.items c.args.number c.index-offsets.result.now within
+    c.index-offsets.ensures in
     let there = at ∙ ap (λ (v : PlacedBoxes). box_at v.boxes c.args.number) c.self.view_is in
     let a : FitsSigned w64 c.self.inside.around.x0 = search rules in
     let b : FitsSigned w64 c.self.inside.around.y0 = search rules in

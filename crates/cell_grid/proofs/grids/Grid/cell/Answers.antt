@@ -16,40 +16,61 @@ use Rattle.cell_grid.proofs.grids.Grid.cell.Goals as goal
 pub column-requires : goal.column-requires
 column-requires c =
     let levels : c.self.inside.used.items ≡ c.args.self.now.levels = ap (λ (v : Boxes). v.levels) c.self.view_is in
-    let within : c.args.level < length c.self.inside.used.items = subst (λ (l : List ℕ). c.args.level < length l) (sym levels) c.requires in
-    let kept = number_kept c.self.inside.boxes.boxes c.self.inside.boxes.around c.self.inside.cells c.self.inside.levels.items c.self.inside.used.items c.args.level c.index-used.result.now c.index-level.result.now
-    c.self.invariant.used c.self.invariant.laid c.self.invariant.low c.self.invariant.levels within c.index-used.ensures c.index-level.ensures in
+    let within : c.args.level < length c.self.inside.used.items =
+    subst (λ (l : List ℕ). c.args.level < length l) (sym levels) c.requires in
+    let kept = number_kept c.self.inside.boxes.boxes c.self.inside.boxes.around c.self.inside.cells
+    c.self.inside.levels.items c.self.inside.used.items c.args.level c.index-used.result.now
+    c.index-level.result.now
+    c.self.invariant.used c.self.invariant.laid c.self.invariant.low c.self.invariant.levels within c.index-used.ensures
+    c.index-level.ensures in
     let x : FitsSigned w64 c.put_into-inside.result.x = search rules in
-    simp to_z-of_z (put_past c.self.inside.boxes.boxes c.self.inside.boxes.around c.index-level.result.now.low c.args.p c.put_into-inside.result c.self.invariant.around kept.low (c.put_into-inside.ensures ∙ ap (λ (a : Rect). put_of a c.args.p) c.around.ensures)).0
+    simp to_z-of_z (put_past c.self.inside.boxes.boxes c.self.inside.boxes.around c.index-level.result.now.low c.args.p
+    c.put_into-inside.result c.self.invariant.around kept.low
+    (c.put_into-inside.ensures ∙ ap (λ (a : Rect). put_of a c.args.p) c.around.ensures)).0
 
 pub row-requires : goal.row-requires
 row-requires c =
     let levels : c.self.inside.used.items ≡ c.args.self.now.levels = ap (λ (v : Boxes). v.levels) c.self.view_is in
-    let within : c.args.level < length c.self.inside.used.items = subst (λ (l : List ℕ). c.args.level < length l) (sym levels) c.requires in
-    let kept = number_kept c.self.inside.boxes.boxes c.self.inside.boxes.around c.self.inside.cells c.self.inside.levels.items c.self.inside.used.items c.args.level c.index-used.result.now c.index-level.result.now
-    c.self.invariant.used c.self.invariant.laid c.self.invariant.low c.self.invariant.levels within c.index-used.ensures c.index-level.ensures in
+    let within : c.args.level < length c.self.inside.used.items =
+    subst (λ (l : List ℕ). c.args.level < length l) (sym levels) c.requires in
+    let kept = number_kept c.self.inside.boxes.boxes c.self.inside.boxes.around c.self.inside.cells
+    c.self.inside.levels.items c.self.inside.used.items c.args.level c.index-used.result.now
+    c.index-level.result.now
+    c.self.invariant.used c.self.invariant.laid c.self.invariant.low c.self.invariant.levels within c.index-used.ensures
+    c.index-level.ensures in
     let y : FitsSigned w64 c.put_into-inside.result.y = search rules in
-    simp to_z-of_z (put_past c.self.inside.boxes.boxes c.self.inside.boxes.around c.index-level.result.now.low c.args.p c.put_into-inside.result c.self.invariant.around kept.low (c.put_into-inside.ensures ∙ ap (λ (a : Rect). put_of a c.args.p) c.around.ensures)).1
+    simp to_z-of_z (put_past c.self.inside.boxes.boxes c.self.inside.boxes.around c.index-level.result.now.low c.args.p
+    c.put_into-inside.result c.self.invariant.around kept.low
+    (c.put_into-inside.ensures ∙ ap (λ (a : Rect). put_of a c.args.p) c.around.ensures)).1
 
 pub returns-clause-numbers : goal.returns-clause-numbers
 returns-clause-numbers c =
     let boxes : c.self.inside.boxes.boxes ≡ c.args.self.now.boxes = ap (λ (v : Boxes). v.boxes) c.self.view_is in
-    rw (← boxes) (cell_below c.self.inside.boxes.boxes c.self.inside.cells c.place.result c.at.result.now c.self.invariant.numbers c.at.ensures)
+    rw (← boxes) (cell_below c.self.inside.boxes.boxes c.self.inside.cells c.place.result c.at.result.now
+    c.self.invariant.numbers c.at.ensures)
 
 pub returns-clause-level : goal.returns-clause-level
 returns-clause-level c =
     let boxes : c.self.inside.boxes.boxes ≡ c.args.self.now.boxes = ap (λ (v : Boxes). v.boxes) c.self.view_is in
     let levels : c.self.inside.used.items ≡ c.args.self.now.levels = ap (λ (v : Boxes). v.levels) c.self.view_is in
-    let within : c.args.level < length c.self.inside.used.items = subst (λ (l : List ℕ). c.args.level < length l) (sym levels) c.requires in
-    let kept = number_kept c.self.inside.boxes.boxes c.self.inside.boxes.around c.self.inside.cells c.self.inside.levels.items c.self.inside.used.items c.args.level c.index-used.result.now c.index-level.result.now
-    c.self.invariant.used c.self.invariant.laid c.self.invariant.low c.self.invariant.levels within c.index-used.ensures c.index-level.ensures in
+    let within : c.args.level < length c.self.inside.used.items =
+    subst (λ (l : List ℕ). c.args.level < length l) (sym levels) c.requires in
+    let kept = number_kept c.self.inside.boxes.boxes c.self.inside.boxes.around c.self.inside.cells
+    c.self.inside.levels.items c.self.inside.used.items c.args.level c.index-used.result.now
+    c.index-level.result.now
+    c.self.invariant.used c.self.invariant.laid c.self.invariant.low c.self.invariant.levels within c.index-used.ensures
+    c.index-level.ensures in
     let x : FitsSigned w64 c.put_into-inside.result.x = search rules in
     let y : FitsSigned w64 c.put_into-inside.result.y = search rules in
     let column = simp to_z-of_z at c.column.ensures.column in
     let row = simp to_z-of_z at c.row.ensures.row in
-    let place : c.place.result ≡ cell_of c.index-level.result.now (put_of c.self.inside.boxes.around c.args.p) = rw (c.place.ensures.place, column, row, c.put_into-inside.ensures, c.around.ensures) refl in
+    let place : c.place.result ≡ cell_of c.index-level.result.now (put_of c.self.inside.boxes.around c.args.p) =
+    rw (c.place.ensures.place, column, row, c.put_into-inside.ensures, c.around.ensures) refl in
     let number : c.index-used.result.now ≡ get_or c.args.self.now.levels c.args.level 0 =
-    c.index-used.ensures ∙ get_or_default c.self.inside.used.items c.args.level c.index-used.result.now 0 within ∙ ap (λ (l : List ℕ). get_or l c.args.level 0) levels in
-    let exact = cell_exact c.self.inside.boxes.boxes c.self.inside.boxes.around c.self.inside.cells c.index-used.result.now c.index-level.result.now c.args.p c.at.result.now c.self.invariant.around kept
+    c.index-used.ensures ∙ get_or_default c.self.inside.used.items c.args.level c.index-used.result.now 0 within
+    ∙ ap (λ (l : List ℕ). get_or l c.args.level 0) levels in
+    let exact = cell_exact c.self.inside.boxes.boxes c.self.inside.boxes.around c.self.inside.cells
+    c.index-used.result.now c.index-level.result.now c.args.p c.at.result.now c.self.invariant.around kept
     (c.at.ensures ∙ ap (numbers_at c.self.inside.cells) place) in
-    rw (← boxes) (subst (λ (k : ℕ). (n : ℕ) → IsHolder c.self.inside.boxes.boxes c.args.p n → Contains c.at.result.now n ↔ (level_of (box_at c.self.inside.boxes.boxes n) ≡ k)) number exact)
+    rw (← boxes) (subst (λ (k : ℕ). (n : ℕ) → IsHolder c.self.inside.boxes.boxes c.args.p n
+    → Contains c.at.result.now n ↔ (level_of (box_at c.self.inside.boxes.boxes n) ≡ k)) number exact)

@@ -6,4 +6,5 @@ use Rattle.cell_grid.specs.Sizes.{level_of}
 use Rattle.cell_grid.proofs.grids.Grid.levels.Goals as goal
 
 pub returns-clause-each : goal.returns-clause-each
-returns-clause-each c = subst (λ (v : Boxes). All (λ (rect : Rect). Contains v.levels (level_of rect)) v.boxes) c.self.view_is c.self.invariant.used.each
+returns-clause-each c = subst (λ (v : Boxes). All (λ (rect : Rect). Contains v.levels (level_of rect)) v.boxes)
+    c.self.view_is c.self.invariant.used.each

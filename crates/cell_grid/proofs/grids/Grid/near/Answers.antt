@@ -16,29 +16,51 @@ find-requires-clause-numbers c = λ place k h. c.self.invariant.numbers place k 
 
 pub find-requires-clause-cut : goal.find-requires-clause-cut
 find-requires-clause-cut c =
-    let kept = used_kept c.self.inside.boxes.boxes c.self.inside.boxes.around c.self.inside.cells c.self.inside.levels.items c.self.inside.used.items c.deref-used-items.result.now c.loop-used.used-index c.index-level.result.now
-    c.self.invariant.used c.self.invariant.laid c.self.invariant.low c.self.invariant.levels c.deref-used-items.ensures.value c.loop-used-test.true c.index-level.ensures in
-    rw (kept.low, c.cut_to-cut.ensures, c.around.ensures) (cut_past c.self.inside.boxes.around c.args.r c.self.invariant.around.ordered c.self.invariant.around.span c.requires)
+    let kept = used_kept c.self.inside.boxes.boxes c.self.inside.boxes.around c.self.inside.cells
+    c.self.inside.levels.items c.self.inside.used.items c.deref-used-items.result.now c.loop-used.used-index
+    c.index-level.result.now
+    c.self.invariant.used c.self.invariant.laid c.self.invariant.low c.self.invariant.levels
+    c.deref-used-items.ensures.value c.loop-used-test.true c.index-level.ensures in
+    rw (kept.low, c.cut_to-cut.ensures, c.around.ensures)
+    (cut_past c.self.inside.boxes.around c.args.r c.self.invariant.around.ordered c.self.invariant.around.span
+    c.requires)
 
 pub loop-used-preserved : goal.loop-used-preserved
 loop-used-preserved c =
     let boxes : c.self.inside.boxes.boxes ≡ c.args.self.now.boxes = ap (λ (v : Boxes). v.boxes) c.self.view_is in
     let levels : c.self.inside.used.items ≡ c.args.self.now.levels = ap (λ (v : Boxes). v.levels) c.self.view_is in
-    let kept = used_kept c.self.inside.boxes.boxes c.self.inside.boxes.around c.self.inside.cells c.self.inside.levels.items c.self.inside.used.items c.deref-used-items.result.now c.loop-used.used-index c.index-level.result.now
-    c.self.invariant.used c.self.invariant.laid c.self.invariant.low c.self.invariant.levels c.deref-used-items.ensures.value c.loop-used-test.true c.index-level.ensures in
+    let kept = used_kept c.self.inside.boxes.boxes c.self.inside.boxes.around c.self.inside.cells
+    c.self.inside.levels.items c.self.inside.used.items c.deref-used-items.result.now c.loop-used.used-index
+    c.index-level.result.now
+    c.self.invariant.used c.self.invariant.laid c.self.invariant.low c.self.invariant.levels
+    c.deref-used-items.ensures.value c.loop-used-test.true c.index-level.ensures in
     let finds = c.in_ok-find.ensures in
-    let cut = subst (λ (q : Rect). DoesFind c.self.inside.boxes.boxes c.args.r (StandsIn c.index-level.result.now c.self.inside.cells q) c.loop-used.numbers.items c.find.new.found.items) (c.cut_to-cut.ensures ∙ ap (λ (a : Rect). cut_of a c.args.r) c.around.ensures) finds in
-    let found = level_found c.self.inside.boxes.boxes c.args.r c.self.inside.boxes.around c.index-level.result.now c.self.inside.cells c.loop-used.numbers.items c.find.new.found.items kept.is c.self.invariant.around cut in
-    let own = subst (λ (l : ℕ). DoesFind c.self.inside.boxes.boxes c.args.r (IsOnLevel c.self.inside.boxes.boxes l) c.loop-used.numbers.items c.find.new.found.items) kept.number found in
-    let here = subst (λ (l : List ℕ). DoesFind c.self.inside.boxes.boxes c.args.r (IsOnLevel c.self.inside.boxes.boxes (get_or l c.loop-used.used-index 0)) c.loop-used.numbers.items c.find.new.found.items)
+    let cut = subst (λ (q : Rect). DoesFind c.self.inside.boxes.boxes c.args.r
+    (StandsIn c.index-level.result.now c.self.inside.cells q) c.loop-used.numbers.items c.find.new.found.items)
+    (c.cut_to-cut.ensures ∙ ap (λ (a : Rect). cut_of a c.args.r) c.around.ensures) finds in
+    let found = level_found c.self.inside.boxes.boxes c.args.r c.self.inside.boxes.around c.index-level.result.now
+    c.self.inside.cells c.loop-used.numbers.items c.find.new.found.items kept.is c.self.invariant.around cut in
+    let own = subst (λ (l : ℕ). DoesFind c.self.inside.boxes.boxes c.args.r (IsOnLevel c.self.inside.boxes.boxes l)
+    c.loop-used.numbers.items c.find.new.found.items) kept.number found in
+    let here = subst (λ (l : List ℕ). DoesFind c.self.inside.boxes.boxes c.args.r
+    (IsOnLevel c.self.inside.boxes.boxes (get_or l c.loop-used.used-index 0)) c.loop-used.numbers.items
+    c.find.new.found.items)
     (c.deref-used-items.ensures.value ∙ levels) own in
-    levels_more c.args.self.now.boxes c.args.r c.args.self.now.levels c.loop-used.used-index [] c.loop-used.numbers.items c.find.new.found.items c.loop-used.invariant
-    (subst (λ (bs : List Rect). DoesFind bs c.args.r (IsOnLevel bs (get_or c.args.self.now.levels c.loop-used.used-index 0)) c.loop-used.numbers.items c.find.new.found.items) boxes here)
+    levels_more c.args.self.now.boxes c.args.r c.args.self.now.levels c.loop-used.used-index []
+    c.loop-used.numbers.items c.find.new.found.items c.loop-used.invariant
+    (subst (λ (bs : List Rect). DoesFind bs c.args.r
+    (IsOnLevel bs (get_or c.args.self.now.levels c.loop-used.used-index 0)) c.loop-used.numbers.items
+    c.find.new.found.items) boxes here)
 
 pub returns : goal.returns
 returns c =
     let levels : c.self.inside.used.items ≡ c.args.self.now.levels = ap (λ (v : Boxes). v.levels) c.self.view_is in
     let on_levels : All (λ (rect : Rect). Contains c.args.self.now.levels (level_of rect)) c.args.self.now.boxes =
-    subst (λ (v : Boxes). All (λ (rect : Rect). Contains v.levels (level_of rect)) v.boxes) c.self.view_is c.self.invariant.used.each in
-    let all : length c.args.self.now.levels ≤ c.loop-used.used-index = subst (λ (l : List ℕ). length l ≤ c.loop-used.used-index) (c.deref-used-items.ensures.value ∙ levels) c.loop-used-test.false in
-    near_list c.args.self.now.boxes c.args.r c.args.self.now.levels c.loop-used.used-index c.loop-used.numbers.items c.sort_once.new.numbers.items on_levels all c.loop-used.invariant c.sort_once.ensures.ascending c.sort_once.ensures.same
+    subst (λ (v : Boxes). All (λ (rect : Rect). Contains v.levels (level_of rect)) v.boxes) c.self.view_is
+    c.self.invariant.used.each in
+    let all : length c.args.self.now.levels ≤ c.loop-used.used-index =
+    subst (λ (l : List ℕ). length l ≤ c.loop-used.used-index) (c.deref-used-items.ensures.value ∙ levels)
+    c.loop-used-test.false in
+    near_list c.args.self.now.boxes c.args.r c.args.self.now.levels c.loop-used.used-index c.loop-used.numbers.items
+    c.sort_once.new.numbers.items on_levels all c.loop-used.invariant c.sort_once.ensures.ascending
+    c.sort_once.ensures.same

@@ -8,4 +8,5 @@ decreases-loop-left l = l.left
 
 -- those behind what is left are told
 abbrev pub invariant-loop-left : goal.invariant-loop-left
-invariant-loop-left l = (l.left ≤ length l.numbers) × DoesTell (IsToldFrom l.self l.boxes.boxes l.window.index l.numbers l.left) l.initial.found.items l.found.items
+invariant-loop-left l = (l.left ≤ length l.numbers)
+    × DoesTell (IsToldFrom l.self l.boxes.boxes l.window.index l.numbers l.left) l.initial.found.items l.found.items

@@ -18,5 +18,6 @@ loop-end-preserved c =
       rw count (subst (λ front. HasRead front (run_read c.args.self c.with-kept.result ((end - c.args.from) + 1)))
           (sym (take_more text end 0 c.loop-end-test.true))
           (run_taken (take end text) byte c.args.self c.loop-end.kept c.with-kept.result (end - c.args.from)
-          (c.is_digits.ensures.0 c.if-not-is_digits.false) digit c.with-kept.ensures.cut c.with-kept.ensures.dropped c.loop-end.invariant.2)),
+          (c.is_digits.ensures.0 c.if-not-is_digits.false) digit c.with-kept.ensures.cut c.with-kept.ensures.dropped
+          c.loop-end.invariant.2)),
     )

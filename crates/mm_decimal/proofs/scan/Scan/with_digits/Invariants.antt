@@ -4,7 +4,8 @@ use Rattle.mm_decimal.specs.Scans.{HasRead, run_read}
 use Rattle.mm_decimal.proofs.scan.Scan.with_digits.Given as goal
 
 abbrev pub invariant-loop-end : goal.invariant-loop-end
-invariant-loop-end l = (l.from ≤ l.end) × (l.end ≤ length l.text) × HasRead (take l.end l.text) (run_read l.self l.kept (l.end - l.from))
+invariant-loop-end l = (l.from ≤ l.end) × (l.end ≤ length l.text)
+    × HasRead (take l.end l.text) (run_read l.self l.kept (l.end - l.from))
 
 abbrev pub decreases-loop-end : goal.decreases-loop-end
 decreases-loop-end l = length l.text - l.end

@@ -21,4 +21,5 @@ returns c =
     let f3 : FitsSigned w64 c.args.self.now.y1 = search rules in
     let f4 : FitsSigned w64 c.args.p.x = search rules in
     let f5 : FitsSigned w64 c.args.p.y = search rules in
-    point_if c.args.self.now c.args.p c.is_from_to-2.result (simp to_z-of_z at c.if-not-is_from_to.ensures) (simp to_z-of_z at c.is_from_to-2.ensures)
+    point_if c.args.self.now c.args.p c.is_from_to-2.result (simp to_z-of_z at c.if-not-is_from_to.ensures)
+    (simp to_z-of_z at c.is_from_to-2.ensures)

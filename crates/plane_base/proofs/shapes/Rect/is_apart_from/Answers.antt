@@ -16,4 +16,5 @@ returns c =
     let f5 : FitsSigned w64 c.args.other.now.y0 = search rules in
     let f6 : FitsSigned w64 c.args.other.now.x1 = search rules in
     let f7 : FitsSigned w64 c.args.other.now.y1 = search rules in
-    apart_if c.args.self.now c.args.other.now c.are_spans_apart-2.result (simp to_z-of_z at c.if-are_spans_apart.ensures) (simp to_z-of_z at c.are_spans_apart-2.ensures)
+    apart_if c.args.self.now c.args.other.now c.are_spans_apart-2.result
+    (simp to_z-of_z at c.if-are_spans_apart.ensures) (simp to_z-of_z at c.are_spans_apart-2.ensures)

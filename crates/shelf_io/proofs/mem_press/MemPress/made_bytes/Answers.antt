@@ -12,14 +12,17 @@ returns-in-Some c =
     let made = c.self.inside.made.items in
     let name = c.args.name.now in
     let number = c.in-Some.number in
-    let looked_up = sym (number_of-named made name) ∙ (sym (rw c.deref.ensures.value at c.position_of.ensures) ∙ c.in-Some.is) in
+    let looked_up = sym (number_of-named made name)
+    ∙ (sym (rw c.deref.ensures.value at c.position_of.ensures) ∙ c.in-Some.is) in
     let there = slice_get_read made _ number c.index.result.now refl (search rules) c.index.ensures in
     let here = sym (bytes_of-number made name number c.index.result.now looked_up there) in
-    subst (λ (p : MemoryPress). Some c.as_slice.result.now ≡ bytes_of p.made name) c.self.view_is (ap (λ (bytes : List ℕ). Some bytes) c.as_slice.ensures.value ∙ here)
+    subst (λ (p : MemoryPress). Some c.as_slice.result.now ≡ bytes_of p.made name) c.self.view_is
+    (ap (λ (bytes : List ℕ). Some bytes) c.as_slice.ensures.value ∙ here)
 
 pub returns-in-None : goal.returns-in-None
 returns-in-None c =
     let made = c.self.inside.made.items in
-    let looked_up = sym (number_of-named made c.args.name.now) ∙ (sym (rw c.deref.ensures.value at c.position_of.ensures) ∙ c.in-None.is) in
+    let looked_up = sym (number_of-named made c.args.name.now)
+    ∙ (sym (rw c.deref.ensures.value at c.position_of.ensures) ∙ c.in-None.is) in
     let none = sym (bytes_of-none (map named_bytes made) c.args.name.now looked_up) in
     subst (λ (p : MemoryPress). None ≡ bytes_of p.made c.args.name.now) c.self.view_is none

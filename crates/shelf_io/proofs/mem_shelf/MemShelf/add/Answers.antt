@@ -11,12 +11,15 @@ pub invariant_of-self-2 : goal.invariant_of-self-2
 invariant_of-self-2 c =
     let files = c.self.inside.files.items in
     let name = c.args.name.now in
-    let lacks : bytes_of (map named_bytes files) name ≡ None = subst (λ (s : MemoryShelf). bytes_of s.files name ≡ None) (sym c.self.view_is) c.requires in
-    let distinct = AreDistinct-append (map named_bytes files) name c.in_ok-to_vec.field-0.items c.self.invariant.distinct lacks in
+    let lacks : bytes_of (map named_bytes files) name ≡ None =
+    subst (λ (s : MemoryShelf). bytes_of s.files name ≡ None) (sym c.self.view_is) c.requires in
+    let distinct = AreDistinct-append (map named_bytes files) name c.in_ok-to_vec.field-0.items
+    c.self.invariant.distinct lacks in
     let added = c.in_ok-push.ensures.items in
     record {
       most = c.self.invariant.most;
-      place = rw added (place-append files _ c.self.inside.at_hand c.self.inside.place c.self.invariant.at_hand c.self.invariant.place);
+      place = rw added (place-append files _ c.self.inside.at_hand c.self.inside.place c.self.invariant.at_hand
+          c.self.invariant.place);
       at_hand = search rules;
       distinct = rw (added, map-append, c.in_ok-to_string.ensures.ok) distinct;
     }

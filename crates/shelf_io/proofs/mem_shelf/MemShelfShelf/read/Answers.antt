@@ -1,5 +1,6 @@
 -- Answers to the goals of `MemShelf::read`, a call of the trait `Shelf`, in src/mem_shelf.rt.
-use Rattle.std.proofs.Common.{◌≡◌, ◌↔◌, ◌+◌, ◌++◌, length, take, drop, map, Option, Some, ℕ, [], arith, refl, sym, ◌∙◌, subst, slice_get}
+use Rattle.std.proofs.Common.{◌≡◌, ◌↔◌, ◌+◌, ◌++◌, length, take, drop, map, Option, Some, ℕ, [], arith, refl, sym, ◌∙◌}
+use Rattle.std.proofs.Common.{subst, slice_get}
 use Rattle.std.proofs.lemmas.Option.{slice_get_read}
 use Rattle.std.proofs.lemmas.List.{length-take-le}
 use Rattle.shelf_io.specs.MemoryFile.{named_bytes}
@@ -20,10 +21,17 @@ returns-clause-bytes c =
     let after = drop count c.args.buf.now in
     let within = rw c.in-Some.is at c.self.invariant.at_hand in
     let there : slice_get files number ≡ Some file = slice_get_read files _ number file refl within c.index.ensures in
-    let same : copied ≡ take count (drop place bytes) = rw (c.deref-2.ensures.value, take-rest bytes place) at c.copy_from_slice.ensures.after in
-    let size : length copied ≡ count = c.copy_from_slice.ensures.len ∙ length-take-le count c.args.buf.now (omega arith) in
+    let same : copied ≡ take count (drop place bytes) =
+    rw (c.deref-2.ensures.value, take-rest bytes place) at c.copy_from_slice.ensures.after in
+    let size : length copied ≡ count = c.copy_from_slice.ensures.len
+    ∙ length-take-le count c.args.buf.now (omega arith) in
     let smallest = rw (c.min.ensures, c.deref-2.ensures.value, take-rest bytes place) at c.min-count.ensures in
-    let given : (count ≡ 0) ↔ (drop place bytes ≡ []) = none_at_end bytes c.args.buf.now place c.self.inside.most count c.requires.room c.self.invariant.most smallest in
+    let given : (count ≡ 0) ↔ (drop place bytes ≡ []) =
+    none_at_end bytes c.args.buf.now place c.self.inside.most count c.requires.room c.self.invariant.most
+    smallest in
     let taken = takes_there files number place count file copied after there same size given in
-    let at_hand = subst (λ (n : Option ℕ). TakesFront (rest_from (map named_bytes files) n place) (rest_from (map named_bytes files) n (place + count)) count (copied ++ after)) (sym c.in-Some.is) taken in
-    subst (λ (s : MemoryShelf). TakesFront (rest_at_hand s) (rest_from (map named_bytes files) c.self.inside.at_hand (place + count)) count (copied ++ after)) c.self.view_is at_hand
+    let at_hand = subst (λ (n : Option ℕ). TakesFront (rest_from (map named_bytes files) n place)
+    (rest_from (map named_bytes files) n (place + count)) count (copied ++ after)) (sym c.in-Some.is) taken in
+    subst (λ (s : MemoryShelf). TakesFront (rest_at_hand s)
+    (rest_from (map named_bytes files) c.self.inside.at_hand (place + count)) count (copied ++ after))
+    c.self.view_is at_hand

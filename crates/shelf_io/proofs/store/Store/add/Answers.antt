@@ -14,9 +14,11 @@ invariant_of-self c =
     let name = c.args.name.now in
     let fits : length name ≤ c.self.inside.bytes = search rules in
     let some : 0 < c.self.inside.files = search rules in
-    let ok : IsOk c.extend_from_slice.result = c.extend_from_slice.ensures.succeeds (omega (arith, sound.bytes, fits)) in
+    let ok : IsOk c.extend_from_slice.result =
+    c.extend_from_slice.ensures.succeeds (omega (arith, sound.bytes, fits)) in
     let text : c.extend_from_slice.new.self.items ≡ c.self.inside.text.items ++ name = search (rules, ok) in
-    let parts : c.push.new.self.items ≡ c.self.inside.parts.items ++ record { name = length name; content = 0 } ∷ [] = search rules in
+    let parts : c.push.new.self.items ≡ c.self.inside.parts.items ++ record { name = length name; content = 0 } ∷ [] =
+    search rules in
     let size : vec_len c.extend_from_slice.new.self ≡ vec_len c.self.inside.text + length name = search (rules, ok) in
     let count : vec_len c.push.new.self ≡ vec_len c.self.inside.parts + 1 = search rules in
     record {
@@ -31,10 +33,19 @@ returns-then-is_ok-clause-added c =
     let store = c.self.inside in
     let name = c.args.name.now in
     let fits : length name ≤ store.bytes = search rules in
-    let ok : IsOk c.extend_from_slice.result = c.extend_from_slice.ensures.succeeds (omega (arith, c.self.invariant.bytes, fits)) in
+    let ok : IsOk c.extend_from_slice.result =
+    c.extend_from_slice.ensures.succeeds (omega (arith, c.self.invariant.bytes, fits)) in
     let text : c.extend_from_slice.new.self.items ≡ store.text.items ++ name = search (rules, ok) in
-    let parts : c.push.new.self.items ≡ store.parts.items ++ record { name = length name; content = 0 } ∷ [] = search rules in
-    let with : Files → FileStore = λ made. record { made = made; files = store.files - 1; bytes = store.bytes - length name } in
-    let made : files_in c.push.new.self.items c.extend_from_slice.new.self.items ≡ with_file name (files_in store.parts.items store.text.items) =
+    let parts : c.push.new.self.items ≡ store.parts.items ++ record { name = length name; content = 0 } ∷ [] =
+    search rules in
+    let with : Files → FileStore = λ made. record {
+      made = made;
+      files = store.files - 1;
+      bytes =
+          store.bytes - length name;
+    } in
+    let made : files_in c.push.new.self.items c.extend_from_slice.new.self.items
+    ≡ with_file name (files_in store.parts.items store.text.items) =
     rw (parts, text) (files_in-file store.parts.items store.text.items name c.self.invariant.whole) in
-    λ _. subst (λ (s : FileStore). with (files_in c.push.new.self.items c.extend_from_slice.new.self.items) ≡ store_with_file name s) c.self.view_is (ap with made)
+    λ _. subst (λ (s : FileStore). with (files_in c.push.new.self.items c.extend_from_slice.new.self.items)
+    ≡ store_with_file name s) c.self.view_is (ap with made)

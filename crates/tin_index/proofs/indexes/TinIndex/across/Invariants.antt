@@ -5,4 +5,5 @@ use Rattle.tin_index.proofs.indexes.TinIndex.across.Given as goal
 
 -- none of the triangles so far is another one that has the second corner
 abbrev pub invariant-loop-place : goal.invariant-loop-place
-invariant-loop-place l = (k : ℕ) → k < l.place → (get_or l.star k 0 ≢ l.triangle) × HasCorner l.self (get_or l.star k 0) l.second → ⊥
+invariant-loop-place l = (k : ℕ) → k < l.place
+    → (get_or l.star k 0 ≢ l.triangle) × HasCorner l.self (get_or l.star k 0) l.second → ⊥

@@ -7,8 +7,10 @@ use Rattle.tin_index.proofs.indexes.TinIndex.build.Goals as goal
 
 pub build-requires-clause-ordered : goal.build-requires-clause-ordered
 build-requires-clause-ordered c =
-    subst (λ (boxes : List Rect). AreOrdered boxes) (sym c.deref.ensures.value) (all_ordered c.args.tin (length c.args.tin.triangles) c.in_ok-boxes.boxes.items c.in_ok-boxes.ensures)
+    subst (λ (boxes : List Rect). AreOrdered boxes) (sym c.deref.ensures.value)
+    (all_ordered c.args.tin (length c.args.tin.triangles) c.in_ok-boxes.boxes.items c.in_ok-boxes.ensures)
 
 pub build-requires-clause-span : goal.build-requires-clause-span
 build-requires-clause-span c =
-    subst (λ (boxes : List Rect). AreWithinSpan boxes) (sym c.deref.ensures.value) (all_within c.args.tin c.in_ok-boxes.boxes.items c.known.ensures.limits c.in_ok-boxes.ensures)
+    subst (λ (boxes : List Rect). AreWithinSpan boxes) (sym c.deref.ensures.value)
+    (all_within c.args.tin c.in_ok-boxes.boxes.items c.known.ensures.limits c.in_ok-boxes.ensures)

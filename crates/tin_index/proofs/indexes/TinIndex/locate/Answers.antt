@@ -7,4 +7,6 @@ use Rattle.tin_index.proofs.indexes.TinIndex.locate.Goals as goal
 
 pub returns-clause-least : goal.returns-clause-least
 returns-clause-least c =
-    subst (λ (tin : Triangulation). IfSome c.locate_in.result (λ t. (other : ℕ) → other < t → IsInTriangle tin Source other (whole c.args.p) → ⊥)) c.self.view_is c.locate_in.ensures.least
+    subst (λ (tin : Triangulation). IfSome c.locate_in.result
+    (λ t. (other : ℕ) → other < t → IsInTriangle tin Source other (whole c.args.p) → ⊥)) c.self.view_is
+    c.locate_in.ensures.least

@@ -12,14 +12,18 @@ use Rattle.wkt_layer.proofs.layer.WktLayer.render.Goals as goal
 
 pub splice-requires : goal.splice-requires
 splice-requires c =
-    subst (λ (edits : List Edit). AreInOrder 0 edits (length c.args.bytes.now)) (sym c.edits.ensures) (read_in_order c.args.how.exact c.args.bytes.now c.args.sheet.now c.requires.sheet)
+    subst (λ (edits : List Edit). AreInOrder 0 edits (length c.args.bytes.now)) (sym c.edits.ensures)
+    (read_in_order c.args.how.exact c.args.bytes.now c.args.sheet.now c.requires.sheet)
 
 pub returns-clause-rest : goal.returns-clause-rest
 returns-clause-rest c =
-    rest_written c.splice.result (λ out. out.items) c.args.bytes.now (edit_text c.args.sheet.now c.args.images.now) c.edits.result.now c.args.sheet.now.edits c.edits.ensures c.splice.ensures
+    rest_written c.splice.result (λ out. out.items) c.args.bytes.now (edit_text c.args.sheet.now c.args.images.now)
+    c.edits.result.now c.args.sheet.now.edits c.edits.ensures c.splice.ensures
 
 pub returns-clause-back : goal.returns-clause-back
 returns-clause-back c =
-    holds_written c.splice.result (λ out. out.items) c.args.bytes.now (edit_text c.args.sheet.now c.args.images.now) c.edits.result.now c.args.sheet.now.edits c.edits.ensures c.splice.ensures
+    holds_written c.splice.result (λ out. out.items) c.args.bytes.now (edit_text c.args.sheet.now c.args.images.now)
+    c.edits.result.now c.args.sheet.now.edits c.edits.ensures c.splice.ensures
     (λ (out : List ℕ). Unit {0} → IsReadBack (IsReadAs c.args.how.exact) c.args.sheet.now c.args.images.now out)
-    (λ _. reads_back c.args.how.exact c.args.bytes.now c.args.sheet.now c.args.images.now c.requires.sheet c.requires.fits)
+    (λ _. reads_back c.args.how.exact c.args.bytes.now c.args.sheet.now c.args.images.now c.requires.sheet
+    c.requires.fits)

@@ -9,9 +9,12 @@ pub returns-clause-held : goal.returns-clause-held
 returns-clause-held c =
     let items = c.in_ok-push.ensures.items in
     let starts = c.start_of-self.ensures in
-    let sum : c.args.self.now.inexact + (c.lost.result + c.lost-2.result) ≡ c.args.self.now.inexact + (lost_in (Ok c.args.x) + lost_in (Ok c.args.y)) =
-    ap (λ n. c.args.self.now.inexact + (n + c.lost-2.result)) c.lost.ensures.value ∙ ap (λ n. c.args.self.now.inexact + (lost_in (Ok c.args.x) + n)) c.lost-2.ensures.value in
+    let sum : c.args.self.now.inexact + (c.lost.result + c.lost-2.result) ≡ c.args.self.now.inexact
+    + (lost_in (Ok c.args.x) + lost_in (Ok c.args.y)) =
+    ap (λ n. c.args.self.now.inexact + (n + c.lost-2.result)) c.lost.ensures.value
+    ∙ ap (λ n. c.args.self.now.inexact + (lost_in (Ok c.args.x) + n)) c.lost-2.ensures.value in
     let long : vec_len c.args.self.now.points ≡ length c.args.self.now.points.items = omega arith in
     held_add c.args.self.now _ c.args.x c.args.y c.args.start c.args.end refl
     (items ∙ ap (λ p. c.args.self.now.points.items ++ p ∷ []) c.point_from.ensures) refl sum refl
-    (starts ∙ ap (λ n. if (n == c.args.self.now.first) then c.args.start else c.args.self.now.start) (c.len.ensures ∙ long)) refl
+    (starts ∙ ap (λ n. if (n == c.args.self.now.first) then c.args.start else c.args.self.now.start)
+    (c.len.ensures ∙ long)) refl

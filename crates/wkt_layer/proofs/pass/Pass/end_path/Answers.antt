@@ -15,6 +15,8 @@ returns-clause-held c =
     let long : vec_len c.args.self.now.paths ≡ length c.args.self.now.paths.items = omega arith in
     let left : vec_len c.drop_closing.new.points ≡ length c.drop_closing.new.points.items = omega arith in
     held_end c.args.self.now _ c.args.kind row edit
-    (ap (λ n. let r : PathRow = record { kind = c.args.kind; first = c.args.self.now.first; past = n } in r) (c.len.ensures ∙ left))
-    (ap (λ w. let r : Edit = record { start = c.args.self.now.start; end = c.args.self.now.end; what = w } in r) (c.text_for.ensures ∙ ap (text_for c.args.kind) (c.len-number.ensures ∙ long)))
+    (ap (λ n. let r : PathRow = record { kind = c.args.kind; first = c.args.self.now.first; past = n } in r)
+    (c.len.ensures ∙ left))
+    (ap (λ w. let r : Edit = record { start = c.args.self.now.start; end = c.args.self.now.end; what = w } in r)
+    (c.text_for.ensures ∙ ap (text_for c.args.kind) (c.len-number.ensures ∙ long)))
     rows edits c.drop_closing.ensures.closing c.drop_closing.ensures.others refl (c.len-self.ensures ∙ left)
