@@ -12,3 +12,5 @@ pub mod PathLists
 pub mod SheetLaws
 pub mod TextLaws
 pub mod CertCauses
+pub mod OneImage
+pub mod Accepting

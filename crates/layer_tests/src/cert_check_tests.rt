@@ -2,13 +2,14 @@
 
 use crate::moves::SQUARE;
 use crate::sheets::{LONGEST, PLAIN, pt};
-use cert_check::{is_right, list_count, write_cert};
+use cert_check::{CertFault, check_cert, is_right, list_count, write_cert};
 use plane_base::Pt;
 use std::alloc::{AllocError, Global};
 use std::test::Fail;
 use tin_base::{Piece, Place, SoundTin};
 use tin_check::check_tin;
 use tin_file::read_tin;
+use wkt_layer::Wkt;
 
 const NOWHERE: Pt = Pt { x: 0, y: 0 };
 
@@ -170,6 +171,148 @@ fn refuses_lists_of_segments_outside(rt: HostRuntime) -> Result<(), Fail> {
         (pt(i64::MAX, i64::MIN), pt(i64::MAX, i64::MIN)),
     ] {
         assert!(rt; are_right(&tin, a, b, lists, false));
+    }
+    Ok(())
+}
+
+const ACROSS: &[u8] = b"LINESTRING (10 0, 0 10)";
+
+const ACROSS_MOVED: &[u8] = b"LINESTRING (110.000 100.000, 105.002 105.002, 100.000 110.000)";
+
+const ALONG: &[u8] = b"LINESTRING (0 0, 10 10)";
+
+const ALONG_MOVED: &[u8] = b"LINESTRING (100.000 100.000, 110.003 110.003)";
+
+const MANY: &[u8] = b"LINESTRING (1 1, 1 1, 2 1)\nPOINT (6 4)";
+
+const MANY_MOVED: &[u8] =
+    b"LINESTRING (101.000 101.000, 101.000 101.000, 102.000 101.000)\nPOINT (106.001 104.001)";
+
+/// What a certificate is answered over a source layer and a written one, each of fewer than 1000 bytes.
+fn answer(
+    alloc: Global,
+    tin: &SoundTin,
+    source: &[u8],
+    written: &[u8],
+    cert: &[u8],
+) -> Result<(), CertFault> {
+    if source.len() > 1000 || cert.len() > 1000 {
+        return Err(CertFault::NoMemory);
+    }
+    check_cert::<Wkt>(alloc, tin, source, written, PLAIN, cert)
+}
+
+#[test]
+fn certifies_what_was_migrated(rt: HostRuntime) -> Result<(), Fail> {
+    let alloc = rt.alloc();
+    let Some(tin) = square(alloc) else {
+        assert!(rt; false);
+        return Ok(());
+    };
+    for (source, written, cert) in [
+        (
+            ACROSS,
+            ACROSS_MOVED,
+            b"tinmove certificate 1\n0 1\n".as_slice(),
+        ),
+        (ALONG, ALONG_MOVED, b"tinmove certificate 1\n0\n"),
+        (ALONG, ALONG_MOVED, b"tinmove certificate 1\n1\n"),
+        (MANY, MANY_MOVED, b"tinmove certificate 1\n0\n0\n0\n"),
+    ] {
+        assert_eq!(rt; answer(alloc, &tin, source, written, cert), Ok(()));
+    }
+    Ok(())
+}
+
+#[test]
+fn refuses_other_certificates(rt: HostRuntime) -> Result<(), Fail> {
+    let alloc = rt.alloc();
+    let Some(tin) = square(alloc) else {
+        assert!(rt; false);
+        return Ok(());
+    };
+    for (cert, fault) in [
+        (b"".as_slice(), CertFault::Form { line: 1 }),
+        (b"tinmove certificate 1\n0 1", CertFault::Form { line: 2 }),
+        (
+            b"tinmove certificate 1\n",
+            CertFault::Count {
+                segments: 1,
+                lines: 0,
+            },
+        ),
+        (
+            b"tinmove certificate 1\n0 1\n0\n",
+            CertFault::Count {
+                segments: 1,
+                lines: 2,
+            },
+        ),
+        (
+            b"tinmove certificate 1\n1 0\n",
+            CertFault::Segment {
+                path: 0,
+                segment: 0,
+            },
+        ),
+        (
+            b"tinmove certificate 1\n0\n",
+            CertFault::Segment {
+                path: 0,
+                segment: 0,
+            },
+        ),
+        (
+            b"tinmove certificate 1\n0 4294967295\n",
+            CertFault::Segment {
+                path: 0,
+                segment: 0,
+            },
+        ),
+    ] {
+        assert_eq!(rt; answer(alloc, &tin, ACROSS, ACROSS_MOVED, cert), Err(fault));
+    }
+    let last = answer(
+        alloc,
+        &tin,
+        MANY,
+        MANY_MOVED,
+        b"tinmove certificate 1\n0\n0\n1\n",
+    );
+    assert_eq!(rt;
+        last,
+        Err(CertFault::Segment {
+            path: 1,
+            segment: 0
+        })
+    );
+    Ok(())
+}
+
+#[test]
+fn names_the_first_other_byte(rt: HostRuntime) -> Result<(), Fail> {
+    let alloc = rt.alloc();
+    let Some(tin) = square(alloc) else {
+        assert!(rt; false);
+        return Ok(());
+    };
+    for (written, at) in [
+        (
+            b"LINESTRING (110.000 100.000, 105.001 105.002, 100.000 110.000)".as_slice(),
+            35,
+        ),
+        (
+            b"LINESTRING (110.000 100.000, 105.002 105.002, 100.000 110.000) ",
+            62,
+        ),
+        (b"LINESTRING", 10),
+        (b"", 0),
+    ] {
+        let cert = b"tinmove certificate 1\n0 1\n";
+        assert_eq!(rt;
+            answer(alloc, &tin, ACROSS, written, cert),
+            Err(CertFault::Differs { at })
+        );
     }
     Ok(())
 }
