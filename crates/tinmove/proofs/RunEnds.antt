@@ -55,7 +55,7 @@ makes_refusal words files shelf_rose job refusal given (by_the_files is) = by_ou
 makes_refusal words files shelf_rose job refusal given (unread rose reached) = after_read_fault rose job given refusal reached (record { status_is = refl; made_is = refl })
 makes_refusal words files shelf_rose job refusal given (no_room is) = out_of_memory (record { status_is = is; made_is = ap (λ line. (codes "-", line) ∷ []) (memory-line refusal is) })
 
--- words that give no job, or memory ran out while they were read
+-- words that are refused, or memory ran out while they were read
 pub makes_no_job : (words : List (List ℕ)) (files : Files) (shelf_rose : Type 0) (fault : WordsFault) → (fault ≢ WordsMemory → IsWordsFault words fault)
     → Makes words files shelf_rose (status_of (Words fault)) (line_file (Words fault))
 makes_no_job words files shelf_rose NoMode lacks = by_outcome (no_job NoMode (lacks (λ e. cc)) (record { status_is = refl; made_is = refl }))

@@ -4,9 +4,26 @@ ghost use Rattle.std.specs.Prelude.{◌≡◌, ◌↔◌, ◌⊎◌, ◌∷◌, 
 ghost use Rattle.tinmove.specs.Help.{Asks, text_of};
 ghost use Rattle.tinmove.specs.declared.help.Help.{Help};
 
-/// One line for standard error, without its line feed, where the words are not understood.
+/// One line for standard error, without its line feed, where the words name no mode.
 pub const USAGE: &str =
     "usage: tinmove migrate|check|make ARGUMENT... ('tinmove --help' explains them)";
+
+/// How the words of the mode are used, which the first of the words names; without its last line feed.
+pub fn usage_of(words: &[String]) -> &'static str {
+    let text = match words.first() {
+        None => USAGE,
+        Some(mode) => match mode.as_str() {
+            "migrate" => MIGRATE,
+            "check" => CHECK,
+            "make" => MAKE,
+            _ => USAGE,
+        },
+    };
+    match text.split_once("\n\n") {
+        Some((usage, _)) => usage,
+        None => text,
+    }
+}
 
 /// The text of the help over all modes.
 pub const WHOLE: &str = "\

@@ -2,24 +2,34 @@
 //! `run` is the whole program, over the words, the shelf and the press that it is handed.
 #![tactic(auto)]
 
+mod degrees;
 mod help;
 mod jobs;
 mod laws;
+mod layer_notes;
+mod press_notes;
 mod progress;
 mod publication;
 mod refused_files;
 mod run;
+mod strays;
 mod sure_run;
 #[cfg(test)]
 mod tests;
+mod unwritten_files;
 mod warnings;
+mod word_flaws;
 
-use help::{Help, USAGE, help_of};
+use degrees::say_degrees;
+use help::{Help, help_of};
 use job_words::{Job, read_words};
-use progress::{ToldPress, ToldShelf};
-use refused_files::say_remarks;
-use run::run_to_end;
-use runs::Status;
+use layer_notes::{left_out_kinds, say_layers};
+use press_notes::PressNotes;
+use progress::{ToldPress, ToldShelf, say_making};
+use refused_files::{say_refusal, say_usage};
+use remarks::KindCount;
+use run::{RunEnd, run_to_end};
+use runs::{Refusal, Status};
 use shelf_io::{FilePress, FileShelf};
 use std::alloc::AllocError;
 use std::env;
@@ -27,6 +37,7 @@ use std::env::Env;
 use std::io::{ErrorKind, IsTerminal, Stderr};
 use std::process::ExitCode;
 use std::str::from_utf8;
+use unwritten_files::say_unwritten;
 use warnings::{say_bad_word, say_meetings};
 
 /// What no mode takes, in the place of words that are no text.
@@ -35,19 +46,36 @@ const NO_WORD: &str = "--not-utf8";
 /// How many bytes the longest word of a mode has.
 const MODE_BYTES: usize = 7;
 
+/// The words of a command line.
+#[derive(Drop)]
+struct Words {
+    words: Vec<String>,
+    /// Whether they are those of the command line, and not such as are refused in place of words that are no text.
+    are_given: bool,
+}
+
 /// The words of the command line without the program's name.
-fn words_of(rt: &HostRuntime) -> Result<Vec<String>, Status> {
+fn words_of(rt: &HostRuntime) -> Result<Words, Status> {
     let mut args = match env::args(rt) {
         Ok(args) => args,
         Err(fault) if fault.kind() == ErrorKind::OutOfMemory => return Err(Status::Memory),
         Err(_) => {
             say_bad_word(rt);
-            return no_words(rt).map_err(|_| Status::Memory);
+            return match no_words(rt) {
+                Ok(words) => Ok(Words {
+                    words,
+                    are_given: false,
+                }),
+                Err(_) => Err(Status::Memory),
+            };
         }
     };
     let _ = args.next();
     match args.collect(rt.alloc()) {
-        Ok(words) => Ok(words),
+        Ok(words) => Ok(Words {
+            words,
+            are_given: true,
+        }),
         Err(_) => Err(Status::Memory),
     }
 }
@@ -65,11 +93,11 @@ fn no_words(rt: &HostRuntime) -> Result<Vec<String>, AllocError> {
     Ok(words)
 }
 
-/// How many layers the job carries, where it carries any.
-fn layer_count(job: &Job) -> Option<usize> {
+/// How many layers the job carries.
+fn layer_count(job: Option<&Job>) -> usize {
     match job {
-        Job::Migrate { layers, .. } => Some(layers.items().len()),
-        _ => None,
+        Some(Job::Migrate { layers, .. }) => layers.items().len(),
+        _ => 0,
     }
 }
 
@@ -83,10 +111,47 @@ fn terminal(rt: &HostRuntime) -> Option<Stderr> {
     }
 }
 
-/// Does what the words ask for over real files and standard output, and says on a terminal what it
-/// is doing. A line of usage behind words that give no job, and what is to be said of a refusal, go to
-/// standard error; that they cannot be written changes nothing.
-fn run_on_files(rt: &HostRuntime, words: &[String]) -> Status {
+/// Says before a run which outputs meet another file, and on a terminal that an example is made. What it gives is
+/// what is found of drawings before they may be overwritten.
+fn say_before(
+    rt: &HostRuntime,
+    job: Option<&Job>,
+    terminal: Option<Stderr>,
+) -> Vec<Option<Vec<KindCount>>> {
+    let Some(job) = job else {
+        return Vec::new(rt.alloc());
+    };
+    if let Job::Make { n } = job {
+        let mut to = terminal;
+        say_making(&mut to, *n);
+    }
+    say_meetings(rt, job);
+    left_out_kinds(rt, job)
+}
+
+/// Says of the job's triangulation what its numbers look like.
+fn say_numbers(rt: &HostRuntime, job: Option<&Job>) {
+    match job {
+        Some(Job::Migrate { tin, how, .. } | Job::Check { tin, how }) => {
+            say_degrees(rt, tin.text(), *how);
+        }
+        _ => {}
+    }
+}
+
+/// Says why a run is refused: of words that are not those of the command line only how they are used.
+fn say_why(rt: &HostRuntime, words: &Words, job: Option<&Job>, refusal: Refusal) {
+    if words.are_given {
+        say_refusal(rt, &words.words, job, refusal);
+    } else {
+        say_usage(rt, &words.words);
+    }
+}
+
+/// Does what the words ask for over real files and standard output, and shows on a terminal what it is doing. What is
+/// to be said of a refusal, of a file that could not be written and of what was carried goes to standard error; that it
+/// cannot be written changes nothing.
+fn run_on_files(rt: &HostRuntime, words: &Words) -> Status {
     let Ok(shelf) = FileShelf::new(rt, rt.alloc()) else {
         return Status::Memory;
     };
@@ -94,24 +159,24 @@ fn run_on_files(rt: &HostRuntime, words: &[String]) -> Status {
         return Status::Memory;
     };
     let terminal = terminal(rt);
-    let job = read_words(rt.alloc(), words).ok();
-    let layers = match &job {
-        Some(job) => {
-            say_meetings(rt, job);
-            layer_count(job)
-        }
-        None => None,
-    };
+    let job = read_words(rt.alloc(), &words.words).ok();
+    let kinds = say_before(rt, job.as_ref(), terminal);
+    let layers = layer_count(job.as_ref());
     let mut shelf = ToldShelf::new(shelf, terminal, layers);
-    let mut press = ToldPress::new(press, terminal);
-    let end = run_to_end(rt.alloc(), words, &mut shelf, &mut press);
-    if end.status == Status::Words {
-        let _ = rt.eprintln(USAGE);
+    let mut press = ToldPress::new(PressNotes::new(rt.alloc(), press), terminal, layers);
+    let RunEnd { status, refusal } = run_to_end(rt.alloc(), &words.words, &mut shelf, &mut press);
+    if status == Status::Write {
+        press.clear();
+        say_unwritten(rt, press.press.name.as_str());
     }
-    if let Some(refusal) = end.refusal {
-        say_remarks(rt, job.as_ref(), refusal);
+    if let Some(refusal) = refusal {
+        say_why(rt, words, job.as_ref(), refusal);
     }
-    end.status
+    if status == Status::Same || status == Status::Changed {
+        say_layers(rt, &press.press.report, &kinds);
+    }
+    say_numbers(rt, job.as_ref());
+    status
 }
 
 /// Prints what the program says of itself.
@@ -128,7 +193,7 @@ fn answer(rt: &HostRuntime) -> Status {
         Ok(words) => words,
         Err(status) => return status,
     };
-    if let Some(help) = help_of(&words) {
+    if let Some(help) = help_of(&words.words) {
         return print_help(rt, help);
     }
     run_on_files(rt, &words)

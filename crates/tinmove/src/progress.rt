@@ -1,4 +1,4 @@
-//! What a run is doing, said line by line while it reads and makes files.
+//! What a run is doing, shown in one line of a terminal that is written again, while it reads and makes files.
 
 ghost use Rattle.std.specs.Prelude.{◌≡◌};
 
@@ -7,6 +7,12 @@ use std::fmt;
 use std::fmt::{Display, Formatter};
 use std::io::Write;
 
+/// What brings a terminal back to the beginning of a line, and clears it.
+const CLEAR: &str = "\r\u{1b}[K";
+
+/// Behind how many bytes of a file a point is written behind the line.
+const TICK: u64 = 1_048_576;
+
 /// What a run is doing.
 #[derive(Clone, Copy)]
 enum Doing<'a> {
@@ -14,9 +20,9 @@ enum Doing<'a> {
     Reading(&'a str),
     /// It reads the triangulation out of its text and checks it.
     Checking,
-    /// It carries the layer of this number, from 0, of so many, where that is known. Behind the last
-    /// layer it compares the pieces of all.
-    Carrying { layer: usize, layers: Option<usize> },
+    /// It carries the layer of this number, from 0, of so many. Behind the last layer it compares the
+    /// pieces of all.
+    Carrying { layer: usize, layers: usize },
     /// It makes the file of this name.
     Writing(&'a str),
 }
@@ -26,14 +32,7 @@ impl Display for Doing<'_> {
         match self {
             Doing::Reading(name) => write!(f, "reading {name}"),
             Doing::Checking => write!(f, "checking the triangulation"),
-            Doing::Carrying {
-                layer,
-                layers: None,
-            } => write!(f, "carrying layer {layer}"),
-            Doing::Carrying {
-                layer,
-                layers: Some(layers),
-            } => {
+            Doing::Carrying { layer, layers } => {
                 let count = layer.saturating_add(1);
                 write!(f, "carrying layer {layer} ({count} of {layers})")?;
                 if count == *layers {
@@ -46,10 +45,33 @@ impl Display for Doing<'_> {
     }
 }
 
-/// Says what is done as a line, where it is heard. That it cannot be written changes nothing.
-fn say<W: Write + Drop>(to: &mut Option<W>, doing: Doing<'_>) {
+/// How many steps a run has that carries so many layers: the triangulation is read and checked, and each layer is read,
+/// carried and written.
+fn steps(layers: usize) -> usize {
+    layers.saturating_mul(3).saturating_add(2)
+}
+
+/// Writes what is done in place of the line, where it is heard. That it cannot be written changes nothing.
+fn say<W: Write + Drop>(to: &mut Option<W>, step: usize, layers: usize, doing: Doing<'_>) {
     if let Some(to) = to {
-        let _ = writeln!(to, "tinmove: {doing}");
+        let steps = steps(layers);
+        let _ = write!(to, "{CLEAR}tinmove: step {step} of {steps}: {doing}");
+    }
+}
+
+/// Writes a point behind the line where so many more bytes went past a whole number of ticks.
+fn tick<W: Write + Drop>(to: &mut Option<W>, before: u64, now: u64) {
+    if let Some(to) = to {
+        if now / TICK > before / TICK {
+            let _ = write!(to, ".");
+        }
+    }
+}
+
+/// Says on a terminal that a map of so many by so many cells is made and carried.
+pub fn say_making<W: Write + Drop>(to: &mut Option<W>, n: u32) {
+    if let Some(to) = to {
+        let _ = write!(to, "{CLEAR}tinmove: making and carrying a map of {n} by {n} cells");
     }
 }
 
@@ -60,15 +82,17 @@ pub struct ToldShelf<S: Drop, W: Drop> {
     pub shelf: S,
     /// Where it is heard, if anywhere.
     pub to: Option<W>,
-    /// How many layers there are, where that is known.
-    layers: Option<usize>,
+    /// How many layers there are.
+    layers: usize,
     /// How many files were begun.
     begun: usize,
+    /// How many bytes of the file at hand were read.
+    read: u64,
 }
 
 impl<S: Shelf + Drop, W: Write + Drop> ToldShelf<S, W> {
     /// The shelf, and where it says what is done with it.
-    pub fn new(shelf: S, to: Option<W>, layers: Option<usize>) -> Self
+    pub fn new(shelf: S, to: Option<W>, layers: usize) -> Self
         ensures { result.shelf ≡ shelf }
     {
         ToldShelf {
@@ -76,15 +100,32 @@ impl<S: Shelf + Drop, W: Write + Drop> ToldShelf<S, W> {
             to,
             layers,
             begun: 0,
+            read: 0,
         }
     }
 }
 
 impl<S: Drop, W: Write + Drop> ToldShelf<S, W> {
-    /// Says what is done behind the end of the file at hand.
-    fn say_ended(&mut self)
+    /// Says that the file of this name is read.
+    fn say_begun(&mut self, name: &str)
         ensures { self.new.shelf ≡ self.old.shelf }
     {
+        self.begun = self.begun.saturating_add(1);
+        self.read = 0;
+        let step = self.begun.saturating_mul(2).saturating_sub(1);
+        say(&mut self.to, step, self.layers, Doing::Reading(name));
+    }
+
+    /// Says how far the file at hand is read, or what is done behind its end.
+    fn say_read(&mut self, count: usize)
+        ensures { self.new.shelf ≡ self.old.shelf }
+    {
+        if count > 0 {
+            let read = self.read.saturating_add(count as u64);
+            tick(&mut self.to, self.read, read);
+            self.read = read;
+            return;
+        }
         let doing = match self.begun.checked_sub(2) {
             Some(layer) => Doing::Carrying {
                 layer,
@@ -92,7 +133,8 @@ impl<S: Drop, W: Write + Drop> ToldShelf<S, W> {
             },
             None => Doing::Checking,
         };
-        say(&mut self.to, doing);
+        let step = self.begun.saturating_mul(2);
+        say(&mut self.to, step, self.layers, doing);
     }
 }
 
@@ -108,34 +150,83 @@ impl<S: Shelf + Drop, W: Write + Drop> Shelf for ToldShelf<S, W> {
     ghost faults = { λ s. S.faults s.shelf };
 
     fn begin(&mut self, name: &str) -> Result<bool, Failed> {
-        say(&mut self.to, Doing::Reading(name));
-        self.begun = self.begun.saturating_add(1);
+        self.say_begun(name);
         self.shelf.begin(name)
     }
 
     fn read(&mut self, buf: &mut [u8]) -> Result<usize, Failed> {
         let answer = self.shelf.read(buf);
-        if let Ok(0) = answer {
-            self.say_ended();
+        if let Ok(count) = answer {
+            self.say_read(count);
         }
         answer
     }
 }
 
-/// A press over a press, which says which file is made. Of standard output it says nothing.
+/// A press over a press, which says which file is made. Before standard output is written, it clears the line.
 #[derive(Drop)]
 pub struct ToldPress<P: Drop, W: Drop> {
     pub press: P,
     /// Where it is heard, if anywhere.
     pub to: Option<W>,
+    /// How many layers there are.
+    layers: usize,
+    /// How many files were begun.
+    begun: usize,
+    /// How many bytes of the file at hand were written, where that is no standard output.
+    written: Option<u64>,
 }
 
 impl<P: Press + Drop, W: Write + Drop> ToldPress<P, W> {
     /// The press, and where it says what is made with it.
-    pub fn new(press: P, to: Option<W>) -> Self
+    pub fn new(press: P, to: Option<W>, layers: usize) -> Self
         ensures { result.press ≡ press }
     {
-        ToldPress { press, to }
+        ToldPress {
+            press,
+            to,
+            layers,
+            begun: 0,
+            written: None,
+        }
+    }
+}
+
+impl<P: Drop, W: Write + Drop> ToldPress<P, W> {
+    /// Clears the line.
+    pub fn clear(&mut self)
+        ensures { self.new.press ≡ self.old.press }
+    {
+        if let Some(to) = &mut self.to {
+            let _ = write!(to, "{CLEAR}");
+        }
+    }
+
+    /// Says that the file of this name is written, or clears the line before standard output.
+    fn say_begun(&mut self, name: &str)
+        ensures { self.new.press ≡ self.old.press }
+    {
+        if name == "-" {
+            self.clear();
+            self.written = None;
+            return;
+        }
+        self.begun = self.begun.saturating_add(1);
+        self.written = Some(0);
+        let before = self.layers.saturating_mul(2).saturating_add(2);
+        let step = before.saturating_add(self.begun);
+        say(&mut self.to, step, self.layers, Doing::Writing(name));
+    }
+
+    /// Says how far the file at hand is written.
+    fn say_written(&mut self, count: usize)
+        ensures { self.new.press ≡ self.old.press }
+    {
+        if let Some(before) = self.written {
+            let written = before.saturating_add(count as u64);
+            tick(&mut self.to, before, written);
+            self.written = Some(written);
+        }
     }
 }
 
@@ -149,14 +240,16 @@ impl<P: Press + Drop, W: Write + Drop> Press for ToldPress<P, W> {
     ghost broken = { λ p. P.broken p.press };
 
     fn begin(&mut self, name: &str) -> Result<(), Failed> {
-        if name != "-" {
-            say(&mut self.to, Doing::Writing(name));
-        }
+        self.say_begun(name);
         self.press.begin(name)
     }
 
     fn write(&mut self, piece: &[u8]) -> Result<usize, Failed> {
-        self.press.write(piece)
+        let answer = self.press.write(piece);
+        if let Ok(count) = answer {
+            self.say_written(count);
+        }
+        answer
     }
 
     fn end(&mut self) -> Result<(), Failed> {

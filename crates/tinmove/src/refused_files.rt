@@ -1,10 +1,21 @@
-//! What standard error says behind a refusal, of the file that was refused.
+//! What standard error says behind a refusal, of the words or of the file that was refused.
 
-use job_words::Job;
-use remarks::refusal_remarks;
+ghost use Rattle.std.specs.Prelude.{◌≤◌, IfSome};
+ghost use Rattle.std.specs.Vec.{vec_len};
+ghost use Rattle.runs.specs.declared.loads.TheConstants.{MOST_BYTES};
+
+use crate::help::usage_of;
+use crate::strays::{sheet_of, stray_of};
+use crate::word_flaws::flaw_of;
+use job_words::{Job, WordsFault};
+use remarks::{Stray, WordFlaw, outside_lines, refusal_remarks, unread_line, word_lines};
 use runs::{MOST_BYTES, Refusal};
 use shelf_io::{FileShelf, load};
+use std::alloc::AllocError;
 use std::fs;
+use std::io::{Error, Read};
+use std::str::from_utf8;
+use tin_file::read_tin;
 
 /// The number of the layer that a refusal is of.
 fn refused_layer(refusal: Refusal) -> Option<u32> {
@@ -32,7 +43,9 @@ fn refused_name(job: &Job, refusal: Refusal) -> &str {
 }
 
 /// The bytes of a file that can be read once more: a pipe cannot.
-fn bytes_again(rt: &HostRuntime, name: &str) -> Option<Vec<u8>> {
+pub fn bytes_again(rt: &HostRuntime, name: &str) -> Option<Vec<u8>>
+    ensures { IfSome result (λ bytes. vec_len bytes ≤ MOST_BYTES) }
+{
     match fs::metadata(rt, name) {
         Ok(kind) if kind.is_file() => {
             let mut shelf = FileShelf::new(rt, rt.alloc()).ok()?;
@@ -50,8 +63,95 @@ fn refused_bytes(rt: &HostRuntime, name: &str, refusal: Refusal) -> Option<Vec<u
     }
 }
 
-/// Says where the refusal is, what was found, and what helps. That it cannot be said changes nothing.
-pub fn say_remarks(rt: &HostRuntime, job: Option<&Job>, refusal: Refusal) {
+/// Why the system does not let a file be read, where it is one that can be tried once more.
+fn read_error(rt: &HostRuntime, name: &str) -> Option<Error> {
+    match fs::metadata(rt, name) {
+        Ok(kind) if kind.is_file() || kind.is_dir() => match fs::open(rt, name) {
+            Ok(mut file) => file.read(&mut [0u8; 1]).err(),
+            Err(error) => Some(error),
+        },
+        Ok(_) => None,
+        Err(error) => Some(error),
+    }
+}
+
+/// Says why the system does not let a file be read.
+fn say_read_error(rt: &HostRuntime, name: &str) {
+    let Some(error) = read_error(rt, name) else {
+        return;
+    };
+    let Ok(reason) = format!(in rt.alloc(); "{error}") else {
+        return;
+    };
+    if let Ok(text) = unread_line(rt.alloc(), name, reason.as_str()) {
+        let _ = rt.eprint(text.as_str());
+    }
+}
+
+/// The segment of a refusal, found in the files once more.
+fn found_stray(rt: &HostRuntime, job: &Job, refusal: Refusal) -> Option<Stray> {
+    let Job::Migrate {
+        tin,
+        how,
+        inverse,
+        ..
+    } = job
+    else {
+        return None;
+    };
+    let Refusal::Outside { path, segment, .. } = refusal else {
+        return None;
+    };
+    let name = refused_name(job, refusal);
+    let bytes = bytes_again(rt, name)?;
+    let sheet = sheet_of(rt.alloc(), name, &bytes, *how)?;
+    let text = bytes_again(rt, tin.text())?;
+    let tin = read_tin(rt.alloc(), &text, *how).ok()?;
+    stray_of(&sheet, &bytes, path, segment, &tin, *inverse)
+}
+
+/// Says where a segment is that is outside, and where the triangles are.
+fn say_stray(rt: &HostRuntime, job: &Job, refusal: Refusal) {
+    let Some(stray) = found_stray(rt, job, refusal) else {
+        return;
+    };
+    if let Ok(bytes) = outside_lines(rt.alloc(), stray) {
+        if let Ok(text) = from_utf8(&bytes) {
+            let _ = rt.eprint(text);
+        }
+    }
+}
+
+/// Says how the words of a mode are used.
+pub fn say_usage(rt: &HostRuntime, words: &[String]) {
+    let _ = rt.eprintln(usage_of(words));
+}
+
+/// The lines on a word, whose bytes are escaped where it has a control character.
+fn lines_on_word(rt: &HostRuntime, flaw: WordFlaw, word: &str) -> Result<String, AllocError> {
+    if word.bytes().any(|byte| byte.is_ascii_control()) {
+        let shown = word.as_bytes().escape_ascii();
+        let escaped = format!(in rt.alloc(); "{shown}")?;
+        word_lines(rt.alloc(), flaw, escaped.as_str())
+    } else {
+        word_lines(rt.alloc(), flaw, word)
+    }
+}
+
+/// Says which word is wrong or missing, and how the words of its mode are used.
+fn say_words(rt: &HostRuntime, words: &[String], fault: WordsFault) {
+    let found = match flaw_of(rt.alloc(), words, fault) {
+        Ok(Some((flaw, word))) => lines_on_word(rt, flaw, word),
+        _ => refusal_remarks(rt.alloc(), &Refusal::Words(fault), "", None),
+    };
+    if let Ok(text) = found {
+        let _ = rt.eprint(text.as_str());
+    }
+    say_usage(rt, words);
+}
+
+/// Says where a file is refused, what was found, and what helps.
+fn say_file(rt: &HostRuntime, job: Option<&Job>, refusal: Refusal) {
     let name = match job {
         None => "",
         Some(job) => refused_name(job, refusal),
@@ -63,5 +163,22 @@ pub fn say_remarks(rt: &HostRuntime, job: Option<&Job>, refusal: Refusal) {
     };
     if let Ok(text) = refusal_remarks(rt.alloc(), &refusal, name, known) {
         let _ = rt.eprint(text.as_str());
+    }
+    match refusal {
+        Refusal::TinUnread | Refusal::LayerUnread { .. } => say_read_error(rt, name),
+        Refusal::Outside { .. } => {
+            if let Some(job) = job {
+                say_stray(rt, job, refusal);
+            }
+        }
+        _ => {}
+    }
+}
+
+/// Says why the words or a file are refused. That it cannot be said changes nothing.
+pub fn say_refusal(rt: &HostRuntime, words: &[String], job: Option<&Job>, refusal: Refusal) {
+    match refusal {
+        Refusal::Words(fault) => say_words(rt, words, fault),
+        _ => say_file(rt, job, refusal),
     }
 }

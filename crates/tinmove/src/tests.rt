@@ -13,4 +13,5 @@ mod progress_lines;
 mod reports;
 mod squares;
 mod triangulations;
+mod word_flaws;
 mod words;

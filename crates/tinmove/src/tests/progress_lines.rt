@@ -1,6 +1,7 @@
 //! What a run says of what it is doing, and that it is the same run whether or not it is heard.
 
-use crate::progress::{ToldPress, ToldShelf};
+use crate::press_notes::PressNotes;
+use crate::progress::{ToldPress, ToldShelf, say_making};
 use crate::run::run;
 use crate::tests::memory_runs::{MIGRATE, NEVER, TRIANGLE, words_of};
 use runs::Status;
@@ -37,10 +38,10 @@ fn told_run<W: Write + Drop>(
     fails: (u64, u64),
     to: (Option<W>, Option<W>),
 ) -> Result<Told<W>, AllocError> {
-    let mut shelf = ToldShelf::new(shelf_of_two(alloc, fails.0)?, to.0, Some(1));
+    let mut shelf = ToldShelf::new(shelf_of_two(alloc, fails.0)?, to.0, 1);
     let mut press = MemPress::new(alloc, 4096);
     press.fail_at(fails.1)?;
-    let mut press = ToldPress::new(press, to.1);
+    let mut press = ToldPress::new(press, to.1, 1);
     let status = run(alloc, &words_of(alloc, &MIGRATE)?, &mut shelf, &mut press);
     Ok((status, shelf, press))
 }
@@ -56,28 +57,26 @@ fn said(to: &Option<Vec<u8>>) -> &[u8] {
 #[test]
 fn a_run_says_what_it_is_doing(rt: HostRuntime) -> Result<(), Fail> {
     let alloc = rt.alloc();
-    let whole =
-        b"tinmove: reading t.json\ntinmove: checking the triangulation\ntinmove: reading p.wkt\ntinmove: carrying layer 0 (1 of 1), then comparing\n";
-    let unread =
-        b"tinmove: reading t.json\ntinmove: checking the triangulation\ntinmove: reading p.wkt\n";
+    let whole = b"\r\x1b[Ktinmove: step 1 of 5: reading t.json\r\x1b[Ktinmove: step 2 of 5: checking the triangulation\r\x1b[Ktinmove: step 3 of 5: reading p.wkt\r\x1b[Ktinmove: step 4 of 5: carrying layer 0 (1 of 1), then comparing";
+    let unread = b"\r\x1b[Ktinmove: step 1 of 5: reading t.json\r\x1b[Ktinmove: step 2 of 5: checking the triangulation\r\x1b[Ktinmove: step 3 of 5: reading p.wkt";
+    let untold = b"\r\x1b[Ktinmove: step 1 of 5: reading t.json";
+    let written = b"\r\x1b[Ktinmove: step 5 of 5: writing o/p.wkt";
+    // Before the line of a refusal, and before the report, the line is cleared.
+    let refused = b"\r\x1b[K";
+    let whole_written = b"\r\x1b[Ktinmove: step 5 of 5: writing o/p.wkt\r\x1b[K";
     // The triangulation is begun, read and ended by the calls 0 to 2 of the shelf, and the layer by 3 to 5.
     for (fails, status, read, made) in [
         (
             (NEVER, NEVER),
             Status::Same,
             whole.as_slice(),
-            b"tinmove: writing o/p.wkt\n".as_slice(),
+            whole_written.as_slice(),
         ),
-        (
-            (NEVER, 0),
-            Status::Write,
-            whole,
-            b"tinmove: writing o/p.wkt\n",
-        ),
-        ((0, NEVER), Status::Read, b"tinmove: reading t.json\n", b""),
-        ((2, NEVER), Status::Read, b"tinmove: reading t.json\n", b""),
-        ((3, NEVER), Status::Read, unread, b""),
-        ((5, NEVER), Status::Read, unread, b""),
+        ((NEVER, 0), Status::Write, whole, written),
+        ((0, NEVER), Status::Read, untold, refused),
+        ((2, NEVER), Status::Read, untold, refused),
+        ((3, NEVER), Status::Read, unread, refused),
+        ((5, NEVER), Status::Read, unread, refused),
     ] {
         let to = (Some(Vec::new(alloc)), Some(Vec::new(alloc)));
         let (ended, shelf, press) = told_run(alloc, fails, to)?;
@@ -160,54 +159,83 @@ fn a_run_is_the_same_where_it_is_silent(rt: HostRuntime) -> Result<(), Fail> {
     Ok(())
 }
 
-/// A shelf of three files, which tells what is done where so many of them are layers.
-fn shelf_of_three(
-    alloc: Global,
-    layers: Option<usize>,
-) -> Result<ToldShelf<MemShelf, Vec<u8>>, AllocError> {
+/// A shelf of three files, of which two are layers.
+fn shelf_of_three(alloc: Global) -> Result<ToldShelf<MemShelf, Vec<u8>>, AllocError> {
     let mut shelf = MemShelf::new(alloc, 2);
     shelf.add("t", b"12345")?;
     shelf.add("a", b"67")?;
     shelf.add("b", b"")?;
-    Ok(ToldShelf::new(shelf, Some(Vec::new(alloc)), layers))
+    Ok(ToldShelf::new(shelf, Some(Vec::new(alloc)), 2))
 }
 
 #[test]
 fn layers_are_counted_behind_the_triangulation(rt: HostRuntime) -> Result<(), Fail> {
     let alloc = rt.alloc();
-    for (layers, lines) in [
-        (
-            Some(2),
-            b"tinmove: reading t\ntinmove: checking the triangulation\ntinmove: reading a\ntinmove: carrying layer 0 (1 of 2)\ntinmove: reading b\ntinmove: carrying layer 1 (2 of 2), then comparing\n".as_slice(),
-        ),
-        (
-            None,
-            b"tinmove: reading t\ntinmove: checking the triangulation\ntinmove: reading a\ntinmove: carrying layer 0\ntinmove: reading b\ntinmove: carrying layer 1\n",
-        ),
-    ] {
-        let mut shelf = shelf_of_three(alloc, layers)?;
-        for (name, text) in [("t", b"12345".as_slice()), ("a", b"67"), ("b", b"")] {
-            let bytes = load(alloc, &mut shelf, name, 9)?;
-            assert_eq!(rt; bytes.as_slice(), text);
-        }
-        assert_eq!(rt; said(&shelf.to), lines, "at {layers:?}");
+    let mut shelf = shelf_of_three(alloc)?;
+    for (name, text) in [("t", b"12345".as_slice()), ("a", b"67"), ("b", b"")] {
+        let bytes = load(alloc, &mut shelf, name, 9)?;
+        assert_eq!(rt; bytes.as_slice(), text);
     }
+    let lines = b"\r\x1b[Ktinmove: step 1 of 8: reading t\r\x1b[Ktinmove: step 2 of 8: checking the triangulation\r\x1b[Ktinmove: step 3 of 8: reading a\r\x1b[Ktinmove: step 4 of 8: carrying layer 0 (1 of 2)\r\x1b[Ktinmove: step 5 of 8: reading b\r\x1b[Ktinmove: step 6 of 8: carrying layer 1 (2 of 2), then comparing";
+    assert_eq!(rt; said(&shelf.to), lines.as_slice());
     Ok(())
 }
 
 #[test]
 fn of_standard_output_nothing_is_said(rt: HostRuntime) -> Result<(), Fail> {
     let alloc = rt.alloc();
-    let mut press = ToldPress::new(MemPress::new(alloc, 2), Some(Vec::new(alloc)));
+    let mut press = ToldPress::new(MemPress::new(alloc, 2), Some(Vec::new(alloc)), 2);
     print(&mut press, "-", b"123")?;
-    assert_eq!(rt; said(&press.to), b"".as_slice());
+    assert_eq!(rt; said(&press.to), b"\r\x1b[K".as_slice());
     print(&mut press, "o/three.wkt", b"456")?;
     assert_eq!(rt;
         said(&press.to),
-        b"tinmove: writing o/three.wkt\n".as_slice()
+        b"\r\x1b[K\r\x1b[Ktinmove: step 7 of 8: writing o/three.wkt".as_slice()
     );
     for (name, bytes) in [("-", b"123".as_slice()), ("o/three.wkt", b"456")] {
         assert_eq!(rt; press.press.made_bytes(name), Some(bytes), "at {name}");
     }
     Ok(())
+}
+
+#[test]
+fn each_mebibyte_is_a_point(rt: HostRuntime) -> Result<(), Fail> {
+    let alloc = rt.alloc();
+    let mut bytes = Vec::new(alloc);
+    bytes.resize(2 * 1_048_576 + 5, b' ')?;
+    let mut shelf = MemShelf::new(alloc, 65_536);
+    shelf.add("t", &bytes)?;
+    let mut shelf = ToldShelf::new(shelf, Some(Vec::new(alloc)), 0);
+    let read = load(alloc, &mut shelf, "t", 1 << 26)?;
+    assert_eq!(rt; read.len(), bytes.len());
+    assert_eq!(rt;
+        said(&shelf.to),
+        b"\r\x1b[Ktinmove: step 1 of 2: reading t..\r\x1b[Ktinmove: step 2 of 2: checking the triangulation".as_slice()
+    );
+    let mut press = ToldPress::new(MemPress::new(alloc, 65_536), Some(Vec::new(alloc)), 1);
+    print(&mut press, "a", &bytes)?;
+    assert_eq!(rt; said(&press.to), b"\r\x1b[Ktinmove: step 5 of 5: writing a..".as_slice());
+    Ok(())
+}
+
+#[test]
+fn what_is_made_is_noted(rt: HostRuntime) -> Result<(), Fail> {
+    let alloc = rt.alloc();
+    let mut press = PressNotes::new(alloc, MemPress::new(alloc, 2));
+    print(&mut press, "o/a.wkt", b"456")?;
+    assert_eq!(rt; press.name.as_str(), "o/a.wkt");
+    print(&mut press, "-", b"12345")?;
+    assert_eq!(rt; press.name.as_str(), "-");
+    assert_eq!(rt; press.report.as_slice(), b"12345".as_slice());
+    Ok(())
+}
+
+#[test]
+fn a_made_map_is_named(rt: HostRuntime) {
+    let mut to = Some(Vec::new(rt.alloc()));
+    say_making(&mut to, 7);
+    assert_eq!(rt;
+        said(&to),
+        b"\r\x1b[Ktinmove: making and carrying a map of 7 by 7 cells".as_slice()
+    );
 }

@@ -1,9 +1,9 @@
-//! Runs in memory over words that give no job.
+//! Runs in memory over words that are refused.
 
 use crate::tests::memory_runs::makes;
 use runs::Status;
 
-/// Words that give no job, and what is said of them.
+/// Words that are refused, and what is said of them.
 const NO_JOBS: &[(&[&str], &str)] = &[
     (&[], "words: no mode\n"),
     (&["carry", "--tin", "t.json"], "words: no mode\n"),
@@ -52,7 +52,7 @@ const NO_JOBS: &[(&[&str], &str)] = &[
 ];
 
 #[test]
-fn words_that_give_no_job(rt: HostRuntime) {
+fn words_that_are_refused(rt: HostRuntime) {
     for (texts, line) in NO_JOBS {
         let made = [("-", Some(*line))];
         assert!(rt;
