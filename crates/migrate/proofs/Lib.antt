@@ -3,13 +3,13 @@ mod OnePieces
 mod PairChanges
 mod MakerRows
 mod MakerExamples
-mod OneReading
+mod LayerTextLaws
 mod OneOutcome
 mod LayerRefusals
 pub mod ComparablePieces
 mod LayerLists
 mod OneLayers
-pub mod OneMigration
+mod OneMigration
 mod MigrationSteps
 mod LayerCauses
 pub mod MakerSteps

@@ -13,16 +13,15 @@ use Rattle.job_words.specs.Formats.{format_of}
 use Rattle.runs.specs.declared.loads.TheConstants.{MOST_BYTES}
 use Rattle.runs.specs.declared.refusal.Refusal.{Refusal}
 use Rattle.runs.specs.declared.refusal.Refusal.TheVariants.{LayerUnread, LayersLong, Layer, Outside, TooManyPieces}
-use Rattle.migrate.specs.LayerOutcomes.{LacksLayerText, IsCarried, IsOutside, HasTooMany}
+use Rattle.migrate.specs.LayerOutcomes.{LayerTextsAreOne, LacksLayerText, IsCarried, IsOutside, HasTooMany}
 use Rattle.migrate.specs.LayerRuns.{setting_of, Done, IsLayerFile, IsLongLayer, IsNextCarried, AreCarried, IsNextRefused, IsRefusedLayer}
-use Rattle.migrate.proofs.OneReading.{fault_one}
 use Rattle.migrate.proofs.OneOutcome.{lacks_outside, lacks_many, lacks_carried, outside_one, outside_many, outside_carried, many_carried, carried_one, carried_pieces_one}
 
 -- ---- the file of a layer
 format_one : (name : List ℕ) (format also : Format) → format_of name ≡ Some format → format_of name ≡ Some also → format ≡ also
 format_one name format also is too = same_Some format also (sym is ∙ too)
 
-module _ (files : Files) (how : How) (tin : Triangulation) (sound : IsSound tin) where
+module _ (texts : LayerTextsAreOne) (files : Files) (how : How) (tin : Triangulation) (sound : IsSound tin) where
   file_one : (name : List ℕ) (used : ℕ) (f g : Format) (a b : List ℕ) → IsLayerFile (Some files) name used f a → IsLayerFile (Some files) name used g b → (f ≡ g) × (a ≡ b)
   file_one name used f g a b x y = (format_one name f g x.suffix y.suffix, same_Some a b (sym x.found ∙ y.found))
 
@@ -62,15 +61,15 @@ module _ (files : Files) (how : How) (tin : Triangulation) (sound : IsSound tin)
   same_outside number path segment way count same = ap (λ k. Outside number k segment) same.0 ∙ ap (λ k. Outside number way k) same.1
 
   text_end_one : (number before : ℕ) (format : Format) (bytes : List ℕ) (a b : Refusal) → IsTextEnd number before format bytes a → IsTextEnd number before format bytes b → a ≡ b
-  text_end_one number before format bytes a b (faulty_end why is x) (faulty_end other also y) = is ∙ (ap (λ f. Layer number f) (fault_one how format bytes why other x y) ∙ sym also)
-  text_end_one number before format bytes a b (faulty_end why is x) (outside_end path segment also y) = absurd (lacks_outside how tin format bytes number [] why path segment before x y)
-  text_end_one number before format bytes a b (faulty_end why is x) (many_end also y) = absurd (lacks_many how tin format bytes number [] why before x y)
-  text_end_one number before format bytes a b (outside_end path segment is x) (faulty_end why also y) = absurd (lacks_outside how tin format bytes number [] why path segment before y x)
+  text_end_one number before format bytes a b (faulty_end why is x) (faulty_end other also y) = is ∙ (ap (λ f. Layer number f) ((texts how format bytes).one_fault why other x y) ∙ sym also)
+  text_end_one number before format bytes a b (faulty_end why is x) (outside_end path segment also y) = absurd (lacks_outside texts how tin format bytes number [] why path segment before x y)
+  text_end_one number before format bytes a b (faulty_end why is x) (many_end also y) = absurd (lacks_many texts how tin format bytes number [] why before x y)
+  text_end_one number before format bytes a b (outside_end path segment is x) (faulty_end why also y) = absurd (lacks_outside texts how tin format bytes number [] why path segment before y x)
   text_end_one number before format bytes a b (outside_end path segment is x) (outside_end way count also y) =
-      is ∙ (same_outside number path segment way count (outside_one how tin format bytes number before path segment way count x y) ∙ sym also)
-  text_end_one number before format bytes a b (outside_end path segment is x) (many_end also y) = absurd (outside_many how tin format bytes number before path segment x y)
-  text_end_one number before format bytes a b (many_end is x) (faulty_end why also y) = absurd (lacks_many how tin format bytes number [] why before y x)
-  text_end_one number before format bytes a b (many_end is x) (outside_end path segment also y) = absurd (outside_many how tin format bytes number before path segment y x)
+      is ∙ (same_outside number path segment way count (outside_one texts how tin format bytes number before path segment way count x y) ∙ sym also)
+  text_end_one number before format bytes a b (outside_end path segment is x) (many_end also y) = absurd (outside_many texts how tin format bytes number before path segment x y)
+  text_end_one number before format bytes a b (many_end is x) (faulty_end why also y) = absurd (lacks_many texts how tin format bytes number [] why before y x)
+  text_end_one number before format bytes a b (many_end is x) (outside_end path segment also y) = absurd (outside_many texts how tin format bytes number before path segment y x)
   text_end_one number before format bytes a b (many_end is x) (many_end also y) = is ∙ sym also
 
   next_end_one : (number used before : ℕ) (name : List ℕ) (a b : Refusal) → IsNextEnd number used before name a → IsNextEnd number used before name b → a ≡ b
@@ -89,9 +88,9 @@ module _ (files : Files) (how : How) (tin : Triangulation) (sound : IsSound tin)
   -- ---- a layer that is carried
   text_end_carried : (number : ℕ) (before : List Piece) (format : Format) (bytes : List ℕ) (after : List Piece) (carried : Carried) (a : Refusal) → IsTextEnd number (length before) format bytes a
       → IsCarried how tin format bytes number before after carried → ⊥
-  text_end_carried number before format bytes after carried a (faulty_end why is x) y = lacks_carried how tin format bytes number before why after carried x y
-  text_end_carried number before format bytes after carried a (outside_end path segment is x) y = outside_carried how tin format bytes number (length before) path segment before after carried x y
-  text_end_carried number before format bytes after carried a (many_end is x) y = many_carried how tin format bytes number before after carried x y
+  text_end_carried number before format bytes after carried a (faulty_end why is x) y = lacks_carried texts how tin format bytes number before why after carried x y
+  text_end_carried number before format bytes after carried a (outside_end path segment is x) y = outside_carried texts how tin format bytes number (length before) path segment before after carried x y
+  text_end_carried number before format bytes after carried a (many_end is x) y = many_carried texts how tin format bytes number before after carried x y
 
   next_end_carried : (number used : ℕ) (before : List Piece) (name bytes : List ℕ) (after : List Piece) (done : Done) (a : Refusal) → IsNextEnd number used (length before) name a
       → IsNextCarried (setting_of (Some files) how tin) number used before name bytes after done → ⊥
@@ -122,8 +121,8 @@ module _ (files : Files) (how : How) (tin : Triangulation) (sound : IsSound tin)
       subst (λ (t : List ℕ). IsCarried how tin e.format t number before ps d.carried) same.1 (subst (λ (f : Format). IsCarried how tin f a number before ps d.carried) same.0 x.carried) in
       record {
         bytes = same.1;
-        pieces = carried_pieces_one how tin e.format b number before ps qs d.carried e.carried sound of_x y.carried;
-        done = same_done d e (x.named ∙ sym y.named) same.0 (carried_one how tin e.format b number before ps qs d.carried e.carried sound of_x y.carried);
+        pieces = carried_pieces_one texts how tin e.format b number before ps qs d.carried e.carried sound of_x y.carried;
+        done = same_done d e (x.named ∙ sym y.named) same.0 (carried_one texts how tin e.format b number before ps qs d.carried e.carried sound of_x y.carried);
       }
 
   -- ---- all layers

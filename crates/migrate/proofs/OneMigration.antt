@@ -19,6 +19,7 @@ use Rattle.runs.proofs.OneTin.{tin_end_is_one}
 use Rattle.migrate.specs.declared.change_lists.TheConstants.{MOST_CHANGES}
 use Rattle.migrate.specs.declared.migrations.Migration.{Migration}
 use Rattle.migrate.specs.RunChanges.{AreListed, end_with}
+use Rattle.migrate.specs.LayerOutcomes.{LayerTextsAreOne}
 use Rattle.migrate.specs.LayerRuns.{setting_of, Done, AreCarried, IsRefusedLayer, AreRefused, at_layer, at_changes}
 use Rattle.migrate.specs.Migrations.{directed, IsMigrationRefused, by_tin, by_layers, row_of, report_of, file_in, IsMigrationDone}
 use Rattle.migrate.specs.Maker.{made_files, made_migration, IsMakingDone}
@@ -45,10 +46,10 @@ over_or_not n m h k = omega (arith, h, k)
 more_or_listed : (tin : Triangulation) (pieces : List Piece) (changes : List Change) → AreAllInside tin pieces → HasMoreThan tin pieces MOST_CHANGES → AreListed tin pieces changes → ⊥
 more_or_listed tin pieces changes inside more listed = over_or_not (length changes) MOST_CHANGES (more_stay_more tin pieces MOST_CHANGES inside more changes listed.are_changes) listed.few
 
-module _ (files : Files) (migration : Migration) (tin : Triangulation) (sound : IsSound tin) where
+module _ (texts : LayerTextsAreOne) (files : Files) (migration : Migration) (tin : Triangulation) (sound : IsSound tin) where
   one_run : (ps qs : List Piece) (ds es : List Done) (t u : ℕ) → AreCarried (setting_of (Some files) migration.how tin) 0 0 [] migration.layers ps ds t → AreCarried (setting_of (Some files) migration.how tin) 0 0 [] migration.layers qs es u
-      → AreOneRun files migration.how tin sound ps qs ds es
-  one_run ps qs ds es t u x y = run_one files migration.how tin sound 0 0 [] migration.layers ps qs ds es t u x y
+      → AreOneRun texts files migration.how tin sound ps qs ds es
+  one_run ps qs ds es t u x y = run_one texts files migration.how tin sound 0 0 [] migration.layers ps qs ds es t u x y
 
   more_here : (ps qs : List Piece) (ds es : List Done) (t u : ℕ) (changes : List Change) → AreCarried (setting_of (Some files) migration.how tin) 0 0 [] migration.layers ps ds t → HasMoreThan tin ps MOST_CHANGES
       → AreCarried (setting_of (Some files) migration.how tin) 0 0 [] migration.layers qs es u → AreListed tin qs changes → ⊥
@@ -57,13 +58,13 @@ module _ (files : Files) (migration : Migration) (tin : Triangulation) (sound : 
       more_or_listed tin qs changes (run_inside (setting_of (Some files) migration.how tin) migration.layers qs es u y) (subst (λ (rs : List Piece). HasMoreThan tin rs MOST_CHANGES) one.pieces more) listed
 
   layers_end_one : (a b : End) → IsLayersEnd files migration tin a → IsLayersEnd files migration tin b → a ≡ b
-  layers_end_one a b (layer_end refusal is x) (layer_end other also y) = is ∙ (ap Err (refused_layer_one files migration.how tin sound migration.layers refusal other x y) ∙ sym also)
-  layers_end_one a b (layer_end refusal is x) (changes_end ps ds t also y more) = absurd (refused_layer_carried files migration.how tin sound migration.layers refusal ps ds t x y)
-  layers_end_one a b (layer_end refusal is x) (listed_end ps ds t changes also y listed) = absurd (refused_layer_carried files migration.how tin sound migration.layers refusal ps ds t x y)
-  layers_end_one a b (changes_end ps ds t is x more) (layer_end refusal also y) = absurd (refused_layer_carried files migration.how tin sound migration.layers refusal ps ds t y x)
+  layers_end_one a b (layer_end refusal is x) (layer_end other also y) = is ∙ (ap Err (refused_layer_one texts files migration.how tin sound migration.layers refusal other x y) ∙ sym also)
+  layers_end_one a b (layer_end refusal is x) (changes_end ps ds t also y more) = absurd (refused_layer_carried texts files migration.how tin sound migration.layers refusal ps ds t x y)
+  layers_end_one a b (layer_end refusal is x) (listed_end ps ds t changes also y listed) = absurd (refused_layer_carried texts files migration.how tin sound migration.layers refusal ps ds t x y)
+  layers_end_one a b (changes_end ps ds t is x more) (layer_end refusal also y) = absurd (refused_layer_carried texts files migration.how tin sound migration.layers refusal ps ds t y x)
   layers_end_one a b (changes_end ps ds t is x more) (changes_end qs es u also y more') = is ∙ sym also
   layers_end_one a b (changes_end ps ds t is x more) (listed_end qs es u changes also y listed) = absurd (more_here ps qs ds es t u changes x more y listed)
-  layers_end_one a b (listed_end ps ds t changes is x listed) (layer_end refusal also y) = absurd (refused_layer_carried files migration.how tin sound migration.layers refusal ps ds t y x)
+  layers_end_one a b (listed_end ps ds t changes is x listed) (layer_end refusal also y) = absurd (refused_layer_carried texts files migration.how tin sound migration.layers refusal ps ds t y x)
   layers_end_one a b (listed_end ps ds t changes is x listed) (changes_end qs es u also y more) = absurd (more_here qs ps es ds u t changes y more x listed)
   layers_end_one a b (listed_end ps ds t changes is x listed) (listed_end qs es u others also y listed') =
       let one = one_run ps qs ds es t u x y in
@@ -103,26 +104,26 @@ migration_done files migration status made is =
     (listed_end all.pieces all.done all.used is.changes
     (ap Ok (pair_of status _ made _ is.status_is (is.made_is ∙ ap₂ (λ (layers : Files) (said : List ℕ). layers ++ (codes "-", said) ∷ []) all.layers_are all.said_is))) all.carried all.listed)
 
-migration_end_one : (files : Files) (migration : Migration) (a b : End) → IsMigrationPath files migration a → IsMigrationPath files migration b → a ≡ b
-migration_end_one files migration a b (tin_end refusal is x) (tin_end other also y) =
+migration_end_one : (texts : LayerTextsAreOne) (files : Files) (migration : Migration) (a b : End) → IsMigrationPath files migration a → IsMigrationPath files migration b → a ≡ b
+migration_end_one texts files migration a b (tin_end refusal is x) (tin_end other also y) =
     let e = tin_end_is_one files migration.how migration.tin (Err refusal) (Err other) x y in
     let same : refusal ≡ other = cc in
     is ∙ (ap Err same ∙ sym also)
-migration_end_one files migration a b (tin_end refusal is x) (way_end stood tin y turned end) = let e = tin_end_is_one files migration.how migration.tin (Err refusal) (Ok stood) x y in cc
-migration_end_one files migration a b (way_end stood tin x turned end) (tin_end refusal is y) = let e = tin_end_is_one files migration.how migration.tin (Ok stood) (Err refusal) x y in cc
-migration_end_one files migration a b (way_end stood tin x turned end) (way_end other way y turned' also) =
+migration_end_one texts files migration a b (tin_end refusal is x) (way_end stood tin y turned end) = let e = tin_end_is_one files migration.how migration.tin (Err refusal) (Ok stood) x y in cc
+migration_end_one texts files migration a b (way_end stood tin x turned end) (tin_end refusal is y) = let e = tin_end_is_one files migration.how migration.tin (Ok stood) (Err refusal) x y in cc
+migration_end_one texts files migration a b (way_end stood tin x turned end) (way_end other way y turned' also) =
     let e = tin_end_is_one files migration.how migration.tin (Ok stood) (Ok other) x y in
     let stands : stood ≡ other = cc in
     let same : tin ≡ way = turned ∙ (ap (λ (t : Triangulation). directed migration.inverse t) stands ∙ sym turned') in
     let sound : IsSound way = subst (λ (t : Triangulation). IsSound t) (sym turned') (sound_way migration.inverse other (sound_of files migration.how migration.tin other y)) in
-    layers_end_one files migration way sound a b (subst (λ (t : Triangulation). IsLayersEnd files migration t a) same end) also
+    layers_end_one texts files migration way sound a b (subst (λ (t : Triangulation). IsLayersEnd files migration t a) same end) also
 
 migration_path : (files : Files) (migration : Migration) (end : End) → IsMigrationEnd files migration end → IsMigrationPath files migration end
 migration_path files migration (Ok (status, made)) is = migration_done files migration status made is
 migration_path files migration (Err refusal) is = migration_refused files migration refusal is
 
-pub migration_is_one : MigrationIsOne
-migration_is_one files migration end other x y = migration_end_one files migration end other (migration_path files migration end x) (migration_path files migration other y)
+pub migration_is_one : LayerTextsAreOne → MigrationIsOne
+migration_is_one texts files migration end other x y = migration_end_one texts files migration end other (migration_path files migration end x) (migration_path files migration other y)
 
 -- ---- what is made
 -- the last of some files, alone
@@ -160,8 +161,8 @@ making_path n (Ok (status, made)) is = (
 )
 making_path n (Err refusal) is = (Err refusal, migration_refused (made_files n) made_migration refusal is, refl)
 
-pub making_is_one : MakingIsOne
-making_is_one n end other x y =
+pub making_is_one : LayerTextsAreOne → MakingIsOne
+making_is_one texts n end other x y =
     let (whole, ends, is) = making_path n end x in
     let (another, ends_too, also) = making_path n other y in
-    is ∙ (ap made_alone (migration_end_one (made_files n) made_migration whole another ends ends_too) ∙ sym also)
+    is ∙ (ap made_alone (migration_end_one texts (made_files n) made_migration whole another ends ends_too) ∙ sym also)

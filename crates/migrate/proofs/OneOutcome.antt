@@ -22,8 +22,7 @@ use Rattle.carry_map.specs.declared.limits.TheConstants.{MOST_PIECES}
 use Rattle.sheet_base.specs.declared.flags.How.{How}
 use Rattle.job_words.specs.declared.formats.Format.{Format}
 use Rattle.migrate.specs.LayerTexts.{text_of}
-use Rattle.migrate.specs.LayerOutcomes.{LacksLayerText, IsCarried, IsOutside, HasTooMany}
-use Rattle.migrate.proofs.OneReading.{sheet_one, sheet_apart}
+use Rattle.migrate.specs.LayerOutcomes.{LayerTextsAreOne, LacksLayerText, IsCarried, IsOutside, HasTooMany}
 use Rattle.migrate.proofs.OnePieces.{pieces_one}
 use Rattle.affine_image.proofs.OneCut.{cut_alike, alike_length, ends_one}
 
@@ -144,15 +143,15 @@ images_one tin sheet images pictures sound is too =
     ap₂ runs_of (is.points ∙ (ap joined same ∙ sym too.points)) (is.run ∙ (ap (begins_from 0) same ∙ sym too.run))
 
 -- ---- the layer
-module _ (how : How) (tin : Triangulation) (format : Format) (text : List ℕ) (layer : ℕ) (before : List Piece) where
+module _ (texts : LayerTextsAreOne) (how : How) (tin : Triangulation) (format : Format) (text : List ℕ) (layer : ℕ) (before : List Piece) where
   pub lacks_outside : (fault : LayerFault) (path number old : ℕ) → LacksLayerText how format text fault → IsOutside how tin format text layer old path number → ⊥
-  lacks_outside fault path number old lacks (sheet, reads, is) = sheet_apart how format text sheet fault reads lacks
+  lacks_outside fault path number old lacks (sheet, reads, is) = (texts how format text).apart sheet fault reads lacks
 
   pub lacks_many : (fault : LayerFault) (old : ℕ) → LacksLayerText how format text fault → HasTooMany how tin format text layer old → ⊥
-  lacks_many fault old lacks (sheet, reads, is) = sheet_apart how format text sheet fault reads lacks
+  lacks_many fault old lacks (sheet, reads, is) = (texts how format text).apart sheet fault reads lacks
 
   pub lacks_carried : (fault : LayerFault) (pieces : List Piece) (carried : Carried) → LacksLayerText how format text fault → IsCarried how tin format text layer before pieces carried → ⊥
-  lacks_carried fault pieces carried lacks is = let it = is.layer in sheet_apart how format text it.sheet fault it.read lacks
+  lacks_carried fault pieces carried lacks is = let it = is.layer in (texts how format text).apart it.sheet fault it.read lacks
 
 outside_pair : (tin : Triangulation) (layer old : ℕ) (segments : List Segment) (path number way count : ℕ) → IsFirstOutside tin layer old MOST_PIECES segments path number
     → IsFirstOutside tin layer old MOST_PIECES segments way count → (path ≡ way) × (number ≡ count)
@@ -162,11 +161,11 @@ outside_pair tin layer old segments path number way count x y =
     let same = first_outside tin p.before q.before p.behind q.behind x.segment y.segment room.inside room'.inside x.outside y.outside (sym p.stands ∙ q.stands) in
     (sym x.path_is ∙ (ap (λ (s : Segment). s.path) same ∙ y.path_is), sym x.number_is ∙ (ap (λ (s : Segment). s.number) same ∙ y.number_is))
 
-pub outside_one : (how : How) (tin : Triangulation) (format : Format) (text : List ℕ) (layer old path number way count : ℕ) → IsOutside how tin format text layer old path number → IsOutside how tin format text layer old way count
+pub outside_one : (texts : LayerTextsAreOne) (how : How) (tin : Triangulation) (format : Format) (text : List ℕ) (layer old path number way count : ℕ) → IsOutside how tin format text layer old path number → IsOutside how tin format text layer old way count
     → (path ≡ way) × (number ≡ count)
-outside_one how tin format text layer old path number way count (sheet, reads, is) (other, reads_too, too) =
+outside_one texts how tin format text layer old path number way count (sheet, reads, is) (other, reads_too, too) =
     outside_pair tin layer old (sheet_segments other) path number way count
-    (subst (λ (s : Contents). IsFirstOutside tin layer old MOST_PIECES (sheet_segments s) path number) (sheet_one how format text sheet other reads reads_too) is) too
+    (subst (λ (s : Contents). IsFirstOutside tin layer old MOST_PIECES (sheet_segments s) path number) ((texts how format text).one_sheet sheet other reads reads_too) is) too
 
 bare : (old m n : ℕ) → old + m ≤ n → m ≤ n - old
 bare old m n h = omega arith
@@ -182,22 +181,22 @@ outside_many_in tin layer old segments path number x y =
     (total_of tin layer p.before room.pieces room.are) (total_of tin layer q.before room'.pieces room'.are) (y.parts, y.cut, refl) x.outside y.inside
     (bare old (length room.pieces) MOST_PIECES room.room) (bare_many old MOST_PIECES (length room'.pieces) (length y.parts) (length room.pieces) room.room y.full) (sym p.stands ∙ q.stands)
 
-pub outside_many : (how : How) (tin : Triangulation) (format : Format) (text : List ℕ) (layer old path number : ℕ) → IsOutside how tin format text layer old path number → HasTooMany how tin format text layer old → ⊥
-outside_many how tin format text layer old path number (sheet, reads, is) (other, reads_too, too) =
+pub outside_many : (texts : LayerTextsAreOne) (how : How) (tin : Triangulation) (format : Format) (text : List ℕ) (layer old path number : ℕ) → IsOutside how tin format text layer old path number → HasTooMany how tin format text layer old → ⊥
+outside_many texts how tin format text layer old path number (sheet, reads, is) (other, reads_too, too) =
     outside_many_in tin layer old (sheet_segments other) path number
-    (subst (λ (s : Contents). IsFirstOutside tin layer old MOST_PIECES (sheet_segments s) path number) (sheet_one how format text sheet other reads reads_too) is) too
+    (subst (λ (s : Contents). IsFirstOutside tin layer old MOST_PIECES (sheet_segments s) path number) ((texts how format text).one_sheet sheet other reads reads_too) is) too
 
 outside_not_in : (tin : Triangulation) (layer old : ℕ) (segments : List Segment) (path number : ℕ) → IsFirstOutside tin layer old MOST_PIECES segments path number → AreInside tin segments → ⊥
 outside_not_in tin layer old segments path number x inside =
     let p = x.reached in
     x.outside (outside_in tin p.before p.behind x.segment (subst (AreInside tin) p.stands inside))
 
-pub outside_carried : (how : How) (tin : Triangulation) (format : Format) (text : List ℕ) (layer old path number : ℕ) (before pieces : List Piece) (carried : Carried) → IsOutside how tin format text layer old path number
+pub outside_carried : (texts : LayerTextsAreOne) (how : How) (tin : Triangulation) (format : Format) (text : List ℕ) (layer old path number : ℕ) (before pieces : List Piece) (carried : Carried) → IsOutside how tin format text layer old path number
     → IsCarried how tin format text layer before pieces carried → ⊥
-outside_carried how tin format text layer old path number before pieces carried (sheet, reads, is) done =
+outside_carried texts how tin format text layer old path number before pieces carried (sheet, reads, is) done =
     let it = done.layer in
     outside_not_in tin layer old (sheet_segments it.sheet) path number
-    (subst (λ (s : Contents). IsFirstOutside tin layer old MOST_PIECES (sheet_segments s) path number) (sheet_one how format text sheet it.sheet reads it.read) is) it.inside
+    (subst (λ (s : Contents). IsFirstOutside tin layer old MOST_PIECES (sheet_segments s) path number) ((texts how format text).one_sheet sheet it.sheet reads it.read) is) it.inside
 
 too_few : (old n m k t : ℕ) → n < old + m + k → m + k ≤ t → old + t ≤ n → ⊥
 too_few old n m k t g h i = absurd (omega arith)
@@ -213,12 +212,12 @@ many_not_in tin layer old segments own x are few =
 room_of : (before own after : List Piece) → after ≡ before ++ own → length after ≤ MOST_PIECES → length before + length own ≤ MOST_PIECES
 room_of before own after is few = subst (λ n. n ≤ MOST_PIECES) (ap (λ (ps : List Piece). length ps) is ∙ length-append before own) few
 
-pub many_carried : (how : How) (tin : Triangulation) (format : Format) (text : List ℕ) (layer : ℕ) (before pieces : List Piece) (carried : Carried) → HasTooMany how tin format text layer (length before)
+pub many_carried : (texts : LayerTextsAreOne) (how : How) (tin : Triangulation) (format : Format) (text : List ℕ) (layer : ℕ) (before pieces : List Piece) (carried : Carried) → HasTooMany how tin format text layer (length before)
     → IsCarried how tin format text layer before pieces carried → ⊥
-many_carried how tin format text layer before pieces carried (sheet, reads, is) done =
+many_carried texts how tin format text layer before pieces carried (sheet, reads, is) done =
     let it = done.layer in
     many_not_in tin layer (length before) (sheet_segments it.sheet) it.own
-    (subst (λ (s : Contents). IsFirstTooMany tin layer (length before) MOST_PIECES (sheet_segments s)) (sheet_one how format text sheet it.sheet reads it.read) is) it.are_pieces
+    (subst (λ (s : Contents). IsFirstTooMany tin layer (length before) MOST_PIECES (sheet_segments s)) ((texts how format text).one_sheet sheet it.sheet reads it.read) is) it.are_pieces
     (room_of before it.own pieces it.stand done.few)
 
 -- what a carried layer is, by its sheet, its images and how many pieces it has
@@ -248,11 +247,11 @@ is_carried_of : (how : How) (tin : Triangulation) (format : Format) (text : List
     → (let layer = is.layer in carried ≡ carried_of how format text layer.sheet layer.images (length layer.own))
 is_carried_of how tin format text number before pieces carried is = let layer = is.layer in six carried _ layer.text_is layer.paths layer.segments layer.pieces layer.inexact layer.dropped
 
-pub carried_one : (how : How) (tin : Triangulation) (format : Format) (text : List ℕ) (number : ℕ) (before pieces others : List Piece) (carried other : Carried) → IsSound tin
+pub carried_one : (texts : LayerTextsAreOne) (how : How) (tin : Triangulation) (format : Format) (text : List ℕ) (number : ℕ) (before pieces others : List Piece) (carried other : Carried) → IsSound tin
     → IsCarried how tin format text number before pieces carried → IsCarried how tin format text number before others other → carried ≡ other
-carried_one how tin format text number before pieces others carried other sound is too =
+carried_one texts how tin format text number before pieces others carried other sound is too =
     let x = is.layer in let y = too.layer in
-    let sheets : x.sheet ≡ y.sheet = sheet_one how format text x.sheet y.sheet x.read y.read in
+    let sheets : x.sheet ≡ y.sheet = (texts how format text).one_sheet x.sheet y.sheet x.read y.read in
     let images : x.images ≡ y.images = images_one tin y.sheet x.images y.images sound (subst (λ (s : Contents). AreImagesOf tin s x.images) sheets x.are_images) y.are_images in
     let totals : length x.own ≡ length y.own =
     total_one tin (sheet_segments y.sheet) (length x.own) (length y.own)
@@ -264,11 +263,11 @@ carried_one how tin format text number before pieces others carried other sound 
     ∙ (ap (λ (n : ℕ). carried_of how format text y.sheet y.images n) totals ∙ sym (is_carried_of how tin format text number before others other too))))
 
 -- and into the same pieces
-pub carried_pieces_one : (how : How) (tin : Triangulation) (format : Format) (text : List ℕ) (number : ℕ) (before pieces others : List Piece) (carried other : Carried) → IsSound tin
+pub carried_pieces_one : (texts : LayerTextsAreOne) (how : How) (tin : Triangulation) (format : Format) (text : List ℕ) (number : ℕ) (before pieces others : List Piece) (carried other : Carried) → IsSound tin
     → IsCarried how tin format text number before pieces carried → IsCarried how tin format text number before others other → pieces ≡ others
-carried_pieces_one how tin format text number before pieces others carried other sound is too =
+carried_pieces_one texts how tin format text number before pieces others carried other sound is too =
     let x = is.layer in let y = too.layer in
-    let sheets : x.sheet ≡ y.sheet = sheet_one how format text x.sheet y.sheet x.read y.read in
+    let sheets : x.sheet ≡ y.sheet = (texts how format text).one_sheet x.sheet y.sheet x.read y.read in
     x.stand
     ∙ (ap (λ (own : List Piece). before ++ own)
     (pieces_one tin number (sheet_segments y.sheet) x.own y.own sound (subst (λ (s : Contents). ArePiecesOfAll tin number (sheet_segments s) x.own) sheets x.are_pieces) y.are_pieces) ∙ sym y.stand)

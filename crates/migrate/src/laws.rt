@@ -1,16 +1,47 @@
 //! What is true of the definitions that the contracts cite.
 
+ghost use Rattle.std.specs.Prelude.{◌≡◌, ◌^◌};
+ghost use Rattle.migrate.specs.declared.change_lists.TheConstants.{MOST_CHANGES};
+ghost use Rattle.migrate.specs.declared.maker_texts.TheConstants.{COMMA};
+ghost use Rattle.migrate.specs.LayerOutcomes.{LayerTextsAreOne, LayerOutcomesExist};
 ghost use Rattle.migrate.specs.Laws.{MigrationIsOne, MakingIsOne, MigrationKeepsRelations, MakingKeepsRelations};
+
+use dxf_layer::Dxf;
+use gj_layer::GeoJson;
+use sheet_base::Layer;
+use wkt_layer::Wkt;
+
+/// A law: in each format a text is a layer of one sheet, or has one first fault, and not both.
+pub fn layer_texts_are_one()
+    ensures { LayerTextsAreOne }
+{
+    Wkt::outcome_is_one();
+    GeoJson::outcome_is_one();
+    Dxf::outcome_is_one();
+}
+
+/// A law: in each format any text is a layer of some sheet, or has a first fault.
+pub fn layer_outcomes_exist()
+    ensures { LayerOutcomesExist }
+{
+    Wkt::outcome_exists();
+    GeoJson::outcome_exists();
+    Dxf::outcome_exists();
+}
 
 /// A law: a migration of the same files ends in one way.
 pub fn migration_is_one()
     ensures { MigrationIsOne }
-{}
+{
+    layer_texts_are_one();
+}
 
 /// A law: so does what is made of a number of cells.
 pub fn making_is_one()
     ensures { MakingIsOne }
-{}
+{
+    layer_texts_are_one();
+}
 
 /// A law: what a migration that is done makes keeps the relations of its pieces, or lists those that it does not.
 pub fn migration_keeps_relations()
@@ -20,4 +51,10 @@ pub fn migration_keeps_relations()
 /// A law: so does what is made.
 pub fn making_keeps_relations()
     ensures { MakingKeepsRelations }
+{}
+
+/// Laws: a report lists at most so many changes, and a comma is this byte.
+pub fn limits_are_stated()
+    ensures changes { MOST_CHANGES ≡ 2 ^ 20 }
+    ensures comma { COMMA ≡ 44 }
 {}

@@ -2,12 +2,18 @@
 
 ghost use Rattle.std.specs.Prelude.{◌≡◌, ◌<◌, true, false, take, length};
 ghost use Rattle.std.specs.List.{prefix_len};
+ghost use Rattle.remarks.specs.declared.excerpts.TheConstants.{MOST_SHOWN};
 ghost use Rattle.remarks.specs.Excerpts.{is_bracket as is_a_bracket, is_shown as is_a_shown, excerpt_of};
 
 use crate::line_columns::{before, from_place};
 
 /// The most bytes that are shown of what stands at a place.
 pub const MOST_SHOWN: u64 = 24;
+
+/// A law: at most so many bytes are shown.
+pub fn limits_are_stated()
+    ensures shown { MOST_SHOWN ≡ 24 }
+{}
 
 /// Whether the byte is a comma or a bracket.
 fn is_bracket(byte: u8) -> bool

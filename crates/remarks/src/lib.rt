@@ -13,7 +13,7 @@ mod spots;
 mod stray_lines;
 mod tin_tables;
 
-pub use excerpts::MOST_SHOWN;
+pub use excerpts::{MOST_SHOWN, limits_are_stated};
 pub use file_lines::{
     KindCount, degrees_line, left_out_line, rounded_line, unread_line, unwritten_lines,
 };

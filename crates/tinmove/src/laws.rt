@@ -5,7 +5,10 @@ ghost use Rattle.tinmove.specs.Laws.{OutcomeIsOne, EndKeepsRelations, EndKeepsMa
 /// A law: a run has one outcome.
 pub fn outcome_is_one()
     ensures { OutcomeIsOne }
-{}
+{
+    migrate::migration_is_one();
+    migrate::making_is_one();
+}
 
 /// A law: however a run ends that is asked for a migration, the segments that it wrote have the relations of their
 /// pieces in the source, or its report lists those that have not.

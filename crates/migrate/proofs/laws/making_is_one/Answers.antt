@@ -3,4 +3,4 @@ use Rattle.migrate.proofs.OneMigration.{making_is_one}
 use Rattle.migrate.proofs.laws.making_is_one.Goals as goal
 
 pub returns : goal.returns
-returns c = making_is_one
+returns c = making_is_one c.layer_texts_are_one.ensures

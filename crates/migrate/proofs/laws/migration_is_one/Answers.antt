@@ -3,4 +3,4 @@ use Rattle.migrate.proofs.OneMigration.{migration_is_one}
 use Rattle.migrate.proofs.laws.migration_is_one.Goals as goal
 
 pub returns : goal.returns
-returns c = migration_is_one
+returns c = migration_is_one c.layer_texts_are_one.ensures
