@@ -142,6 +142,70 @@ fn refused_drawings_have_one_line(rt: HostRuntime) {
     }
 }
 
+/// A row of so many squares of 10 m, each of two triangles, which goes 100 m further on both axes.
+fn row_of_squares(alloc: Global, count: u32) -> Result<String, AllocError> {
+    let mut text = String::from_str(
+        alloc,
+        r#"{"file_type":"triangulation_file","format_version":"1.1","transformed_components":["horizontal"],"vertices_columns":["source_x","source_y","target_x","target_y"],"triangles_columns":["idx_vertex1","idx_vertex2","idx_vertex3"],"vertices":[[0,0,100,100],[0,10,100,110]"#,
+    )?;
+    for square in 0..u64::from(count) {
+        let x = 10 * square + 10;
+        let there = x + 100;
+        let corners = format!(in alloc; ",[{x},0,{there},100],[{x},10,{there},110]")?;
+        text.push_str(&corners)?;
+    }
+    text.push_str("],\"triangles\":[")?;
+    for square in 0..u64::from(count) {
+        let (low, high) = (2 * square, 2 * square + 1);
+        let (next, behind) = (low + 2, high + 2);
+        let comma = if square == 0 { "" } else { "," };
+        let triangles = format!(in alloc;
+            "{comma}[{low},{next},{behind}],[{low},{behind},{high}]"
+        )?;
+        text.push_str(&triangles)?;
+    }
+    text.push_str("]}")?;
+    Ok(text)
+}
+
+/// A line through the middle of 256 such squares with so many bytes of extended data.
+fn line_with_data(alloc: Global, count: u32) -> Result<String, AllocError> {
+    let mut text = String::from_str(
+        alloc,
+        "0\nSECTION\n2\nENTITIES\n0\nLINE\n10\n0\n20\n5\n11\n2560\n21\n5\n1000\n",
+    )?;
+    for _ in 0..count {
+        text.push('x')?;
+    }
+    text.push_str("\n0\nENDSEC\n0\nEOF\n")?;
+    Ok(text)
+}
+
+/// The line becomes 512, each with all of the extended data: with 2^22 bytes of it these are more than the 2^31 bytes that a
+/// written drawing may have, and no memory is asked for.
+#[test]
+fn a_drawing_that_would_be_too_long_is_not_written(rt: HostRuntime) -> Result<(), Fail> {
+    let alloc = rt.alloc();
+    let report = "tinmove report 1
+triangulation corners 514 triangles 512 inexact 0 name s.json
+layer 0 paths 1 segments 1 pieces 512 inexact 0 dropped 0 name p.dxf
+extents 0 as they were
+changes 0
+end
+";
+    let tin = row_of_squares(alloc, 256)?;
+    for (count, wanted, line) in [
+        (100, Status::Same, report),
+        (1 << 22, Status::Memory, "no memory\n"),
+    ] {
+        let drawing = line_with_data(alloc, count)?;
+        let files = [("s.json", tin.as_str()), ("p.dxf", drawing.as_str())];
+        let made = [("-", Some(line))];
+        assert!(rt; makes(alloc, &MIGRATE, &files, wanted, &made), "at {line}");
+    }
+    Ok(())
+}
+
 #[test]
 fn layers_of_three_formats_are_carried(rt: HostRuntime) {
     let words = [

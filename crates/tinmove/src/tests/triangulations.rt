@@ -279,6 +279,38 @@ fn too_many_rows_pass_a_limit(rt: HostRuntime) -> Result<(), Fail> {
     Ok(())
 }
 
+/// As many rows as there may be. Equal vertices are one corner, and a triangle of one corner is flat.
+#[test]
+fn the_most_rows_are_read(rt: HostRuntime) -> Result<(), Fail> {
+    let alloc = rt.alloc();
+    let mut vertices = String::from_str(alloc, "[0,0,0,0]")?;
+    push_many(&mut vertices, ",[0,0,0,0]", (1 << 20) - 1)?;
+    let line = "sound: corners 1 triangles 0 inexact 0\n";
+    assert!(rt; checks_rows(alloc, &vertices, "", Status::Same, line));
+    let corners = "[0,0,100,100],[10,0,110.002,100],[0,10,100,110]";
+    let mut triangles = String::from_str(alloc, "[0,0,0]")?;
+    push_many(&mut triangles, ",[0,0,0]", (1 << 21) - 1)?;
+    let line = "triangulation: flat 0 source\n";
+    assert!(rt; checks_rows(alloc, corners, &triangles, Status::Tin, line));
+    Ok(())
+}
+
+/// A file of as many spaces as it may have bytes lacks a value behind them; with one more it is too long.
+#[test]
+fn a_file_of_spaces_passes_a_limit(rt: HostRuntime) -> Result<(), Fail> {
+    let alloc = rt.alloc();
+    let mut block = String::new(alloc);
+    push_many(&mut block, " ", 1 << 12)?;
+    let mut spaces = String::with_capacity(alloc, (1 << 26) + 1)?;
+    push_many(&mut spaces, &block, 1 << 14)?;
+    let line = "triangulation: json at 67108864\n";
+    assert!(rt; checks(alloc, &spaces, Status::Tin, line));
+    spaces.push(' ')?;
+    let line = "limit: bytes of triangulation\n";
+    assert!(rt; checks(alloc, &spaces, Status::Limit, line));
+    Ok(())
+}
+
 #[test]
 fn carries_through_triangulations(rt: HostRuntime) {
     for (vertices, triangles, layer, written) in [
