@@ -11,7 +11,7 @@ use Rattle.tin_base.specs.Segments.{IsInside}
 use Rattle.affine_image.specs.Rounded.{IsRoundedImage}
 use Rattle.affine_image.specs.SheetSegments.{Segment, PathVertex, segments_begun}
 use Rattle.affine_image.specs.SheetPieces.{first_place, ArePiecesOfAll, AreInside}
-use Rattle.affine_image.specs.SheetImages.{AreCrossings, AreRuns, joined, begins_from}
+use Rattle.affine_image.specs.SheetImages.{AreCrossings, joined, begins_from}
 use Rattle.affine_image.proofs.Told.{inner_ends}
 use Rattle.affine_image.proofs.Runs.{runs_more, begins_more, inside_more}
 use Rattle.affine_image.proofs.Segmenting.{begun_append}

@@ -1,18 +1,12 @@
 -- A path, vertex by vertex.
-use Rattle.std.proofs.Common.{◌≡◌, ℕ, suc, ◌+◌, ◌-◌, ◌<◌, ◌≤◌, Bool, false, cond, ltb, List, [], ◌∷◌, ◌++◌, Option, Some, None, map, take, drop, length, take-append-drop, ap, ap₂, refl, sym, ◌∙◌, subst, arith}
+use Rattle.std.proofs.Common.{◌≡◌, ℕ, suc, ◌+◌, ◌<◌, ◌≤◌, List, [], ◌∷◌, ◌++◌, drop, length, ap, refl, sym, ◌∙◌, subst, arith}
 use Rattle.std.specs.Prelude.{IfErr, Result, Ok, Err}
 use Rattle.std.specs.Result.{IsErrAnd}
-use Rattle.std.specs.List.{range_with_len, cons_option}
-use Rattle.std.proofs.Math.Seq.{drop-cons}
-use Rattle.std.proofs.lemmas.Bool.{lt-ltb}
 use Rattle.std.proofs.lemmas.List.{length-append}
-use Rattle.std.proofs.lemmas.List.FromFn.{length-map-range_with_len, take-map-range_with_len, map-range_with_len_more, get_or-map-range_with_len}
 use Rattle.plane_base.specs.Plane.{whole}
 use Rattle.plane_base.specs.declared.shapes.Pt.{Pt}
-use Rattle.sheet_base.specs.declared.paths.PathKind.{PathKind}
-use Rattle.sheet_base.specs.declared.paths.PathKind.TheVariants.{Dot, Line, Loop}
 use Rattle.sheet_base.specs.declared.paths.PathRow.{PathRow}
-use Rattle.sheet_base.specs.Segments.{points_in, segments_of, segments_in, point_at, begin_of, end_of}
+use Rattle.sheet_base.specs.Segments.{points_in, segments_in, point_at, begin_of, end_of}
 use Rattle.sheet_base.specs.Sheets.{IsPathFrom}
 use Rattle.tin_base.specs.declared.frames.Frame.TheVariants.{Source}
 use Rattle.tin_base.specs.declared.pieces.Piece.{Piece}
@@ -22,7 +16,7 @@ use Rattle.tin_base.specs.Images.{IsInSome}
 use Rattle.tin_base.specs.Segments.{IsInside}
 use Rattle.affine_image.specs.Rounded.{IsRoundedImage}
 use Rattle.affine_image.specs.SheetSegments.{Segment, PathVertex, segment_at, vertex_at, path_vertices, segments_begun}
-use Rattle.affine_image.proofs.PathVertices.{AreFew, few, in_points, first_vertices, one_vertex_more, begins_one, begins_none, first_point_is, next_begins, split_at}
+use Rattle.affine_image.proofs.PathVertices.{few, first_vertices, one_vertex_more, begins_one, begins_none, first_point_is, next_begins, split_at}
 use Rattle.tin_base.proofs.Spots.{first_inside}
 use Rattle.carry_map.specs.declared.segments.Way.{Way}
 use Rattle.carry_map.specs.declared.paths.Track.{Track}

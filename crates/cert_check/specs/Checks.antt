@@ -9,6 +9,7 @@ use Rattle.affine_image.specs.SheetSegments.{Segment as SheetSegment, sheet_segm
 use Rattle.affine_image.specs.SheetPieces.{IsSheetInside}
 use Rattle.affine_image.specs.SheetImages.{AreImagesOf}
 use Rattle.sheet_base.specs.declared.faults.LayerFault.{LayerFault}
+use Rattle.sheet_base.specs.declared.faults.LayerFault.TheVariants.{NoMemory as OutOfMemory}
 use Rattle.cert_check.specs.declared.faults.CertFault.{CertFault}
 use Rattle.cert_check.specs.declared.faults.CertFault.TheVariants.{Layer, Form, Count, Segment, Differs, NoMemory}
 use Rattle.cert_check.specs.Certificates.{IsCertificate}
@@ -84,9 +85,8 @@ pub record IsDifferent (tin : Triangulation) (source written : List ℕ) (reads 
   pub first : IsFirstDifference (spliced source (text sheet images) sheet.edits) written at
 
 -- why a layer is not certified: the first of these that is so
-abbrev pub IsCertCause : Triangulation → List ℕ → List ℕ → (Contents → Type 0) → (LayerFault → Type 0)
-    → (Contents → Runs → Edit → List ℕ) → List ℕ → CertFault → Type 0
-IsCertCause tin source written reads refuses text cert (Layer fault) = refuses fault
+abbrev pub IsCertCause : Triangulation → List ℕ → List ℕ → (Contents → Type 0) → (LayerFault → Type 0) → (Contents → Runs → Edit → List ℕ) → List ℕ → CertFault → Type 0
+IsCertCause tin source written reads refuses text cert (Layer fault) = (fault ≢ OutOfMemory) × refuses fault
 IsCertCause tin source written reads refuses text cert (Form line) = IsBadLine cert line
 IsCertCause tin source written reads refuses text cert (Count segments lines) = IsCounted reads cert segments lines
 IsCertCause tin source written reads refuses text cert (Segment path number) = IsNotRight tin reads cert path number

@@ -5,12 +5,9 @@ use Rattle.std.proofs.lemmas.Grind.{get_or_default_zero}
 use Rattle.std.proofs.lemmas.List.Kept.{AllPairs-from_increasing}
 use Rattle.std.specs.List.Sorted.{IsStrictlyIncreasing}
 use Rattle.plane_base.specs.declared.shapes.Pt.{Pt}
-use Rattle.tin_base.specs.declared.frames.Frame.TheVariants.{Source}
 use Rattle.tin_base.specs.Triangulation.{Triangulation}
-use Rattle.tin_base.specs.Soundness.{IsSound}
 use Rattle.tin_base.specs.Segments.{Spot, IsSameSpot, IsShared, IsPart}
-use Rattle.tin_base.proofs.Ends.{IsSpot, not_both, no_later, before_trans_left, up_to_same, from_same}
-use Rattle.tin_base.proofs.Parts.{between_in}
+use Rattle.tin_base.proofs.Ends.{not_both, before_trans_left, from_same}
 use Rattle.tin_index.specs.Sides.{HasCorner, IsAcross, IsStar}
 use Rattle.seg_walk.specs.declared.steps.Step.{Step}
 use Rattle.seg_walk.specs.Beginning.{HasNoPartFrom, HasNoneFrom, IsPartFrom, IsLeastAmong, GoesOn}

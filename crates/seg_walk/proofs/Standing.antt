@@ -1,5 +1,5 @@
 -- A point that some triangle has is near each corner of the triangulation, and near each other such point.
-use Rattle.std.proofs.Common.{◌≡◌, ℕ, ◌<◌, ℤ, pos, ◌+ℤ◌, ◌-ℤ◌, ◌*ℤ◌, ◌≤ℤ◌, ◌<ℤ◌, List, [], ◌∷◌, length, sum, All, get_or, refl, ap, subst, arith}
+use Rattle.std.proofs.Common.{◌≡◌, ℕ, ◌<◌, ℤ, pos, ◌+ℤ◌, ◌-ℤ◌, ◌*ℤ◌, ◌≤ℤ◌, ◌<ℤ◌, List, [], ◌∷◌, length, sum, All, get_or, ap, arith}
 use Rattle.std.proofs.lemmas.Int.{ints}
 use Rattle.integer_ring.proofs.Order.{nonneg_pos}
 use Rattle.plane_base.specs.Plane.{Point, Same, weighed, IsMix, whole, corners, IsNear, IsNearTri}
@@ -60,9 +60,6 @@ corner_near tin m n limits hm hn = let there = limits.near Source m n hm hn in l
 
 pub near_corner : (tin : Triangulation) (n : ℕ) (p : Pt) → IsWithinLimits tin → n < length tin.corners → IsInSome tin Source (whole p) → IsNear (source_at tin n) p
 near_corner tin n p limits hn has = near_all tin has.0 p (source_at tin n) limits has.1 has.2 (λ m hm. corner_near tin n m limits hn hm)
-
-pub near_ends : (tin : Triangulation) (a b : Pt) → IsWithinLimits tin → IsInSome tin Source (whole a) → IsInSome tin Source (whole b) → IsNear a b
-near_ends tin a b limits has_a has_b = near_all tin has_b.0 b a limits has_b.1 has_b.2 (λ n hn. turned (source_at tin n) a (near_corner tin n a limits hn has_a))
 
 near_by : (p q a : Pt) → p.x ≡ q.x → p.y ≡ q.y → IsNear q a → IsNear p a
 near_by p q a e f h = (omega (arith, ints), omega (arith, ints), omega (arith, ints), omega (arith, ints))

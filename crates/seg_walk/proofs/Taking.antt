@@ -1,15 +1,13 @@
 -- Steps as pieces.
-use Rattle.std.proofs.Common.{◌≡◌, ◌≢◌, ℕ, ◌<◌, ℤ, pos, ◌+ℤ◌, ◌*ℤ◌, ◌-ℤ◌, ◌≤ℤ◌, ◌<ℤ◌, unsigned_abs, List, [], ◌∷◌, ◌++◌, map, length, Option, Some, None, sym, subst, refl, arith}
+use Rattle.std.proofs.Common.{◌≡◌, ◌≢◌, ℕ, ◌<◌, ℤ, pos, ◌-ℤ◌, ◌≤ℤ◌, ◌<ℤ◌, unsigned_abs, List, [], ◌∷◌, ◌++◌, map, length, Option, Some, None, sym, subst, refl, arith}
 use Rattle.std.proofs.lemmas.Int.{ints}
 use Rattle.std.proofs.lemmas.List.{map-append}
-use Rattle.integer_ring.proofs.Ring.{num, ◌⊕◌, ◌⊗◌}
 use Rattle.integer_ring.proofs.Order.{not-<-to-≤}
-use Rattle.integer_ring.proofs.Claims.{◌≐◌, solve}
 use lib.Signed.{lt_z_yes}
 use Rattle.plane_base.specs.Plane.{whole}
 use Rattle.plane_base.specs.Slices.{IsParam}
 use Rattle.plane_base.specs.declared.shapes.Pt.{Pt}
-use Rattle.plane_base.proofs.Mixes.{mix_moved, same_trans, mixed, between-w, weights_between, between_weights}
+use Rattle.plane_base.proofs.Mixes.{mix_moved}
 use Rattle.tin_base.specs.declared.frames.Frame.TheVariants.{Source}
 use Rattle.tin_base.specs.Triangulation.{Triangulation, numbers_of, places, IsInTriangle}
 use Rattle.tin_base.specs.Images.{IsInSome}
