@@ -60,7 +60,9 @@ pub fn unwritten_lines(
     text.push_str(": could not be written")?;
     put_reason(&mut text, reason)?;
     text.push_str("\n")?;
-    text.push_str("tinmove: look at the disk's room, at who may write in the folder, and at ulimit -f\n")?;
+    text.push_str(
+        "tinmove: look at the disk's room, at who may write in the folder, and at ulimit -f\n",
+    )?;
     Ok(text)
 }
 
@@ -121,7 +123,9 @@ pub fn rounded_line(alloc: Global, name: &str, count: u64) -> Result<String, All
     let mut text = String::new(alloc);
     put_name(&mut text, name)?;
     put_number(&mut text, ": ", count)?;
-    text.push_str(" numbers were rounded to the millimetre: ogr2ogr -lco COORDINATE_PRECISION=3 writes no more digits\n")?;
+    text.push_str(
+        " numbers were rounded to the millimetre: ogr2ogr -lco COORDINATE_PRECISION=3 writes no more digits\n",
+    )?;
     Ok(text)
 }
 
@@ -131,6 +135,8 @@ pub fn degrees_line(alloc: Global, name: &str) -> Result<String, AllocError>
 {
     let mut text = String::new(alloc);
     put_name(&mut text, name)?;
-    text.push_str(": all source corners are within 360: these look like degrees, and are read as metres\n")?;
+    text.push_str(
+        ": all source corners are within 360: these look like degrees, and are read as metres\n",
+    )?;
     Ok(text)
 }

@@ -51,7 +51,9 @@ fn put_behind(text: &mut String, flaw: WordFlaw) -> Result<(), AllocError>
 {
     match flaw {
         WordFlaw::NoMode => {}
-        WordFlaw::Mode => text.push_str("' is no mode: the first word is to be migrate, check or make")?,
+        WordFlaw::Mode => text.push_str(
+            "' is no mode: the first word is to be migrate, check or make",
+        )?,
         WordFlaw::Unknown => text.push_str("' is no option of this mode")?,
         WordFlaw::Twice => text.push_str("' is there twice")?,
         WordFlaw::NoValue => text.push_str("'")?,

@@ -33,10 +33,16 @@ fn rows_of(alloc: Global, report: &[u8]) -> Option<Report> {
 /// The name of the kind of the entity that begins at the place: what is on its second line.
 fn kind_at(bytes: &[u8], start: usize) -> &str {
     let entity = bytes.get(start..).unwrap_or(&[]);
-    let head = entity.iter().position(|byte| *byte == b'\n').unwrap_or(entity.len());
+    let head = entity
+        .iter()
+        .position(|byte| *byte == b'\n')
+        .unwrap_or(entity.len());
     let rest = entity.get(head..).unwrap_or(&[]);
     let value = rest.get(1..).unwrap_or(&[]);
-    let end = value.iter().position(|byte| *byte == b'\n').unwrap_or(value.len());
+    let end = value
+        .iter()
+        .position(|byte| *byte == b'\n')
+        .unwrap_or(value.len());
     match from_utf8(value.get(..end).unwrap_or(&[])) {
         Ok(name) => name.trim(),
         Err(_) => "",

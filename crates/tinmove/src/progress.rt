@@ -71,7 +71,10 @@ fn tick<W: Write + Drop>(to: &mut Option<W>, before: u64, now: u64) {
 /// Says on a terminal that a map of so many by so many cells is made and carried.
 pub fn say_making<W: Write + Drop>(to: &mut Option<W>, n: u32) {
     if let Some(to) = to {
-        let _ = write!(to, "{CLEAR}tinmove: making and carrying a map of {n} by {n} cells");
+        let _ = write!(
+            to,
+            "{CLEAR}tinmove: making and carrying a map of {n} by {n} cells"
+        );
     }
 }
 

@@ -1,5 +1,8 @@
 //! Where a segment is that is outside, found in the files once more.
 
+ghost use Rattle.std.specs.Prelude.{◌≤◌, length};
+ghost use Rattle.runs.specs.declared.loads.TheConstants.{MOST_BYTES};
+
 use dxf_layer::Dxf;
 use gj_layer::GeoJson;
 use job_words::{Format, format_of};
@@ -9,9 +12,6 @@ use sheet_base::{Edit, How, Layer, LayerFault, PathKind, PathRow, Sheet, What};
 use std::alloc::Global;
 use tin_base::{Corner, Frame, Tin};
 use wkt_layer::Wkt;
-
-ghost use Rattle.std.specs.Prelude.{◌≤◌, length};
-ghost use Rattle.runs.specs.declared.loads.TheConstants.{MOST_BYTES};
 
 /// The greatest number of degrees, in thousandths.
 const MOST_DEGREES: u64 = 360_000;
@@ -95,7 +95,10 @@ pub fn stray_of(
     let row = sheet.paths().get(path as usize)?;
     let number = (row.first as usize).saturating_add(segment as usize);
     let points = sheet.points();
-    let edit = sheet.edits().iter().find(|edit| is_edit_of(edit, path, number))?;
+    let edit = sheet
+        .edits()
+        .iter()
+        .find(|edit| is_edit_of(edit, path, number))?;
     let target = box_in(tin.corners(), other)?;
     let triangles = box_in(tin.corners(), frame)?;
     Some(Stray {

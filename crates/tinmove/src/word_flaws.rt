@@ -127,11 +127,7 @@ impl<'a> Parts<'a> {
 }
 
 /// The words behind the mode, taken apart.
-fn parts_of<'a>(
-    alloc: Global,
-    form: &Form,
-    words: &'a [String],
-) -> Result<Parts<'a>, AllocError> {
+fn parts_of<'a>(alloc: Global, form: &Form, words: &'a [String]) -> Result<Parts<'a>, AllocError> {
     let mut parts = Parts {
         options: Vec::new(alloc),
         values: Vec::new(alloc),
@@ -234,10 +230,7 @@ pub fn flaw_of<'a>(
     };
     let parts = parts_of(alloc, &form, behind)?;
     if fault != WordsFault::Parse {
-        return Ok(Some((
-            WordFlaw::Refused(fault),
-            refused_word(&parts, fault),
-        )));
+        return Ok(Some((WordFlaw::Refused(fault), refused_word(&parts, fault))));
     }
     if parts.flaw.is_some() {
         return Ok(parts.flaw);

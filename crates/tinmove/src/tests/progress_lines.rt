@@ -57,8 +57,10 @@ fn said(to: &Option<Vec<u8>>) -> &[u8] {
 #[test]
 fn a_run_says_what_it_is_doing(rt: HostRuntime) -> Result<(), Fail> {
     let alloc = rt.alloc();
-    let whole = b"\r\x1b[Ktinmove: step 1 of 5: reading t.json\r\x1b[Ktinmove: step 2 of 5: checking the triangulation\r\x1b[Ktinmove: step 3 of 5: reading p.wkt\r\x1b[Ktinmove: step 4 of 5: carrying layer 0 (1 of 1), then comparing";
-    let unread = b"\r\x1b[Ktinmove: step 1 of 5: reading t.json\r\x1b[Ktinmove: step 2 of 5: checking the triangulation\r\x1b[Ktinmove: step 3 of 5: reading p.wkt";
+    let whole =
+        b"\r\x1b[Ktinmove: step 1 of 5: reading t.json\r\x1b[Ktinmove: step 2 of 5: checking the triangulation\r\x1b[Ktinmove: step 3 of 5: reading p.wkt\r\x1b[Ktinmove: step 4 of 5: carrying layer 0 (1 of 1), then comparing";
+    let unread =
+        b"\r\x1b[Ktinmove: step 1 of 5: reading t.json\r\x1b[Ktinmove: step 2 of 5: checking the triangulation\r\x1b[Ktinmove: step 3 of 5: reading p.wkt";
     let untold = b"\r\x1b[Ktinmove: step 1 of 5: reading t.json";
     let written = b"\r\x1b[Ktinmove: step 5 of 5: writing o/p.wkt";
     // Before the line of a refusal, and before the report, the line is cleared.
@@ -176,7 +178,8 @@ fn layers_are_counted_behind_the_triangulation(rt: HostRuntime) -> Result<(), Fa
         let bytes = load(alloc, &mut shelf, name, 9)?;
         assert_eq!(rt; bytes.as_slice(), text);
     }
-    let lines = b"\r\x1b[Ktinmove: step 1 of 8: reading t\r\x1b[Ktinmove: step 2 of 8: checking the triangulation\r\x1b[Ktinmove: step 3 of 8: reading a\r\x1b[Ktinmove: step 4 of 8: carrying layer 0 (1 of 2)\r\x1b[Ktinmove: step 5 of 8: reading b\r\x1b[Ktinmove: step 6 of 8: carrying layer 1 (2 of 2), then comparing";
+    let lines =
+        b"\r\x1b[Ktinmove: step 1 of 8: reading t\r\x1b[Ktinmove: step 2 of 8: checking the triangulation\r\x1b[Ktinmove: step 3 of 8: reading a\r\x1b[Ktinmove: step 4 of 8: carrying layer 0 (1 of 2)\r\x1b[Ktinmove: step 5 of 8: reading b\r\x1b[Ktinmove: step 6 of 8: carrying layer 1 (2 of 2), then comparing";
     assert_eq!(rt; said(&shelf.to), lines.as_slice());
     Ok(())
 }
@@ -214,7 +217,10 @@ fn each_mebibyte_is_a_point(rt: HostRuntime) -> Result<(), Fail> {
     );
     let mut press = ToldPress::new(MemPress::new(alloc, 65_536), Some(Vec::new(alloc)), 1);
     print(&mut press, "a", &bytes)?;
-    assert_eq!(rt; said(&press.to), b"\r\x1b[Ktinmove: step 5 of 5: writing a..".as_slice());
+    assert_eq!(rt;
+        said(&press.to),
+        b"\r\x1b[Ktinmove: step 5 of 5: writing a..".as_slice()
+    );
     Ok(())
 }
 

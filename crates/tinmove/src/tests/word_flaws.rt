@@ -11,21 +11,86 @@ use std::test::Fail;
 const REFUSED: &[(&[&str], WordsFault, WordFlaw, &str)] = &[
     (&[], WordsFault::NoMode, WordFlaw::NoMode, ""),
     (&["Make", "3"], WordsFault::NoMode, WordFlaw::Mode, "Make"),
-    (&["check"], WordsFault::Parse, WordFlaw::Missing, "--tin FILE"),
+    (
+        &["check"],
+        WordsFault::Parse,
+        WordFlaw::Missing,
+        "--tin FILE",
+    ),
     (&["make"], WordsFault::Parse, WordFlaw::Missing, "N"),
-    (&["make", "1", "2"], WordsFault::Parse, WordFlaw::TooMany, "2"),
+    (
+        &["make", "1", "2"],
+        WordsFault::Parse,
+        WordFlaw::TooMany,
+        "2",
+    ),
     (&["make", "-1"], WordsFault::Parse, WordFlaw::Unknown, "-1"),
-    (&["make", "0"], WordsFault::Size, WordFlaw::Refused(WordsFault::Size), "0"),
-    (&["check", "--tin"], WordsFault::Parse, WordFlaw::NoValue, "--tin"),
-    (&["check", "--tin", "--exact"], WordsFault::Parse, WordFlaw::NoValue, "--tin"),
-    (&["check", "--tin", "t", "u"], WordsFault::Parse, WordFlaw::TooMany, "u"),
-    (&["check", "--tin", "t", "--inverse"], WordsFault::Parse, WordFlaw::Unknown, "--inverse"),
-    (&["check", "--tin", "t", "--tin=u"], WordsFault::Parse, WordFlaw::Twice, "--tin"),
-    (&["check", "--exact", "--exact", "--tin", "t"], WordsFault::Parse, WordFlaw::Twice, "--exact"),
-    (&["check", "--exact=1", "--tin", "t"], WordsFault::Parse, WordFlaw::Unknown, "--exact=1"),
-    (&["migrate", "--tin", "t", "a.wkt"], WordsFault::Parse, WordFlaw::Missing, "--out FOLDER"),
-    (&["migrate", "--out", "o", "a.wkt"], WordsFault::Parse, WordFlaw::Missing, "--tin FILE"),
-    (&["migrate", "--tin", "t", "--out", "o"], WordsFault::Parse, WordFlaw::Missing, "LAYER"),
+    (
+        &["make", "0"],
+        WordsFault::Size,
+        WordFlaw::Refused(WordsFault::Size),
+        "0",
+    ),
+    (
+        &["check", "--tin"],
+        WordsFault::Parse,
+        WordFlaw::NoValue,
+        "--tin",
+    ),
+    (
+        &["check", "--tin", "--exact"],
+        WordsFault::Parse,
+        WordFlaw::NoValue,
+        "--tin",
+    ),
+    (
+        &["check", "--tin", "t", "u"],
+        WordsFault::Parse,
+        WordFlaw::TooMany,
+        "u",
+    ),
+    (
+        &["check", "--tin", "t", "--inverse"],
+        WordsFault::Parse,
+        WordFlaw::Unknown,
+        "--inverse",
+    ),
+    (
+        &["check", "--tin", "t", "--tin=u"],
+        WordsFault::Parse,
+        WordFlaw::Twice,
+        "--tin",
+    ),
+    (
+        &["check", "--exact", "--exact", "--tin", "t"],
+        WordsFault::Parse,
+        WordFlaw::Twice,
+        "--exact",
+    ),
+    (
+        &["check", "--exact=1", "--tin", "t"],
+        WordsFault::Parse,
+        WordFlaw::Unknown,
+        "--exact=1",
+    ),
+    (
+        &["migrate", "--tin", "t", "a.wkt"],
+        WordsFault::Parse,
+        WordFlaw::Missing,
+        "--out FOLDER",
+    ),
+    (
+        &["migrate", "--out", "o", "a.wkt"],
+        WordsFault::Parse,
+        WordFlaw::Missing,
+        "--tin FILE",
+    ),
+    (
+        &["migrate", "--tin", "t", "--out", "o"],
+        WordsFault::Parse,
+        WordFlaw::Missing,
+        "LAYER",
+    ),
     (
         &["migrate", "--tni", "t", "--out", "o", "a.wkt"],
         WordsFault::Parse,
@@ -33,13 +98,17 @@ const REFUSED: &[(&[&str], WordsFault, WordFlaw, &str)] = &[
         "--tni",
     ),
     (
-        &["migrate", "--tin", "t", "--out", "o", "a.wkt", "--exact", "b.shp"],
+        &[
+            "migrate", "--tin", "t", "--out", "o", "a.wkt", "--exact", "b.shp",
+        ],
         WordsFault::Suffix { layer: 1 },
         WordFlaw::Refused(WordsFault::Suffix { layer: 1 }),
         "b.shp",
     ),
     (
-        &["migrate", "--tin", "t", "--out", "o", "x/a.wkt", "--", "y/a.wkt"],
+        &[
+            "migrate", "--tin", "t", "--out", "o", "x/a.wkt", "--", "y/a.wkt",
+        ],
         WordsFault::SameName { layer: 1 },
         WordFlaw::Refused(WordsFault::SameName { layer: 1 }),
         "y/a.wkt",
@@ -63,7 +132,11 @@ fn the_word_that_is_wrong_or_missing_is_named(rt: HostRuntime) -> Result<(), Fai
     let alloc = rt.alloc();
     for (texts, fault, flaw, word) in REFUSED {
         let words = words_of(alloc, texts)?;
-        assert_eq!(rt; read_words(alloc, &words).err(), Some(*fault), "at {texts:?}");
+        assert_eq!(rt;
+            read_words(alloc, &words).err(),
+            Some(*fault),
+            "at {texts:?}"
+        );
         let found = flaw_of(alloc, &words, *fault)?;
         assert_eq!(rt; found, Some((*flaw, *word)), "at {texts:?}");
     }
@@ -86,7 +159,10 @@ fn the_usage_is_that_of_the_mode(rt: HostRuntime) -> Result<(), Fail> {
             "usage: tinmove migrate --tin FILE --out FOLDER [--inverse] [--exact] [--inside-only]
                        [--drop-other] LAYER...",
         ),
-        (&["check"], "usage: tinmove check --tin FILE [--exact] [--inside-only]"),
+        (
+            &["check"],
+            "usage: tinmove check --tin FILE [--exact] [--inside-only]",
+        ),
         (&["make", "0"], "usage: tinmove make N"),
     ] {
         let words = words_of(rt.alloc(), texts)?;
