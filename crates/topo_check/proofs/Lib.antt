@@ -10,6 +10,7 @@ pub mod OneList
 pub mod Ordered
 pub mod Passes
 pub mod PieceCopies
+pub mod WholeParts
 pub mod Sorts
 pub mod Spans
 pub mod Tight

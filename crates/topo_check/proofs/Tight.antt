@@ -1,14 +1,12 @@
 -- Boxes of whole sides round points at parameters of a segment, and round a piece's exact ends.
-use Rattle.std.proofs.Common.{◌≡◌, ◌↔◌, ℤ, pos, negsuc, ◌+ℤ◌, ◌-ℤ◌, ◌*ℤ◌, ◌≤ℤ◌, ◌<ℤ◌, ◌^◌, ◌-◌, ◌≤◌, neg_ℤ, unsigned_abs, [], ◌∷◌, SFits, arith, mul-le-mul}
-use Rattle.std.proofs.lemmas.Int.{ints, unsigned_abs-mul}
-use mir.Syntax.{w64, w128}
+use Rattle.std.proofs.Common.{◌≡◌, ◌↔◌, ℤ, pos, negsuc, ◌+ℤ◌, ◌-ℤ◌, ◌*ℤ◌, ◌≤ℤ◌, ◌<ℤ◌, ◌^◌, ◌-◌, [], ◌∷◌, SFits, arith}
+use Rattle.std.proofs.lemmas.Int.{ints}
+use mir.Syntax.{w64}
 use Rattle.integer_ring.proofs.Ring.{num, ◌⊕◌, ◌⊖◌, ◌⊗◌}
 use Rattle.integer_ring.proofs.Claims.{◌≼◌, ◌≺◌, gap, over, ◌⊞◌, ◌⊠◌, ◌because◌, ◌otherwise◌, ◌⇒◌, follows}
 use Rattle.std.specs.Int.{int_div_euclid}
 use Rattle.integer_ring.proofs.Floor.{floor-≤, floor-<}
-use Rattle.frac128.specs.Sizes.{IsSmall}
 use Rattle.frac128.specs.declared.frac.Frac.{Frac}
-use Rattle.frac128.specs.declared.frac.TheConstants.{TURN}
 use Rattle.plane_base.specs.Plane.{Point, IsShort}
 use Rattle.plane_base.specs.Slices.{IsParam}
 use Rattle.plane_base.specs.declared.shapes.Pt.{Pt}
@@ -29,12 +27,6 @@ use Rattle.topo_check.specs.Boxes.{IsExactBox, IsUpToPlace, IsFromPlace}
 use Rattle.topo_check.proofs.InBoxes.{among_within}
 
 -- ---- a share of a way
-pub product_fits : (n z : ℤ) → IsSmall n → IsShort z → SFits w128 (n *ℤ z)
-product_fits n z h k =
-    let m : unsigned_abs n ≤ unsigned_abs TURN - 1 = omega (arith, ints) in
-    let o : unsigned_abs z ≤ unsigned_abs SPAN - 1 = omega (arith, ints) in
-    omega (arith, ints, unsigned_abs-mul n z, mul-le-mul m o)
-
 -- a quotient rounded down is no less than what 0 and the way are no less than
 pub not_below : (n d z q m : ℤ) → pos 0 <ℤ d → pos 0 ≤ℤ n → n ≤ℤ d → m ≤ℤ pos 0 → m ≤ℤ z → (n *ℤ z) <ℤ (q *ℤ d +ℤ d) → m ≤ℤ q
 not_below =
@@ -52,13 +44,6 @@ floor_low n d z m p h k = not_below n d z (int_div_euclid (n *ℤ z) d) m p.0 p.
 
 pub floor_high : (n d z m : ℤ) → IsParam n d → pos 0 ≤ℤ m → z ≤ℤ m → int_div_euclid (n *ℤ z) d ≤ℤ m
 floor_high n d z m p h k = not_above n d z (int_div_euclid (n *ℤ z) d) m p.0 p.1 p.2 h k (floor-≤ (n *ℤ z) d p.0)
-
-pub quotient_fits : (n d z : ℤ) → IsParam n d → IsShort z → SFits w64 (int_div_euclid (n *ℤ z) d)
-quotient_fits n d z p h =
-    fits (int_div_euclid (n *ℤ z) d) (floor_low n d z (neg_ℤ SPAN) p (omega (arith, ints)) (omega (arith, ints))) (floor_high n d z SPAN p (omega (arith, ints)) (omega (arith, ints)))
-  where
-    fits : (q : ℤ) → neg_ℤ SPAN ≤ℤ q → q ≤ℤ SPAN → SFits w64 q
-    fits q l m = omega (arith, ints)
 
 -- ---- a share of the way from one number to another
 pub low_place : (from to n d q r : ℤ) → r ≡ from +ℤ q → (q *ℤ d) ≤ℤ (n *ℤ (to -ℤ from)) → (r *ℤ d) ≤ℤ ((d -ℤ n) *ℤ from +ℤ n *ℤ to)

@@ -4,3 +4,4 @@ pub mod Laws
 pub mod Boxes
 pub mod Pairs
 pub mod Kinds
+pub mod Shares

@@ -7,7 +7,7 @@ ghost use Rattle.tin_base.specs.Pieces.{IsPieceInside};
 ghost use Rattle.meet_rel.specs.Clips.{at};
 ghost use Rattle.topo_check.specs.Boxes.{IsExactBox, IsRoundedBox};
 
-use crate::shares::{high_at, low_at};
+use crate::shares::{high_at, low_at, share_of};
 use meet_rel::{Span, piece_span};
 use plane_base::{Pt, Rect};
 use tin_base::{Frame, Piece, SoundTin};
@@ -49,11 +49,13 @@ fn around_span(a: Pt, b: Pt, span: Span) -> Rect
     requires hi { IsParam span.hi.num span.hi.den }
     ensures { AreIn result (at a b span.lo ∷ at a b span.hi ∷ []) }
 {
+    let lo = share_of(span.lo);
+    let hi = share_of(span.hi);
     Rect {
-        x0: lesser(low_at(a.x, b.x, span.lo), low_at(a.x, b.x, span.hi)),
-        y0: lesser(low_at(a.y, b.y, span.lo), low_at(a.y, b.y, span.hi)),
-        x1: greater(high_at(a.x, b.x, span.lo), high_at(a.x, b.x, span.hi)),
-        y1: greater(high_at(a.y, b.y, span.lo), high_at(a.y, b.y, span.hi)),
+        x0: lesser(low_at(a.x, b.x, lo), low_at(a.x, b.x, hi)),
+        y0: lesser(low_at(a.y, b.y, lo), low_at(a.y, b.y, hi)),
+        x1: greater(high_at(a.x, b.x, lo), high_at(a.x, b.x, hi)),
+        y1: greater(high_at(a.y, b.y, lo), high_at(a.y, b.y, hi)),
     }
 }
 

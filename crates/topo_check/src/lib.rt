@@ -16,6 +16,7 @@ mod limits;
 mod listing;
 mod marks;
 mod members;
+mod parts;
 mod shares;
 
 pub use faults::ChangesFault;

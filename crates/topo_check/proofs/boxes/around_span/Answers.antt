@@ -6,38 +6,50 @@ use Rattle.plane_base.specs.declared.shapes.Rect.{Rect}
 use Rattle.topo_check.proofs.Tight.{near_short, place_in}
 use Rattle.topo_check.proofs.boxes.around_span.Goals as goal
 
-pub low_at-requires-3-clause-short : goal.low_at-requires-3-clause-short
-low_at-requires-3-clause-short c =
-    let a = c.args.a in let b = c.args.b in let near = c.requires.near in
-    let fa : SFits w64 a.y = search rules in let fb : SFits w64 b.y = search rules in
-    simp to_z-of_z (near_short a.y b.y near.2 near.3)
-
-pub low_at-requires-4-clause-short : goal.low_at-requires-4-clause-short
-low_at-requires-4-clause-short c =
-    let a = c.args.a in let b = c.args.b in let near = c.requires.near in
-    let fa : SFits w64 a.y = search rules in let fb : SFits w64 b.y = search rules in
-    simp to_z-of_z (near_short a.y b.y near.2 near.3)
-
-pub high_at-requires-clause-short : goal.high_at-requires-clause-short
-high_at-requires-clause-short c =
+pub low_at-requires : goal.low_at-requires
+low_at-requires c =
     let a = c.args.a in let b = c.args.b in let near = c.requires.near in
     let fa : SFits w64 a.x = search rules in let fb : SFits w64 b.x = search rules in
     simp to_z-of_z (near_short a.x b.x near.0 near.1)
 
-pub high_at-requires-2-clause-short : goal.high_at-requires-2-clause-short
-high_at-requires-2-clause-short c =
+pub low_at-requires-2 : goal.low_at-requires-2
+low_at-requires-2 c =
     let a = c.args.a in let b = c.args.b in let near = c.requires.near in
     let fa : SFits w64 a.x = search rules in let fb : SFits w64 b.x = search rules in
     simp to_z-of_z (near_short a.x b.x near.0 near.1)
 
-pub high_at-requires-3-clause-short : goal.high_at-requires-3-clause-short
-high_at-requires-3-clause-short c =
+pub low_at-requires-3 : goal.low_at-requires-3
+low_at-requires-3 c =
     let a = c.args.a in let b = c.args.b in let near = c.requires.near in
     let fa : SFits w64 a.y = search rules in let fb : SFits w64 b.y = search rules in
     simp to_z-of_z (near_short a.y b.y near.2 near.3)
 
-pub high_at-requires-4-clause-short : goal.high_at-requires-4-clause-short
-high_at-requires-4-clause-short c =
+pub low_at-requires-4 : goal.low_at-requires-4
+low_at-requires-4 c =
+    let a = c.args.a in let b = c.args.b in let near = c.requires.near in
+    let fa : SFits w64 a.y = search rules in let fb : SFits w64 b.y = search rules in
+    simp to_z-of_z (near_short a.y b.y near.2 near.3)
+
+pub high_at-requires : goal.high_at-requires
+high_at-requires c =
+    let a = c.args.a in let b = c.args.b in let near = c.requires.near in
+    let fa : SFits w64 a.x = search rules in let fb : SFits w64 b.x = search rules in
+    simp to_z-of_z (near_short a.x b.x near.0 near.1)
+
+pub high_at-requires-2 : goal.high_at-requires-2
+high_at-requires-2 c =
+    let a = c.args.a in let b = c.args.b in let near = c.requires.near in
+    let fa : SFits w64 a.x = search rules in let fb : SFits w64 b.x = search rules in
+    simp to_z-of_z (near_short a.x b.x near.0 near.1)
+
+pub high_at-requires-3 : goal.high_at-requires-3
+high_at-requires-3 c =
+    let a = c.args.a in let b = c.args.b in let near = c.requires.near in
+    let fa : SFits w64 a.y = search rules in let fb : SFits w64 b.y = search rules in
+    simp to_z-of_z (near_short a.y b.y near.2 near.3)
+
+pub high_at-requires-4 : goal.high_at-requires-4
+high_at-requires-4 c =
     let a = c.args.a in let b = c.args.b in let near = c.requires.near in
     let fa : SFits w64 a.y = search rules in let fb : SFits w64 b.y = search rules in
     simp to_z-of_z (near_short a.y b.y near.2 near.3)
@@ -62,10 +74,10 @@ returns c =
     let left = c.lesser.ensures.below in let bottom = c.lesser-2.ensures.below in let right = c.greater.ensures.above in let top = c.greater-2.ensures.above in
     let box : Rect = record { x0 = c.lesser.result; y0 = c.lesser-2.result; x1 = c.greater.result; y1 = c.greater-2.result } in
     let first = place_in box a b lo c.low_at.result c.low_at-3.result c.high_at.result c.high_at-3.result c.requires.lo
-    (simp to_z-of_z at c.low_at.ensures) (simp to_z-of_z at c.low_at-3.ensures) (simp to_z-of_z at c.high_at.ensures) (simp to_z-of_z at c.high_at-3.ensures)
+    (simp to_z-of_z at (c.low_at.ensures lo (c.share_of-lo.ensures))) (simp to_z-of_z at (c.low_at-3.ensures lo (c.share_of-lo.ensures))) (simp to_z-of_z at (c.high_at.ensures lo (c.share_of-lo.ensures))) (simp to_z-of_z at (c.high_at-3.ensures lo (c.share_of-lo.ensures)))
     (omega (arith, ints, left.0)) (omega (arith, ints, bottom.0)) (omega (arith, ints, right.0)) (omega (arith, ints, top.0)) in
     let second = place_in box a b hi c.low_at-2.result c.low_at-4.result c.high_at-2.result c.high_at-4.result c.requires.hi
-    (simp to_z-of_z at c.low_at-2.ensures) (simp to_z-of_z at c.low_at-4.ensures) (simp to_z-of_z at c.high_at-2.ensures) (simp to_z-of_z at c.high_at-4.ensures)
+    (simp to_z-of_z at (c.low_at-2.ensures hi (c.share_of-hi.ensures))) (simp to_z-of_z at (c.low_at-4.ensures hi (c.share_of-hi.ensures))) (simp to_z-of_z at (c.high_at-2.ensures hi (c.share_of-hi.ensures))) (simp to_z-of_z at (c.high_at-4.ensures hi (c.share_of-hi.ensures)))
     (omega (arith, ints, left.1)) (omega (arith, ints, bottom.1)) (omega (arith, ints, right.1)) (omega (arith, ints, top.1)) in (
       record { left = simp to_z-of_z first.left; right = simp to_z-of_z first.right; bottom = simp to_z-of_z first.bottom; top = simp to_z-of_z first.top },
       (
