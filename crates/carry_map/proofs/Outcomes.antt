@@ -32,7 +32,7 @@ use Rattle.carry_map.specs.declared.faults.CarryFault.TheVariants.{Outside, TooM
 use Rattle.carry_map.specs.Causes.{HaveRoom, IsFirstOutside, IsFirstTooMany}
 use Rattle.carry_map.specs.Outcomes.{HasCarried, HasFirstFault, OutcomeExists}
 use Rattle.carry_map.proofs.Stopping.{cause_between}
-use Rattle.carry_map.proofs.Pathing.{AreFew, few, next_begins}
+use Rattle.affine_image.proofs.PathVertices.{AreFew, few, next_begins}
 
 -- ---- images
 two_some : (m n : ℕ) → 0 < m + n → 0 < sum (m ∷ n ∷ [])
