@@ -36,8 +36,9 @@ fn carry_paths(
     ensures grows { Grows pieces.old.items pieces.new.items }
 {
     let points = sheet.points();
+    // (as many crossings as half of the points find room)
     let mut gathered = Gathered {
-        points: Vec::with_capacity(alloc, points.len())?,
+        points: Vec::with_capacity(alloc, points.len().saturating_add(points.len() / 2))?,
         run: Vec::with_capacity(alloc, points.len())?,
     };
     for (number, row) in sheet.paths().iter().enumerate() {

@@ -1,11 +1,12 @@
 //! One call carries a segment: it cuts it, and appends its pieces and the images of its crossings.
 
-ghost use Rattle.std.specs.Prelude.{◌≡◌, ◌+◌, ◌<◌, ◌≤◌, ◌++◌, map, length, vec_len, IfOk, IfErr, OnOk};
+ghost use Rattle.std.specs.Prelude.{◌≡◌, ◌↔◌, ◌+◌, ◌<◌, ◌≤◌, ◌++◌, IsTrue, map, length, vec_len, IfOk, IfErr, OnOk};
 ghost use Rattle.seg_walk.specs.Steps.{AreSteps};
 ghost use Rattle.tin_base.specs.Limits.{IsWithinLimits};
-ghost use Rattle.tin_base.specs.Segments.{IsInside};
+ghost use Rattle.tin_base.specs.Segments.{IsInside, spot_at};
+ghost use Rattle.tin_base.specs.Slices.{spot_of, IsSliceIn, AreNearTriangle};
 ghost use Rattle.tin_base.specs.Soundness.{IsSound};
-ghost use Rattle.affine_image.specs.Rounded.{IsRoundedImage};
+ghost use Rattle.affine_image.specs.Rounded.{IsRoundedImage, IsRoundedImageAt};
 ghost use Rattle.carry_map.specs.declared.limits.TheConstants.{MOST_PIECES};
 ghost use Rattle.carry_map.specs.Carried.{Grows, AreSegmentTold, IsSegmentCarried};
 ghost use Rattle.carry_map.specs.Causes.{IsCutCause, IsWayCause};
@@ -25,6 +26,29 @@ pub(crate) struct Way {
     pub(crate) b: Pt,
     pub(crate) from: Place,
     pub(crate) guess: u32,
+}
+
+/// Whether two points are one.
+fn is_same(a: Pt, b: Pt) -> bool
+    ensures { IsTrue result ↔ (a ≡ b) }
+{
+    a == b
+}
+
+/// The image of the last point of a step's part, where the segment's first end has this image: a segment of one point
+/// has no other.
+fn end_of(tin: &SoundTin, way: Way, step: Step, image: Pt) -> Pt
+    requires in_range { step.tri < length tin.now.triangles }
+    requires slice { IsSliceIn tin.now way.a way.b step.tri step.slice }
+    requires near { AreNearTriangle tin.now way.a way.b step.tri }
+    requires limits { IsWithinLimits tin.now }
+    requires image { IsRoundedImage tin.now way.a image }
+    ensures { IsRoundedImageAt tin.now (spot_at way.a way.b (spot_of step.slice.hi)) result }
+{
+    if is_same(way.a, way.b) {
+        return image;
+    }
+    end_image(tin, step.tri, way.a, way.b, step.slice)
 }
 
 /// Appends the pieces of a segment, whose first end has this image. Answers the image of its last end.
@@ -50,7 +74,7 @@ fn tell_pieces(
 {
     let mut start = image;
     for (number, step) in steps.iter().enumerate() {
-        let end = end_image(tin, step.tri, way.a, way.b, step.slice);
+        let end = end_of(tin, way, *step, image);
         let from = Place {
             layer: way.from.layer,
             path: way.from.path,

@@ -1,4 +1,7 @@
-//! The laws of changes.
+//! The laws of changes, and the limit as a number.
+
+ghost use Rattle.std.specs.Prelude.{◌≡◌, ◌^◌};
+ghost use Rattle.topo_check.specs.declared.limits.TheConstants.{MOST_COMPARED};
 ghost use Rattle.topo_check.specs.Laws.{ChangesAreOne, MoreStayMore, ChangesAreByRounding};
 
 /// A law: pieces have one list of changes.
@@ -15,4 +18,9 @@ pub fn more_stay_more()
 /// So each change is by the rounding of images alone, and none is by the triangulation.
 pub fn changes_are_by_rounding()
     ensures { ChangesAreByRounding }
+{}
+
+/// A law: so many pieces at most are compared in one call.
+pub fn limits_are_stated()
+    ensures compared { MOST_COMPARED ≡ 2 ^ 22 }
 {}
