@@ -12,8 +12,12 @@ use Rattle.affine_image.proofs.Segmenting.{image_segments_are_pieces}
 use Rattle.carry_map.specs.Carried.{AreSegmentsOf}
 
 -- the pieces behind those before
-pub own_segments : (tin : Triangulation) (layer : ℕ) (sheet : Contents) (images : Runs) (before after own : List Piece) (n : ℕ) → IsSound tin → IsSheet sheet → IsSheetInside tin sheet → AreImagesOf tin sheet images
-    → ArePiecesOfSheet tin layer sheet own → after ≡ before ++ own → n ≡ length before → AreSegmentsOf sheet images (drop n after)
+pub own_segments : (tin : Triangulation) (layer : ℕ) (sheet : Contents) (images : Runs) (before after own : List Piece)
+    (n : ℕ) → IsSound tin → IsSheet sheet → IsSheetInside tin sheet → AreImagesOf tin sheet images
+    → ArePiecesOfSheet tin layer sheet own → after ≡ before ++ own → n ≡ length before
+    → AreSegmentsOf sheet images (drop n after)
 own_segments tin layer sheet images before after own n sound is inside are pieces all count =
-    let behind : drop n after ≡ own = ap (drop n) all ∙ ap (λ k. drop k (before ++ own)) count ∙ drop-append_seam before own in
-    subst (AreSegmentsOf sheet images) (sym behind) (image_segments_are_pieces tin layer sheet images own sound is inside are pieces)
+    let behind : drop n after ≡ own = ap (drop n) all ∙ ap (λ k. drop k (before ++ own)) count
+    ∙ drop-append_seam before own in
+    subst (AreSegmentsOf sheet images) (sym behind)
+    (image_segments_are_pieces tin layer sheet images own sound is inside are pieces)

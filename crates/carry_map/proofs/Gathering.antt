@@ -1,5 +1,6 @@
 -- What is gathered of vertices, one after the other.
-use Rattle.std.proofs.Common.{◌≡◌, ℕ, ◌+◌, ◌-◌, ◌≤◌, List, [], ◌∷◌, ◌++◌, Option, Some, None, take, drop, length, append_assoc, ap, refl, sym, ◌∙◌, subst, arith}
+use Rattle.std.proofs.Common.{◌≡◌, ℕ, ◌+◌, ◌-◌, ◌≤◌, List, [], ◌∷◌, ◌++◌, Option, Some, None, take, drop, length}
+use Rattle.std.proofs.Common.{append_assoc, ap, refl, sym, ◌∙◌, subst, arith}
 use Rattle.std.proofs.Math.Seq.{drop-append_seam}
 use Rattle.std.proofs.lemmas.List.{take_all, append-nil, length-append}
 use Rattle.std.proofs.lemmas.Grind.{flat_map-append}
@@ -18,17 +19,22 @@ use Rattle.affine_image.proofs.Segmenting.{begun_append}
 use Rattle.carry_map.specs.Carried.{inner_images, AreSegmentTold, IsSegmentCarried, AreCarried}
 
 -- ---- what stands behind the front of a list
-pub behind_front : {X : Type 0} (before own all : List X) (n : ℕ) → all ≡ before ++ own → n ≡ length before → take (length all - n) (drop n all) ≡ own
-behind_front before own all n e f = subst (λ (xs : List _). take (length xs - n) (drop n xs) ≡ own) (sym e) (subst (λ (m : ℕ). take (length (before ++ own) - m) (drop m (before ++ own)) ≡ own) (sym f) there)
+pub behind_front : {X : Type 0} (before own all : List X) (n : ℕ) → all ≡ before ++ own → n ≡ length before
+    → take (length all - n) (drop n all) ≡ own
+behind_front before own all n e f = subst (λ (xs : List _). take (length xs - n) (drop n xs) ≡ own) (sym e)
+    (subst (λ (m : ℕ). take (length (before ++ own) - m) (drop m (before ++ own)) ≡ own) (sym f) there)
   where
     there : take (length (before ++ own) - length before) (drop (length before) (before ++ own)) ≡ own
-    there = ap (λ (xs : List _). take (length (before ++ own) - length before) xs) (drop-append_seam before own) ∙ take_all (length (before ++ own) - length before) own (enough (length-append before own))
+    there = ap (λ (xs : List _). take (length (before ++ own) - length before) xs) (drop-append_seam before own)
+        ∙ take_all (length (before ++ own) - length before) own (enough (length-append before own))
       where
-        enough : length (before ++ own) ≡ length before + length own → length own ≤ length (before ++ own) - length before
+        enough : length (before ++ own) ≡ length before + length own
+            → length own ≤ length (before ++ own) - length before
         enough h = omega arith
 
 -- ---- segments and pieces
-pub pieces_more : (tin : Triangulation) (layer : ℕ) (ss ts : List Segment) (ps qs : List Piece) → ArePiecesOfAll tin layer ss ps → ArePiecesOfAll tin layer ts qs → ArePiecesOfAll tin layer (ss ++ ts) (ps ++ qs)
+pub pieces_more : (tin : Triangulation) (layer : ℕ) (ss ts : List Segment) (ps qs : List Piece)
+    → ArePiecesOfAll tin layer ss ps → ArePiecesOfAll tin layer ts qs → ArePiecesOfAll tin layer (ss ++ ts) (ps ++ qs)
 pieces_more tin layer [] ts ps qs h k = subst (λ (xs : List Piece). ArePiecesOfAll tin layer ts (xs ++ qs)) (sym h) k
 pieces_more tin layer (s ∷ ss) ts ps qs h k = (
   h.0,
@@ -39,7 +45,8 @@ pieces_more tin layer (s ∷ ss) ts ps qs h k = (
 )
 
 -- ---- carried
-pub carried_none : (tin : Triangulation) (layer : ℕ) (points : List Pt) (run : List ℕ) (pieces : List Piece) → AreCarried tin layer [] points points run run pieces pieces
+pub carried_none : (tin : Triangulation) (layer : ℕ) (points : List Pt) (run : List ℕ) (pieces : List Piece)
+    → AreCarried tin layer [] points points run run pieces pieces
 carried_none tin layer points run pieces = record {
   runs = [];
   of_vertices = tt;
@@ -51,22 +58,33 @@ carried_none tin layer points run pieces = record {
   inside = tt;
 }
 
-pub carried_on : (tin : Triangulation) (layer : ℕ) (vs ws : List PathVertex) (x y z : List Pt) (r s t : List ℕ) (p q o : List Piece) → AreCarried tin layer vs x y r s p q → AreCarried tin layer ws y z s t q o → AreCarried tin layer (vs ++ ws) x z r t p o
+pub carried_on : (tin : Triangulation) (layer : ℕ) (vs ws : List PathVertex) (x y z : List Pt) (r s t : List ℕ)
+    (p q o : List Piece) → AreCarried tin layer vs x y r s p q → AreCarried tin layer ws y z s t q o
+    → AreCarried tin layer (vs ++ ws) x z r t p o
 carried_on tin layer vs ws x y z r s t p q o g h = record {
   runs = g.runs ++ h.runs;
   of_vertices = runs_more tin vs ws g.runs h.runs g.of_vertices h.of_vertices;
-  points_are = h.points_are ∙ ap (λ (xs : List Pt). xs ++ joined h.runs) g.points_are ∙ append_assoc x (joined g.runs) (joined h.runs) ∙ ap (λ (xs : List Pt). x ++ xs) (sym (flat_map-append (λ run. run) g.runs h.runs));
-  run_are = h.run_are ∙ ap (λ (ms : List ℕ). ms ++ begins_from (length y) h.runs) g.run_are ∙ append_assoc r (begins_from (length x) g.runs) (begins_from (length y) h.runs)
-      ∙ ap (λ (ms : List ℕ). r ++ ms) (ap (λ (m : ℕ). begins_from (length x) g.runs ++ begins_from m h.runs) (ap (λ (xs : List Pt). length xs) g.points_are ∙ length-append x (joined g.runs)) ∙ sym (begins_more (length x) g.runs h.runs));
+  points_are = h.points_are ∙ ap (λ (xs : List Pt). xs ++ joined h.runs) g.points_are
+      ∙ append_assoc x (joined g.runs) (joined h.runs)
+      ∙ ap (λ (xs : List Pt). x ++ xs) (sym (flat_map-append (λ run. run) g.runs h.runs));
+  run_are = h.run_are ∙ ap (λ (ms : List ℕ). ms ++ begins_from (length y) h.runs) g.run_are
+      ∙ append_assoc r (begins_from (length x) g.runs) (begins_from (length y) h.runs)
+      ∙ ap (λ (ms : List ℕ). r ++ ms) (ap (λ (m : ℕ). begins_from (length x) g.runs ++ begins_from m h.runs)
+      (ap (λ (xs : List Pt). length xs) g.points_are ∙ length-append x (joined g.runs))
+      ∙ sym (begins_more (length x) g.runs h.runs));
   own = g.own ++ h.own;
   pieces_are = h.pieces_are ∙ ap (λ (xs : List Piece). xs ++ h.own) g.pieces_are ∙ append_assoc p g.own h.own;
-  of_segments = subst (λ (ss : List Segment). ArePiecesOfAll tin layer ss (g.own ++ h.own)) (sym (begun_append vs ws)) (pieces_more tin layer (segments_begun vs) (segments_begun ws) g.own h.own g.of_segments h.of_segments);
-  inside = subst (λ (ss : List Segment). AreInside tin ss) (sym (begun_append vs ws)) (inside_more tin (segments_begun vs) (segments_begun ws) g.inside h.inside);
+  of_segments = subst (λ (ss : List Segment). ArePiecesOfAll tin layer ss (g.own ++ h.own)) (sym (begun_append vs ws))
+      (pieces_more tin layer (segments_begun vs) (segments_begun ws) g.own h.own g.of_segments h.of_segments);
+  inside = subst (λ (ss : List Segment). AreInside tin ss) (sym (begun_append vs ws))
+      (inside_more tin (segments_begun vs) (segments_begun ws) g.inside h.inside);
 }
 
 -- a vertex that begins no segment
-pub carried_last : (tin : Triangulation) (layer : ℕ) (vertex : PathVertex) (image : Pt) (points points' : List Pt) (run run' : List ℕ) (pieces : List Piece) → vertex.segment ≡ None → IsRoundedImage tin vertex.point image
-    → points' ≡ points ++ image ∷ [] → run' ≡ run ++ length points ∷ [] → AreCarried tin layer (vertex ∷ []) points points' run run' pieces pieces
+pub carried_last : (tin : Triangulation) (layer : ℕ) (vertex : PathVertex) (image : Pt) (points points' : List Pt)
+    (run run' : List ℕ) (pieces : List Piece) → vertex.segment ≡ None → IsRoundedImage tin vertex.point image
+    → points' ≡ points ++ image ∷ [] → run' ≡ run ++ length points ∷ []
+    → AreCarried tin layer (vertex ∷ []) points points' run run' pieces pieces
 carried_last tin layer vertex image points points' run run' pieces none is e f = record {
   runs = (image ∷ []) ∷ [];
   of_vertices = ((is, subst (λ (s : Option Segment). AreCrossings tin s []) (sym none) refl), tt);
@@ -79,23 +97,42 @@ carried_last tin layer vertex image points points' run run' pieces none is e f =
 }
 
 -- and one that does
-pub carried_way : (tin : Triangulation) (layer : ℕ) (vertex : PathVertex) (segment : Segment) (image : Pt) (points points' points'' : List Pt) (run run' : List ℕ) (pieces pieces' : List Piece) → vertex.segment ≡ Some segment → IsRoundedImage tin vertex.point image
-    → points' ≡ points ++ image ∷ [] → run' ≡ run ++ length points ∷ [] → IsInside tin segment.a segment.b → IsSegmentCarried tin segment.a segment.b (first_place layer segment) points' points'' pieces pieces' → AreCarried tin layer (vertex ∷ []) points points'' run run' pieces pieces'
-carried_way tin layer vertex segment image points points' points'' run run' pieces pieces' some is e f inside carried = go carried.told refl
+pub carried_way : (tin : Triangulation) (layer : ℕ) (vertex : PathVertex) (segment : Segment) (image : Pt)
+    (points points' points'' : List Pt) (run run' : List ℕ) (pieces pieces' : List Piece)
+    → vertex.segment ≡ Some segment → IsRoundedImage tin vertex.point image
+    → points' ≡ points ++ image ∷ [] → run' ≡ run ++ length points ∷ [] → IsInside tin segment.a segment.b
+    → IsSegmentCarried tin segment.a segment.b (first_place layer segment) points' points'' pieces pieces'
+    → AreCarried tin layer (vertex ∷ []) points points'' run run' pieces pieces'
+carried_way tin layer vertex segment image points points' points'' run run' pieces pieces' some is e f inside carried =
+    go carried.told refl
   where
-    go : (told : AreSegmentTold tin segment.a segment.b (first_place layer segment) pieces pieces') → carried.told ≡ told → AreCarried tin layer (vertex ∷ []) points points'' run run' pieces pieces'
+    go : (told : AreSegmentTold tin segment.a segment.b (first_place layer segment) pieces pieces')
+        → carried.told ≡ told → AreCarried tin layer (vertex ∷ []) points points'' run run' pieces pieces'
     go told same =
         let behind = inner_images told.own in
-        let crossings : AreCrossings tin (Some segment) behind = (told.parts, told.cut, inner_ends tin segment.a segment.b (first_place layer segment) told.parts told.own told.told) in
+        let crossings : AreCrossings tin (Some segment) behind = (
+          told.parts,
+          told.cut,
+          inner_ends tin segment.a segment.b (first_place layer segment) told.parts told.own
+              told.told,
+        ) in
         record {
           runs = (image ∷ behind) ∷ [];
           of_vertices = ((is, subst (λ (s : Option Segment). AreCrossings tin s behind) (sym some) crossings), tt);
-          points_are = carried.crossings ∙ ap (λ (xs : List Pt). xs ++ inner_images (carried.told).own) e ∙ append_assoc points (image ∷ []) (inner_images (carried.told).own)
-              ∙ ap (λ (t : AreSegmentTold tin segment.a segment.b (first_place layer segment) pieces pieces'). points ++ (image ∷ inner_images t.own)) same ∙ ap (λ (xs : List Pt). points ++ (image ∷ xs)) (sym (append-nil behind));
+          points_are = carried.crossings ∙ ap (λ (xs : List Pt). xs ++ inner_images (carried.told).own) e
+              ∙ append_assoc points (image ∷ []) (inner_images (carried.told).own)
+              ∙ ap (λ (t : AreSegmentTold tin segment.a segment.b (first_place layer segment) pieces pieces'). points
+              ++ (image ∷ inner_images t.own)) same ∙ ap (λ (xs : List Pt). points ++ (image ∷ xs))
+              (sym (append-nil behind));
           run_are = f;
           own = told.own;
           pieces_are = told.are;
-          of_segments = subst (λ (s : Option Segment). ArePiecesOfAll tin layer (cons_option s []) told.own) (sym some)
-              (told.own, [], sym (append-nil told.own), record { parts = told.parts; cut = told.cut; told = told.told }, refl);
+          of_segments = subst (λ (s : Option Segment). ArePiecesOfAll tin layer (cons_option s []) told.own) (sym some) (
+            told.own,
+            [],
+            sym (append-nil told.own),
+            record { parts = told.parts; cut = told.cut; told = told.told },
+            refl,
+          );
           inside = subst (λ (s : Option Segment). AreInside tin (cons_option s [])) (sym some) (inside, tt);
         }

@@ -1,5 +1,7 @@
 -- Each sheet is carried, or has a first segment that is not.
-use Rattle.std.proofs.Common.{◌≡◌, ◌≢◌, ◌⊎◌, inl, inr, ℕ, zero, suc, ◌+◌, ◌-◌, ◌<◌, ◌≤◌, Bool, true, false, cond, ltb, List, [], ◌∷◌, ◌++◌, sum, Option, Some, None, map, take, length, refl, sym, subst, arith, append-nil}
+use Rattle.std.proofs.Common.{◌≡◌, ◌≢◌, ◌⊎◌, inl, inr, ℕ, zero, suc, ◌+◌, ◌-◌, ◌<◌, ◌≤◌, Bool, true, false, cond, ltb}
+use Rattle.std.proofs.Common.{List, [], ◌∷◌, ◌++◌, sum, Option, Some, None, map, take, length, refl, sym, subst, arith}
+use Rattle.std.proofs.Common.{append-nil}
 use Rattle.std.specs.List.{range_with_len, cons_option}
 use Rattle.std.proofs.lemmas.Bool.{ltb-false, cases_lt}
 use Rattle.std.proofs.lemmas.Int.{ints}
@@ -20,7 +22,8 @@ use Rattle.tin_base.specs.Segments.{Spot, Part, part_at, spot_at, IsInside, AreP
 use Rattle.tin_base.proofs.Agreement.{each_has_image}
 use Rattle.tin_base.proofs.Spots.{spot-w}
 use Rattle.affine_image.specs.Rounded.{rounded, IsRoundedImage, IsRoundedImageAt}
-use Rattle.affine_image.specs.SheetSegments.{Segment, PathVertex, segment_at, vertex_at, path_vertices, vertices_from, segments_begun, sheet_vertices, sheet_segments}
+use Rattle.affine_image.specs.SheetSegments.{Segment, PathVertex, segment_at, vertex_at, path_vertices, vertices_from}
+use Rattle.affine_image.specs.SheetSegments.{segments_begun, sheet_vertices, sheet_segments}
 use Rattle.affine_image.specs.SheetPieces.{next_place, AreTold, first_place, ArePiecesOfSegment, AreInside}
 use Rattle.affine_image.specs.SheetImages.{AreCrossings, AreRuns, joined, begins_from}
 use Rattle.affine_image.proofs.Joining.{same_or}
@@ -42,7 +45,8 @@ spot_image : (tin : Triangulation) (a b : Pt) (s : Spot) → IsInside tin a b �
     → (image : Pt) × IsRoundedImageAt tin (spot_at a b s) image
 spot_image tin a b s inside some =
     let w = spot-w a b s some in
-    let mix : IsMix (spot_at a b s) (whole a ∷ whole b ∷ []) = (s.of_a ∷ s.of_b ∷ [], refl, two_some s.of_a s.of_b some, same_refl (spot_at a b s)) in
+    let mix : IsMix (spot_at a b s) (whole a ∷ whole b ∷ []) =
+    (s.of_a ∷ s.of_b ∷ [], refl, two_some s.of_a s.of_b some, same_refl (spot_at a b s)) in
     let (r, place, is) = each_has_image tin (spot_at a b s) w (inside (spot_at a b s) w mix) in
     (rounded r, (r, place, is, refl))
 
@@ -81,7 +85,8 @@ some_parts tin a b parts cut = by (same_or a b)
     by (inr other) =
         let are = cut.1 other in
         some_each parts (λ i below.
-            let part = are.part i below in let first = part.has_first in let last = part.has_last in (first.some, last.some))
+        let part = are.part i below in let first = part.has_first in let last =
+        part.has_last in (first.some, last.some))
 
 told_parts : (tin : Triangulation) (a b : Pt) → IsInside tin a b → (from : Place) (parts : List Part) → AreSome parts
     → (pieces : List Piece) × AreTold tin a b from parts pieces
@@ -91,20 +96,33 @@ told_parts tin a b inside from (part ∷ parts) some =
     let (last, last_is) = spot_image tin a b part.last inside some.1 in
     let (pieces, told) = told_parts tin a b inside (next_place from) parts some.2 in (
       (record { a = a; b = b; tri = part.triangle; ia = first; ib = last; from = from }) ∷ pieces,
-      (record { begins = refl; ends = refl; triangle = refl; first_image = first_is; last_image = last_is; place = refl }, told),
+      (
+        record {
+          begins = refl;
+          ends = refl;
+          triangle = refl;
+          first_image = first_is;
+          last_image = last_is;
+          place =
+              refl;
+        },
+        told,
+      ),
     )
 
 -- ---- the pieces of all
 abbrev HaveOutcome : Triangulation → ℕ → ℕ → ℕ → List Segment → Type 0
 HaveOutcome tin layer old most segments =
-    HaveRoom tin layer old most segments ⊎ (((path number : ℕ) × IsFirstOutside tin layer old most segments path number) ⊎ IsFirstTooMany tin layer old most segments)
+    HaveRoom tin layer old most segments ⊎ (((path number : ℕ) × IsFirstOutside tin layer old most segments path number)
+    ⊎ IsFirstTooMany tin layer old most segments)
 
 segments_outcome : (tin : Triangulation) → IsSound tin → (layer old most : ℕ) → old ≤ most → (segments : List Segment)
     → HaveOutcome tin layer old most segments
 segments_outcome tin sound layer old most below [] =
     inl (record { inside = tt; pieces = []; are = refl; room = omega (arith, below) })
 segments_outcome tin sound layer old most below (segment ∷ segments) =
-    by (λ more room. segments_outcome tin sound layer more most room segments) (walks.outcome tin sound segment.a segment.b)
+    by (λ more room. segments_outcome tin sound layer more most room segments)
+    (walks.outcome tin sound segment.a segment.b)
   where
     none : HaveRoom tin layer old most []
     none = record { inside = tt; pieces = []; are = refl; room = omega (arith, below) }
@@ -118,18 +136,22 @@ segments_outcome tin sound layer old most below (segment ∷ segments) =
       inside = (inside, room.inside);
       pieces = own ++ room.pieces;
       are = (own, room.pieces, refl, of_segment, room.are);
-      room = more_room (length own) (length room.pieces) (length (own ++ room.pieces)) (length-append own room.pieces) room.room;
+      room = more_room (length own) (length room.pieces) (length (own ++ room.pieces)) (length-append own room.pieces)
+          room.room;
     })
     on inside own of_segment (inr (inl (path, number, first))) =
         inr (inl (
           path,
           number,
-          subst (λ (ss : List Segment). IsFirstOutside tin layer old most (segment ∷ ss) path number) (append-nil segments)
-              (cause_between tin layer old most (segment ∷ []) segments [] own (Outside path number) (inside, tt) (own, [], sym (append-nil own), of_segment, refl) first),
+          subst (λ (ss : List Segment). IsFirstOutside tin layer old most (segment ∷ ss) path number)
+              (append-nil segments)
+              (cause_between tin layer old most (segment ∷ []) segments [] own (Outside path number) (inside, tt)
+              (own, [], sym (append-nil own), of_segment, refl) first),
         ))
     on inside own of_segment (inr (inr first)) =
         inr (inr (subst (λ (ss : List Segment). IsFirstTooMany tin layer old most (segment ∷ ss)) (append-nil segments)
-        (cause_between tin layer old most (segment ∷ []) segments [] own TooMany (inside, tt) (own, [], sym (append-nil own), of_segment, refl) first)))
+        (cause_between tin layer old most (segment ∷ []) segments [] own TooMany (inside, tt)
+        (own, [], sym (append-nil own), of_segment, refl) first)))
 
     by_room : ((more : ℕ) → more ≤ most → HaveOutcome tin layer more most segments) → (parts : List Part)
         → ArePiecesOf tin segment.a segment.b parts → IsInside tin segment.a segment.b → (own : List Piece)
@@ -141,7 +163,8 @@ segments_outcome tin sound layer old most below (segment ∷ segments) =
       inside = inside;
       parts = parts;
       cut = cut;
-      full = too_full (length own) (length parts) (told_length tin segment.a segment.b (first_place layer segment) parts own told) full;
+      full = too_full (length own) (length parts)
+          (told_length tin segment.a segment.b (first_place layer segment) parts own told) full;
     }))
       where
         too_full : (m n : ℕ) → m ≡ n → most < old + m → most < old + 0 + n
@@ -150,9 +173,11 @@ segments_outcome tin sound layer old most below (segment ∷ segments) =
         on inside own (record { parts = parts; cut = cut; told = told }) (rest (old + length own) room)
 
     by : ((more : ℕ) → more ≤ most → HaveOutcome tin layer more most segments)
-        → ((parts : List Part) × ArePiecesOf tin segment.a segment.b parts × IsInside tin segment.a segment.b) ⊎ (IsInside tin segment.a segment.b → ⊥) → HaveOutcome tin layer old most (segment ∷ segments)
+        → ((parts : List Part) × ArePiecesOf tin segment.a segment.b parts × IsInside tin segment.a segment.b)
+        ⊎ (IsInside tin segment.a segment.b → ⊥) → HaveOutcome tin layer old most (segment ∷ segments)
     by rest (inl (parts, cut, inside)) =
-        let (own, told) = told_parts tin segment.a segment.b inside (first_place layer segment) parts (some_parts tin segment.a segment.b parts cut) in
+        let (own, told) = told_parts tin segment.a segment.b inside (first_place layer segment) parts
+        (some_parts tin segment.a segment.b parts cut) in
         by_room rest parts cut inside own told (cases_lt most (old + length own))
     by rest (inr outside) = inr (inl (
       segment.path,
@@ -173,18 +198,23 @@ IsSegmentInside tin (Some segment) = IsInside tin segment.a segment.b
 
 abbrev AreReady : Triangulation → List PathVertex → Type 0
 AreReady tin [] = Unit {0}
-AreReady tin (vertex ∷ vertices) = IsInSome tin Source (whole vertex.point) × IsSegmentInside tin vertex.segment × AreReady tin vertices
+AreReady tin (vertex ∷ vertices) = IsInSome tin Source (whole vertex.point) × IsSegmentInside tin vertex.segment
+    × AreReady tin vertices
 
 crossings : (tin : Triangulation) → IsSound tin → (segment : Option Segment) → IsSegmentInside tin segment
     → (images : List Pt) × AreCrossings tin segment images
 crossings tin sound None inside = ([], refl)
 crossings tin sound (Some segment) inside = by (walks.outcome tin sound segment.a segment.b)
   where
-    by : ((parts : List Part) × ArePiecesOf tin segment.a segment.b parts × IsInside tin segment.a segment.b) ⊎ (IsInside tin segment.a segment.b → ⊥)
+    by : ((parts : List Part) × ArePiecesOf tin segment.a segment.b parts × IsInside tin segment.a segment.b)
+        ⊎ (IsInside tin segment.a segment.b → ⊥)
         → (images : List Pt) × AreCrossings tin (Some segment) images
     by (inl (parts, cut, also)) =
-        let (own, told) = told_parts tin segment.a segment.b inside (first_place 0 segment) parts (some_parts tin segment.a segment.b parts cut) in
-        (end_images (take (length own - 1) own), (parts, cut, inner_ends tin segment.a segment.b (first_place 0 segment) parts own told))
+        let (own, told) = told_parts tin segment.a segment.b inside (first_place 0 segment) parts
+        (some_parts tin segment.a segment.b parts cut) in (
+          end_images (take (length own - 1) own),
+          (parts, cut, inner_ends tin segment.a segment.b (first_place 0 segment) parts own told),
+        )
     by (inr outside) = absurd (outside inside)
 
 runs_of : (tin : Triangulation) → IsSound tin → (vertices : List PathVertex) → AreReady tin vertices
@@ -207,7 +237,8 @@ inside_parts : (tin : Triangulation) (ss ts : List Segment) → AreInside tin (s
 inside_parts tin [] ts h = (tt, h)
 inside_parts tin (s ∷ ss) ts h = let rest = inside_parts tin ss ts h.1 in ((h.0, rest.0), rest.1)
 
-module _ (tin : Triangulation) (points : List Pt) (path : ℕ) (row : PathRow) (are_few : AreFew (segments_in row) (points_in row)) where
+module _ (tin : Triangulation) (points : List Pt) (path : ℕ) (row : PathRow)
+    (are_few : AreFew (segments_in row) (points_in row)) where
   -- the place of the vertex of this number, where it is none of the first
   abbrev IsPlaced : ℕ → Type 0
   IsPlaced k = (k ≡ 0) ⊎ IsInSome tin Source (whole (begin_of points row k))
@@ -215,7 +246,8 @@ module _ (tin : Triangulation) (points : List Pt) (path : ℕ) (row : PathRow) (
   -- what is known of the n vertices from this number on
   abbrev AreReadyFrom : ℕ → ℕ → Type 0
   AreReadyFrom k n =
-      k + n ≡ points_in row → IsPlaced k → AreInside tin (segments_begun (map (vertex_at points path row) (range_with_len k n)))
+      k + n ≡ points_in row → IsPlaced k → AreInside tin
+      (segments_begun (map (vertex_at points path row) (range_with_len k n)))
       → AreReady tin (map (vertex_at points path row) (range_with_len k n))
 
   ready_from : (k n : ℕ) → k + n ≡ points_in row → IsPlaced k
@@ -233,9 +265,11 @@ module _ (tin : Triangulation) (points : List Pt) (path : ℕ) (row : PathRow) (
       next on zero none here others =
           subst (λ (m : ℕ). AreReady tin (map (vertex_at points path row) (range_with_len (k + 1) m))) (sym none) tt
       next on (suc m) some here others =
-          let follows : end_of points row k ≡ begin_of points row (k + 1) = next_begins points row k (omega (arith, size, some)) in
+          let follows : end_of points row k ≡ begin_of points row (k + 1) =
+          next_begins points row k (omega (arith, size, some)) in
           on (omega (arith, size))
-          (inr (subst (λ (q : Pt). IsInSome tin Source (whole q)) follows (last_inside tin (begin_of points row k) (end_of points row k) here))) others
+          (inr (subst (λ (q : Pt). IsInSome tin Source (whole q)) follows
+          (last_inside tin (begin_of points row k) (end_of points row k) here))) others
 
       placed_here : IsPlaced k → segments_in row ≤ k → IsInSome tin Source (whole (begin_of points row k))
       placed_here (inl first) past = let some = are_few.some in absurd (omega (arith, some, first, past))
@@ -246,12 +280,17 @@ module _ (tin : Triangulation) (points : List Pt) (path : ℕ) (row : PathRow) (
 
       by : AreReadyFrom (k + 1) n → (b : Bool) → ltb k (segments_in row) ≡ b
           → AreInside tin (cons_option (cond b (Some (segment_at points path row k)) None) (segments_begun rest))
-          → IsInSome tin Source (whole (begin_of points row k)) × IsSegmentInside tin (cond b (Some (segment_at points path row k)) None) × AreReady tin rest
+          → IsInSome tin Source (whole (begin_of points row k))
+          × IsSegmentInside tin (cond b (Some (segment_at points path row k)) None) × AreReady tin rest
       by on true below both =
           (first_inside tin (begin_of points row k) (end_of points row k) both.0, both.0, next on n refl both.0 both.1)
       by on false past others =
-          let behind = ltb-false k (segments_in row) past in
-          (placed_here placed behind, tt, subst (λ (m : ℕ). AreReady tin (map (vertex_at points path row) (range_with_len (k + 1) m))) (sym (last behind)) tt)
+          let behind = ltb-false k (segments_in row) past in (
+            placed_here placed behind,
+            tt,
+            subst (λ (m : ℕ). AreReady tin
+                (map (vertex_at points path row) (range_with_len (k + 1) m))) (sym (last behind)) tt,
+          )
 
 ready_paths : (tin : Triangulation) (points : List Pt) (n : ℕ) (rows : List PathRow) (first past : ℕ)
     → AreTiled rows first past → AreInside tin (segments_begun (vertices_from points n rows))
@@ -260,7 +299,8 @@ ready_paths tin points n [] first past tiled inside = tt
 ready_paths tin points n (row ∷ rows) first past tiled inside =
     let path = tiled.0 in
     let from : IsPathFrom row.first row = record { begins = refl; some = path.some; dot = path.dot } in
-    let (own, others) = inside_parts tin (segments_begun (path_vertices points n row)) (segments_begun (vertices_from points (n + 1) rows))
+    let (own, others) = inside_parts tin (segments_begun (path_vertices points n row))
+    (segments_begun (vertices_from points (n + 1) rows))
     (subst (AreInside tin) (begun_append (path_vertices points n row) (vertices_from points (n + 1) rows)) inside) in
     ready_more tin (path_vertices points n row) (vertices_from points (n + 1) rows)
     (ready_from tin points n row (few row from) 0 (points_in row) (omega arith) (inl refl) own)
@@ -274,7 +314,8 @@ outcome tin sound layer old most below sheet is =
     by : HaveOutcome tin layer old most (sheet_segments sheet)
         → HasCarried tin layer old most sheet ⊎ HasFirstFault tin layer old most sheet
     by (inl room) =
-        let (runs, are) = runs_of tin sound (sheet_vertices sheet) (ready_paths tin sheet.points 0 sheet.paths 0 (length sheet.points) is.tiled room.inside) in
+        let (runs, are) = runs_of tin sound (sheet_vertices sheet)
+        (ready_paths tin sheet.points 0 sheet.paths 0 (length sheet.points) is.tiled room.inside) in
         inl (record {
           room = room;
           images = record { points = joined runs; run = begins_from 0 runs };

@@ -14,27 +14,43 @@ use Rattle.carry_map.proofs.Gathering.{carried_on}
 use Rattle.carry_map.proofs.Stopping.{cause_between}
 
 -- ---- what stands after some paths
-pub record IsSheetCarried (tin : Triangulation) (layer : ℕ) (points : List Pt) (rows : List PathRow) (most : ℕ) (x : List Pt) (r : List ℕ) (p p' : List Piece) (i : ℕ) : Type 0 where
+pub record IsSheetCarried (tin : Triangulation) (layer : ℕ) (points : List Pt) (rows : List PathRow) (most : ℕ)
+    (x : List Pt) (r : List ℕ) (p p' : List Piece) (i : ℕ) : Type 0 where
   pub carried : AreCarried tin layer (vertices_from points 0 (take i rows)) [] x [] r p p'
   pub room : length p' ≤ most
   pub few : length x ≤ 2 * length p'
 
-pub sheet_next : (tin : Triangulation) (layer : ℕ) (points : List Pt) (rows : List PathRow) (most : ℕ) (x y : List Pt) (r s : List ℕ) (p p' q : List Piece) (i : ℕ) (row : PathRow) → i < length rows → IsRowAt rows i row → IsSheetCarried tin layer points rows most x r p p' i
-    → AreCarried tin layer (path_vertices points i row) x y r s p' q → length q ≤ most → length y ≤ 2 * length q → IsSheetCarried tin layer points rows most y s p q (i + 1)
+pub sheet_next : (tin : Triangulation) (layer : ℕ) (points : List Pt) (rows : List PathRow) (most : ℕ) (x y : List Pt)
+    (r s : List ℕ) (p p' q : List Piece) (i : ℕ) (row : PathRow) → i < length rows → IsRowAt rows i row
+    → IsSheetCarried tin layer points rows most x r p p' i
+    → AreCarried tin layer (path_vertices points i row) x y r s p' q → length q ≤ most → length y ≤ 2 * length q
+    → IsSheetCarried tin layer points rows most y s p q (i + 1)
 sheet_next tin layer points rows most x y r s p p' q i row h e state carried room few = record {
-  carried = subst (λ (vs : List PathVertex). AreCarried tin layer vs [] y [] s p q) (sym (one_path_more points rows i row h e)) (carried_on tin layer (vertices_from points 0 (take i rows)) (path_vertices points i row) [] x y [] r s p p' q state.carried carried);
+  carried = subst (λ (vs : List PathVertex). AreCarried tin layer vs [] y [] s p q)
+      (sym (one_path_more points rows i row h e))
+      (carried_on tin layer (vertices_from points 0 (take i rows)) (path_vertices points i row) [] x y [] r s p p' q
+      state.carried carried);
   room = room;
   few = few;
 }
 
 -- ---- why it is not carried
-pub sheet_cause : (tin : Triangulation) (layer : ℕ) (points : List Pt) (rows : List PathRow) (most : ℕ) (x : List Pt) (r : List ℕ) (p p' : List Piece) (i : ℕ) (row : PathRow) (fault : CarryFault) → i < length rows → IsRowAt rows i row → IsSheetCarried tin layer points rows most x r p p' i
-    → IsCause tin layer (length p') most (segments_begun (path_vertices points i row)) fault → IsCause tin layer (length p) most (segments_begun (vertices_from points 0 rows)) fault
+pub sheet_cause : (tin : Triangulation) (layer : ℕ) (points : List Pt) (rows : List PathRow) (most : ℕ) (x : List Pt)
+    (r : List ℕ) (p p' : List Piece) (i : ℕ) (row : PathRow) (fault : CarryFault) → i < length rows → IsRowAt rows i row
+    → IsSheetCarried tin layer points rows most x r p p' i
+    → IsCause tin layer (length p') most (segments_begun (path_vertices points i row)) fault
+    → IsCause tin layer (length p) most (segments_begun (vertices_from points 0 rows)) fault
 sheet_cause tin layer points rows most x r p p' i row fault h e state cause = go state.carried
   where
-    go : AreCarried tin layer (vertices_from points 0 (take i rows)) [] x [] r p p' → IsCause tin layer (length p) most (segments_begun (vertices_from points 0 rows)) fault
+    go : AreCarried tin layer (vertices_from points 0 (take i rows)) [] x [] r p p'
+        → IsCause tin layer (length p) most (segments_begun (vertices_from points 0 rows)) fault
     go carried =
-        let grown : length p' ≡ length p + length carried.own = ap (λ (ps : List Piece). length ps) carried.pieces_are ∙ length-append p carried.own in
-        subst (λ (ss : List Segment). IsCause tin layer (length p) most ss fault) (sym (split_paths points rows i row h e))
-        (cause_between tin layer (length p) most (segments_begun (vertices_from points 0 (take i rows))) (segments_begun (path_vertices points i row)) (segments_begun (vertices_from points (i + 1) (drop (suc i) rows))) carried.own fault
-        carried.inside carried.of_segments (subst (λ (n : ℕ). IsCause tin layer n most (segments_begun (path_vertices points i row)) fault) grown cause))
+        let grown : length p' ≡ length p + length carried.own = ap (λ (ps : List Piece). length ps) carried.pieces_are
+        ∙ length-append p carried.own in
+        subst (λ (ss : List Segment). IsCause tin layer (length p) most ss fault)
+        (sym (split_paths points rows i row h e))
+        (cause_between tin layer (length p) most (segments_begun (vertices_from points 0 (take i rows)))
+        (segments_begun (path_vertices points i row))
+        (segments_begun (vertices_from points (i + 1) (drop (suc i) rows))) carried.own fault
+        carried.inside carried.of_segments (subst
+        (λ (n : ℕ). IsCause tin layer n most (segments_begun (path_vertices points i row)) fault) grown cause))

@@ -1,4 +1,5 @@
--- What was gathered of some vertices or of one segment: images, places of runs and pieces, each behind those that stood there before.
+-- What was gathered of some vertices or of one segment: images, places of runs and pieces, each behind those that stood
+-- there before.
 use Rattle.std.specs.Prelude.{◌≡◌, ℕ, List, ◌++◌, map, take, length, ◌-◌}
 use Rattle.plane_base.specs.declared.shapes.Pt.{Pt}
 use Rattle.sheet_base.specs.Sheets.{Contents}
@@ -35,12 +36,14 @@ pub record AreSegmentTold (tin : Triangulation) (a b : Pt) (from : Place) (befor
   pub told : AreTold tin a b from parts own
 
 -- and the images of its crossings behind the images before
-pub record IsSegmentCarried (tin : Triangulation) (a b : Pt) (from : Place) (points points' : List Pt) (pieces pieces' : List Piece) : Type 0 where
+pub record IsSegmentCarried (tin : Triangulation) (a b : Pt) (from : Place) (points points' : List Pt)
+    (pieces pieces' : List Piece) : Type 0 where
   pub told : AreSegmentTold tin a b from pieces pieces'
   pub crossings : points' ≡ points ++ inner_images told.own
 
 -- the runs and the pieces of some vertices stand behind those before
-pub record AreCarried (tin : Triangulation) (layer : ℕ) (vertices : List PathVertex) (points points' : List Pt) (run run' : List ℕ) (pieces pieces' : List Piece) : Type 0 where
+pub record AreCarried (tin : Triangulation) (layer : ℕ) (vertices : List PathVertex) (points points' : List Pt)
+    (run run' : List ℕ) (pieces pieces' : List Piece) : Type 0 where
   pub runs : List (List Pt)
   pub of_vertices : AreRuns tin vertices runs
   pub points_are : points' ≡ points ++ joined runs

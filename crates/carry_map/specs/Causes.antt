@@ -17,14 +17,16 @@ pub record HaveRoom (tin : Triangulation) (layer old most : ℕ) (segments : Lis
   pub room : old + length pieces ≤ most
 
 -- the segment is one of these, and those before it are inside and have room
-pub record IsReached (tin : Triangulation) (layer old most : ℕ) (segments : List Segment) (segment : Segment) : Type 0 where
-  pub before : List Segment
-  pub behind : List Segment
-  pub stands : segments ≡ before ++ segment ∷ behind
-  pub room : HaveRoom tin layer old most before
+pub record IsReached (tin : Triangulation) (layer old most : ℕ) (segments : List Segment) (segment : Segment) : Type 0
+  where
+    pub before : List Segment
+    pub behind : List Segment
+    pub stands : segments ≡ before ++ segment ∷ behind
+    pub room : HaveRoom tin layer old most before
 
 -- the first of these segments that is not carried is outside, and is the one of these numbers
-pub record IsFirstOutside (tin : Triangulation) (layer old most : ℕ) (segments : List Segment) (path number : ℕ) : Type 0 where
+pub record IsFirstOutside (tin : Triangulation) (layer old most : ℕ) (segments : List Segment) (path number : ℕ) : Type
+    0 where
   pub segment : Segment
   pub reached : IsReached tin layer old most segments segment
   pub path_is : segment.path ≡ path
@@ -40,7 +42,7 @@ pub record IsFirstTooMany (tin : Triangulation) (layer old most : ℕ) (segments
   pub cut : ArePiecesOf tin segment.a segment.b parts
   pub full : (let room = reached.room in most < old + length room.pieces + length parts)
 
--- the cause of a fault; want of memory has none, and that the layer is not read is no answer here
+-- the cause of a fault; running out of memory has none, and that the layer is not read is no answer here
 abbrev pub IsCause : Triangulation → ℕ → ℕ → ℕ → List Segment → CarryFault → Type 0
 IsCause tin layer old most segments (Layer fault) = ⊥
 IsCause tin layer old most segments (Outside path number) = IsFirstOutside tin layer old most segments path number

@@ -20,7 +20,8 @@ abbrev pub IsReadWith : (Contents → Type 0) → (Contents → Type 0) → Type
 IsReadWith reads IsSo = (sheet : Contents) × reads sheet × IsSo sheet
 
 -- A layer of these bytes, which a format reads as sheets and whose texts for a sheet's edits are given, is carried.
-pub record IsLayerCarried (tin : Triangulation) (bytes : List ℕ) (reads : Contents → Type 0) (text : Contents → Runs → Edit → List ℕ) (layer : ℕ) (before after : List Piece) (carried : Carried) : Type 0 where
+pub record IsLayerCarried (tin : Triangulation) (bytes : List ℕ) (reads : Contents → Type 0)
+    (text : Contents → Runs → Edit → List ℕ) (layer : ℕ) (before after : List Piece) (carried : Carried) : Type 0 where
   -- its sheet
   pub sheet : Contents
   pub read : reads sheet
@@ -44,11 +45,14 @@ pub record IsLayerCarried (tin : Triangulation) (bytes : List ℕ) (reads : Cont
 
 -- it is read as a sheet whose first segment that is not carried is outside, and is the one of these numbers
 abbrev pub IsLayerOutside : Triangulation → (Contents → Type 0) → ℕ → ℕ → ℕ → ℕ → ℕ → Type 0
-IsLayerOutside tin reads layer old most path number = IsReadWith reads (λ sheet. IsFirstOutside tin layer old most (sheet_segments sheet) path number)
+IsLayerOutside tin reads layer old most path number =
+    IsReadWith reads (λ sheet. IsFirstOutside tin layer old most (sheet_segments sheet) path number)
 
--- it is read as a sheet whose first segment that is not carried is inside, but with its pieces there are more than `most`
+-- it is read as a sheet whose first segment that is not carried is inside, but with its pieces there are more than
+-- `most`
 abbrev pub IsLayerTooMany : Triangulation → (Contents → Type 0) → ℕ → ℕ → ℕ → Type 0
-IsLayerTooMany tin reads layer old most = IsReadWith reads (λ sheet. IsFirstTooMany tin layer old most (sheet_segments sheet))
+IsLayerTooMany tin reads layer old most = IsReadWith reads
+    (λ sheet. IsFirstTooMany tin layer old most (sheet_segments sheet))
 
 -- ---- reading it back
 -- the text is read as some sheet, whose segments in order are those between the images of these pieces' ends
@@ -57,8 +61,10 @@ pub record IsReadAsPieces (reads : List ℕ → Contents → Type 0) (text : Lis
   pub is_read : reads text sheet
   pub segments : ends_of sheet.points sheet.paths ≡ image_ends pieces
 
--- The bytes are read as a sheet, and have images; unless the format excepts what is written of these, the text is read as the pieces.
-pub record IsBackAsPieces (tin : Triangulation) (bytes : List ℕ) (reads : List ℕ → Contents → Type 0) (reads_back : Contents → Runs → Type 0) (text : List ℕ) (pieces : List Piece) : Type 0 where
+-- The bytes are read as a sheet, and have images; unless the format excepts what is written of these, the text is read
+-- as the pieces.
+pub record IsBackAsPieces (tin : Triangulation) (bytes : List ℕ) (reads : List ℕ → Contents → Type 0)
+    (reads_back : Contents → Runs → Type 0) (text : List ℕ) (pieces : List Piece) : Type 0 where
   pub sheet : Contents
   pub read : reads bytes sheet
   pub images : Runs

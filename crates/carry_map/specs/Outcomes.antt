@@ -17,7 +17,8 @@ pub record HasCarried (tin : Triangulation) (layer old most : ℕ) (sheet : Cont
 -- its first segment that is not carried is outside, or its pieces find no room
 abbrev pub HasFirstFault : Triangulation → ℕ → ℕ → ℕ → Contents → Type 0
 HasFirstFault tin layer old most sheet =
-    ((path number : ℕ) × IsFirstOutside tin layer old most (sheet_segments sheet) path number) ⊎ IsFirstTooMany tin layer old most (sheet_segments sheet)
+    ((path number : ℕ) × IsFirstOutside tin layer old most (sheet_segments sheet) path number)
+    ⊎ IsFirstTooMany tin layer old most (sheet_segments sheet)
 
 -- Of each sound triangulation: a sheet is carried behind `old` pieces, of at most `most`, or has a first fault
 abbrev pub OutcomeExists : Type 0

@@ -47,8 +47,8 @@ fn unread(fault: LayerFault) -> CarryFault
 /// Reads a layer, carries it and writes its bytes with the images in place of its points. Its pieces are appended in
 /// order; `layer` is its number, and with its pieces there are to be at most `most`. A layer that the format refuses is
 /// `Layer`, with its first fault; else each segment must be inside, and the pieces must find room, as `carry` asks.
-/// Unless the format excepts what is written, the text is a layer again, and its segments in order are those between the
-/// images of the ends of the appended pieces. After a refusal the pieces are as before.
+/// Unless the format excepts what is written, the text is a layer again, and its segments in order are those between
+/// the images of the ends of the appended pieces. After a refusal the pieces are as before.
 pub fn carry_layer<L: Layer>(
     alloc: Global,
     index: &TinIndex,

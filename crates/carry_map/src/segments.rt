@@ -121,8 +121,8 @@ fn cut_way(alloc: Global, index: &TinIndex, way: Way) -> Result<Steps, CarryFaul
     }
 }
 
-/// Cuts a segment, whose first end has this image, and appends its pieces where they find room. Answers the image of its
-/// last end.
+/// Cuts a segment, whose first end has this image, and appends its pieces where they find room. Answers the image of
+/// its last end.
 fn tell_segment(
     alloc: Global,
     index: &TinIndex,
@@ -154,8 +154,8 @@ fn tell_segment(
     Ok(end)
 }
 
-/// Appends the pieces of a segment, whose first end has this image, and the images of its crossings. Answers the image of
-/// its last end.
+/// Appends the pieces of a segment, whose first end has this image, and the images of its crossings. Answers the image
+/// of its last end.
 pub(crate) fn carry_segment(
     alloc: Global,
     index: &TinIndex,

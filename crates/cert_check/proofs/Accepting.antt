@@ -19,24 +19,32 @@ use Rattle.cert_check.proofs.PathLists.{right_length}
 use Rattle.cert_check.proofs.PieceRows.{sheet_certified}
 
 -- right lists have no first one that is not right
-none_wrong : (tin : Triangulation) (before behind : List Segment) (segment : Segment) (right others : List (List ℕ)) (list : List ℕ) → AreRightLists tin before right → AreRightLists tin (before ++ segment ∷ behind) (right ++ list ∷ others) → IsRightList tin segment.a segment.b list
+none_wrong : (tin : Triangulation) (before behind : List Segment) (segment : Segment) (right others : List (List ℕ))
+    (list : List ℕ) → AreRightLists tin before right
+    → AreRightLists tin (before ++ segment ∷ behind) (right ++ list ∷ others) → IsRightList tin segment.a segment.b list
 none_wrong tin [] behind segment [] others list h all = all.0
 none_wrong tin [] behind segment (r ∷ right) others list h all = absurd h
 none_wrong tin (s ∷ before) behind segment [] others list h all = absurd h
-none_wrong tin (s ∷ before) behind segment (r ∷ right) others list h all = none_wrong tin before behind segment right others list h.1 all.1
+none_wrong tin (s ∷ before) behind segment (r ∷ right) others list h all =
+    none_wrong tin before behind segment right others list h.1 all.1
 
-not_first : (tin : Triangulation) (segments : List Segment) (lists : List (List ℕ)) (path number : ℕ) → AreRightLists tin segments lists → IsFirstNotRight tin segments lists path number → ⊥
+not_first : (tin : Triangulation) (segments : List Segment) (lists : List (List ℕ)) (path number : ℕ)
+    → AreRightLists tin segments lists → IsFirstNotRight tin segments lists path number → ⊥
 not_first tin segments lists path number all first =
-    first.not_right (none_wrong tin first.before first.behind first.segment first.right first.others first.list first.are_right
-    (subst (λ (ls : List (List ℕ)). AreRightLists tin (first.before ++ first.segment ∷ first.behind) ls) first.lists_are (subst (λ (ss : List Segment). AreRightLists tin ss lists) first.segments_are all)))
+    first.not_right (none_wrong tin first.before first.behind first.segment first.right first.others first.list
+    first.are_right
+    (subst (λ (ls : List (List ℕ)). AreRightLists tin (first.before ++ first.segment ∷ first.behind) ls) first.lists_are
+    (subst (λ (ss : List Segment). AreRightLists tin ss lists) first.segments_are all)))
 
 not_different : (text other : List ℕ) (at : ℕ) → text ≡ other → IsFirstDifference text other at → ⊥
 not_different text other at e first = first.differ (ap (λ (xs : List ℕ). slice_get xs at) e)
 
 pub pieces_accepted : PiecesAreAccepted
-pieces_accepted tin source text layer sheet images pieces limits sound inside are cut = go (sheet_certified tin layer sheet pieces limits sound inside cut)
+pieces_accepted tin source text layer sheet images pieces limits sound inside are cut =
+    go (sheet_certified tin layer sheet pieces limits sound inside cut)
   where
-    go : IsRightlyCertified tin sheet pieces → IsAccepted tin source text sheet images (certificate_of (lists_of pieces))
+    go : IsRightlyCertified tin sheet pieces → IsAccepted tin source text sheet images
+        (certificate_of (lists_of pieces))
     go is = record {
       form = λ line bad. no_bad_line (certificate_of (lists_of pieces)) (lists_of pieces) line is.certificate bad;
       count = λ segments lines counted. no_count segments lines counted is.certificate is.are_right;
@@ -44,21 +52,35 @@ pieces_accepted tin source text layer sheet images pieces limits sound inside ar
       same = λ place different. no_other place different;
     }
       where
-        one : (lists : List (List ℕ)) → IsCertificate (certificate_of (lists_of pieces)) lists → IsCertificate (certificate_of (lists_of pieces)) (lists_of pieces) → lists ≡ lists_of pieces
-        one lists h k = one_certificate lists (lists_of pieces) h.are_lists k.are_lists (append_cancel_left head_text (lines_text lists) (lines_text (lists_of pieces)) (sym h.spelled ∙ k.spelled))
+        one : (lists : List (List ℕ)) → IsCertificate (certificate_of (lists_of pieces)) lists
+            → IsCertificate (certificate_of (lists_of pieces)) (lists_of pieces) → lists ≡ lists_of pieces
+        one lists h k = one_certificate lists (lists_of pieces) h.are_lists k.are_lists
+            (append_cancel_left head_text (lines_text lists) (lines_text (lists_of pieces)) (sym h.spelled ∙ k.spelled))
 
-        no_count : (segments lines : ℕ) → IsCounted (λ (s : Contents). s ≡ sheet) (certificate_of (lists_of pieces)) segments lines → IsCertificate (certificate_of (lists_of pieces)) (lists_of pieces) → AreRightLists tin (sheet_segments sheet) (lists_of pieces) → ⊥
+        no_count : (segments lines : ℕ) → IsCounted (λ (s : Contents). s ≡ sheet) (certificate_of (lists_of pieces))
+            segments lines → IsCertificate (certificate_of (lists_of pieces)) (lists_of pieces)
+            → AreRightLists tin (sheet_segments sheet) (lists_of pieces) → ⊥
         no_count segments lines counted k right =
-            counted.differ (sym counted.segments_are ∙ ap (λ (s : Contents). length (sheet_segments s)) counted.read ∙ sym (right_length tin (sheet_segments sheet) (lists_of pieces) right)
-            ∙ ap (λ (ls : List (List ℕ)). length ls) (sym (one counted.lists counted.certificate k)) ∙ counted.lines_are)
+            counted.differ (sym counted.segments_are ∙ ap (λ (s : Contents). length (sheet_segments s)) counted.read
+            ∙ sym (right_length tin (sheet_segments sheet) (lists_of pieces) right)
+            ∙ ap (λ (ls : List (List ℕ)). length ls) (sym (one counted.lists counted.certificate k))
+            ∙ counted.lines_are)
 
-        no_wrong : (path number : ℕ) → IsNotRight tin (λ (s : Contents). s ≡ sheet) (certificate_of (lists_of pieces)) path number → IsCertificate (certificate_of (lists_of pieces)) (lists_of pieces) → AreRightLists tin (sheet_segments sheet) (lists_of pieces) → ⊥
+        no_wrong : (path number : ℕ) → IsNotRight tin (λ (s : Contents). s ≡ sheet) (certificate_of (lists_of pieces))
+            path number → IsCertificate (certificate_of (lists_of pieces)) (lists_of pieces)
+            → AreRightLists tin (sheet_segments sheet) (lists_of pieces) → ⊥
         no_wrong path number wrong k right =
             not_first tin (sheet_segments wrong.sheet) wrong.lists path number
-            (subst (λ (s : Contents). AreRightLists tin (sheet_segments s) wrong.lists) (sym wrong.read) (subst (λ (ls : List (List ℕ)). AreRightLists tin (sheet_segments sheet) ls) (sym (one wrong.lists wrong.certificate k)) right)) wrong.first
+            (subst (λ (s : Contents). AreRightLists tin (sheet_segments s) wrong.lists) (sym wrong.read)
+            (subst (λ (ls : List (List ℕ)). AreRightLists tin (sheet_segments sheet) ls)
+            (sym (one wrong.lists wrong.certificate k)) right)) wrong.first
 
-        no_other : (place : ℕ) → IsDifferent tin source (spliced source (text sheet images) sheet.edits) (λ (s : Contents). s ≡ sheet) text (certificate_of (lists_of pieces)) place → ⊥
+        no_other : (place : ℕ) → IsDifferent tin source (spliced source (text sheet images) sheet.edits)
+            (λ (s : Contents). s ≡ sheet) text (certificate_of (lists_of pieces)) place → ⊥
         no_other place different =
-            not_different (spliced source (text different.sheet different.images) (different.sheet).edits) (spliced source (text sheet images) sheet.edits) place
+            not_different (spliced source (text different.sheet different.images) (different.sheet).edits)
+            (spliced source (text sheet images) sheet.edits) place
             (ap₂ (λ (s : Contents) (i : Runs). spliced source (text s i) s.edits) different.read
-            (images_one tin sheet different.images images sound inside (subst (λ (s : Contents). AreImagesOf tin s different.images) different.read different.are_images) are)) different.first
+            (images_one tin sheet different.images images sound inside
+            (subst (λ (s : Contents). AreImagesOf tin s different.images) different.read different.are_images) are))
+            different.first

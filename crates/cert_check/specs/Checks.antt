@@ -85,7 +85,8 @@ pub record IsDifferent (tin : Triangulation) (source written : List ℕ) (reads 
   pub first : IsFirstDifference (spliced source (text sheet images) sheet.edits) written at
 
 -- why a layer is not certified: the first of these that is so
-abbrev pub IsCertCause : Triangulation → List ℕ → List ℕ → (Contents → Type 0) → (LayerFault → Type 0) → (Contents → Runs → Edit → List ℕ) → List ℕ → CertFault → Type 0
+abbrev pub IsCertCause : Triangulation → List ℕ → List ℕ → (Contents → Type 0) → (LayerFault → Type 0)
+    → (Contents → Runs → Edit → List ℕ) → List ℕ → CertFault → Type 0
 IsCertCause tin source written reads refuses text cert (Layer fault) = (fault ≢ OutOfMemory) × refuses fault
 IsCertCause tin source written reads refuses text cert (Form line) = IsBadLine cert line
 IsCertCause tin source written reads refuses text cert (Count segments lines) = IsCounted reads cert segments lines

@@ -48,17 +48,25 @@ pub record IsRightlyCertified (tin : Triangulation) (sheet : Contents) (pieces :
 -- Of each sound triangulation: so it is with the pieces of a sheet whose segments are all inside
 abbrev pub PiecesAreRightlyCertified : Type 0
 PiecesAreRightlyCertified =
-    (tin : Triangulation) (layer : ℕ) (sheet : Contents) (pieces : List Piece) → IsWithinLimits tin → IsSound tin → IsSheetInside tin sheet → ArePiecesOfSheet tin layer sheet pieces → IsRightlyCertified tin sheet pieces
+    (tin : Triangulation) (layer : ℕ) (sheet : Contents) (pieces : List Piece) → IsWithinLimits tin → IsSound tin
+    → IsSheetInside tin sheet → ArePiecesOfSheet tin layer sheet pieces → IsRightlyCertified tin sheet pieces
 
--- No cause refuses these bytes as a certificate, where the source is read as this sheet alone and the written bytes are the source's with the texts for these images.
-pub record IsAccepted (tin : Triangulation) (source : List ℕ) (text : Contents → Runs → Edit → List ℕ) (sheet : Contents) (images : Runs) (cert : List ℕ) : Type 0 where
+-- No cause refuses these bytes as a certificate, where the source is read as this sheet alone and the written bytes are
+-- the source's with the texts for these images.
+pub record IsAccepted (tin : Triangulation) (source : List ℕ) (text : Contents → Runs → Edit → List ℕ)
+    (sheet : Contents) (images : Runs) (cert : List ℕ) : Type 0 where
   pub form : (line : ℕ) → IsBadLine cert line → ⊥
   pub count : (segments lines : ℕ) → IsCounted (λ (s : Contents). s ≡ sheet) cert segments lines → ⊥
   pub right : (path number : ℕ) → IsNotRight tin (λ (s : Contents). s ≡ sheet) cert path number → ⊥
-  pub same : (place : ℕ) → IsDifferent tin source (spliced source (text sheet images) sheet.edits) (λ (s : Contents). s ≡ sheet) text cert place → ⊥
+  pub same : (place : ℕ) → IsDifferent tin source (spliced source (text sheet images) sheet.edits)
+      (λ (s : Contents). s ≡ sheet) text cert place → ⊥
 
--- Of each sound triangulation: so it is with what is written of the pieces of a sheet whose segments are all inside, and with its images
+-- Of each sound triangulation: so it is with what is written of the pieces of a sheet whose segments are all inside,
+-- and with its images
 abbrev pub PiecesAreAccepted : Type 0
 PiecesAreAccepted =
-    (tin : Triangulation) (source : List ℕ) (text : Contents → Runs → Edit → List ℕ) (layer : ℕ) (sheet : Contents) (images : Runs) (pieces : List Piece) → IsWithinLimits tin → IsSound tin → IsSheetInside tin sheet → AreImagesOf tin sheet images
-    → ArePiecesOfSheet tin layer sheet pieces → IsAccepted tin source text sheet images (certificate_of (lists_of pieces))
+    (tin : Triangulation) (source : List ℕ) (text : Contents → Runs → Edit → List ℕ) (layer : ℕ) (sheet : Contents)
+    (images : Runs) (pieces : List Piece) → IsWithinLimits tin → IsSound tin → IsSheetInside tin sheet
+    → AreImagesOf tin sheet images
+    → ArePiecesOfSheet tin layer sheet pieces
+    → IsAccepted tin source text sheet images (certificate_of (lists_of pieces))

@@ -1,6 +1,7 @@
 //! Laws of certificates.
 
-ghost use Rattle.cert_check.specs.Laws.{CertificatesAreOne, CertificatesHaveNoBadLine, PieceTrianglesAreRight, PiecesAreAccepted, PiecesAreRightlyCertified, RightListsAreInside};
+ghost use Rattle.cert_check.specs.Laws.{CertificatesAreOne, CertificatesHaveNoBadLine, PieceTrianglesAreRight};
+ghost use Rattle.cert_check.specs.Laws.{PiecesAreAccepted, PiecesAreRightlyCertified, RightListsAreInside};
 
 /// A law: bytes are the certificate of one list of lists at most.
 pub fn certificates_are_one()
@@ -28,9 +29,9 @@ pub fn pieces_are_rightly_certified()
     ensures { PiecesAreRightlyCertified }
 {}
 
-/// A law: what `write_cert` makes of the pieces of a layer whose segments are all inside a sound triangulation is accepted
-/// over the layer's bytes with the texts for its images, where these bytes are read as one sheet alone: `check_cert` has
-/// no cause to refuse it.
+/// A law: what `write_cert` makes of the pieces of a layer whose segments are all inside a sound triangulation is
+/// accepted over the layer's bytes with the texts for its images, where these bytes are read as one sheet alone:
+/// `check_cert` has no cause to refuse it.
 pub fn pieces_are_accepted()
     ensures { PiecesAreAccepted }
 {}

@@ -11,10 +11,23 @@ use Rattle.change_places.specs.Laws.{IsPrintedName, IsSpotHeld, IsPlacesJson}
 use Rattle.change_places.proofs.Spelled.{places_spelled}
 use Rattle.change_places.proofs.Valid.{places_are}
 
-whole_is : (names : List (List ℕ)) (changes : List ChangeSpot) → AllByRecursion IsPrintedName names → AllByRecursion IsSpotHeld changes → length changes < 2 ^ 64 → IsWhole DEEPEST (places_whole names changes) (places_text names changes)
-whole_is names changes all held few = record { before = tt; value = places_are 56 names changes all few held; after = (inr (inr (inl refl)), tt); all = sym (places_spelled names changes all) }
+whole_is : (names : List (List ℕ)) (changes : List ChangeSpot) → AllByRecursion IsPrintedName names
+    → AllByRecursion IsSpotHeld changes → length changes < 2 ^ 64
+    → IsWhole DEEPEST (places_whole names changes) (places_text names changes)
+whole_is names changes all held few = record {
+  before = tt;
+  value = places_are 56 names changes all few held;
+  after =
+      (inr (inr (inl refl)), tt);
+  all = sym (places_spelled names changes all);
+}
 
-pub places_json : (names : List (List ℕ)) (changes : List ChangeSpot) → AllByRecursion IsPrintedName names → AllByRecursion IsSpotHeld changes → length changes < 2 ^ 64 → IsPlacesJson names changes
+pub places_json : (names : List (List ℕ)) (changes : List ChangeSpot) → AllByRecursion IsPrintedName names
+    → AllByRecursion IsSpotHeld changes → length changes < 2 ^ 64 → IsPlacesJson names changes
 places_json names changes all held few =
     let whole = whole_is names changes all held few in
-    record { whole = whole; one = λ other is. one_value DEEPEST DEEPEST (places_text names changes) other (places_whole names changes) is whole }
+    record {
+      whole = whole;
+      one = λ other is. one_value DEEPEST DEEPEST (places_text names changes) other
+          (places_whole names changes) is whole;
+    }

@@ -1,5 +1,7 @@
 -- The value of changes on the map is one that the grammar of JSON wants.
-use Rattle.std.proofs.Common.{◌≡◌, ◌≢◌, ◌⊎◌, ℕ, zero, suc, ◌+◌, ◌/◌, ◌^◌, ◌<◌, ◌≤◌, inl, inr, Bool, true, false, ◌==◌, ◌&&◌, ◌||◌, List, [], ◌∷◌, ◌++◌, map, length, codes, decimal, Option, None, Some, ℤ, pos, negsuc, refl, sym, ap, subst, arith, append-nil, nat_le}
+use Rattle.std.proofs.Common.{◌≡◌, ◌≢◌, ◌⊎◌, ℕ, zero, suc, ◌+◌, ◌/◌, ◌^◌, ◌<◌, ◌≤◌, inl, inr, Bool, true, false, ◌==◌}
+use Rattle.std.proofs.Common.{◌&&◌, ◌||◌, List, [], ◌∷◌, ◌++◌, map, length, codes, decimal, Option, None, Some, ℤ, pos}
+use Rattle.std.proofs.Common.{negsuc, refl, sym, ap, subst, arith, append-nil, nat_le}
 use Rattle.std.specs.Prelude.{if◌then◌else◌, unsigned_abs}
 use Rattle.std.specs.List.{AllByRecursion}
 use Rattle.std.proofs.lemmas.Bool.{and_parts, cases_lt, leb-true, lt-ltb, le-ltb, eqb-true, eqb-false}
@@ -10,8 +12,10 @@ use Rattle.std.specs.Str.{chars}
 use Rattle.plain_laws.proofs.Lists.{all_append}
 use Rattle.mm_decimal.specs.Writing.{written, metres_text, digit_text}
 use Rattle.jtext.specs.Numbers.{IsDigit, IsInt, IsMinus, IsNumber}
-use Rattle.jtext.specs.Characters.{unescaped, escaped, IsChar, AreChars, IsUnescaped, low, middle, high, two, three_first, three_lower, three_before, three_upper, four_first, four, four_last}
-use Rattle.jtext.specs.Values.{Json, Members, Elements, no_element, element, AreBlank, IsArrayBlank, IsValue, AreElements, AreMembers}
+use Rattle.jtext.specs.Characters.{unescaped, escaped, IsChar, AreChars, IsUnescaped, low, middle, high, two}
+use Rattle.jtext.specs.Characters.{three_first, three_lower, three_before, three_upper, four_first, four, four_last}
+use Rattle.jtext.specs.Values.{Json, Members, Elements, no_element, element, AreBlank, IsArrayBlank, IsValue}
+use Rattle.jtext.specs.Values.{AreElements, AreMembers}
 use Rattle.plane_base.specs.declared.shapes.Pt.{Pt}
 use Rattle.tin_base.specs.declared.pieces.Place.{Place}
 use Rattle.tin_base.specs.declared.relations.Rel.{Rel}
@@ -21,11 +25,15 @@ use Rattle.report_text.specs.ReportText.{place_text, relation_word}
 use Rattle.change_places.specs.declared.spots.SideSpot.{SideSpot}
 use Rattle.change_places.specs.declared.spots.ChangeSpot.{ChangeSpot}
 use Rattle.change_places.specs.PlacesText.{is_point, layer_name}
-use Rattle.change_places.specs.PlacesValue.{plain, position_value, geometry_of, line_value, segment_value, geometry_value, name_char, name_chars, at_value, side_members, change_members, properties_value, feature_value, feature_elements, places_value}
+use Rattle.change_places.specs.PlacesValue.{plain, position_value, geometry_of, line_value, segment_value}
+use Rattle.change_places.specs.PlacesValue.{geometry_value, name_char, name_chars, at_value, side_members}
+use Rattle.change_places.specs.PlacesValue.{change_members, properties_value, feature_value, feature_elements}
+use Rattle.change_places.specs.PlacesValue.{places_value}
 use Rattle.change_places.specs.Laws.{IsPrintedName, IsPointHeld, IsAtHeld, IsSideHeld, IsSpotHeld}
 
 -- ---- numbers
-digits_append : (xs ys : List ℕ) → AllByRecursion IsDigit xs → AllByRecursion IsDigit ys → AllByRecursion IsDigit (xs ++ ys)
+digits_append : (xs ys : List ℕ) → AllByRecursion IsDigit xs → AllByRecursion IsDigit ys
+    → AllByRecursion IsDigit (xs ++ ys)
 digits_append xs ys are more = all_append IsDigit xs ys are more
 
 digit_is : (n : ℕ) → AllByRecursion IsDigit (digit_text n)
@@ -47,7 +55,16 @@ one_digit (suc n) small = inr (omega arith, omega (arith, small), tt)
 
 decimal_written : (n : ℕ) → n < 2 ^ 64 → IsWritten n (decimal n)
 decimal_written = decimal_by_steps (λ n digits. IsWritten n digits)
-    (λ n small. record { first = 48 + n; more = []; is = refl; digit = (omega arith, omega (arith, small)); digits = tt; lead = λ some. omega (arith, some); int = one_digit n small })
+    (λ n small. record {
+      first = 48 + n;
+      more = [];
+      is = refl;
+      digit = (omega arith, omega (arith, small));
+      digits =
+          tt;
+      lead = λ some. omega (arith, some);
+      int = one_digit n small;
+    })
     (λ n digits large h.
     let all = digits_append h.more (digit_text n) h.digits (digit_is n) in
     let lead = h.lead (omega (arith, large)) in
@@ -64,7 +81,19 @@ decimal_written = decimal_by_steps (λ n digits. IsWritten n digits)
 pub decimal_number : (n : ℕ) → n < 2 ^ 64 → IsNumber (decimal n)
 decimal_number n small =
     let h = decimal_written n small in
-    record { minus = []; whole = decimal n; fraction = []; exponent = []; minus_is = inl refl; whole_is = subst IsInt (sym h.is) h.int; fraction_is = inl refl; exponent_is = inl refl; all = sym (append-nil (decimal n)) }
+    record {
+      minus = [];
+      whole = decimal n;
+      fraction = [];
+      exponent = [];
+      minus_is = inl refl;
+      whole_is =
+          subst IsInt (sym h.is) h.int;
+      fraction_is = inl refl;
+      exponent_is = inl refl;
+      all =
+          sym (append-nil (decimal n));
+    }
 
 size_number : (minus : List ℕ) → IsMinus minus → (size : ℕ) → size < 2 ^ 64 → IsNumber (minus ++ metres_text size)
 size_number minus sign size small =
@@ -82,7 +111,8 @@ size_number minus sign size small =
         refl,
       );
       exponent_is = inl refl;
-      all = ap (λ text. minus ++ (decimal (size / 1000) ++ text)) (sym (append-nil (46 ∷ (digit_text (size / 100) ++ (digit_text (size / 10) ++ digit_text size)))));
+      all = ap (λ text. minus ++ (decimal (size / 1000) ++ text))
+          (sym (append-nil (46 ∷ (digit_text (size / 100) ++ (digit_text (size / 10) ++ digit_text size)))));
     }
 
 written_number : (mm : ℤ) → unsigned_abs mm < 2 ^ 64 → IsNumber (written mm)
@@ -112,7 +142,8 @@ abbrev are_plain : List ℕ → Bool
 are_plain [] = true
 are_plain (byte ∷ bytes) = (is_middle byte || is_high byte) && are_plain bytes
 
-either_plain : (byte : ℕ) (in_middle in_high : Bool) → is_middle byte ≡ in_middle → is_high byte ≡ in_high → (in_middle || in_high) ≡ true → IsPlain byte
+either_plain : (byte : ℕ) (in_middle in_high : Bool) → is_middle byte ≡ in_middle → is_high byte ≡ in_high
+    → (in_middle || in_high) ≡ true → IsPlain byte
 either_plain byte true in_high of_middle of_high is =
     let parts = and_parts _ _ of_middle in middle_plain byte (leb-true _ _ parts.0) (leb-true _ _ parts.1)
 either_plain byte false true of_middle of_high is =
@@ -121,14 +152,24 @@ either_plain byte false false of_middle of_high is = cc
 
 plain_bytes : (bytes : List ℕ) → are_plain bytes ≡ true → AllByRecursion IsPlain bytes
 plain_bytes [] are = tt
-plain_bytes (byte ∷ bytes) are = let parts = and_parts _ _ are in (either_plain byte (is_middle byte) (is_high byte) refl refl parts.0, plain_bytes bytes parts.1)
+plain_bytes (byte ∷ bytes) are = let parts =
+    and_parts _ _ are in (
+      either_plain byte (is_middle byte) (is_high byte) refl refl parts.0,
+      plain_bytes bytes
+          parts.1,
+    )
 
 plain_digits : (bytes : List ℕ) → AllByRecursion IsDigit bytes → AllByRecursion IsPlain bytes
 plain_digits [] are = tt
-plain_digits (byte ∷ bytes) are = (middle_plain byte (omega (arith, are.0.0)) (omega (arith, are.0.1)), plain_digits bytes are.1)
+plain_digits (byte ∷ bytes) are = (
+  middle_plain byte (omega (arith, are.0.0)) (omega (arith, are.0.1)),
+  plain_digits
+      bytes are.1,
+)
 
 plain_decimal : (n : ℕ) → n < 2 ^ 64 → AllByRecursion IsPlain (decimal n)
-plain_decimal n small = let h = decimal_written n small in subst (AllByRecursion IsPlain) (sym h.is) (plain_digits (h.first ∷ h.more) (h.digit, h.digits))
+plain_decimal n small = let h = decimal_written n small in subst (AllByRecursion IsPlain) (sym h.is)
+    (plain_digits (h.first ∷ h.more) (h.digit, h.digits))
 
 plain_chars : (text : List ℕ) → AllByRecursion IsPlain text → AreChars (plain text)
 unfolding IsPlain
@@ -166,22 +207,63 @@ all_behind P (x ∷ xs) ys all = all_behind P xs ys all.1
 unescaped_two : (c : ℕ) → 128 ≤ c → c < 2048 → IsUnescaped ((192 + c / 64) ∷ next c ∷ [])
 unescaped_two c from to = (two, ((omega arith, omega arith), ((omega arith, omega arith), tt)))
 
-unescaped_three : (c : ℕ) → 2048 ≤ c → c < 65536 → (c < 55296) ⊎ (57344 ≤ c) → IsUnescaped ((224 + c / 4096) ∷ next (c / 64) ∷ next c ∷ [])
-unescaped_three c from to (inr after) = (three_upper, ((omega arith, omega arith), ((omega arith, omega arith), ((omega arith, omega arith), tt))))
+unescaped_three : (c : ℕ) → 2048 ≤ c → c < 65536 → (c < 55296) ⊎ (57344 ≤ c)
+    → IsUnescaped ((224 + c / 4096) ∷ next (c / 64) ∷ next c ∷ [])
+unescaped_three c from to (inr after) = (
+  three_upper,
+  ((omega arith, omega arith), ((omega arith, omega arith), ((omega arith, omega arith), tt))),
+)
 unescaped_three c from to (inl before) = elim (cases_lt c 4096) [
-  | inl small ↦ (three_first, ((omega arith, omega arith), ((omega arith, omega arith), ((omega arith, omega arith), tt))))
+  | inl small ↦ (
+    three_first,
+    (
+      (omega arith, omega arith),
+      ((omega arith, omega arith), ((omega arith, omega arith), tt)),
+    ),
+  )
   | inr large ↦ elim (cases_lt c 53248) [
-    | inl small ↦ (three_lower, ((omega arith, omega arith), ((omega arith, omega arith), ((omega arith, omega arith), tt))))
-    | inr last ↦ (three_before, ((omega arith, omega arith), ((omega arith, omega arith), ((omega arith, omega arith), tt))))
+    | inl small ↦ (
+      three_lower,
+      (
+        (omega arith, omega arith),
+        ((omega arith, omega arith), ((omega arith, omega arith), tt)),
+      ),
+    )
+    | inr last ↦ (
+      three_before,
+      (
+        (omega arith, omega arith),
+        ((omega arith, omega arith), ((omega arith, omega arith), tt)),
+      ),
+    )
   ]
 ]
 
-unescaped_four : (c : ℕ) → 65536 ≤ c → c < 1114112 → IsUnescaped ((240 + c / 262144) ∷ next (c / 4096) ∷ next (c / 64) ∷ next c ∷ [])
+unescaped_four : (c : ℕ) → 65536 ≤ c → c < 1114112
+    → IsUnescaped ((240 + c / 262144) ∷ next (c / 4096) ∷ next (c / 64) ∷ next c ∷ [])
 unescaped_four c from to = elim (cases_lt c 262144) [
-  | inl small ↦ (four_first, ((omega arith, omega arith), ((omega arith, omega arith), ((omega arith, omega arith), ((omega arith, omega arith), tt)))))
+  | inl small ↦ (
+    four_first,
+    (
+      (omega arith, omega arith),
+      ((omega arith, omega arith), ((omega arith, omega arith), ((omega arith, omega arith), tt))),
+    ),
+  )
   | inr large ↦ elim (cases_lt c 1048576) [
-    | inl middle_one ↦ (four, ((omega arith, omega arith), ((omega arith, omega arith), ((omega arith, omega arith), ((omega arith, omega arith), tt)))))
-    | inr last ↦ (four_last, ((omega arith, omega arith), ((omega arith, omega arith), ((omega arith, omega arith), ((omega arith, omega arith), tt)))))
+    | inl middle_one ↦ (
+      four,
+      (
+        (omega arith, omega arith),
+        ((omega arith, omega arith), ((omega arith, omega arith), ((omega arith, omega arith), tt))),
+      ),
+    )
+    | inr last ↦ (
+      four_last,
+      (
+        (omega arith, omega arith),
+        ((omega arith, omega arith), ((omega arith, omega arith), ((omega arith, omega arith), tt))),
+      ),
+    )
   ]
 ]
 
@@ -196,7 +278,8 @@ high_char c is from =
     elim (cases_lt c 2048) [
       | inl small ↦ rw (le-ltb c 128 from, lt-ltb c 2048 small) (unescaped_two c from small)
       | inr large ↦ elim (cases_lt c 65536) [
-        | inl small ↦ rw (le-ltb c 128 from, le-ltb c 2048 large, lt-ltb c 65536 small) (unescaped_three c large small ranges)
+        | inl small ↦ rw (le-ltb c 128 from, le-ltb c 2048 large, lt-ltb c 65536 small)
+            (unescaped_three c large small ranges)
         | inr last ↦ rw (le-ltb c 128 from, le-ltb c 2048 large, le-ltb c 65536 last) (unescaped_four c last below)
       ]
     ]
@@ -211,7 +294,8 @@ low_char c from to no_quote no_solidus = elim (cases_lt c 35) [
   ]
 ]
 
-escaped_is : (c : ℕ) (quote solidus : Bool) → (c == 34) ≡ quote → (c == 92) ≡ solidus → (c ≢ 34 → c ≢ 92 → IsUnescaped (encode c)) → IsChar (if quote || solidus then escaped c else unescaped (encode c))
+escaped_is : (c : ℕ) (quote solidus : Bool) → (c == 34) ≡ quote → (c == 92) ≡ solidus
+    → (c ≢ 34 → c ≢ 92 → IsUnescaped (encode c)) → IsChar (if quote || solidus then escaped c else unescaped (encode c))
 escaped_is c true solidus is_quote is_solidus plainly = inl (eqb-true c 34 is_quote)
 escaped_is c false true is_quote is_solidus plainly = inr (inl (eqb-true c 92 is_solidus))
 escaped_is c false false is_quote is_solidus plainly = plainly (eqb-false c 34 is_quote) (eqb-false c 92 is_solidus)
@@ -226,26 +310,63 @@ chars_are : (cs : List ℕ) → scalars cs ≡ true → IsPrintable (encodes cs)
 chars_are [] are printed = tt
 chars_are (c ∷ cs) are printed =
     let parts = and_parts _ _ are in
-    let first : c < 128 → 32 ≤ c = λ small. let all = subst (λ (bytes : List ℕ). IsPrintable (bytes ++ encodes cs)) (encode_ascii c small) printed in all.0 in
-    (name_char_is c parts.0 first, chars_are cs parts.1 (all_behind (λ byte. 32 ≤ byte) (encode c) (encodes cs) printed))
+    let first : c < 128 → 32 ≤ c = λ small. let all =
+    subst (λ (bytes : List ℕ). IsPrintable (bytes ++ encodes cs)) (encode_ascii c small) printed in all.0 in (
+      name_char_is c parts.0 first,
+      chars_are cs parts.1
+          (all_behind (λ byte. 32 ≤ byte) (encode c) (encodes cs) printed),
+    )
 
 pub name_chars_are : (name : List ℕ) → IsPrintedName name → AreChars (name_chars name)
-name_chars_are name is = chars_are (chars name) (scalars-chars name is.utf8) (subst IsPrintable (sym (encodes-chars name is.utf8)) is.printable)
+name_chars_are name is = chars_are (chars name) (scalars-chars name is.utf8)
+    (subst IsPrintable (sym (encodes-chars name is.utf8)) is.printable)
 
 -- ---- values, of any depth that is enough
 point_is : (depth : ℕ) (point : Pt) → IsPointHeld point → IsValue (suc depth) (position_value point)
 point_is depth point held = (refl, (tt, written_number point.x held.0, tt, (tt, written_number point.y held.1, tt, tt)))
 
-either_is : (depth : ℕ) (one : Bool) (v w : Json) → IsValue depth v → IsValue depth w → IsValue depth (if one then v else w)
+either_is : (depth : ℕ) (one : Bool) (v w : Json) → IsValue depth v → IsValue depth w
+    → IsValue depth (if one then v else w)
 either_is depth true v w is are = is
 either_is depth false v w is are = are
 
-segment_is : (depth : ℕ) (a b : Pt) → IsPointHeld a → IsPointHeld b → IsValue (suc (suc (suc depth))) (segment_value a b)
-segment_is depth a b of_a of_b = either_is (suc (suc (suc depth))) (is_point a b) (geometry_of (codes "Point") (position_value a)) (line_value a b)
-    (refl, (tt, literal (codes "type") refl, tt, tt, literal (codes "Point") refl, tt, (tt, literal (codes "coordinates") refl, tt, tt, point_is (suc depth) a of_a, tt, tt)))
-    (refl, (tt, literal (codes "type") refl, tt, tt, literal (codes "LineString") refl, tt, (tt, literal (codes "coordinates") refl, tt, tt, (refl, (tt, point_is depth a of_a, tt, (tt, point_is depth b of_b, tt, tt))), tt, tt)))
+segment_is : (depth : ℕ) (a b : Pt) → IsPointHeld a → IsPointHeld b
+    → IsValue (suc (suc (suc depth))) (segment_value a b)
+segment_is depth a b of_a of_b = either_is (suc (suc (suc depth))) (is_point a b)
+    (geometry_of (codes "Point") (position_value a)) (line_value a b) (
+      refl,
+      (
+        tt,
+        literal (codes "type") refl,
+        tt,
+        tt,
+        literal (codes "Point") refl,
+        tt,
+        (tt, literal (codes "coordinates") refl, tt, tt, point_is (suc depth) a of_a, tt, tt),
+      ),
+    ) (
+      refl,
+      (
+        tt,
+        literal (codes "type") refl,
+        tt,
+        tt,
+        literal (codes "LineString") refl,
+        tt,
+        (
+          tt,
+          literal (codes "coordinates") refl,
+          tt,
+          tt,
+          (refl, (tt, point_is depth a of_a, tt, (tt, point_is depth b of_b, tt, tt))),
+          tt,
+          tt,
+        ),
+      ),
+    )
 
-geometry_is : (depth : ℕ) (change : ChangeSpot) → IsSpotHeld change → IsValue (suc (suc (suc (suc (suc depth))))) (geometry_value change)
+geometry_is : (depth : ℕ) (change : ChangeSpot) → IsSpotHeld change
+    → IsValue (suc (suc (suc (suc (suc depth))))) (geometry_value change)
 unfolding geometry_value
 geometry_is depth change held =
     let first = held.first in
@@ -263,7 +384,15 @@ geometry_is depth change held =
           literal (codes "geometries") refl,
           tt,
           tt,
-          (refl, (tt, segment_is depth change.first.a change.first.b first.a first.b, tt, (tt, segment_is depth change.second.a change.second.b second.a second.b, tt, tt))),
+          (
+            refl,
+            (
+              tt,
+              segment_is depth change.first.a change.first.b first.a first.b,
+              tt,
+              (tt, segment_is depth change.second.a change.second.b second.a second.b, tt, tt),
+            ),
+          ),
           tt,
           tt,
         ),
@@ -275,13 +404,15 @@ at_is depth None held = tt
 at_is depth (Some at) held = decimal_number at (omega (arith, held))
 
 -- the name of a layer, or none
-name_at : (names : List (List ℕ)) (layer : ℕ) → AllByRecursion IsPrintedName names → AreChars (name_chars (layer_name names layer))
+name_at : (names : List (List ℕ)) (layer : ℕ) → AllByRecursion IsPrintedName names
+    → AreChars (name_chars (layer_name names layer))
 name_at [] layer all = rw chars-nil tt
 name_at (name ∷ names) zero all = name_chars_are name all.0
 name_at (name ∷ names) (suc layer) all = name_at names layer all.1
 
 -- the word of a side with what is behind it
-side_is : (depth : ℕ) (word : List ℕ) (names : List (List ℕ)) (side : SideSpot) (rest : Members) → AllByRecursion IsPlain word → AllByRecursion IsPrintedName names → IsSideHeld side
+side_is : (depth : ℕ) (word : List ℕ) (names : List (List ℕ)) (side : SideSpot) (rest : Members)
+    → AllByRecursion IsPlain word → AllByRecursion IsPrintedName names → IsSideHeld side
     → AreMembers depth rest → AreMembers depth (side_members word names side rest)
 unfolding side_members
 side_is depth word names side rest plain_word all held others = (
@@ -298,11 +429,20 @@ side_is depth word names side rest plain_word all held others = (
     tt,
     place_chars side.from held.from,
     tt,
-    (tt, plain_chars (word ++ codes "_at") (join word (codes "_at") plain_word (plain_bytes (codes "_at") refl)), tt, tt, at_is depth side.at held.at, tt, others),
+    (
+      tt,
+      plain_chars (word ++ codes "_at") (join word (codes "_at") plain_word (plain_bytes (codes "_at") refl)),
+      tt,
+      tt,
+      at_is depth side.at held.at,
+      tt,
+      others,
+    ),
   ),
 )
 
-change_is : (depth number : ℕ) (change : ChangeSpot) (rest : Members) → number < 2 ^ 64 → IsSpotHeld change → AreMembers depth rest → AreMembers depth (change_members number change rest)
+change_is : (depth number : ℕ) (change : ChangeSpot) (rest : Members) → number < 2 ^ 64 → IsSpotHeld change
+    → AreMembers depth rest → AreMembers depth (change_members number change rest)
 unfolding change_members
 change_is depth number change rest few held others = (
   tt,
@@ -330,7 +470,8 @@ change_is depth number change rest few held others = (
   ),
 )
 
-feature_is : (depth : ℕ) (names : List (List ℕ)) (number : ℕ) (change : ChangeSpot) → AllByRecursion IsPrintedName names → number < 2 ^ 64 → IsSpotHeld change
+feature_is : (depth : ℕ) (names : List (List ℕ)) (number : ℕ) (change : ChangeSpot) → AllByRecursion IsPrintedName names
+    → number < 2 ^ 64 → IsSpotHeld change
     → IsValue (suc (suc (suc (suc (suc (suc depth)))))) (feature_value names number change)
 unfolding feature_value properties_value change_members
 feature_is depth names number change all few held = (
@@ -356,8 +497,10 @@ feature_is depth names number change all few held = (
         tt,
         (
           refl,
-          change_is _ number change _ few held (side_is _ (codes "first") names change.first _ (plain_bytes (codes "first") refl) all held.first
-              (side_is _ (codes "second") names change.second _ (plain_bytes (codes "second") refl) all held.second tt)),
+          change_is _ number change _ few held (side_is _ (codes "first") names change.first _
+              (plain_bytes (codes "first") refl) all held.first
+              (side_is _ (codes "second") names change.second _ (plain_bytes (codes "second") refl) all held.second
+              tt)),
         ),
         tt,
         tt,
@@ -369,17 +512,24 @@ feature_is depth names number change all few held = (
 line_feed : AreBlank (10 ∷ [])
 line_feed = (inr (inr (inl refl)), tt)
 
-features_are : (depth : ℕ) (names : List (List ℕ)) (number : ℕ) (changes : List ChangeSpot) → AllByRecursion IsPrintedName names → number + length changes < 2 ^ 64 → AllByRecursion IsSpotHeld changes
+features_are : (depth : ℕ) (names : List (List ℕ)) (number : ℕ) (changes : List ChangeSpot)
+    → AllByRecursion IsPrintedName names → number + length changes < 2 ^ 64 → AllByRecursion IsSpotHeld changes
     → AreElements (suc (suc (suc (suc (suc (suc depth)))))) (feature_elements names number changes)
 features_are depth names number [] all few held = tt
-features_are depth names number (change ∷ changes) all few held =
-    (line_feed, feature_is depth names number change all (omega (arith, few)) held.0, tt, features_are depth names (number + 1) changes all (omega (arith, few)) held.1)
+features_are depth names number (change ∷ changes) all few held = (
+  line_feed,
+  feature_is depth names number change all (omega (arith, few)) held.0,
+  tt,
+  features_are depth names
+      (number + 1) changes all (omega (arith, few)) held.1,
+)
 
 no_blank : (elements : Elements) → IsArrayBlank [] elements
 no_blank no_element = tt
 no_blank (element before value after rest) = refl
 
-pub places_are : (depth : ℕ) (names : List (List ℕ)) (changes : List ChangeSpot) → AllByRecursion IsPrintedName names → length changes < 2 ^ 64 → AllByRecursion IsSpotHeld changes
+pub places_are : (depth : ℕ) (names : List (List ℕ)) (changes : List ChangeSpot) → AllByRecursion IsPrintedName names
+    → length changes < 2 ^ 64 → AllByRecursion IsSpotHeld changes
     → IsValue (suc (suc (suc (suc (suc (suc (suc (suc depth)))))))) (places_value names changes)
 places_are depth names changes all few held = (
   refl,
@@ -397,7 +547,19 @@ places_are depth names changes all few held = (
       tt,
       tt,
       tt,
-      (tt, literal (codes "features") refl, tt, tt, (no_blank (feature_elements names 0 changes), features_are depth names 0 changes all (omega (arith, few)) held), tt, tt),
+      (
+        tt,
+        literal (codes "features") refl,
+        tt,
+        tt,
+        (
+          no_blank (feature_elements names 0 changes),
+          features_are depth names 0 changes all (omega (arith, few))
+              held,
+        ),
+        tt,
+        tt,
+      ),
     ),
   ),
 )

@@ -19,4 +19,6 @@ pub record AreFirsts (key : Key) (edits : List Edit) (count : ℕ) (starts : Lis
 -- the start stands at the number that is named, unless one stands there, and all others are as before
 pub record PutsStart (named : Option ℕ) (start : ℕ) (before now : List (Option ℕ)) : Type 0 where
   pub count_is : length now ≡ length before
-  pub each : (number : ℕ) → number < length before → get_or now number None ≡ option_or (get_or before number None) (if is_number number named then Some start else None)
+  pub each : (number : ℕ) → number < length before
+      → get_or now number None ≡ option_or (get_or before number None)
+      (if is_number number named then Some start else None)

@@ -38,9 +38,11 @@ pub record IsSpotHeld (change : ChangeSpot) : Type 0 where
 -- the text is that of the changes' value, and of no other
 pub record IsPlacesJson (names : List (List ℕ)) (changes : List ChangeSpot) : Type 0 where
   pub whole : IsWhole DEEPEST (places_whole names changes) (places_text names changes)
-  pub one : (other : Whole) → IsWhole DEEPEST other (places_text names changes) → other.value ≡ places_value names changes
+  pub one : (other : Whole) → IsWhole DEEPEST other (places_text names changes)
+      → other.value ≡ places_value names changes
 
 abbrev pub PlacesAreJson : Type 0
 PlacesAreJson =
-    (names : List (List ℕ)) (changes : List ChangeSpot) → AllByRecursion IsPrintedName names → AllByRecursion IsSpotHeld changes → length changes < 2 ^ 64
+    (names : List (List ℕ)) (changes : List ChangeSpot) → AllByRecursion IsPrintedName names
+    → AllByRecursion IsSpotHeld changes → length changes < 2 ^ 64
     → IsPlacesJson names changes

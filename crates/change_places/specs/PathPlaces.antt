@@ -1,5 +1,6 @@
 -- Where in a layer's bytes each of its paths is written.
-use Rattle.std.specs.Prelude.{ℕ, ◌+◌, ◌==◌, Bool, true, false, List, [], ◌∷◌, map, take, count_by, find, Option, None, Some}
+use Rattle.std.specs.Prelude.{ℕ, ◌+◌, ◌==◌, Bool, true, false, List, [], ◌∷◌, map, take, count_by, find, Option, None}
+use Rattle.std.specs.Prelude.{Some}
 use Rattle.std.specs.Option.{option_map, option_or}
 use Rattle.sheet_base.specs.declared.edits.Edit.{Edit}
 use Rattle.sheet_base.specs.declared.edits.What.{What}
@@ -28,7 +29,8 @@ is_number number (Some other) = other == number
 
 -- where the first edit of this number begins
 abbrev pub first_start : (What → Option ℕ) → ℕ → List Edit → Option ℕ
-first_start of number edits = option_map (λ (edit : Edit). edit.start) (find (λ (edit : Edit). is_number number (of edit.what)) edits)
+first_start of number edits = option_map (λ (edit : Edit). edit.start)
+    (find (λ (edit : Edit). is_number number (of edit.what)) edits)
 
 -- where a path begins: its list or its entity, or else the image of its first point
 abbrev pub path_start : List Edit → ℕ → PathRow → Option ℕ

@@ -1,5 +1,6 @@
 -- The text of changes on the map: GeoJSON (RFC 7946) with a feature for each change, a line each.
-use Rattle.std.specs.Prelude.{ℕ, ◌+◌, ◌==◌, ◌||◌, Bool, List, [], ◌∷◌, ◌++◌, codes, decimal, flat_map, get_or, if◌then◌else◌, Option, None, Some, ◌&&◌}
+use Rattle.std.specs.Prelude.{ℕ, ◌+◌, ◌==◌, ◌||◌, Bool, List, [], ◌∷◌, ◌++◌, codes, decimal, flat_map, get_or}
+use Rattle.std.specs.Prelude.{if◌then◌else◌, Option, None, Some, ◌&&◌}
 use Rattle.std.specs.Ordering.{int_eq}
 use Rattle.std.specs.List.{concat}
 use Rattle.mm_decimal.specs.Writing.{written}
@@ -24,7 +25,8 @@ point_text a = concat (codes "{\"type\":\"Point\",\"coordinates\":" ∷ position
 
 -- another one (RFC 7946, section 3.1.4)
 unfoldable pub line_text : Pt → Pt → List ℕ
-line_text a b = concat (codes "{\"type\":\"LineString\",\"coordinates\":[" ∷ position_text a ∷ codes "," ∷ position_text b ∷ codes "]}" ∷ [])
+line_text a b = concat (codes "{\"type\":\"LineString\",\"coordinates\":[" ∷ position_text a ∷ codes ","
+    ∷ position_text b ∷ codes "]}" ∷ [])
 
 -- a written segment as a geometry: a point where its ends are one
 abbrev pub segment_text : Pt → Pt → List ℕ
@@ -64,7 +66,8 @@ from_text word from = concat (key_text word [] ∷ codes "\"" ∷ place_text fro
 -- the properties of one side of a change; their names begin with this word
 unfoldable pub side_text : List ℕ → List (List ℕ) → SideSpot → List ℕ
 side_text word names side = concat (
-    layer_text word (layer_name names side.from.layer) ∷ from_text word side.from ∷ key_text word (codes "_at") ∷ at_text side.at ∷ [])
+    layer_text word (layer_name names side.from.layer) ∷ from_text word side.from ∷ key_text word (codes "_at")
+    ∷ at_text side.at ∷ [])
 
 -- the two written segments (RFC 7946, section 3.1.8)
 unfoldable pub geometry_text : ChangeSpot → List ℕ
@@ -75,13 +78,15 @@ geometry_text change = concat (
 -- the number of the change, the two relations, and the gap
 unfoldable pub change_text : ℕ → ChangeSpot → List ℕ
 change_text number change = concat (
-    codes "\"change\":" ∷ decimal number ∷ relation_text (codes "was") change.was ∷ relation_text (codes "now") change.now
+    codes "\"change\":" ∷ decimal number ∷ relation_text (codes "was") change.was
+    ∷ relation_text (codes "now") change.now
     ∷ key_text (codes "gap_mm") [] ∷ decimal change.gap ∷ [])
 
 -- the change of this number (RFC 7946, section 3.2)
 unfoldable pub feature_text : List (List ℕ) → ℕ → ChangeSpot → List ℕ
 feature_text names number change = concat (
-    codes "{\"type\":\"Feature\",\"geometry\":" ∷ geometry_text change ∷ codes ",\"properties\":{" ∷ change_text number change
+    codes "{\"type\":\"Feature\",\"geometry\":" ∷ geometry_text change ∷ codes ",\"properties\":{"
+    ∷ change_text number change
     ∷ side_text (codes "first") names change.first ∷ side_text (codes "second") names change.second ∷ codes "}}" ∷ [])
 
 -- what stands before the feature of this number: a line feed, and a comma before that where it is not the first
@@ -91,7 +96,8 @@ separator_text number = if number == 0 then codes "\n" else codes ",\n"
 -- the changes numbered from this number on
 abbrev pub features_text : List (List ℕ) → ℕ → List ChangeSpot → List ℕ
 features_text names number [] = []
-features_text names number (change ∷ changes) = separator_text number ++ (feature_text names number change ++ features_text names (number + 1) changes)
+features_text names number (change ∷ changes) =
+    separator_text number ++ (feature_text names number change ++ features_text names (number + 1) changes)
 
 unfoldable pub opening_text : List ℕ
 opening_text = codes "{\"type\":\"FeatureCollection\",\"crs\":null,\"features\":["

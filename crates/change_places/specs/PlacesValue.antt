@@ -1,8 +1,10 @@
 -- The JSON value whose text is that of changes on the map.
-use Rattle.std.specs.Prelude.{ℕ, ◌+◌, ◌==◌, ◌||◌, List, [], ◌∷◌, ◌++◌, codes, decimal, encode_utf8, map, false, if◌then◌else◌, Option, None, Some}
+use Rattle.std.specs.Prelude.{ℕ, ◌+◌, ◌==◌, ◌||◌, List, [], ◌∷◌, ◌++◌, codes, decimal, encode_utf8, map, false}
+use Rattle.std.specs.Prelude.{if◌then◌else◌, Option, None, Some}
 use Rattle.std.specs.Str.{chars}
 use Rattle.jtext.specs.Characters.{Char, unescaped, escaped}
-use Rattle.jtext.specs.Values.{Json, Elements, Members, null, numeral, quoted, array, object, no_element, element, no_member, member}
+use Rattle.jtext.specs.Values.{Json, Elements, Members, null, numeral, quoted, array, object, no_element, element}
+use Rattle.jtext.specs.Values.{no_member, member}
 use Rattle.jtext.specs.Texts.{Whole}
 use Rattle.mm_decimal.specs.Writing.{written}
 use Rattle.plane_base.specs.declared.shapes.Pt.{Pt}
@@ -41,10 +43,12 @@ abbrev pub position_value : Pt → Json
 position_value point = array_of (listed (numeral (written point.x)) (listed (numeral (written point.y)) no_element))
 
 abbrev pub geometry_of : List ℕ → Json → Json
-geometry_of type coordinates = object_of (named (codes "type") (text_value type) (named (codes "coordinates") coordinates no_member))
+geometry_of type coordinates = object_of (named (codes "type") (text_value type)
+    (named (codes "coordinates") coordinates no_member))
 
 abbrev pub line_value : Pt → Pt → Json
-line_value a b = geometry_of (codes "LineString") (array_of (listed (position_value a) (listed (position_value b) no_element)))
+line_value a b = geometry_of (codes "LineString")
+    (array_of (listed (position_value a) (listed (position_value b) no_element)))
 
 -- a written segment: a point where its ends are one
 abbrev pub segment_value : Pt → Pt → Json
@@ -52,7 +56,8 @@ segment_value a b = if is_point a b then geometry_of (codes "Point") (position_v
 
 unfoldable pub geometry_value : ChangeSpot → Json
 geometry_value change = object_of (named (codes "type") (text_value (codes "GeometryCollection")) (
-    named (codes "geometries") (array_of (listed (segment_value change.first.a change.first.b) (listed (segment_value change.second.a change.second.b) no_element))) no_member))
+    named (codes "geometries") (array_of (listed (segment_value change.first.a change.first.b)
+    (listed (segment_value change.second.a change.second.b) no_element))) no_member))
 
 -- ---- properties
 -- a character of a name: behind a reverse solidus where it is a quotation mark (34) or another reverse solidus (92)
@@ -76,21 +81,25 @@ side_members word names side rest =
 unfoldable pub change_members : ℕ → ChangeSpot → Members → Members
 change_members number change rest =
     named (codes "change") (number_value number) (named (codes "was") (text_value (relation_word change.was)) (
-    named (codes "now") (text_value (relation_word change.now)) (named (codes "gap_mm") (number_value change.gap) rest)))
+    named (codes "now") (text_value (relation_word change.now))
+    (named (codes "gap_mm") (number_value change.gap) rest)))
 
 unfoldable pub properties_value : List (List ℕ) → ℕ → ChangeSpot → Json
 properties_value names number change =
-    object_of (change_members number change (side_members (codes "first") names change.first (side_members (codes "second") names change.second no_member)))
+    object_of (change_members number change (side_members (codes "first") names change.first
+    (side_members (codes "second") names change.second no_member)))
 
 -- ---- features
 unfoldable pub feature_value : List (List ℕ) → ℕ → ChangeSpot → Json
 feature_value names number change = object_of (named (codes "type") (text_value (codes "Feature")) (
-    named (codes "geometry") (geometry_value change) (named (codes "properties") (properties_value names number change) no_member)))
+    named (codes "geometry") (geometry_value change)
+    (named (codes "properties") (properties_value names number change) no_member)))
 
 -- those of changes numbered from this number on, each behind a line feed
 abbrev pub feature_elements : List (List ℕ) → ℕ → List ChangeSpot → Elements
 feature_elements names number [] = no_element
-feature_elements names number (change ∷ changes) = element (10 ∷ []) (feature_value names number change) [] (feature_elements names (number + 1) changes)
+feature_elements names number (change ∷ changes) =
+    element (10 ∷ []) (feature_value names number change) [] (feature_elements names (number + 1) changes)
 
 -- all changes, numbered from 0, over layers of these names
 abbrev pub places_value : List (List ℕ) → List ChangeSpot → Json

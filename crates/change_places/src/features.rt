@@ -2,7 +2,10 @@
 
 ghost use Rattle.std.specs.Prelude.{◌≡◌, ◌++◌, IfOk, OnOk, decimal, codes};
 ghost use Rattle.report_text.specs.ReportText.{place_text, relation_word};
-ghost use Rattle.change_places.specs.PlacesText.{position_text, is_point, point_text, line_text, segment_text, escaped_byte, name_text, layer_name, at_text, key_text, relation_text, layer_text, from_text, side_text, geometry_text, change_text, feature_text, separator_text, features_text, places_text};
+ghost use Rattle.change_places.specs.PlacesText.{position_text, is_point, point_text, line_text, segment_text};
+ghost use Rattle.change_places.specs.PlacesText.{escaped_byte, name_text, layer_name, at_text, key_text, relation_text};
+ghost use Rattle.change_places.specs.PlacesText.{layer_text, from_text, side_text, geometry_text, change_text};
+ghost use Rattle.change_places.specs.PlacesText.{feature_text, separator_text, features_text, places_text};
 
 use crate::spots::{ChangeSpot, SideSpot};
 use itoa::Buffer;

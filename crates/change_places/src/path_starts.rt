@@ -1,6 +1,7 @@
 //! Where in a layer's bytes each of its paths is written, from the edits of its sheet.
 
-ghost use Rattle.std.specs.Prelude.{true, get_or, None as Nothing, ◌≡◌, ◌+◌, ◌==◌, ◌≤◌, ◌<◌, ◌^◌, length, map, count_by, IfOk};
+ghost use Rattle.std.specs.Prelude.{true, get_or, None as Nothing, ◌≡◌, ◌+◌, ◌==◌, ◌≤◌, ◌<◌, ◌^◌, length, map};
+ghost use Rattle.std.specs.Prelude.{count_by, IfOk};
 ghost use Rattle.std.specs.Option.{option_or};
 ghost use Rattle.sheet_base.specs.Sheets.{IsSheet};
 ghost use Rattle.sheet_base.specs.Splices.{AreInOrder};

@@ -426,8 +426,8 @@ fn puts_the_images_of_a_ring(rt: HostRuntime) {
     assert!(rt; is_written_as(rt.alloc(), HINGE, text, wanted));
 }
 
-/// Under the diagonal (x, y) goes to (100 + x + 0.0003 y, 100 + 1.0003 y). The sides cross it at u = 81/17 and u = 9/10,
-/// which go to 104.76613.. and 100.90027.
+/// Under the diagonal (x, y) goes to (100 + x + 0.0003 y, 100 + 1.0003 y). The sides cross it at u = 81/17 and u =
+/// 9/10, which go to 104.76613.. and 100.90027.
 #[test]
 fn puts_the_images_of_a_ring_over_an_edge(rt: HostRuntime) {
     let text = r#"{"bbox":[],"type":"Polygon","coordinates":[[[1,0],[9,1],[0,9],[1,0]]]}"#;

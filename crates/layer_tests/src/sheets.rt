@@ -33,8 +33,8 @@ pub fn edit(start: u32, end: u32, what: What) -> Edit {
     Edit { start, end, what }
 }
 
-/// Whether a sheet was read, of these paths, points and edits: `inexact` numbers lost digits, and `dropped` entities are
-/// left out.
+/// Whether a sheet was read, of these paths, points and edits: `inexact` numbers lost digits, and `dropped` entities
+/// are left out.
 pub fn is_sheet(
     read: Result<Sheet, LayerFault>,
     paths: &[PathRow],

@@ -1,5 +1,5 @@
-//! Checks, migrations and makings. The expected counts follow from the count of cells, and that of the pieces of made lines
-//! from exact fractions of another program.
+//! Checks, migrations and makings. The expected counts follow from the count of cells, and that of the pieces of made
+//! lines from exact fractions of another program.
 
 use crate::largest_maps::{add_file, lines_of_cells, shelf_of_cells};
 use check_mode::prepare_check;

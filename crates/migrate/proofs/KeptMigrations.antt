@@ -1,5 +1,6 @@
 -- What the end of a migration says of the pieces of its layers.
-use Rattle.std.proofs.Common.{◌≡◌, ℕ, ◌+◌, List, [], ◌∷◌, ◌++◌, map, codes, length, drop, Option, None, Some, IfSome, refl, sym, ◌∙◌, ap, subst, append_assoc, arith}
+use Rattle.std.proofs.Common.{◌≡◌, ℕ, ◌+◌, List, [], ◌∷◌, ◌++◌, map, codes, length, drop, Option, None, Some, IfSome}
+use Rattle.std.proofs.Common.{refl, sym, ◌∙◌, ap, subst, append_assoc, arith}
 use Rattle.std.proofs.lemmas.List.{append-nil}
 use Rattle.std.proofs.lemmas.List.Elements.{Contains-append_left, Contains-append_right}
 use Rattle.std.proofs.Math.Seq.{drop-append_seam}
@@ -12,14 +13,18 @@ use Rattle.tin_base.specs.declared.pieces.Change.{Change}
 use Rattle.tin_base.specs.declared.pieces.Piece.{Piece}
 use Rattle.topo_check.specs.Changes.{AreChanges}
 use Rattle.job_words.specs.declared.faults.WordsFault.{WordsFault}
-use Rattle.job_words.specs.declared.faults.WordsFault.TheVariants.{NoMode, Parse, Size, Many, Name, Suffix, SameName, NoMemory as WordsMemory}
+use Rattle.job_words.specs.declared.faults.WordsFault.TheVariants.{NoMode, Parse, Size, Many, Name, Suffix, SameName}
+use Rattle.job_words.specs.declared.faults.WordsFault.TheVariants.{NoMemory as WordsMemory}
 use Rattle.report_text.specs.Reports.{Contents as Report}
 use Rattle.report_text.specs.ReportText.{report_text}
 use Rattle.runs.specs.declared.status.Status.{Status}
 use Rattle.runs.specs.declared.refusal.Refusal.{Refusal}
-use Rattle.runs.specs.declared.refusal.Refusal.TheVariants.{Words, TinUnread, TinLong, Tin, Check, LayerUnread, LayersLong, Layer, Outside, TooManyPieces, TooManyChanges, NoMemory}
+use Rattle.runs.specs.declared.refusal.Refusal.TheVariants.{Words, TinUnread, TinLong, Tin, Check, LayerUnread}
+use Rattle.runs.specs.declared.refusal.Refusal.TheVariants.{LayersLong, Layer, Outside, TooManyPieces, TooManyChanges}
+use Rattle.runs.specs.declared.refusal.Refusal.TheVariants.{NoMemory}
 use Rattle.runs.specs.Refusals.{status_of, status_of_words, Refuses}
-use Rattle.runs.proofs.Faults.{IsOfTin, refused as refused_tin, limited, wanted, of_text, of_check, IsOfLayer, unread, without_room, of_layer}
+use Rattle.runs.proofs.Faults.{IsOfTin, refused as refused_tin, limited, wanted, of_text, of_check, IsOfLayer, unread}
+use Rattle.runs.proofs.Faults.{without_room, of_layer}
 use Rattle.migrate.specs.declared.migrations.Migration.{Migration}
 use Rattle.migrate.specs.Names.{name_in}
 use Rattle.migrate.specs.LayerOutcomes.{IsLayerText}
@@ -28,12 +33,14 @@ use Rattle.migrate.specs.LayerRuns.{Setting, setting_of, Done, IsNextCarried, Ar
 use Rattle.migrate.specs.RunChanges.{end_with}
 use Rattle.migrate.specs.Migrations.{IsMigrated, IsMigrationDone, file_in, row_of, report_of}
 use Rattle.migrate.specs.Maker.{IsMakingDone, made_files, made_migration}
-use Rattle.migrate.specs.KeptRelations.{HasWritten, IsKeptLayer, AreKeptLayers, GivesPieces, AreAllAndOnly, KeepsRelationsIn, KeepsRelations, KeepsMadeRelations}
+use Rattle.migrate.specs.KeptRelations.{HasWritten, IsKeptLayer, AreKeptLayers, GivesPieces, AreAllAndOnly}
+use Rattle.migrate.specs.KeptRelations.{KeepsRelationsIn, KeepsRelations, KeepsMadeRelations}
 use Rattle.migrate.specs.Laws.{MigrationKeepsRelations, MakingKeepsRelations}
 use Rattle.migrate.proofs.PairChanges.{all_and_only, all_keep}
 
 -- ---- a refusal says nothing of pieces
-of_words : (files : Files) (migration : Migration) (fault : WordsFault) (layers made : Option Files) → KeepsRelationsIn files migration (status_of_words fault) layers made
+of_words : (files : Files) (migration : Migration) (fault : WordsFault) (layers made : Option Files)
+    → KeepsRelationsIn files migration (status_of_words fault) layers made
 of_words files migration NoMode layers made = tt
 of_words files migration Parse layers made = tt
 of_words files migration Size layers made = tt
@@ -43,16 +50,19 @@ of_words files migration (Suffix layer) layers made = tt
 of_words files migration (SameName layer) layers made = tt
 of_words files migration WordsMemory layers made = tt
 
-of_tin : (files : Files) (migration : Migration) (status : Status) (layers made : Option Files) → IsOfTin status → KeepsRelationsIn files migration status layers made
+of_tin : (files : Files) (migration : Migration) (status : Status) (layers made : Option Files) → IsOfTin status
+    → KeepsRelationsIn files migration status layers made
 of_tin files migration status layers made (refused_tin is) = rw is tt
 of_tin files migration status layers made (limited is) = rw is tt
 of_tin files migration status layers made (wanted is) = rw is tt
 
-of_unread : (files : Files) (migration : Migration) (status : Status) (layers made : Option Files) → IsOfLayer status → KeepsRelationsIn files migration status layers made
+of_unread : (files : Files) (migration : Migration) (status : Status) (layers made : Option Files) → IsOfLayer status
+    → KeepsRelationsIn files migration status layers made
 of_unread files migration status layers made (unread is) = rw is tt
 of_unread files migration status layers made (without_room is) = rw is tt
 
-of_refusal : (files : Files) (migration : Migration) (refusal : Refusal) (layers made : Option Files) → KeepsRelationsIn files migration (status_of refusal) layers made
+of_refusal : (files : Files) (migration : Migration) (refusal : Refusal) (layers made : Option Files)
+    → KeepsRelationsIn files migration (status_of refusal) layers made
 of_refusal files migration (Words fault) layers made = of_words files migration fault layers made
 of_refusal files migration TinUnread layers made = tt
 of_refusal files migration TinLong layers made = tt
@@ -66,28 +76,39 @@ of_refusal files migration TooManyPieces layers made = tt
 of_refusal files migration TooManyChanges layers made = tt
 of_refusal files migration NoMemory layers made = tt
 
-pub refused_so : (files : Files) (migration : Migration) (refusal : Refusal) (status : Status) (whole : Files) (layers made : Option Files) → Refuses refusal status whole → KeepsRelationsIn files migration status layers made
-refused_so files migration refusal status whole layers made is = subst (λ (s : Status). KeepsRelationsIn files migration s layers made) (sym is.status_is) (of_refusal files migration refusal layers made)
+pub refused_so : (files : Files) (migration : Migration) (refusal : Refusal) (status : Status) (whole : Files)
+    (layers made : Option Files) → Refuses refusal status whole → KeepsRelationsIn files migration status layers made
+refused_so files migration refusal status whole layers made is =
+    subst (λ (s : Status). KeepsRelationsIn files migration s layers made) (sym is.status_is)
+    (of_refusal files migration refusal layers made)
 
 -- ---- the layers of a migration that is done
 -- these files are among those that were made
 abbrev AreAmong : Files → Option Files → Type 0
 AreAmong layers made = IfSome made (λ files. (file : List ℕ × List ℕ) → Contains layers file → Contains files file)
 
-among_later : (first : List ℕ × List ℕ) (layers : Files) (made : Option Files) → AreAmong (first ∷ layers) made → AreAmong layers made
+among_later : (first : List ℕ × List ℕ) (layers : Files) (made : Option Files) → AreAmong (first ∷ layers) made
+    → AreAmong layers made
 among_later first layers None among = tt
 among_later first layers (Some made) among = λ file has. among file (Contains-append_right (first ∷ []) layers file has)
 
-written_in : (how : How) (tin : Triangulation) (folder name bytes : List ℕ) (own : List Piece) (first : Done) (layers : Files) (made : Option Files) → first.name ≡ name → AreAmong (file_in folder first ∷ layers) made
-    → IsBackAsPieces tin bytes (IsLayerText how first.format) (reads_back_of first.format how bytes) first.carried.text own → IfSome made (HasWritten how first.format tin folder name bytes own)
+written_in : (how : How) (tin : Triangulation) (folder name bytes : List ℕ) (own : List Piece) (first : Done)
+    (layers : Files) (made : Option Files) → first.name ≡ name → AreAmong (file_in folder first ∷ layers) made
+    → IsBackAsPieces tin bytes (IsLayerText how first.format) (reads_back_of first.format how bytes) first.carried.text
+    own → IfSome made (HasWritten how first.format tin folder name bytes own)
 written_in how tin folder name bytes own first layers None named among back = tt
-written_in how tin folder name bytes own first layers (Some made) named among back =
-    (first.carried.text, subst (λ (n : List ℕ). Contains made (name_in folder n, first.carried.text)) named (among (file_in folder first) (0, omega arith, refl)), back)
+written_in how tin folder name bytes own first layers (Some made) named among back = (
+  first.carried.text,
+  subst (λ (n : List ℕ). Contains made (name_in folder n, first.carried.text)) named
+      (among (file_in folder first) (0, omega arith, refl)),
+  back,
+)
 
 seam : (before own after : List Piece) → after ≡ before ++ own → drop (length before) after ≡ own
 seam before own after is = ap (λ (ps : List Piece). drop (length before) ps) is ∙ drop-append_seam before own
 
-kept_next : (setting : Setting) (folder : List ℕ) (made : Option Files) (number used : ℕ) (before : List Piece) (name bytes : List ℕ) (after : List Piece) (first : Done) (layers : Files)
+kept_next : (setting : Setting) (folder : List ℕ) (made : Option Files) (number used : ℕ) (before : List Piece)
+    (name bytes : List ℕ) (after : List Piece) (first : Done) (layers : Files)
     → IsNextCarried setting number used before name bytes after first → AreAmong (file_in folder first ∷ layers) made
     → (own : List Piece) × (after ≡ before ++ own) × IsKeptLayer setting folder made number used name bytes own
 kept_next setting folder made number used before name bytes after first layers is among =
@@ -104,76 +125,112 @@ kept_next setting folder made number used before name bytes after first layers i
         are_pieces = layer.are_pieces;
         written =
             written_in setting.how setting.tin folder name bytes layer.own first layers made is.named among
-            (subst (λ (ps : List Piece). IsBackAsPieces setting.tin bytes (IsLayerText setting.how first.format) (reads_back_of first.format setting.how bytes) first.carried.text ps) (seam before layer.own after layer.stand) carried.back);
+            (subst (λ (ps : List Piece). IsBackAsPieces setting.tin bytes (IsLayerText setting.how first.format)
+            (reads_back_of first.format setting.how bytes) first.carried.text ps)
+            (seam before layer.own after layer.stand) carried.back);
       },
     )
 
-kept_all : (setting : Setting) (folder : List ℕ) (made : Option Files) (number used : ℕ) (before : List Piece) (names : List (List ℕ)) (after : List Piece) (ds : List Done) (total : ℕ)
+kept_all : (setting : Setting) (folder : List ℕ) (made : Option Files) (number used : ℕ) (before : List Piece)
+    (names : List (List ℕ)) (after : List Piece) (ds : List Done) (total : ℕ)
     → AreCarried setting number used before names after ds total → AreAmong (map (file_in folder) ds) made
     → (rest : List Piece) × (after ≡ before ++ rest) × AreKeptLayers setting folder made number used names rest
-kept_all setting folder made number used before [] after ds total (same, none, sum) among = ([], same ∙ sym (append-nil before), refl)
-kept_all setting folder made number used before (name ∷ names) after ds total (bytes, pieces, first, others, next, are, more) among =
-    let among_here : AreAmong (file_in folder first ∷ map (file_in folder) others) made = subst (λ (es : List Done). AreAmong (map (file_in folder) es) made) are among in
-    let (own, stand, kept) = kept_next setting folder made number used before name bytes pieces first (map (file_in folder) others) next among_here in
+kept_all setting folder made number used before [] after ds total (same, none, sum) among =
+    ([], same ∙ sym (append-nil before), refl)
+kept_all setting folder made number used before (name ∷ names) after ds total
+    (bytes, pieces, first, others, next, are, more) among =
+    let among_here : AreAmong (file_in folder first ∷ map (file_in folder) others) made =
+    subst (λ (es : List Done). AreAmong (map (file_in folder) es) made) are among in
+    let (own, stand, kept) = kept_next setting folder made number used before name bytes pieces first
+    (map (file_in folder) others) next among_here in
     let (rest, behind, later) =
-    kept_all setting folder made (number + 1) (used + length bytes) pieces names after others total more (among_later (file_in folder first) (map (file_in folder) others) made among_here) in
-    (own ++ rest, behind ∙ (ap (λ (ps : List Piece). ps ++ rest) stand ∙ append_assoc before own rest), (bytes, own, rest, kept, refl, later))
+    kept_all setting folder made (number + 1) (used + length bytes) pieces names after others total more
+    (among_later (file_in folder first) (map (file_in folder) others) made among_here) in (
+      own ++ rest,
+      behind ∙ (ap (λ (ps : List Piece). ps ++ rest) stand ∙ append_assoc before own rest),
+      (bytes, own, rest, kept, refl, later),
+    )
 
 -- ---- a migration that is done
-in_last : (layers : Files) (said : List ℕ) (whole : Files) (made : Option Files) → IfSome made (λ files. files ≡ whole) → whole ≡ layers ++ (codes "-", said) ∷ [] → IfSome made (λ files. Contains files (codes "-", said))
+in_last : (layers : Files) (said : List ℕ) (whole : Files) (made : Option Files) → IfSome made (λ files. files ≡ whole)
+    → whole ≡ layers ++ (codes "-", said) ∷ [] → IfSome made (λ files. Contains files (codes "-", said))
 in_last layers said whole None is two = tt
-in_last layers said whole (Some made) is two = rw (is, two) (Contains-append_right layers ((codes "-", said) ∷ []) (codes "-", said) (0, omega arith, refl))
+in_last layers said whole (Some made) is two =
+    rw (is, two) (Contains-append_right layers ((codes "-", said) ∷ []) (codes "-", said) (0, omega arith, refl))
 
-in_front : (layers : Files) (said : List ℕ) (whole : Files) (made : Option Files) → IfSome made (λ files. files ≡ whole) → whole ≡ layers ++ (codes "-", said) ∷ [] → AreAmong layers made
+in_front : (layers : Files) (said : List ℕ) (whole : Files) (made : Option Files) → IfSome made (λ files. files ≡ whole)
+    → whole ≡ layers ++ (codes "-", said) ∷ [] → AreAmong layers made
 in_front layers said whole None is two = tt
-in_front layers said whole (Some made) is two = λ file has. subst (λ (fs : Files). Contains fs file) (sym (is ∙ two)) (Contains-append_left layers ((codes "-", said) ∷ []) file has)
+in_front layers said whole (Some made) is two =
+    λ file has. subst (λ (fs : Files). Contains fs file) (sym (is ∙ two))
+    (Contains-append_left layers ((codes "-", said) ∷ []) file has)
 
-keeps_with : (files : Files) (migration : Migration) (tin : Triangulation) (pieces : List Piece) (changes : List Change) (report : Report) (layers made : Option Files) → GivesPieces files migration layers tin pieces
-    → AreChanges tin pieces changes → report.changes ≡ changes → IfSome made (λ files. Contains files (codes "-", report_text report)) → KeepsRelationsIn files migration (end_with changes) layers made
-keeps_with files migration tin pieces [] report layers made gives are same there = (tin, pieces, gives, all_keep tin pieces are)
+keeps_with : (files : Files) (migration : Migration) (tin : Triangulation) (pieces : List Piece) (changes : List Change)
+    (report : Report) (layers made : Option Files) → GivesPieces files migration layers tin pieces
+    → AreChanges tin pieces changes → report.changes ≡ changes
+    → IfSome made (λ files. Contains files (codes "-", report_text report))
+    → KeepsRelationsIn files migration (end_with changes) layers made
+keeps_with files migration tin pieces [] report layers made gives are same there =
+    (tin, pieces, gives, all_keep tin pieces are)
 keeps_with files migration tin pieces (change ∷ changes) report layers made gives are same there = (
   tin,
   pieces,
   gives,
   record {
     report = report;
-    listed = subst (λ (cs : List Change). AreAllAndOnly tin pieces cs) (sym same) (all_and_only tin pieces (change ∷ changes) are);
+    listed = subst (λ (cs : List Change). AreAllAndOnly tin pieces cs) (sym same)
+        (all_and_only tin pieces (change ∷ changes) are);
     some = λ none. let e = sym same ∙ none in cc;
     printed = there;
   },
 )
 
 -- the layers' files are among some files, and what is said among those that are made
-migrated_in : (files : Files) (migration : Migration) (status : Status) (changes : List Change) (written : Files) (said : List ℕ) (layers made : Option Files) → IsMigrated files migration changes written said → status ≡ end_with changes
-    → AreAmong written layers → IfSome made (λ fs. Contains fs (codes "-", said)) → KeepsRelationsIn files migration status layers made
+migrated_in : (files : Files) (migration : Migration) (status : Status) (changes : List Change) (written : Files)
+    (said : List ℕ) (layers made : Option Files) → IsMigrated files migration changes written said
+    → status ≡ end_with changes
+    → AreAmong written layers → IfSome made (λ fs. Contains fs (codes "-", said))
+    → KeepsRelationsIn files migration status layers made
 migrated_in files migration status changes written said layers made all ends among there =
     let listed = all.listed in
     let report = report_of migration.tin all.tin (map row_of all.done) changes in
     let (rest, stand, kept) =
-    kept_all (setting_of (Some files) migration.how all.tin) migration.out layers 0 0 [] migration.layers all.pieces all.done all.used all.carried (subst (λ (fs : Files). AreAmong fs layers) all.layers_are among) in
+    kept_all (setting_of (Some files) migration.how all.tin) migration.out layers 0 0 [] migration.layers all.pieces
+    all.done all.used all.carried (subst (λ (fs : Files). AreAmong fs layers) all.layers_are among) in
     let gives : GivesPieces files migration layers all.tin all.pieces = record {
       way = all.way;
-      layers = subst (λ (ps : List Piece). AreKeptLayers (setting_of (Some files) migration.how all.tin) migration.out layers 0 0 migration.layers ps) (sym stand) kept;
+      layers = subst (λ (ps : List Piece). AreKeptLayers (setting_of (Some files) migration.how all.tin) migration.out
+          layers 0 0 migration.layers ps) (sym stand) kept;
     } in
     subst (λ (s : Status). KeepsRelationsIn files migration s layers made) (sym ends)
     (keeps_with files migration all.tin all.pieces changes report layers made gives listed.are_changes refl
     (subst (λ (text : List ℕ). IfSome made (λ fs. Contains fs (codes "-", text))) all.said_is there))
 
-pub migrated_keeps : (files : Files) (migration : Migration) (status : Status) (whole : Files) (made : Option Files) → IfSome made (λ files. files ≡ whole) → IsMigrationDone files migration status whole → KeepsRelations files migration status made
+pub migrated_keeps : (files : Files) (migration : Migration) (status : Status) (whole : Files) (made : Option Files)
+    → IfSome made (λ files. files ≡ whole) → IsMigrationDone files migration status whole
+    → KeepsRelations files migration status made
 migrated_keeps files migration status whole made same is =
-    migrated_in files migration status is.changes is.layers is.said made made is.migrated is.status_is (in_front is.layers is.said whole made same is.made_is) (in_last is.layers is.said whole made same is.made_is)
+    migrated_in files migration status is.changes is.layers is.said made made is.migrated is.status_is
+    (in_front is.layers is.said whole made same is.made_is) (in_last is.layers is.said whole made same is.made_is)
 
 -- ---- what is made
-pub made_refused : (n : ℕ) (refusal : Refusal) (status : Status) (whole : Files) (made : Option Files) → Refuses refusal status whole → KeepsMadeRelations n status made
-made_refused n refusal status whole made is = ([], refused_so (made_files n) made_migration refusal status whole (Some []) made is)
+pub made_refused : (n : ℕ) (refusal : Refusal) (status : Status) (whole : Files) (made : Option Files)
+    → Refuses refusal status whole → KeepsMadeRelations n status made
+made_refused n refusal status whole made is =
+    ([], refused_so (made_files n) made_migration refusal status whole (Some []) made is)
 
-pub making_keeps : (n : ℕ) (status : Status) (whole : Files) (made : Option Files) → IfSome made (λ files. files ≡ whole) → IsMakingDone n status whole → KeepsMadeRelations n status made
-making_keeps n status whole made same is =
-    (is.layers, migrated_in (made_files n) made_migration status is.changes is.layers is.said (Some is.layers) made is.migrated is.status_is (λ file has. has) (in_last [] is.said whole made same is.made_is))
+pub making_keeps : (n : ℕ) (status : Status) (whole : Files) (made : Option Files)
+    → IfSome made (λ files. files ≡ whole) → IsMakingDone n status whole → KeepsMadeRelations n status made
+making_keeps n status whole made same is = (
+  is.layers,
+  migrated_in (made_files n) made_migration status is.changes is.layers is.said (Some is.layers) made
+      is.migrated is.status_is (λ file has. has) (in_last [] is.said whole made same is.made_is),
+)
 
 -- ---- the laws
 pub migration_keeps_relations : MigrationKeepsRelations
-migration_keeps_relations files migration status made is = migrated_keeps files migration status made (Some made) refl is
+migration_keeps_relations files migration status made is =
+    migrated_keeps files migration status made (Some made) refl is
 
 pub making_keeps_relations : MakingKeepsRelations
 making_keeps_relations n status made is = making_keeps n status made (Some made) refl is

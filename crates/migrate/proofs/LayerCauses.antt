@@ -7,7 +7,9 @@ use Rattle.migrate.specs.declared.migrations.Migration.{Migration}
 use Rattle.runs.specs.declared.status.Status.{Status}
 use Rattle.runs.specs.declared.status.Status.TheVariants.{Read as ReadStatus, Words as WordsStatus}
 use Rattle.runs.specs.declared.refusal.Refusal.{Refusal}
-use Rattle.runs.specs.declared.refusal.Refusal.TheVariants.{Words, TinUnread, TinLong, Tin, Check, LayerUnread, LayersLong, Layer, Outside, TooManyPieces, TooManyChanges, NoMemory}
+use Rattle.runs.specs.declared.refusal.Refusal.TheVariants.{Words, TinUnread, TinLong, Tin, Check, LayerUnread}
+use Rattle.runs.specs.declared.refusal.Refusal.TheVariants.{LayersLong, Layer, Outside, TooManyPieces, TooManyChanges}
+use Rattle.runs.specs.declared.refusal.Refusal.TheVariants.{NoMemory}
 use Rattle.runs.specs.Refusals.{status_of, status_of_layer}
 use Rattle.migrate.specs.Migrations.{LacksSome, LacksWanted}
 use Rattle.runs.specs.Causes.{HasCauses}
@@ -38,8 +40,10 @@ wanted : (rose lacks some : Type 0) → rose ⊎ some → rose ⊎ (lacks ⊎ so
 wanted rose lacks some (inl h) = inl h
 wanted rose lacks some (inr h) = inr (inr h)
 
-pub layers_causes : (migration : Migration) (told : Option Files) (rose passed : Type 0) (refusal : Refusal) → IsOfLayers refusal
-    → (status_of refusal ≡ ReadStatus → rose ⊎ LacksSome migration.layers told) → (refusal ≡ LayersLong → passed) → HasCauses (LacksWanted migration told) (λ status. Unit {0}) rose passed refusal
+pub layers_causes : (migration : Migration) (told : Option Files) (rose passed : Type 0) (refusal : Refusal)
+    → IsOfLayers refusal
+    → (status_of refusal ≡ ReadStatus → rose ⊎ LacksSome migration.layers told) → (refusal ≡ LayersLong → passed)
+    → HasCauses (LacksWanted migration told) (λ status. Unit {0}) rose passed refusal
 layers_causes migration told rose passed refusal of read long = record {
   understood = understood refusal of;
   read = λ e. wanted rose (LacksName told migration.tin) (LacksSome migration.layers told) (read e);
@@ -49,5 +53,6 @@ layers_causes migration told rose passed refusal of read long = record {
 }
 
 -- what was handed out before counts too
-pub passed_since : (start given more after : ℕ) → start ≤ given → counted given more ≤ after → counted start more ≤ after
+pub passed_since : (start given more after : ℕ) → start ≤ given → counted given more ≤ after
+    → counted start more ≤ after
 passed_since start given more after before past = omega (arith, before, past)

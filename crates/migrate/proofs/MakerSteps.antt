@@ -1,5 +1,6 @@
 -- What is made, from the steps of making it.
-use Rattle.std.proofs.Common.{◌≡◌, ◌≢◌, ◌≤◌, ◌+◌, ℕ, List, [], map, codes, length, Some, IfSome, refl, sym, ◌∙◌, ap, arith}
+use Rattle.std.proofs.Common.{◌≡◌, ◌≢◌, ◌≤◌, ◌+◌, ℕ, List, [], map, codes, length, Some, IfSome, refl, sym, ◌∙◌, ap}
+use Rattle.std.proofs.Common.{arith}
 use Rattle.shelf_io.specs.Load.{Loads}
 use Rattle.tin_base.specs.Triangulation.{Triangulation}
 use Rattle.tin_base.specs.Limits.{IsWithinLimits}
@@ -7,7 +8,8 @@ use Rattle.topo_check.specs.Changes.{AreAllComparable}
 use Rattle.runs.specs.declared.loads.TheConstants.{MOST_BYTES}
 use Rattle.runs.specs.declared.refusal.Refusal.{Refusal}
 use Rattle.runs.specs.declared.status.Status.TheVariants.{Read}
-use Rattle.runs.specs.declared.refusal.Refusal.TheVariants.{Tin, Check, Layer, Outside, TooManyPieces, TooManyChanges, NoMemory}
+use Rattle.runs.specs.declared.refusal.Refusal.TheVariants.{Tin, Check, Layer, Outside, TooManyPieces, TooManyChanges}
+use Rattle.runs.specs.declared.refusal.Refusal.TheVariants.{NoMemory}
 use Rattle.runs.specs.Refusals.{status_of}
 use Rattle.runs.proofs.Faults.{of_text, of_check, of_layer, not_read, layer_not_read}
 use Rattle.migrate.specs.MakerTexts.{layer_text}
@@ -17,14 +19,16 @@ use Rattle.migrate.specs.Maker.{made_files, made_migration, IsMakingDone, IsMaki
 use Rattle.runs.specs.Output.{file_of, files_of, HasForm}
 use Rattle.migrate.specs.RunContents.{HasCarried, AreUncarried, IsUnlisted, AddsLayer, AddsNone, IsReported}
 use Rattle.migrate.proofs.LayerLists.{names_done}
-use Rattle.migrate.proofs.MigrationSteps.{carried_at, uncarried_at, layers_refused, changes_refused, run_comparable, reports_on, run_migrated}
+use Rattle.migrate.proofs.MigrationSteps.{carried_at, uncarried_at, layers_refused, changes_refused, run_comparable}
+use Rattle.migrate.proofs.MigrationSteps.{reports_on, run_migrated}
 use Rattle.runs.specs.declared.output.LayerFile.{LayerFile}
 use Rattle.migrate.specs.declared.layer_runs.Run.{Run}
 use Rattle.runs.specs.declared.output.Output.{Output}
 use Rattle.migrate.specs.LayerRuns.{setting_of}
 
 -- ---- the layer
-made_found : (n : ℕ) (text : List ℕ) → text ≡ layer_text n → IfSome (Some (made_files n)) (Loads (codes "made.wkt") text)
+made_found : (n : ℕ) (text : List ℕ) → text ≡ layer_text n
+    → IfSome (Some (made_files n)) (Loads (codes "made.wkt") text)
 made_found n text is = ap Some (sym is)
 
 -- a run that has no layer yet
@@ -34,7 +38,8 @@ pub record IsEmpty (run : Run) : Type 0 where
   pub pieces : run.pieces.items ≡ []
   pub used : run.used ≡ 0
 
-has_none : (n : ℕ) (tin : Triangulation) (run : Run) → IsEmpty run → HasCarried (setting_of (Some (made_files n)) made_migration.how tin) [] [] run
+has_none : (n : ℕ) (tin : Triangulation) (run : Run) → IsEmpty run
+    → HasCarried (setting_of (Some (made_files n)) made_migration.how tin) [] [] run
 has_none n tin run is = record {
   done = [];
   carried = (is.pieces, refl, is.used);
@@ -44,51 +49,77 @@ has_none n tin run is = record {
 room_for : (used n : ℕ) → used ≡ 0 → n ≤ MOST_BYTES → used + n ≤ MOST_BYTES
 room_for used n is few = omega arith
 
-pub made_carried : (n : ℕ) (text : List ℕ) (tin : Triangulation) (before now : Run) → text ≡ layer_text n → length text ≤ MOST_BYTES → IsEmpty before → AddsLayer made_migration.how tin [] 0 (codes "made.wkt") text before now
+pub made_carried : (n : ℕ) (text : List ℕ) (tin : Triangulation) (before now : Run) → text ≡ layer_text n
+    → length text ≤ MOST_BYTES → IsEmpty before
+    → AddsLayer made_migration.how tin [] 0 (codes "made.wkt") text before now
     → HasCarried (setting_of (Some (made_files n)) made_migration.how tin) [] made_migration.layers now
 made_carried n text tin before now is few empty adds =
-    carried_at (setting_of (Some (made_files n)) made_migration.how tin) made_migration.layers 0 (codes "made.wkt") [] text before now (omega arith) refl (has_none n tin before empty) (made_found n text is)
+    carried_at (setting_of (Some (made_files n)) made_migration.how tin) made_migration.layers 0 (codes "made.wkt") []
+    text before now (omega arith) refl (has_none n tin before empty) (made_found n text is)
     (room_for before.used (length text) empty.used few) adds
 
-pub made_uncarried : (n : ℕ) (text : List ℕ) (tin : Triangulation) (before : Run) (refusal : Refusal) → text ≡ layer_text n → length text ≤ MOST_BYTES → IsEmpty before
-    → AddsNone made_migration.how tin 0 (codes "made.wkt") text (length before.pieces.items) refusal → AreUncarried (setting_of (Some (made_files n)) made_migration.how tin) made_migration.layers ⊥ refusal
+pub made_uncarried : (n : ℕ) (text : List ℕ) (tin : Triangulation) (before : Run) (refusal : Refusal)
+    → text ≡ layer_text n → length text ≤ MOST_BYTES → IsEmpty before
+    → AddsNone made_migration.how tin 0 (codes "made.wkt") text (length before.pieces.items) refusal
+    → AreUncarried (setting_of (Some (made_files n)) made_migration.how tin) made_migration.layers ⊥ refusal
 made_uncarried n text tin before refusal is few empty why =
-    uncarried_at (setting_of (Some (made_files n)) made_migration.how tin) made_migration.layers 0 (codes "made.wkt") [] text before ⊥ refusal (omega arith) refl (has_none n tin before empty) (made_found n text is)
+    uncarried_at (setting_of (Some (made_files n)) made_migration.how tin) made_migration.layers 0 (codes "made.wkt") []
+    text before ⊥ refusal (omega arith) refl (has_none n tin before empty) (made_found n text is)
     (room_for before.used (length text) empty.used few) why
 
 -- ---- the whole
-pub made_run_refused : (n : ℕ) (tin : Triangulation) (refusal : Refusal) → HasTurned (made_files n) made_migration.how made_migration.tin made_migration.inverse tin
-    → AreUncarried (setting_of (Some (made_files n)) made_migration.how tin) made_migration.layers ⊥ refusal → MayNotBeMade n refusal
-made_run_refused n tin refusal ready why = layers_refused (Some (made_files n)) made_migration tin ⊥ ⊥ refusal ready (λ rose. rose) why
+pub made_run_refused : (n : ℕ) (tin : Triangulation) (refusal : Refusal)
+    → HasTurned (made_files n) made_migration.how made_migration.tin made_migration.inverse tin
+    → AreUncarried (setting_of (Some (made_files n)) made_migration.how tin) made_migration.layers ⊥ refusal
+    → MayNotBeMade n refusal
+made_run_refused n tin refusal ready why =
+    layers_refused (Some (made_files n)) made_migration tin ⊥ ⊥ refusal ready (λ rose. rose) why
 
-pub made_changes_refused : (n : ℕ) (tin : Triangulation) (run : Run) (refusal : Refusal) → HasTurned (made_files n) made_migration.how made_migration.tin made_migration.inverse tin
-    → HasCarried (setting_of (Some (made_files n)) made_migration.how tin) [] made_migration.layers run → IsUnlisted tin run.pieces.items refusal → MayNotBeMade n refusal
-made_changes_refused n tin run refusal ready has why = changes_refused (Some (made_files n)) made_migration tin run ⊥ refusal ready has why
+pub made_changes_refused : (n : ℕ) (tin : Triangulation) (run : Run) (refusal : Refusal)
+    → HasTurned (made_files n) made_migration.how made_migration.tin made_migration.inverse tin
+    → HasCarried (setting_of (Some (made_files n)) made_migration.how tin) [] made_migration.layers run
+    → IsUnlisted tin run.pieces.items refusal → MayNotBeMade n refusal
+made_changes_refused n tin run refusal ready has why =
+    changes_refused (Some (made_files n)) made_migration tin run ⊥ refusal ready has why
 
-pub made_comparable : (n : ℕ) (tin : Triangulation) (run : Run) → IsWithinLimits tin → HasCarried (setting_of (Some (made_files n)) made_migration.how tin) [] made_migration.layers run → AreAllComparable tin run.pieces.items
+pub made_comparable : (n : ℕ) (tin : Triangulation) (run : Run) → IsWithinLimits tin
+    → HasCarried (setting_of (Some (made_files n)) made_migration.how tin) [] made_migration.layers run
+    → AreAllComparable tin run.pieces.items
 made_comparable n tin run limits has = run_comparable (Some (made_files n)) made_migration tin run limits has
 
-pub made_done : (n : ℕ) (tin : Triangulation) (run : Run) (written final : Output) → HasTurned (made_files n) made_migration.how made_migration.tin made_migration.inverse tin
-    → HasCarried (setting_of (Some (made_files n)) made_migration.how tin) [] made_migration.layers run → IsReported (codes "made.json") tin run written → final.layers.items ≡ [] → final.said ≡ written.said → final.changed ≡ written.changed
+pub made_done : (n : ℕ) (tin : Triangulation) (run : Run) (written final : Output)
+    → HasTurned (made_files n) made_migration.how made_migration.tin made_migration.inverse tin
+    → HasCarried (setting_of (Some (made_files n)) made_migration.how tin) [] made_migration.layers run
+    → IsReported (codes "made.json") tin run written → final.layers.items ≡ [] → final.said ≡ written.said
+    → final.changed ≡ written.changed
     → IsMakingDone n (end_of final.changed) (files_of final)
 made_done n tin run written final ready has is none said changed =
     record {
       changes = is.changes;
       layers = map (file_in []) has.done;
       said = written.said;
-      migrated = run_migrated (made_files n) made_migration tin run written (map (file_in []) has.done) ready has is refl;
+      migrated = run_migrated (made_files n) made_migration tin run written (map (file_in []) has.done) ready has is
+          refl;
       status_is = ap end_of (changed ∙ is.changed);
       made_is = rw (none, said) refl;
     }
 
-pub made_form : (n : ℕ) (tin : Triangulation) (run : Run) (written final : Output) → HasCarried (setting_of (Some (made_files n)) made_migration.how tin) [] made_migration.layers run → IsReported (codes "made.json") tin run written
-    → final.layers.items ≡ [] → final.said ≡ written.said → final.changed ≡ written.changed → HasForm IsMakingWritten final
+pub made_form : (n : ℕ) (tin : Triangulation) (run : Run) (written final : Output)
+    → HasCarried (setting_of (Some (made_files n)) made_migration.how tin) [] made_migration.layers run
+    → IsReported (codes "made.json") tin run written
+    → final.layers.items ≡ [] → final.said ≡ written.said → final.changed ≡ written.changed
+    → HasForm IsMakingWritten final
 made_form n tin run written final has is none said changed =
     let holds = has.holds in
-    let are = names_done (setting_of (Some (made_files n)) made_migration.how tin) 0 0 [] made_migration.layers run.pieces.items has.done run.used has.carried in
+    let are = names_done (setting_of (Some (made_files n)) made_migration.how tin) 0 0 [] made_migration.layers
+    run.pieces.items has.done run.used has.carried in
     record {
       writable = rw none tt;
-      is_of = (ap (λ (files : List LayerFile). map file_of files) none, rw (said, changed) (reports_on (codes "made.json") made_migration.layers tin run written has.done holds.rows are is));
+      is_of = (
+        ap (λ (files : List LayerFile). map file_of files) none,
+        rw (said, changed)
+            (reports_on (codes "made.json") made_migration.layers tin run written has.done holds.rows are is),
+      );
     }
 
 -- what is made is not read

@@ -1,5 +1,6 @@
 -- What is so of a job after each of its steps.
-use Rattle.std.proofs.Common.{◌≡◌, ◌⊎◌, ◌≤◌, ◌<◌, ◌+◌, ◌-◌, inl, inr, ℕ, List, [], ◌∷◌, ◌++◌, map, length, take, drop, get_or, Option, None, Some, IfSome, refl, sym, ◌∙◌, ap, subst, arith}
+use Rattle.std.proofs.Common.{◌≡◌, ◌⊎◌, ◌≤◌, ◌<◌, ◌+◌, ◌-◌, inl, inr, ℕ, List, [], ◌∷◌, ◌++◌, map, length, take, drop}
+use Rattle.std.proofs.Common.{get_or, Option, None, Some, IfSome, refl, sym, ◌∙◌, ap, subst, arith}
 use Rattle.std.proofs.lemmas.List.{take-append-drop, drop_more, take_more, map-append, length-take}
 use Rattle.std.specs.List.{AllByRecursion}
 use Rattle.shelf_io.specs.Count.{counted}
@@ -15,46 +16,56 @@ use Rattle.job_words.specs.Formats.{format_of}
 use Rattle.runs.specs.declared.loads.TheConstants.{MOST_BYTES}
 use Rattle.runs.specs.declared.status.Status.TheVariants.{Read as ReadStatus}
 use Rattle.runs.specs.declared.refusal.Refusal.{Refusal}
-use Rattle.runs.specs.declared.refusal.Refusal.TheVariants.{LayerUnread, LayersLong, Layer, Outside, TooManyPieces, TooManyChanges, NoMemory}
+use Rattle.runs.specs.declared.refusal.Refusal.TheVariants.{LayerUnread, LayersLong, Layer, Outside, TooManyPieces}
+use Rattle.runs.specs.declared.refusal.Refusal.TheVariants.{TooManyChanges, NoMemory}
 use Rattle.report_text.specs.ReportText.{report_text}
 use Rattle.runs.specs.declared.output.LayerFile.{LayerFile}
 use Rattle.migrate.specs.declared.layer_runs.Run.{Run}
 use Rattle.runs.specs.declared.output.Output.{Output}
 use Rattle.migrate.specs.declared.migrations.Migration.{Migration}
-use Rattle.migrate.specs.Migrations.{MayBeTaken, HasTurned, by_tin, by_layers, row_of, report_of, file_in, IsReportOn, LacksSome, IsMigrated}
+use Rattle.migrate.specs.Migrations.{MayBeTaken, HasTurned, by_tin, by_layers, row_of, report_of, file_in, IsReportOn}
+use Rattle.migrate.specs.Migrations.{LacksSome, IsMigrated}
 use Rattle.migrate.specs.LayerOutcomes.{IsLayerText, LacksLayerText}
 use Rattle.runs.specs.Status.{end_of}
 use Rattle.runs.specs.Refusals.{status_of}
-use Rattle.migrate.specs.LayerRuns.{Setting, setting_of, Done, IsLayerFile, IsLongLayer, IsNextCarried, AreCarried, IsNextRefused, IsReachedLayer, AreRefused, at_layer, at_changes}
+use Rattle.migrate.specs.LayerRuns.{Setting, setting_of, Done, IsLayerFile, IsLongLayer, IsNextCarried, AreCarried}
+use Rattle.migrate.specs.LayerRuns.{IsNextRefused, IsReachedLayer, AreRefused, at_layer, at_changes}
 use Rattle.migrate.specs.Migrations.{MayRefuseMigration, IsMigrationDone, IsMigrationWritten}
 use Rattle.runs.proofs.TinRefusals.{without_file, without_read, without_room, unready}
 use Rattle.migrate.specs.Names.{name_in}
 use Rattle.runs.specs.Causes.{by_the_files, unread, no_room}
 use Rattle.runs.specs.Output.{file_of, files_of, AreWritable, HasForm}
 use Rattle.runs.specs.Loads.{IsUnloaded, missing, read_failed, too_long, no_memory, IsTinUnready}
-use Rattle.migrate.specs.RunContents.{IsUncarriedAs, Holds, HasCarried, AreUncarried, by_the_layers, by_fault, out_of_memory, IsUnlisted, AddsLayer, AddsNone, IsReported}
+use Rattle.migrate.specs.RunContents.{IsUncarriedAs, Holds, HasCarried, AreUncarried, by_the_layers, by_fault}
+use Rattle.migrate.specs.RunContents.{out_of_memory, IsUnlisted, AddsLayer, AddsNone, IsReported}
 use Rattle.migrate.proofs.LayerLists.{one_more, names_done, row-names, file-names, rows_printable, files_writable}
 use Rattle.migrate.proofs.ComparablePieces.{run_compared}
 
 -- ---- counts
-pub filled : (used count bytes : ℕ) → count ≡ bytes → used ≤ MOST_BYTES → count ≤ MOST_BYTES - used → used + bytes ≤ MOST_BYTES
+pub filled : (used count bytes : ℕ) → count ≡ bytes → used ≤ MOST_BYTES → count ≤ MOST_BYTES - used
+    → used + bytes ≤ MOST_BYTES
 filled used count bytes is few within = omega arith
 
 pub used_more : (used bytes now : ℕ) → used + bytes ≤ MOST_BYTES → now ≡ used + bytes → now ≤ MOST_BYTES
 used_more used bytes now few is = omega arith
 
-pub given_more : (start used given count bytes after now : ℕ) → counted start used ≤ given → counted given count ≤ after → count ≡ bytes → now ≡ used + bytes → counted start now ≤ after
+pub given_more : (start used given count bytes after now : ℕ) → counted start used ≤ given → counted given count ≤ after
+    → count ≡ bytes → now ≡ used + bytes → counted start now ≤ after
 given_more start used given count bytes after now before next same is = omega arith
 
 -- ---- the layers
 module _ (setting : Setting) (names : List (List ℕ)) where
-  stands_at : (i : ℕ) (name : List ℕ) → i < length names → name ≡ get_or names i name → names ≡ take i names ++ name ∷ drop (i + 1) names
-  stands_at i name within is = sym (take-append-drop i names) ∙ ap (λ (rest : List (List ℕ)). take i names ++ rest) (drop_more names i name within ∙ ap (λ (n : List ℕ). n ∷ drop (i + 1) names) (sym is))
+  stands_at : (i : ℕ) (name : List ℕ) → i < length names → name ≡ get_or names i name
+      → names ≡ take i names ++ name ∷ drop (i + 1) names
+  stands_at i name within is = sym (take-append-drop i names)
+      ∙ ap (λ (rest : List (List ℕ)). take i names ++ rest)
+      (drop_more names i name within ∙ ap (λ (n : List ℕ). n ∷ drop (i + 1) names) (sym is))
 
   fronts : (i : ℕ) → i < length names → i ≡ length (take i names)
   fronts i within = rw length-take (omega (arith, within))
 
-  reached_at : (i : ℕ) (name : List ℕ) (folder : List ℕ) (run : Run) → i < length names → name ≡ get_or names i name → HasCarried setting folder (take i names) run → IsReachedLayer setting names i name
+  reached_at : (i : ℕ) (name : List ℕ) (folder : List ℕ) (run : Run) → i < length names → name ≡ get_or names i name
+      → HasCarried setting folder (take i names) run → IsReachedLayer setting names i name
   reached_at i name folder run within is has = record {
     front = take i names;
     back = drop (i + 1) names;
@@ -66,70 +77,112 @@ module _ (setting : Setting) (names : List (List ℕ)) where
     carried = has.carried;
   }
 
-  refused_at : (i : ℕ) (name folder : List ℕ) (run : Run) (refusal : Refusal) → i < length names → name ≡ get_or names i name → HasCarried setting folder (take i names) run
+  refused_at : (i : ℕ) (name folder : List ℕ) (run : Run) (refusal : Refusal) → i < length names
+      → name ≡ get_or names i name → HasCarried setting folder (take i names) run
       → IsNextRefused setting i run.used (length run.pieces.items) name refusal → AreRefused setting names refusal
   unfolding reached_at
-  refused_at i name folder run refusal within is has why = at_layer (record { number = i; name = name; reached = reached_at i name folder run within is has; refused = why })
+  refused_at i name folder run refusal within is has why =
+      at_layer (record { number = i; name = name; reached = reached_at i name folder run within is has; refused = why })
 
   more_than : (most used n : ℕ) → used ≤ most → most - used < n → most < used + n
   more_than most used n few many = omega arith
 
-  long_layer : (files : Option Files) (name : List ℕ) (used : ℕ) → used ≤ MOST_BYTES → IfSome files (IsLonger name (MOST_BYTES - used)) → IsLongLayer files name used
+  long_layer : (files : Option Files) (name : List ℕ) (used : ℕ) → used ≤ MOST_BYTES
+      → IfSome files (IsLonger name (MOST_BYTES - used)) → IsLongLayer files name used
   long_layer None name used few long = tt
-  long_layer (Some files) name used few (bytes, found, many) = (bytes, found, more_than MOST_BYTES used (length bytes) few many)
+  long_layer (Some files) name used few (bytes, found, many) =
+      (bytes, found, more_than MOST_BYTES used (length bytes) few many)
 
   -- the layer's file is not loaded
-  pub unloaded_at : (i : ℕ) (name folder : List ℕ) (run : Run) (rose_here rose passed : Type 0) (refusal : Refusal) → i < length names → name ≡ get_or names i name → HasCarried setting folder (take i names) run
-      → run.used ≤ MOST_BYTES → (rose_here → rose) → IsUnloaded setting.told name (MOST_BYTES - run.used) (LayerUnread i) LayersLong rose_here passed refusal → AreUncarried setting names rose refusal
+  pub unloaded_at : (i : ℕ) (name folder : List ℕ) (run : Run) (rose_here rose passed : Type 0) (refusal : Refusal)
+      → i < length names → name ≡ get_or names i name → HasCarried setting folder (take i names) run
+      → run.used ≤ MOST_BYTES → (rose_here → rose)
+      → IsUnloaded setting.told name (MOST_BYTES - run.used) (LayerUnread i) LayersLong rose_here passed refusal
+      → AreUncarried setting names rose refusal
   unloaded_at i name folder run rose_here rose passed refusal within is has few rises (missing so lacks) =
-      subst (λ (r : Refusal). AreUncarried setting names rose r) (sym so) (by_the_layers (refused_at i name folder run (LayerUnread i) within is has (refl, lacks)))
-  unloaded_at i name folder run rose_here rose passed refusal within is has few rises (read_failed so rose_now) = by_fault (rises rose_now) i name (reached_at i name folder run within is has) so
+      subst (λ (r : Refusal). AreUncarried setting names rose r) (sym so)
+      (by_the_layers (refused_at i name folder run (LayerUnread i) within is has (refl, lacks)))
+  unloaded_at i name folder run rose_here rose passed refusal within is has few rises (read_failed so rose_now) =
+      by_fault (rises rose_now) i name (reached_at i name folder run within is has) so
   unloaded_at i name folder run rose_here rose passed refusal within is has few rises (too_long so long given) =
-      subst (λ (r : Refusal). AreUncarried setting names rose r) (sym so) (by_the_layers (refused_at i name folder run LayersLong within is has (long_layer setting.told name run.used few long)))
+      subst (λ (r : Refusal). AreUncarried setting names rose r) (sym so)
+      (by_the_layers (refused_at i name folder run LayersLong within is has
+      (long_layer setting.told name run.used few long)))
   unloaded_at i name folder run rose_here rose passed refusal within is has few rises (no_memory so) = out_of_memory so
 
   -- a file is missing, or the count of faults rose
-  pub lacks_at : (i : ℕ) (name : List ℕ) (most : ℕ) (rose_here rose passed : Type 0) (refusal : Refusal) → i < length names → name ≡ get_or names i name → (rose_here → rose)
-      → IsUnloaded setting.told name most (LayerUnread i) LayersLong rose_here passed refusal → status_of refusal ≡ ReadStatus → rose ⊎ LacksSome names setting.told
-  lacks_at i name most rose_here rose passed refusal within is rises (missing so lacks) status = inr (name, (i, within, sym is), lacks)
-  lacks_at i name most rose_here rose passed refusal within is rises (read_failed so rose_now) status = inl (rises rose_now)
-  lacks_at i name most rose_here rose passed refusal within is rises (too_long so long given) status = let e = sym (ap status_of so) ∙ status in cc
-  lacks_at i name most rose_here rose passed refusal within is rises (no_memory so) status = let e = sym (ap status_of so) ∙ status in cc
+  pub lacks_at : (i : ℕ) (name : List ℕ) (most : ℕ) (rose_here rose passed : Type 0) (refusal : Refusal)
+      → i < length names → name ≡ get_or names i name → (rose_here → rose)
+      → IsUnloaded setting.told name most (LayerUnread i) LayersLong rose_here passed refusal
+      → status_of refusal ≡ ReadStatus → rose ⊎ LacksSome names setting.told
+  lacks_at i name most rose_here rose passed refusal within is rises (missing so lacks) status =
+      inr (name, (i, within, sym is), lacks)
+  lacks_at i name most rose_here rose passed refusal within is rises (read_failed so rose_now) status =
+      inl (rises rose_now)
+  lacks_at i name most rose_here rose passed refusal within is rises (too_long so long given) status = let e =
+      sym (ap status_of so) ∙ status in cc
+  lacks_at i name most rose_here rose passed refusal within is rises (no_memory so) status = let e =
+      sym (ap status_of so) ∙ status in cc
 
-  file_at : (i : ℕ) (name bytes : List ℕ) (used : ℕ) (format : Format) → format_of name ≡ Some format → IfSome setting.told (Loads name bytes) → used + length bytes ≤ MOST_BYTES → IsLayerFile setting.told name used format bytes
+  file_at : (i : ℕ) (name bytes : List ℕ) (used : ℕ) (format : Format) → format_of name ≡ Some format
+      → IfSome setting.told (Loads name bytes) → used + length bytes ≤ MOST_BYTES
+      → IsLayerFile setting.told name used format bytes
   file_at i name bytes used format suffix found within = record { suffix = suffix; found = found; within = within }
 
-  uncarried_rows : (i : ℕ) (name folder bytes : List ℕ) (run : Run) (rose : Type 0) (format : Format) (refusal : Refusal) → i < length names → name ≡ get_or names i name → HasCarried setting folder (take i names) run
-      → IsLayerFile setting.told name run.used format bytes → IsUncarriedAs (IsLayerText setting.how format) (LacksLayerText setting.how format) setting.tin bytes i (length run.pieces.items) refusal → AreUncarried setting names rose refusal
-  uncarried_rows i name folder bytes run rose format (Layer layer why) within is has file (same, lacks) = by_the_layers (refused_at i name folder run (Layer layer why) within is has (same, format, bytes, file, lacks))
+  uncarried_rows : (i : ℕ) (name folder bytes : List ℕ) (run : Run) (rose : Type 0) (format : Format)
+      (refusal : Refusal) → i < length names → name ≡ get_or names i name → HasCarried setting folder (take i names) run
+      → IsLayerFile setting.told name run.used format bytes
+      → IsUncarriedAs (IsLayerText setting.how format) (LacksLayerText setting.how format) setting.tin bytes i
+      (length run.pieces.items) refusal → AreUncarried setting names rose refusal
+  uncarried_rows i name folder bytes run rose format (Layer layer why) within is has file (same, lacks) =
+      by_the_layers (refused_at i name folder run (Layer layer why) within is has (same, format, bytes, file, lacks))
   uncarried_rows i name folder bytes run rose format (Outside layer path segment) within is has file (same, outside) =
-      by_the_layers (refused_at i name folder run (Outside layer path segment) within is has (same, format, bytes, file, outside))
-  uncarried_rows i name folder bytes run rose format TooManyPieces within is has file many = by_the_layers (refused_at i name folder run TooManyPieces within is has (format, bytes, file, many))
+      by_the_layers (refused_at i name folder run (Outside layer path segment) within is has
+      (same, format, bytes, file, outside))
+  uncarried_rows i name folder bytes run rose format TooManyPieces within is has file many =
+      by_the_layers (refused_at i name folder run TooManyPieces within is has (format, bytes, file, many))
   uncarried_rows i name folder bytes run rose format NoMemory within is has file why = out_of_memory refl
   uncarried_rows i name folder bytes run rose format refusal within is has file why = absurd why
 
   -- the layer's text is not carried
-  pub uncarried_at : (i : ℕ) (name folder bytes : List ℕ) (run : Run) (rose : Type 0) (refusal : Refusal) → i < length names → name ≡ get_or names i name → HasCarried setting folder (take i names) run
-      → IfSome setting.told (Loads name bytes) → run.used + length bytes ≤ MOST_BYTES → AddsNone setting.how setting.tin i name bytes (length run.pieces.items) refusal → AreUncarried setting names rose refusal
+  pub uncarried_at : (i : ℕ) (name folder bytes : List ℕ) (run : Run) (rose : Type 0) (refusal : Refusal)
+      → i < length names → name ≡ get_or names i name → HasCarried setting folder (take i names) run
+      → IfSome setting.told (Loads name bytes) → run.used + length bytes ≤ MOST_BYTES
+      → AddsNone setting.how setting.tin i name bytes (length run.pieces.items) refusal
+      → AreUncarried setting names rose refusal
   uncarried_at i name folder bytes run rose refusal within is has found few none =
-      uncarried_rows i name folder bytes run rose none.format refusal within is has (file_at i name bytes run.used none.format none.suffix found few) none.why
+      uncarried_rows i name folder bytes run rose none.format refusal within is has
+      (file_at i name bytes run.used none.format none.suffix found few) none.why
 
   -- it is carried
-  pub carried_at : (i : ℕ) (name folder bytes : List ℕ) (before now : Run) → i < length names → name ≡ get_or names i name → HasCarried setting folder (take i names) before
-      → IfSome setting.told (Loads name bytes) → before.used + length bytes ≤ MOST_BYTES → AddsLayer setting.how setting.tin folder i name bytes before now → HasCarried setting folder (take (i + 1) names) now
+  pub carried_at : (i : ℕ) (name folder bytes : List ℕ) (before now : Run) → i < length names
+      → name ≡ get_or names i name → HasCarried setting folder (take i names) before
+      → IfSome setting.told (Loads name bytes) → before.used + length bytes ≤ MOST_BYTES
+      → AddsLayer setting.how setting.tin folder i name bytes before now
+      → HasCarried setting folder (take (i + 1) names) now
   carried_at i name folder bytes before now within is has found few adds =
       let holds = has.holds in
       let done = adds.done in
       let next : IsNextCarried setting i before.used before.pieces.items name bytes now.pieces.items done =
-      record { named = adds.named; file = file_at i name bytes before.used done.format adds.suffix found few; carried = adds.carried } in
-      let all : AreCarried setting 0 0 [] (take i names ++ name ∷ []) now.pieces.items (has.done ++ done ∷ []) now.used =
-      one_more setting 0 0 [] (take i names) before.pieces.items has.done before.used name bytes now.pieces.items done i (has.done ++ done ∷ []) now.used has.carried (zero_more i within) next refl adds.used in
+      record {
+        named = adds.named;
+        file = file_at i name bytes before.used done.format adds.suffix found few;
+        carried =
+            adds.carried;
+      } in
+      let all : AreCarried setting 0 0 [] (take i names ++ name ∷ []) now.pieces.items (has.done ++ done ∷ [])
+      now.used =
+      one_more setting 0 0 [] (take i names) before.pieces.items has.done before.used name bytes now.pieces.items done i
+      (has.done ++ done ∷ []) now.used has.carried (zero_more i within) next refl adds.used in
       record {
         done = has.done ++ done ∷ [];
-        carried = subst (λ (ns : List (List ℕ)). AreCarried setting 0 0 [] ns now.pieces.items (has.done ++ done ∷ []) now.used) (sym (take_more names i name within ∙ ap (λ (n : List ℕ). take i names ++ n ∷ []) (sym is))) all;
+        carried = subst (λ (ns : List (List ℕ)). AreCarried setting 0 0 [] ns now.pieces.items (has.done ++ done ∷ [])
+            now.used) (sym (take_more names i name within ∙ ap (λ (n : List ℕ). take i names ++ n ∷ []) (sym is))) all;
         holds = record {
-          files = adds.files ∙ (ap (λ (fs : Files). fs ++ file_in folder done ∷ []) holds.files ∙ sym (map-append (file_in folder) has.done (done ∷ [])));
-          rows = adds.rows ∙ (ap (λ (rs : List LayerRow). rs ++ row_of done ∷ []) holds.rows ∙ sym (map-append row_of has.done (done ∷ [])));
+          files = adds.files ∙ (ap (λ (fs : Files). fs ++ file_in folder done ∷ []) holds.files
+              ∙ sym (map-append (file_in folder) has.done (done ∷ [])));
+          rows = adds.rows ∙ (ap (λ (rs : List LayerRow). rs ++ row_of done ∷ []) holds.rows
+              ∙ sym (map-append row_of has.done (done ∷ [])));
         };
       }
     where
@@ -138,7 +191,8 @@ module _ (setting : Setting) (names : List (List ℕ)) where
 
 -- ---- a migration
 -- is refused as its triangulation is, before its layers are looked at
-pub tin_refused : (told : Option Files) (migration : Migration) (rose passed : Type 0) (refusal : Refusal) → IsTinUnready told migration.how migration.tin rose passed refusal
+pub tin_refused : (told : Option Files) (migration : Migration) (rose passed : Type 0) (refusal : Refusal)
+    → IsTinUnready told migration.how migration.tin rose passed refusal
     → IfSome told (λ files. MayRefuseMigration files migration rose refusal)
 tin_refused None migration rose passed refusal why = tt
 tin_refused (Some files) migration rose passed refusal why =
@@ -149,41 +203,67 @@ tin_refused (Some files) migration rose passed refusal why =
     ]
 
 -- or as its layers are
-pub layers_refused : (told : Option Files) (migration : Migration) (tin : Triangulation) (rose_here rose : Type 0) (refusal : Refusal) → IfSome told (λ files. HasTurned files migration.how migration.tin migration.inverse tin)
-    → (rose_here → rose) → AreUncarried (setting_of told migration.how tin) migration.layers rose_here refusal → IfSome told (λ files. MayRefuseMigration files migration rose refusal)
+pub layers_refused : (told : Option Files) (migration : Migration) (tin : Triangulation) (rose_here rose : Type 0)
+    (refusal : Refusal) → IfSome told (λ files. HasTurned files migration.how migration.tin migration.inverse tin)
+    → (rose_here → rose) → AreUncarried (setting_of told migration.how tin) migration.layers rose_here refusal
+    → IfSome told (λ files. MayRefuseMigration files migration rose refusal)
 layers_refused None migration tin rose_here rose refusal ready rises why = tt
-layers_refused (Some files) migration tin rose_here rose refusal ready rises (by_the_layers is) = by_the_files (by_layers tin ready is)
-layers_refused (Some files) migration tin rose_here rose refusal ready rises (by_fault rose_now number name reached is) =
+layers_refused (Some files) migration tin rose_here rose refusal ready rises (by_the_layers is) =
+    by_the_files (by_layers tin ready is)
+layers_refused (Some files) migration tin rose_here rose refusal ready rises
+    (by_fault rose_now number name reached is) =
     unread (rises rose_now) (rw is (record { tin = tin; way = ready; name = name; reached = reached }))
-layers_refused (Some files) migration tin rose_here rose refusal ready rises (out_of_memory is) = no_room (ap status_of is)
+layers_refused (Some files) migration tin rose_here rose refusal ready rises (out_of_memory is) =
+    no_room (ap status_of is)
 
 -- or as their changes are
-pub changes_refused : (told : Option Files) (migration : Migration) (tin : Triangulation) (run : Run) (rose : Type 0) (refusal : Refusal) → IfSome told (λ files. HasTurned files migration.how migration.tin migration.inverse tin)
-    → HasCarried (setting_of told migration.how tin) migration.out migration.layers run → IsUnlisted tin run.pieces.items refusal → IfSome told (λ files. MayRefuseMigration files migration rose refusal)
+pub changes_refused : (told : Option Files) (migration : Migration) (tin : Triangulation) (run : Run) (rose : Type 0)
+    (refusal : Refusal) → IfSome told (λ files. HasTurned files migration.how migration.tin migration.inverse tin)
+    → HasCarried (setting_of told migration.how tin) migration.out migration.layers run
+    → IsUnlisted tin run.pieces.items refusal → IfSome told (λ files. MayRefuseMigration files migration rose refusal)
 changes_refused None migration tin run rose refusal ready has why = tt
 changes_refused (Some files) migration tin run rose TooManyChanges ready has why =
-    by_the_files (by_layers tin ready (at_changes (record { is = refl; pieces = run.pieces.items; done = has.done; used = run.used; carried = has.carried; more = why })))
+    by_the_files (by_layers tin ready (at_changes
+    (record {
+      is = refl;
+      pieces = run.pieces.items;
+      done = has.done;
+      used = run.used;
+      carried = has.carried;
+      more =
+          why;
+    })))
 changes_refused (Some files) migration tin run rose NoMemory ready has why = no_room refl
 changes_refused (Some files) migration tin run rose refusal ready has why = absurd why
 
 -- what the report asks of the layers
-pub rows_named : (told : Option Files) (migration : Migration) (tin : Triangulation) (run : Run) → MayBeTaken migration → HasCarried (setting_of told migration.how tin) migration.out migration.layers run
+pub rows_named : (told : Option Files) (migration : Migration) (tin : Triangulation) (run : Run) → MayBeTaken migration
+    → HasCarried (setting_of told migration.how tin) migration.out migration.layers run
     → AllByRecursion (λ row. IsPrintable row.name) run.rows.items
 rows_named told migration tin run taken has =
     let holds = has.holds in
     subst (λ (rows : List LayerRow). AllByRecursion (λ row. IsPrintable row.name) rows) (sym holds.rows)
-    (rows_printable has.done migration.layers (names_done (setting_of told migration.how tin) 0 0 [] migration.layers run.pieces.items has.done run.used has.carried) taken.layers_named)
+    (rows_printable has.done migration.layers
+    (names_done (setting_of told migration.how tin) 0 0 [] migration.layers run.pieces.items has.done run.used
+    has.carried) taken.layers_named)
 
-pub run_comparable : (told : Option Files) (migration : Migration) (tin : Triangulation) (run : Run) → IsWithinLimits tin → HasCarried (setting_of told migration.how tin) migration.out migration.layers run → AreAllComparable tin run.pieces.items
-run_comparable told migration tin run limits has = run_compared (setting_of told migration.how tin) migration.layers run.pieces.items has.done run.used limits has.carried
+pub run_comparable : (told : Option Files) (migration : Migration) (tin : Triangulation) (run : Run)
+    → IsWithinLimits tin → HasCarried (setting_of told migration.how tin) migration.out migration.layers run
+    → AreAllComparable tin run.pieces.items
+run_comparable told migration tin run limits has =
+    run_compared (setting_of told migration.how tin) migration.layers run.pieces.items has.done run.used limits
+    has.carried
 
 -- the layers' files
-files_are : (run : Run) (written : Output) (folder : List ℕ) (done : List Done) → written.layers.items ≡ run.files.items → Holds folder done run → map file_of written.layers.items ≡ map (file_in folder) done
+files_are : (run : Run) (written : Output) (folder : List ℕ) (done : List Done) → written.layers.items ≡ run.files.items
+    → Holds folder done run → map file_of written.layers.items ≡ map (file_in folder) done
 files_are run written folder done same holds = ap (λ (fs : List LayerFile). map file_of fs) same ∙ holds.files
 
 -- the run is the migration of its files, where its layers are written into these files
-pub run_migrated : (files : Files) (migration : Migration) (tin : Triangulation) (run : Run) (written : Output) (layers : Files) → HasTurned files migration.how migration.tin migration.inverse tin
-    → (has : HasCarried (setting_of (Some files) migration.how tin) migration.out migration.layers run) → (is : IsReported migration.tin tin run written) → layers ≡ map (file_in migration.out) has.done
+pub run_migrated : (files : Files) (migration : Migration) (tin : Triangulation) (run : Run) (written : Output)
+    (layers : Files) → HasTurned files migration.how migration.tin migration.inverse tin
+    → (has : HasCarried (setting_of (Some files) migration.how tin) migration.out migration.layers run)
+    → (is : IsReported migration.tin tin run written) → layers ≡ map (file_in migration.out) has.done
     → IsMigrated files migration is.changes layers written.said
 run_migrated files migration tin run written layers ready has is layers_are =
     let holds = has.holds in
@@ -196,11 +276,15 @@ run_migrated files migration tin run written layers ready has is layers_are =
       carried = has.carried;
       listed = is.listed;
       layers_are = layers_are;
-      said_is = is.said ∙ ap (λ (rows : List LayerRow). report_text (report_of migration.tin tin rows is.changes)) holds.rows;
+      said_is = is.said ∙ ap (λ (rows : List LayerRow). report_text (report_of migration.tin tin rows is.changes))
+          holds.rows;
     }
 
-pub migration_done : (told : Option Files) (migration : Migration) (tin : Triangulation) (run : Run) (written : Output) → IfSome told (λ files. HasTurned files migration.how migration.tin migration.inverse tin)
-    → HasCarried (setting_of told migration.how tin) migration.out migration.layers run → IsReported migration.tin tin run written → IfSome told (λ files. IsMigrationDone files migration (end_of written.changed) (files_of written))
+pub migration_done : (told : Option Files) (migration : Migration) (tin : Triangulation) (run : Run) (written : Output)
+    → IfSome told (λ files. HasTurned files migration.how migration.tin migration.inverse tin)
+    → HasCarried (setting_of told migration.how tin) migration.out migration.layers run
+    → IsReported migration.tin tin run written
+    → IfSome told (λ files. IsMigrationDone files migration (end_of written.changed) (files_of written))
 migration_done None migration tin run written ready has is = tt
 migration_done (Some files) migration tin run written ready has is =
     let holds = has.holds in
@@ -208,13 +292,15 @@ migration_done (Some files) migration tin run written ready has is =
       changes = is.changes;
       layers = map file_of written.layers.items;
       said = written.said;
-      migrated = run_migrated files migration tin run written (map file_of written.layers.items) ready has is (files_are run written migration.out has.done is.layers holds);
+      migrated = run_migrated files migration tin run written (map file_of written.layers.items) ready has is
+          (files_are run written migration.out has.done is.layers holds);
       status_is = ap end_of is.changed;
       made_is = refl;
     }
 
 -- the report is on the triangulation and the layers of these names
-pub reports_on : (name : List ℕ) (names : List (List ℕ)) (tin : Triangulation) (run : Run) (written : Output) (done : List Done) → run.rows.items ≡ map row_of done → map (λ (d : Done). d.name) done ≡ names
+pub reports_on : (name : List ℕ) (names : List (List ℕ)) (tin : Triangulation) (run : Run) (written : Output)
+    (done : List Done) → run.rows.items ≡ map row_of done → map (λ (d : Done). d.name) done ≡ names
     → IsReported name tin run written → IsReportOn name names written.said (end_of written.changed)
 reports_on name names tin run written done rows are is = record {
   report = report_of name tin run.rows.items is.changes;
@@ -224,16 +310,20 @@ reports_on name names tin run written done rows are is = record {
   status_is = ap end_of is.changed;
 }
 
-pub migration_form : (told : Option Files) (migration : Migration) (tin : Triangulation) (run : Run) (written : Output) → MayBeTaken migration → HasCarried (setting_of told migration.how tin) migration.out migration.layers run
+pub migration_form : (told : Option Files) (migration : Migration) (tin : Triangulation) (run : Run) (written : Output)
+    → MayBeTaken migration → HasCarried (setting_of told migration.how tin) migration.out migration.layers run
     → IsReported migration.tin tin run written → HasForm (IsMigrationWritten migration) written
 migration_form told migration tin run written taken has is =
     let holds = has.holds in
-    let are = names_done (setting_of told migration.how tin) 0 0 [] migration.layers run.pieces.items has.done run.used has.carried in
+    let are = names_done (setting_of told migration.how tin) 0 0 [] migration.layers run.pieces.items has.done run.used
+    has.carried in
     let files = files_are run written migration.out has.done is.layers holds in
     record {
-      writable = subst (λ (fs : Files). AreWritable fs) (sym files) (files_writable migration.out has.done migration.layers are taken.distinct);
+      writable = subst (λ (fs : Files). AreWritable fs) (sym files)
+          (files_writable migration.out has.done migration.layers are taken.distinct);
       is_of = (
-        ap (λ (fs : Files). map (λ (file : List ℕ × List ℕ). file.0) fs) files ∙ (file-names migration.out has.done ∙ ap (λ (ns : List (List ℕ)). map (name_in migration.out) ns) are),
+        ap (λ (fs : Files). map (λ (file : List ℕ × List ℕ). file.0) fs) files
+            ∙ (file-names migration.out has.done ∙ ap (λ (ns : List (List ℕ)). map (name_in migration.out) ns) are),
         reports_on migration.tin migration.layers tin run written has.done holds.rows are is,
       );
     }

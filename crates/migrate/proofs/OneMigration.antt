@@ -1,5 +1,6 @@
 -- A migration, and what is made, end in one way.
-use Rattle.std.proofs.Common.{◌≡◌, ℕ, ◌<◌, ◌≤◌, Bool, true, false, List, [], ◌∷◌, ◌++◌, map, Some, Ok, Err, length, codes, refl, sym, ◌∙◌, ap, ap₂, subst, arith}
+use Rattle.std.proofs.Common.{◌≡◌, ℕ, ◌<◌, ◌≤◌, Bool, true, false, List, [], ◌∷◌, ◌++◌, map, Some, Ok, Err, length}
+use Rattle.std.proofs.Common.{codes, refl, sym, ◌∙◌, ap, ap₂, subst, arith}
 use Rattle.shelf_io.specs.Files.{Files}
 use Rattle.sheet_base.specs.declared.flags.How.{How}
 use Rattle.tin_base.specs.Triangulation.{Triangulation}
@@ -21,7 +22,8 @@ use Rattle.migrate.specs.declared.migrations.Migration.{Migration}
 use Rattle.migrate.specs.RunChanges.{AreListed, end_with}
 use Rattle.migrate.specs.LayerOutcomes.{LayerTextsAreOne}
 use Rattle.migrate.specs.LayerRuns.{setting_of, Done, AreCarried, IsRefusedLayer, AreRefused, at_layer, at_changes}
-use Rattle.migrate.specs.Migrations.{directed, IsMigrationRefused, by_tin, by_layers, row_of, report_of, file_in, IsMigrationDone}
+use Rattle.migrate.specs.Migrations.{directed, IsMigrationRefused, by_tin, by_layers, row_of, report_of, file_in}
+use Rattle.migrate.specs.Migrations.{IsMigrationDone}
 use Rattle.migrate.specs.Maker.{made_files, made_migration, IsMakingDone}
 use Rattle.migrate.specs.Laws.{End, IsMigrationEnd, IsMakingEnd, MigrationIsOne, MakingIsOne}
 use Rattle.migrate.proofs.OneLayers.{AreOneRun, run_one, refused_layer_one, refused_layer_carried}
@@ -30,53 +32,89 @@ use Rattle.migrate.proofs.ComparablePieces.{run_inside}
 -- ---- the layers
 -- what a migration writes: its layers' files and its report
 abbrev made_of : Migration → Triangulation → List Done → List Change → Status × Files
-made_of migration tin ds changes = (end_with changes, map (file_in migration.out) ds ++ (codes "-", report_text (report_of migration.tin tin (map row_of ds) changes)) ∷ [])
+made_of migration tin ds changes = (
+  end_with changes,
+  map (file_in migration.out) ds
+      ++ (codes "-", report_text (report_of migration.tin tin (map row_of ds) changes)) ∷ [],
+)
 
 data IsLayersEnd (files : Files) (migration : Migration) (tin : Triangulation) (end : End) : Type 0 where
-  layer_end : (refusal : Refusal) → end ≡ Err refusal → IsRefusedLayer (setting_of (Some files) migration.how tin) migration.layers refusal → IsLayersEnd files migration tin end
-  changes_end : (pieces : List Piece) (ds : List Done) (used : ℕ) → end ≡ Err TooManyChanges → AreCarried (setting_of (Some files) migration.how tin) 0 0 [] migration.layers pieces ds used → HasMoreThan tin pieces MOST_CHANGES
+  layer_end : (refusal : Refusal) → end ≡ Err refusal
+      → IsRefusedLayer (setting_of (Some files) migration.how tin) migration.layers refusal
       → IsLayersEnd files migration tin end
-  listed_end : (pieces : List Piece) (ds : List Done) (used : ℕ) (changes : List Change) → end ≡ Ok (made_of migration tin ds changes) → AreCarried (setting_of (Some files) migration.how tin) 0 0 [] migration.layers pieces ds used
+  changes_end : (pieces : List Piece) (ds : List Done) (used : ℕ) → end ≡ Err TooManyChanges
+      → AreCarried (setting_of (Some files) migration.how tin) 0 0 [] migration.layers pieces ds used
+      → HasMoreThan tin pieces MOST_CHANGES
+      → IsLayersEnd files migration tin end
+  listed_end : (pieces : List Piece) (ds : List Done) (used : ℕ) (changes : List Change)
+      → end ≡ Ok (made_of migration tin ds changes)
+      → AreCarried (setting_of (Some files) migration.how tin) 0 0 [] migration.layers pieces ds used
       → AreListed tin pieces changes → IsLayersEnd files migration tin end
 
 -- changes are too many, or a list of them is not too long
 over_or_not : (n m : ℕ) → m < n → n ≤ m → ⊥
 over_or_not n m h k = omega (arith, h, k)
 
-more_or_listed : (tin : Triangulation) (pieces : List Piece) (changes : List Change) → AreAllInside tin pieces → HasMoreThan tin pieces MOST_CHANGES → AreListed tin pieces changes → ⊥
-more_or_listed tin pieces changes inside more listed = over_or_not (length changes) MOST_CHANGES (more_stay_more tin pieces MOST_CHANGES inside more changes listed.are_changes) listed.few
+more_or_listed : (tin : Triangulation) (pieces : List Piece) (changes : List Change) → AreAllInside tin pieces
+    → HasMoreThan tin pieces MOST_CHANGES → AreListed tin pieces changes → ⊥
+more_or_listed tin pieces changes inside more listed =
+    over_or_not (length changes) MOST_CHANGES
+    (more_stay_more tin pieces MOST_CHANGES inside more changes listed.are_changes) listed.few
 
-module _ (texts : LayerTextsAreOne) (files : Files) (migration : Migration) (tin : Triangulation) (sound : IsSound tin) where
-  one_run : (ps qs : List Piece) (ds es : List Done) (t u : ℕ) → AreCarried (setting_of (Some files) migration.how tin) 0 0 [] migration.layers ps ds t → AreCarried (setting_of (Some files) migration.how tin) 0 0 [] migration.layers qs es u
-      → AreOneRun texts files migration.how tin sound ps qs ds es
-  one_run ps qs ds es t u x y = run_one texts files migration.how tin sound 0 0 [] migration.layers ps qs ds es t u x y
+module _ (texts : LayerTextsAreOne) (files : Files) (migration : Migration) (tin : Triangulation) (sound : IsSound tin)
+  where
+    one_run : (ps qs : List Piece) (ds es : List Done) (t u : ℕ)
+        → AreCarried (setting_of (Some files) migration.how tin) 0 0 [] migration.layers ps ds t
+        → AreCarried (setting_of (Some files) migration.how tin) 0 0 [] migration.layers qs es u
+        → AreOneRun texts files migration.how tin sound ps qs ds es
+    one_run ps qs ds es t u x y = run_one texts files migration.how tin sound 0 0 [] migration.layers ps qs ds es t u x
+        y
 
-  more_here : (ps qs : List Piece) (ds es : List Done) (t u : ℕ) (changes : List Change) → AreCarried (setting_of (Some files) migration.how tin) 0 0 [] migration.layers ps ds t → HasMoreThan tin ps MOST_CHANGES
-      → AreCarried (setting_of (Some files) migration.how tin) 0 0 [] migration.layers qs es u → AreListed tin qs changes → ⊥
-  more_here ps qs ds es t u changes x more y listed =
-      let one = one_run ps qs ds es t u x y in
-      more_or_listed tin qs changes (run_inside (setting_of (Some files) migration.how tin) migration.layers qs es u y) (subst (λ (rs : List Piece). HasMoreThan tin rs MOST_CHANGES) one.pieces more) listed
+    more_here : (ps qs : List Piece) (ds es : List Done) (t u : ℕ) (changes : List Change)
+        → AreCarried (setting_of (Some files) migration.how tin) 0 0 [] migration.layers ps ds t
+        → HasMoreThan tin ps MOST_CHANGES
+        → AreCarried (setting_of (Some files) migration.how tin) 0 0 [] migration.layers qs es u
+        → AreListed tin qs changes → ⊥
+    more_here ps qs ds es t u changes x more y listed =
+        let one = one_run ps qs ds es t u x y in
+        more_or_listed tin qs changes (run_inside (setting_of (Some files) migration.how tin) migration.layers qs es u
+        y)
+        (subst (λ (rs : List Piece). HasMoreThan tin rs MOST_CHANGES) one.pieces more) listed
 
-  layers_end_one : (a b : End) → IsLayersEnd files migration tin a → IsLayersEnd files migration tin b → a ≡ b
-  layers_end_one a b (layer_end refusal is x) (layer_end other also y) = is ∙ (ap Err (refused_layer_one texts files migration.how tin sound migration.layers refusal other x y) ∙ sym also)
-  layers_end_one a b (layer_end refusal is x) (changes_end ps ds t also y more) = absurd (refused_layer_carried texts files migration.how tin sound migration.layers refusal ps ds t x y)
-  layers_end_one a b (layer_end refusal is x) (listed_end ps ds t changes also y listed) = absurd (refused_layer_carried texts files migration.how tin sound migration.layers refusal ps ds t x y)
-  layers_end_one a b (changes_end ps ds t is x more) (layer_end refusal also y) = absurd (refused_layer_carried texts files migration.how tin sound migration.layers refusal ps ds t y x)
-  layers_end_one a b (changes_end ps ds t is x more) (changes_end qs es u also y more') = is ∙ sym also
-  layers_end_one a b (changes_end ps ds t is x more) (listed_end qs es u changes also y listed) = absurd (more_here ps qs ds es t u changes x more y listed)
-  layers_end_one a b (listed_end ps ds t changes is x listed) (layer_end refusal also y) = absurd (refused_layer_carried texts files migration.how tin sound migration.layers refusal ps ds t y x)
-  layers_end_one a b (listed_end ps ds t changes is x listed) (changes_end qs es u also y more) = absurd (more_here qs ps es ds u t changes y more x listed)
-  layers_end_one a b (listed_end ps ds t changes is x listed) (listed_end qs es u others also y listed') =
-      let one = one_run ps qs ds es t u x y in
-      let inside : AreAllInside tin qs = run_inside (setting_of (Some files) migration.how tin) migration.layers qs es u y in
-      let of_x : AreListed tin qs changes = subst (λ (rs : List Piece). AreListed tin rs changes) one.pieces listed in
-      let same : changes ≡ others = changes_are_one tin qs inside changes others of_x.are_changes listed'.are_changes in
-      is ∙ (ap (λ (ks : List Done). Ok (made_of migration tin ks changes)) one.done ∙ (ap (λ (cs : List Change). Ok (made_of migration tin es cs)) same ∙ sym also))
+    layers_end_one : (a b : End) → IsLayersEnd files migration tin a → IsLayersEnd files migration tin b → a ≡ b
+    layers_end_one a b (layer_end refusal is x) (layer_end other also y) = is
+        ∙ (ap Err (refused_layer_one texts files migration.how tin sound migration.layers refusal other x y) ∙ sym also)
+    layers_end_one a b (layer_end refusal is x) (changes_end ps ds t also y more) =
+        absurd (refused_layer_carried texts files migration.how tin sound migration.layers refusal ps ds t x y)
+    layers_end_one a b (layer_end refusal is x) (listed_end ps ds t changes also y listed) =
+        absurd (refused_layer_carried texts files migration.how tin sound migration.layers refusal ps ds t x y)
+    layers_end_one a b (changes_end ps ds t is x more) (layer_end refusal also y) =
+        absurd (refused_layer_carried texts files migration.how tin sound migration.layers refusal ps ds t y x)
+    layers_end_one a b (changes_end ps ds t is x more) (changes_end qs es u also y more') = is ∙ sym also
+    layers_end_one a b (changes_end ps ds t is x more) (listed_end qs es u changes also y listed) =
+        absurd (more_here ps qs ds es t u changes x more y listed)
+    layers_end_one a b (listed_end ps ds t changes is x listed) (layer_end refusal also y) =
+        absurd (refused_layer_carried texts files migration.how tin sound migration.layers refusal ps ds t y x)
+    layers_end_one a b (listed_end ps ds t changes is x listed) (changes_end qs es u also y more) =
+        absurd (more_here qs ps es ds u t changes y more x listed)
+    layers_end_one a b (listed_end ps ds t changes is x listed) (listed_end qs es u others also y listed') =
+        let one = one_run ps qs ds es t u x y in
+        let inside : AreAllInside tin qs = run_inside (setting_of (Some files) migration.how tin) migration.layers qs es
+        u
+        y in
+        let of_x : AreListed tin qs changes = subst (λ (rs : List Piece). AreListed tin rs changes) one.pieces listed in
+        let same : changes ≡ others = changes_are_one tin qs inside changes others of_x.are_changes
+        listed'.are_changes in
+        is ∙ (ap (λ (ks : List Done). Ok (made_of migration tin ks changes)) one.done
+        ∙ (ap (λ (cs : List Change). Ok (made_of migration tin es cs)) same ∙ sym also))
 
 -- ---- a migration ends before its layers, or at them
 data IsMigrationPath (files : Files) (migration : Migration) (end : End) : Type 0 where
-  tin_end : (refusal : Refusal) → end ≡ Err refusal → IsTinEnd files migration.how migration.tin (Err refusal) → IsMigrationPath files migration end
-  way_end : (stood tin : Triangulation) → IsTinEnd files migration.how migration.tin (Ok stood) → tin ≡ directed migration.inverse stood → IsLayersEnd files migration tin end → IsMigrationPath files migration end
+  tin_end : (refusal : Refusal) → end ≡ Err refusal → IsTinEnd files migration.how migration.tin (Err refusal)
+      → IsMigrationPath files migration end
+  way_end : (stood tin : Triangulation) → IsTinEnd files migration.how migration.tin (Ok stood)
+      → tin ≡ directed migration.inverse stood → IsLayersEnd files migration tin end
+      → IsMigrationPath files migration end
 
 sound_of : (files : Files) (how : How) (name : List ℕ) (tin : Triangulation) → HasTin files how name tin → IsSound tin
 sound_of files how name tin (text, file, is) = is.sound
@@ -85,45 +123,62 @@ sound_way : (inverse : Bool) (tin : Triangulation) → IsSound tin → IsSound (
 sound_way false tin sound = sound
 sound_way true tin sound = turned_sound tin sound
 
-layers_refused : (files : Files) (migration : Migration) (tin : Triangulation) (refusal : Refusal) → AreRefused (setting_of (Some files) migration.how tin) migration.layers refusal → IsLayersEnd files migration tin (Err refusal)
+layers_refused : (files : Files) (migration : Migration) (tin : Triangulation) (refusal : Refusal)
+    → AreRefused (setting_of (Some files) migration.how tin) migration.layers refusal
+    → IsLayersEnd files migration tin (Err refusal)
 layers_refused files migration tin refusal (at_layer is) = layer_end refusal refl is
-layers_refused files migration tin refusal (at_changes is) = changes_end is.pieces is.done is.used (ap Err is.is) is.carried is.more
+layers_refused files migration tin refusal (at_changes is) =
+    changes_end is.pieces is.done is.used (ap Err is.is) is.carried is.more
 
-migration_refused : (files : Files) (migration : Migration) (refusal : Refusal) → IsMigrationRefused files migration refusal → IsMigrationPath files migration (Err refusal)
+migration_refused : (files : Files) (migration : Migration) (refusal : Refusal)
+    → IsMigrationRefused files migration refusal → IsMigrationPath files migration (Err refusal)
 migration_refused files migration refusal (by_tin is) = tin_end refusal refl is
-migration_refused files migration refusal (by_layers tin (stood, ready, is) why) = way_end stood tin ready is (layers_refused files migration tin refusal why)
+migration_refused files migration refusal (by_layers tin (stood, ready, is) why) =
+    way_end stood tin ready is (layers_refused files migration tin refusal why)
 
-pair_of : (status other : Status) (made others : Files) → status ≡ other → made ≡ others → ◌≡◌ {A = Status × Files} (status, made) (other, others)
+pair_of : (status other : Status) (made others : Files) → status ≡ other → made ≡ others
+    → ◌≡◌ {A = Status × Files} (status, made) (other, others)
 pair_of status other made others is too = ap₂ (λ (s : Status) (m : Files). (s, m)) is too
 
-migration_done : (files : Files) (migration : Migration) (status : Status) (made : Files) → IsMigrationDone files migration status made → IsMigrationPath files migration (Ok (status, made))
+migration_done : (files : Files) (migration : Migration) (status : Status) (made : Files)
+    → IsMigrationDone files migration status made → IsMigrationPath files migration (Ok (status, made))
 migration_done files migration status made is =
     let all = is.migrated in
     let (stood, ready, turned) = all.way in
     way_end stood all.tin ready turned
     (listed_end all.pieces all.done all.used is.changes
-    (ap Ok (pair_of status _ made _ is.status_is (is.made_is ∙ ap₂ (λ (layers : Files) (said : List ℕ). layers ++ (codes "-", said) ∷ []) all.layers_are all.said_is))) all.carried all.listed)
+    (ap Ok (pair_of status _ made _ is.status_is
+    (is.made_is ∙ ap₂ (λ (layers : Files) (said : List ℕ). layers ++ (codes "-", said) ∷ []) all.layers_are
+    all.said_is))) all.carried all.listed)
 
-migration_end_one : (texts : LayerTextsAreOne) (files : Files) (migration : Migration) (a b : End) → IsMigrationPath files migration a → IsMigrationPath files migration b → a ≡ b
+migration_end_one : (texts : LayerTextsAreOne) (files : Files) (migration : Migration) (a b : End)
+    → IsMigrationPath files migration a → IsMigrationPath files migration b → a ≡ b
 migration_end_one texts files migration a b (tin_end refusal is x) (tin_end other also y) =
     let e = tin_end_is_one files migration.how migration.tin (Err refusal) (Err other) x y in
     let same : refusal ≡ other = cc in
     is ∙ (ap Err same ∙ sym also)
-migration_end_one texts files migration a b (tin_end refusal is x) (way_end stood tin y turned end) = let e = tin_end_is_one files migration.how migration.tin (Err refusal) (Ok stood) x y in cc
-migration_end_one texts files migration a b (way_end stood tin x turned end) (tin_end refusal is y) = let e = tin_end_is_one files migration.how migration.tin (Ok stood) (Err refusal) x y in cc
+migration_end_one texts files migration a b (tin_end refusal is x) (way_end stood tin y turned end) = let e =
+    tin_end_is_one files migration.how migration.tin (Err refusal) (Ok stood) x y in cc
+migration_end_one texts files migration a b (way_end stood tin x turned end) (tin_end refusal is y) = let e =
+    tin_end_is_one files migration.how migration.tin (Ok stood) (Err refusal) x y in cc
 migration_end_one texts files migration a b (way_end stood tin x turned end) (way_end other way y turned' also) =
     let e = tin_end_is_one files migration.how migration.tin (Ok stood) (Ok other) x y in
     let stands : stood ≡ other = cc in
     let same : tin ≡ way = turned ∙ (ap (λ (t : Triangulation). directed migration.inverse t) stands ∙ sym turned') in
-    let sound : IsSound way = subst (λ (t : Triangulation). IsSound t) (sym turned') (sound_way migration.inverse other (sound_of files migration.how migration.tin other y)) in
-    layers_end_one texts files migration way sound a b (subst (λ (t : Triangulation). IsLayersEnd files migration t a) same end) also
+    let sound : IsSound way = subst (λ (t : Triangulation). IsSound t) (sym turned')
+    (sound_way migration.inverse other (sound_of files migration.how migration.tin other y)) in
+    layers_end_one texts files migration way sound a b
+    (subst (λ (t : Triangulation). IsLayersEnd files migration t a) same end) also
 
-migration_path : (files : Files) (migration : Migration) (end : End) → IsMigrationEnd files migration end → IsMigrationPath files migration end
+migration_path : (files : Files) (migration : Migration) (end : End) → IsMigrationEnd files migration end
+    → IsMigrationPath files migration end
 migration_path files migration (Ok (status, made)) is = migration_done files migration status made is
 migration_path files migration (Err refusal) is = migration_refused files migration refusal is
 
 pub migration_is_one : LayerTextsAreOne → MigrationIsOne
-migration_is_one texts files migration end other x y = migration_end_one texts files migration end other (migration_path files migration end x) (migration_path files migration other y)
+migration_is_one texts files migration end other x y =
+    migration_end_one texts files migration end other (migration_path files migration end x)
+    (migration_path files migration other y)
 
 -- ---- what is made
 -- the last of some files, alone
@@ -142,7 +197,8 @@ abbrev made_alone : End → End
 made_alone (Ok end) = Ok (end.0, last_of end.1)
 made_alone (Err refusal) = Err refusal
 
-made_whole : (n : ℕ) (status : Status) (made : Files) (is : IsMakingDone n status made) → IsMigrationPath (made_files n) made_migration (Ok (status, is.layers ++ (codes "-", is.said) ∷ []))
+made_whole : (n : ℕ) (status : Status) (made : Files) (is : IsMakingDone n status made)
+    → IsMigrationPath (made_files n) made_migration (Ok (status, is.layers ++ (codes "-", is.said) ∷ []))
 made_whole n status made is =
     migration_done (made_files n) made_migration status (is.layers ++ (codes "-", is.said) ∷ []) (record {
       changes = is.changes;
@@ -153,7 +209,8 @@ made_whole n status made is =
       made_is = refl;
     })
 
-making_path : (n : ℕ) (end : End) → IsMakingEnd n end → (whole : End) × IsMigrationPath (made_files n) made_migration whole × (end ≡ made_alone whole)
+making_path : (n : ℕ) (end : End) → IsMakingEnd n end
+    → (whole : End) × IsMigrationPath (made_files n) made_migration whole × (end ≡ made_alone whole)
 making_path n (Ok (status, made)) is = (
   Ok (status, is.layers ++ (codes "-", is.said) ∷ []),
   made_whole n status made is,

@@ -1,5 +1,6 @@
 -- A layer is read and carried in one way, and there is one first segment that is outside or passes the limit.
-use Rattle.std.proofs.Common.{◌≡◌, ℕ, ◌+◌, ◌-◌, ◌<◌, ◌≤◌, pos, ◌<ℤ◌, Option, Some, None, List, [], ◌∷◌, ◌++◌, length, length-append, refl, sym, ◌∙◌, ap, ap₂, subst, arith}
+use Rattle.std.proofs.Common.{◌≡◌, ℕ, ◌+◌, ◌-◌, ◌<◌, ◌≤◌, pos, ◌<ℤ◌, Option, Some, None, List, [], ◌∷◌, ◌++◌, length}
+use Rattle.std.proofs.Common.{length-append, refl, sym, ◌∙◌, ap, ap₂, subst, arith}
 use lib.Signed.{lt_z_yes}
 use Rattle.plane_base.specs.Plane.{whole}
 use Rattle.plane_base.specs.declared.shapes.Pt.{Pt}
@@ -36,9 +37,11 @@ size_one tin segment m n (parts, cut, is) (others, cut_too, too) =
 
 abbrev HaveTotal : Triangulation → List Segment → ℕ → Type 0
 HaveTotal tin [] total = total ≡ 0
-HaveTotal tin (segment ∷ segments) total = (size rest : ℕ) × HasSize tin segment size × HaveTotal tin segments rest × (total ≡ size + rest)
+HaveTotal tin (segment ∷ segments) total =
+    (size rest : ℕ) × HasSize tin segment size × HaveTotal tin segments rest × (total ≡ size + rest)
 
-total_of : (tin : Triangulation) (layer : ℕ) (segments : List Segment) (pieces : List Piece) → ArePiecesOfAll tin layer segments pieces → HaveTotal tin segments (length pieces)
+total_of : (tin : Triangulation) (layer : ℕ) (segments : List Segment) (pieces : List Piece)
+    → ArePiecesOfAll tin layer segments pieces → HaveTotal tin segments (length pieces)
 total_of tin layer [] pieces is = ap (λ (ps : List Piece). length ps) is
 total_of tin layer (segment ∷ segments) pieces (own, rest, is, one, others) = (
   length own,
@@ -51,23 +54,29 @@ total_of tin layer (segment ∷ segments) pieces (own, rest, is, one, others) = 
 sums : (a b c d m n : ℕ) → m ≡ a + b → n ≡ c + d → a ≡ c → b ≡ d → m ≡ n
 sums a b c d m n e f g h = omega arith
 
-total_one : (tin : Triangulation) (segments : List Segment) (m n : ℕ) → HaveTotal tin segments m → HaveTotal tin segments n → m ≡ n
+total_one : (tin : Triangulation) (segments : List Segment) (m n : ℕ) → HaveTotal tin segments m
+    → HaveTotal tin segments n → m ≡ n
 total_one tin [] m n is too = is ∙ sym too
 total_one tin (segment ∷ segments) m n (size, rest, one, others, is) (size', rest', one', others', too) =
-    sums size rest size' rest' m n is too (size_one tin segment size size' one one') (total_one tin segments rest rest' others others')
+    sums size rest size' rest' m n is too (size_one tin segment size size' one one')
+    (total_one tin segments rest rest' others others')
 
 -- ---- the first segment that is not carried
-first_outside : (tin : Triangulation) (before others behind rest : List Segment) (segment other : Segment) → AreInside tin before → AreInside tin others
-    → (IsInside tin segment.a segment.b → ⊥) → (IsInside tin other.a other.b → ⊥) → before ++ segment ∷ behind ≡ others ++ other ∷ rest → segment ≡ other
+first_outside : (tin : Triangulation) (before others behind rest : List Segment) (segment other : Segment)
+    → AreInside tin before → AreInside tin others
+    → (IsInside tin segment.a segment.b → ⊥) → (IsInside tin other.a other.b → ⊥)
+    → before ++ segment ∷ behind ≡ others ++ other ∷ rest → segment ≡ other
 first_outside tin [] [] behind rest segment other x y out out' same = cc
 first_outside tin [] (one ∷ others) behind rest segment other x y out out' same =
     let e : segment ≡ one = cc in absurd (out (rw e y.0))
 first_outside tin (one ∷ before) [] behind rest segment other x y out out' same =
     let e : one ≡ other = cc in absurd (out' (rw (sym e) x.0))
 first_outside tin (one ∷ before) (also ∷ others) behind rest segment other x y out out' same =
-    let e : before ++ segment ∷ behind ≡ others ++ other ∷ rest = cc in first_outside tin before others behind rest segment other x.1 y.1 out out' e
+    let e : before ++ segment ∷ behind ≡ others ++ other ∷ rest =
+    cc in first_outside tin before others behind rest segment other x.1 y.1 out out' e
 
-outside_in : (tin : Triangulation) (before behind : List Segment) (segment : Segment) → AreInside tin (before ++ segment ∷ behind) → IsInside tin segment.a segment.b
+outside_in : (tin : Triangulation) (before behind : List Segment) (segment : Segment)
+    → AreInside tin (before ++ segment ∷ behind) → IsInside tin segment.a segment.b
 outside_in tin [] behind segment is = is.0
 outside_in tin (one ∷ before) behind segment is = outside_in tin before behind segment is.1
 
@@ -77,95 +86,128 @@ no_room k l rest room m n e f g h i = absurd (omega arith)
 less_room : (k rest room m : ℕ) → m ≡ k + rest → m ≤ room → (left : ℕ) × (room ≡ k + left) × (rest ≤ left)
 less_room k rest room m e h = (rest + (room - m), omega arith, omega arith)
 
-still_many : (k k' rest room n size left : ℕ) → n ≡ k' + rest → k ≡ k' → room ≡ k + left → room < n + size → left < rest + size
+still_many : (k k' rest room n size left : ℕ) → n ≡ k' + rest → k ≡ k' → room ≡ k + left → room < n + size
+    → left < rest + size
 still_many k k' rest room n size left e f g h = omega arith
 
 -- the first that is outside finds room up to it; the first that finds none is inside
-outside_or_many : (tin : Triangulation) (before others behind rest : List Segment) (segment other : Segment) (m n size room : ℕ) → AreInside tin before → AreInside tin others
-    → HaveTotal tin before m → HaveTotal tin others n → HasSize tin other size → (IsInside tin segment.a segment.b → ⊥) → IsInside tin other.a other.b → m ≤ room → room < n + size
+outside_or_many : (tin : Triangulation) (before others behind rest : List Segment) (segment other : Segment)
+    (m n size room : ℕ) → AreInside tin before → AreInside tin others
+    → HaveTotal tin before m → HaveTotal tin others n → HasSize tin other size → (IsInside tin segment.a segment.b → ⊥)
+    → IsInside tin other.a other.b → m ≤ room → room < n + size
     → before ++ segment ∷ behind ≡ others ++ other ∷ rest → ⊥
 outside_or_many tin [] [] behind rest segment other m n size room x y p q one out inside few many same =
     let e : segment ≡ other = cc in out (rw e inside)
 outside_or_many tin [] (also ∷ others) behind rest segment other m n size room x y p q one out inside few many same =
     let e : segment ≡ also = cc in out (rw e y.0)
-outside_or_many tin (also ∷ before) [] behind rest segment other m n size room x y (k, left, here, p, is) q one out inside few many same =
+outside_or_many tin (also ∷ before) [] behind rest segment other m n size room x y (k, left, here, p, is) q one out
+    inside few many same =
     let e : also ≡ other = cc in
-    no_room k size left room m n is (size_one tin other k size (subst (λ (s : Segment). HasSize tin s k) e here) one) q few many
-outside_or_many tin (also ∷ before) (again ∷ others) behind rest segment other m n size room x y (k, left, here, p, is) (k', left', here', q, is') one out inside few many same =
+    no_room k size left room m n is (size_one tin other k size (subst (λ (s : Segment). HasSize tin s k) e here) one) q
+    few many
+outside_or_many tin (also ∷ before) (again ∷ others) behind rest segment other m n size room x y (k, left, here, p, is)
+    (k', left', here', q, is') one out inside few many same =
     let e : also ≡ again = cc in
     let tail : before ++ segment ∷ behind ≡ others ++ other ∷ rest = cc in
     let sizes : k ≡ k' = size_one tin again k k' (subst (λ (s : Segment). HasSize tin s k) e here) here' in
     let (spare, is_spare, enough) = less_room k left room m is few in
-    outside_or_many tin before others behind rest segment other left left' size spare x.1 y.1 p q one out inside enough (still_many k k' left' room n size spare is' sizes is_spare many) tail
+    outside_or_many tin before others behind rest segment other left left' size spare x.1 y.1 p q one out inside enough
+    (still_many k k' left' room n size spare is' sizes is_spare many) tail
 
 over : (n size k rest total : ℕ) → n ≡ 0 → size ≡ k → total ≡ k + rest → n + size ≤ total
 over n size k rest total e f g = omega arith
 
-over_more : (n size k k' left rest total : ℕ) → n ≡ k + left → k ≡ k' → total ≡ k' + rest → left + size ≤ rest → n + size ≤ total
+over_more : (n size k k' left rest total : ℕ) → n ≡ k + left → k ≡ k' → total ≡ k' + rest → left + size ≤ rest
+    → n + size ≤ total
 over_more n size k k' left rest total e f g h = omega arith
 
-total_up : (tin : Triangulation) (before behind : List Segment) (segment : Segment) (n size total : ℕ) → HaveTotal tin before n → HasSize tin segment size → HaveTotal tin (before ++ segment ∷ behind) total → n + size ≤ total
-total_up tin [] behind segment n size total p one (k, rest, here, q, is) = over n size k rest total p (size_one tin segment size k one here) is
+total_up : (tin : Triangulation) (before behind : List Segment) (segment : Segment) (n size total : ℕ)
+    → HaveTotal tin before n → HasSize tin segment size → HaveTotal tin (before ++ segment ∷ behind) total
+    → n + size ≤ total
+total_up tin [] behind segment n size total p one (k, rest, here, q, is) =
+    over n size k rest total p (size_one tin segment size k one here) is
 total_up tin (also ∷ before) behind segment n size total (k, left, here, p, is) one (k', rest, here', q, is') =
-    over_more n size k k' left rest total is (size_one tin also k k' here here') is' (total_up tin before behind segment left size rest p one q)
+    over_more n size k k' left rest total is (size_one tin also k k' here here') is'
+    (total_up tin before behind segment left size rest p one q)
 
 -- ---- the images
 one : pos 0 <ℤ pos 1
 one = lt_z_yes tt
 
-crossings_one : (tin : Triangulation) (segment : Option Segment) (images pictures : List Pt) → IsSound tin → AreCrossings tin segment images → AreCrossings tin segment pictures → images ≡ pictures
+crossings_one : (tin : Triangulation) (segment : Option Segment) (images pictures : List Pt) → IsSound tin
+    → AreCrossings tin segment images → AreCrossings tin segment pictures → images ≡ pictures
 crossings_one tin None images pictures sound is too = is ∙ sym too
 crossings_one tin (Some segment) images pictures sound (parts, cut, ends) (others, cut_too, ends_too) =
-    ends_one tin segment.a segment.b parts others images pictures sound (cut_alike tin segment.a segment.b parts others cut cut_too) ends ends_too
+    ends_one tin segment.a segment.b parts others images pictures sound
+    (cut_alike tin segment.a segment.b parts others cut cut_too) ends ends_too
 
-run_one : (tin : Triangulation) (vertex : PathVertex) (run other : List Pt) → IsSound tin → IsRun tin vertex run → IsRun tin vertex other → run ≡ other
+run_one : (tin : Triangulation) (vertex : PathVertex) (run other : List Pt) → IsSound tin → IsRun tin vertex run
+    → IsRun tin vertex other → run ≡ other
 run_one tin vertex [] other sound is too = absurd is
 run_one tin vertex (image ∷ images) [] sound is too = absurd too
 run_one tin vertex (image ∷ images) (picture ∷ pictures) sound is too =
-    ap₂ (λ (p : Pt) (ps : List Pt). p ∷ ps) (rounded_images_agree tin (whole vertex.point) image picture sound one is.0 too.0)
+    ap₂ (λ (p : Pt) (ps : List Pt). p ∷ ps) (rounded_images_agree tin (whole vertex.point) image picture sound one is.0
+    too.0)
     (crossings_one tin vertex.segment images pictures sound is.1 too.1)
 
-runs_one : (tin : Triangulation) (vertices : List PathVertex) (runs others : List (List Pt)) → IsSound tin → AreRuns tin vertices runs → AreRuns tin vertices others → runs ≡ others
+runs_one : (tin : Triangulation) (vertices : List PathVertex) (runs others : List (List Pt)) → IsSound tin
+    → AreRuns tin vertices runs → AreRuns tin vertices others → runs ≡ others
 runs_one tin [] [] [] sound is too = refl
 runs_one tin [] [] (other ∷ others) sound is too = absurd too
 runs_one tin [] (run ∷ runs) others sound is too = absurd is
 runs_one tin (vertex ∷ vertices) [] others sound is too = absurd is
 runs_one tin (vertex ∷ vertices) (run ∷ runs) [] sound is too = absurd too
 runs_one tin (vertex ∷ vertices) (run ∷ runs) (other ∷ others) sound is too =
-    ap₂ (λ (r : List Pt) (rs : List (List Pt)). r ∷ rs) (run_one tin vertex run other sound is.0 too.0) (runs_one tin vertices runs others sound is.1 too.1)
+    ap₂ (λ (r : List Pt) (rs : List (List Pt)). r ∷ rs) (run_one tin vertex run other sound is.0 too.0)
+    (runs_one tin vertices runs others sound is.1 too.1)
 
 abbrev runs_of : List Pt → List ℕ → Runs
 runs_of points run = record { points = points; run = run }
 
-images_one : (tin : Triangulation) (sheet : Contents) (images pictures : Runs) → IsSound tin → AreImagesOf tin sheet images → AreImagesOf tin sheet pictures → images ≡ pictures
+images_one : (tin : Triangulation) (sheet : Contents) (images pictures : Runs) → IsSound tin
+    → AreImagesOf tin sheet images → AreImagesOf tin sheet pictures → images ≡ pictures
 images_one tin sheet images pictures sound is too =
-    let same : is.runs ≡ too.runs = runs_one tin (sheet_vertices sheet) is.runs too.runs sound is.of_vertices too.of_vertices in
+    let same : is.runs ≡ too.runs = runs_one tin (sheet_vertices sheet) is.runs too.runs sound is.of_vertices
+    too.of_vertices in
     ap₂ runs_of (is.points ∙ (ap joined same ∙ sym too.points)) (is.run ∙ (ap (begins_from 0) same ∙ sym too.run))
 
 -- ---- the layer
-module _ (texts : LayerTextsAreOne) (how : How) (tin : Triangulation) (format : Format) (text : List ℕ) (layer : ℕ) (before : List Piece) where
-  pub lacks_outside : (fault : LayerFault) (path number old : ℕ) → LacksLayerText how format text fault → IsOutside how tin format text layer old path number → ⊥
+module _ (texts : LayerTextsAreOne) (how : How) (tin : Triangulation) (format : Format) (text : List ℕ) (layer : ℕ)
+    (before : List Piece) where
+  pub lacks_outside : (fault : LayerFault) (path number old : ℕ) → LacksLayerText how format text fault
+      → IsOutside how tin format text layer old path number → ⊥
   lacks_outside fault path number old lacks (sheet, reads, is) = (texts how format text).apart sheet fault reads lacks
 
-  pub lacks_many : (fault : LayerFault) (old : ℕ) → LacksLayerText how format text fault → HasTooMany how tin format text layer old → ⊥
+  pub lacks_many : (fault : LayerFault) (old : ℕ) → LacksLayerText how format text fault
+      → HasTooMany how tin format text layer old → ⊥
   lacks_many fault old lacks (sheet, reads, is) = (texts how format text).apart sheet fault reads lacks
 
-  pub lacks_carried : (fault : LayerFault) (pieces : List Piece) (carried : Carried) → LacksLayerText how format text fault → IsCarried how tin format text layer before pieces carried → ⊥
-  lacks_carried fault pieces carried lacks is = let it = is.layer in (texts how format text).apart it.sheet fault it.read lacks
+  pub lacks_carried : (fault : LayerFault) (pieces : List Piece) (carried : Carried)
+      → LacksLayerText how format text fault → IsCarried how tin format text layer before pieces carried → ⊥
+  lacks_carried fault pieces carried lacks is = let it =
+      is.layer in (texts how format text).apart it.sheet fault it.read lacks
 
-outside_pair : (tin : Triangulation) (layer old : ℕ) (segments : List Segment) (path number way count : ℕ) → IsFirstOutside tin layer old MOST_PIECES segments path number
+outside_pair : (tin : Triangulation) (layer old : ℕ) (segments : List Segment) (path number way count : ℕ)
+    → IsFirstOutside tin layer old MOST_PIECES segments path number
     → IsFirstOutside tin layer old MOST_PIECES segments way count → (path ≡ way) × (number ≡ count)
 outside_pair tin layer old segments path number way count x y =
     let p = x.reached in let q = y.reached in
     let room = p.room in let room' = q.room in
-    let same = first_outside tin p.before q.before p.behind q.behind x.segment y.segment room.inside room'.inside x.outside y.outside (sym p.stands ∙ q.stands) in
-    (sym x.path_is ∙ (ap (λ (s : Segment). s.path) same ∙ y.path_is), sym x.number_is ∙ (ap (λ (s : Segment). s.number) same ∙ y.number_is))
+    let same = first_outside tin p.before q.before p.behind q.behind x.segment y.segment room.inside room'.inside
+    x.outside y.outside (sym p.stands ∙ q.stands) in (
+      sym x.path_is ∙ (ap (λ (s : Segment). s.path) same ∙ y.path_is),
+      sym x.number_is
+          ∙ (ap (λ (s : Segment). s.number) same ∙ y.number_is),
+    )
 
-pub outside_one : (texts : LayerTextsAreOne) (how : How) (tin : Triangulation) (format : Format) (text : List ℕ) (layer old path number way count : ℕ) → IsOutside how tin format text layer old path number → IsOutside how tin format text layer old way count
+pub outside_one : (texts : LayerTextsAreOne) (how : How) (tin : Triangulation) (format : Format) (text : List ℕ)
+    (layer old path number way count : ℕ) → IsOutside how tin format text layer old path number
+    → IsOutside how tin format text layer old way count
     → (path ≡ way) × (number ≡ count)
 outside_one texts how tin format text layer old path number way count (sheet, reads, is) (other, reads_too, too) =
     outside_pair tin layer old (sheet_segments other) path number way count
-    (subst (λ (s : Contents). IsFirstOutside tin layer old MOST_PIECES (sheet_segments s) path number) ((texts how format text).one_sheet sheet other reads reads_too) is) too
+    (subst (λ (s : Contents). IsFirstOutside tin layer old MOST_PIECES (sheet_segments s) path number)
+    ((texts how format text).one_sheet sheet other reads reads_too) is) too
 
 bare : (old m n : ℕ) → old + m ≤ n → m ≤ n - old
 bare old m n h = omega arith
@@ -173,51 +215,71 @@ bare old m n h = omega arith
 bare_many : (old n m k l : ℕ) → old + l ≤ n → n < old + m + k → n - old < m + k
 bare_many old n m k l g h = omega arith
 
-outside_many_in : (tin : Triangulation) (layer old : ℕ) (segments : List Segment) (path number : ℕ) → IsFirstOutside tin layer old MOST_PIECES segments path number → IsFirstTooMany tin layer old MOST_PIECES segments → ⊥
+outside_many_in : (tin : Triangulation) (layer old : ℕ) (segments : List Segment) (path number : ℕ)
+    → IsFirstOutside tin layer old MOST_PIECES segments path number → IsFirstTooMany tin layer old MOST_PIECES segments
+    → ⊥
 outside_many_in tin layer old segments path number x y =
     let p = x.reached in let q = y.reached in
     let room = p.room in let room' = q.room in
-    outside_or_many tin p.before q.before p.behind q.behind x.segment y.segment (length room.pieces) (length room'.pieces) (length y.parts) (MOST_PIECES - old) room.inside room'.inside
-    (total_of tin layer p.before room.pieces room.are) (total_of tin layer q.before room'.pieces room'.are) (y.parts, y.cut, refl) x.outside y.inside
-    (bare old (length room.pieces) MOST_PIECES room.room) (bare_many old MOST_PIECES (length room'.pieces) (length y.parts) (length room.pieces) room.room y.full) (sym p.stands ∙ q.stands)
+    outside_or_many tin p.before q.before p.behind q.behind x.segment y.segment (length room.pieces)
+    (length room'.pieces) (length y.parts) (MOST_PIECES - old) room.inside room'.inside
+    (total_of tin layer p.before room.pieces room.are) (total_of tin layer q.before room'.pieces room'.are)
+    (y.parts, y.cut, refl) x.outside y.inside
+    (bare old (length room.pieces) MOST_PIECES room.room)
+    (bare_many old MOST_PIECES (length room'.pieces) (length y.parts) (length room.pieces) room.room y.full)
+    (sym p.stands ∙ q.stands)
 
-pub outside_many : (texts : LayerTextsAreOne) (how : How) (tin : Triangulation) (format : Format) (text : List ℕ) (layer old path number : ℕ) → IsOutside how tin format text layer old path number → HasTooMany how tin format text layer old → ⊥
+pub outside_many : (texts : LayerTextsAreOne) (how : How) (tin : Triangulation) (format : Format) (text : List ℕ)
+    (layer old path number : ℕ) → IsOutside how tin format text layer old path number
+    → HasTooMany how tin format text layer old → ⊥
 outside_many texts how tin format text layer old path number (sheet, reads, is) (other, reads_too, too) =
     outside_many_in tin layer old (sheet_segments other) path number
-    (subst (λ (s : Contents). IsFirstOutside tin layer old MOST_PIECES (sheet_segments s) path number) ((texts how format text).one_sheet sheet other reads reads_too) is) too
+    (subst (λ (s : Contents). IsFirstOutside tin layer old MOST_PIECES (sheet_segments s) path number)
+    ((texts how format text).one_sheet sheet other reads reads_too) is) too
 
-outside_not_in : (tin : Triangulation) (layer old : ℕ) (segments : List Segment) (path number : ℕ) → IsFirstOutside tin layer old MOST_PIECES segments path number → AreInside tin segments → ⊥
+outside_not_in : (tin : Triangulation) (layer old : ℕ) (segments : List Segment) (path number : ℕ)
+    → IsFirstOutside tin layer old MOST_PIECES segments path number → AreInside tin segments → ⊥
 outside_not_in tin layer old segments path number x inside =
     let p = x.reached in
     x.outside (outside_in tin p.before p.behind x.segment (subst (AreInside tin) p.stands inside))
 
-pub outside_carried : (texts : LayerTextsAreOne) (how : How) (tin : Triangulation) (format : Format) (text : List ℕ) (layer old path number : ℕ) (before pieces : List Piece) (carried : Carried) → IsOutside how tin format text layer old path number
+pub outside_carried : (texts : LayerTextsAreOne) (how : How) (tin : Triangulation) (format : Format) (text : List ℕ)
+    (layer old path number : ℕ) (before pieces : List Piece) (carried : Carried)
+    → IsOutside how tin format text layer old path number
     → IsCarried how tin format text layer before pieces carried → ⊥
 outside_carried texts how tin format text layer old path number before pieces carried (sheet, reads, is) done =
     let it = done.layer in
     outside_not_in tin layer old (sheet_segments it.sheet) path number
-    (subst (λ (s : Contents). IsFirstOutside tin layer old MOST_PIECES (sheet_segments s) path number) ((texts how format text).one_sheet sheet it.sheet reads it.read) is) it.inside
+    (subst (λ (s : Contents). IsFirstOutside tin layer old MOST_PIECES (sheet_segments s) path number)
+    ((texts how format text).one_sheet sheet it.sheet reads it.read) is) it.inside
 
 too_few : (old n m k t : ℕ) → n < old + m + k → m + k ≤ t → old + t ≤ n → ⊥
 too_few old n m k t g h i = absurd (omega arith)
 
-many_not_in : (tin : Triangulation) (layer old : ℕ) (segments : List Segment) (own : List Piece) → IsFirstTooMany tin layer old MOST_PIECES segments → ArePiecesOfAll tin layer segments own → old + length own ≤ MOST_PIECES → ⊥
+many_not_in : (tin : Triangulation) (layer old : ℕ) (segments : List Segment) (own : List Piece)
+    → IsFirstTooMany tin layer old MOST_PIECES segments → ArePiecesOfAll tin layer segments own
+    → old + length own ≤ MOST_PIECES → ⊥
 many_not_in tin layer old segments own x are few =
     let p = x.reached in
     let room = p.room in
-    let up = total_up tin p.before p.behind x.segment (length room.pieces) (length x.parts) (length own) (total_of tin layer p.before room.pieces room.are) (x.parts, x.cut, refl)
+    let up = total_up tin p.before p.behind x.segment (length room.pieces) (length x.parts) (length own)
+    (total_of tin layer p.before room.pieces room.are) (x.parts, x.cut, refl)
     (subst (λ (ss : List Segment). HaveTotal tin ss (length own)) p.stands (total_of tin layer segments own are)) in
     too_few old MOST_PIECES (length room.pieces) (length x.parts) (length own) x.full up few
 
-room_of : (before own after : List Piece) → after ≡ before ++ own → length after ≤ MOST_PIECES → length before + length own ≤ MOST_PIECES
-room_of before own after is few = subst (λ n. n ≤ MOST_PIECES) (ap (λ (ps : List Piece). length ps) is ∙ length-append before own) few
+room_of : (before own after : List Piece) → after ≡ before ++ own → length after ≤ MOST_PIECES
+    → length before + length own ≤ MOST_PIECES
+room_of before own after is few = subst (λ n. n ≤ MOST_PIECES)
+    (ap (λ (ps : List Piece). length ps) is ∙ length-append before own) few
 
-pub many_carried : (texts : LayerTextsAreOne) (how : How) (tin : Triangulation) (format : Format) (text : List ℕ) (layer : ℕ) (before pieces : List Piece) (carried : Carried) → HasTooMany how tin format text layer (length before)
+pub many_carried : (texts : LayerTextsAreOne) (how : How) (tin : Triangulation) (format : Format) (text : List ℕ)
+    (layer : ℕ) (before pieces : List Piece) (carried : Carried) → HasTooMany how tin format text layer (length before)
     → IsCarried how tin format text layer before pieces carried → ⊥
 many_carried texts how tin format text layer before pieces carried (sheet, reads, is) done =
     let it = done.layer in
     many_not_in tin layer (length before) (sheet_segments it.sheet) it.own
-    (subst (λ (s : Contents). IsFirstTooMany tin layer (length before) MOST_PIECES (sheet_segments s)) ((texts how format text).one_sheet sheet it.sheet reads it.read) is) it.are_pieces
+    (subst (λ (s : Contents). IsFirstTooMany tin layer (length before) MOST_PIECES (sheet_segments s))
+    ((texts how format text).one_sheet sheet it.sheet reads it.read) is) it.are_pieces
     (room_of before it.own pieces it.stand done.few)
 
 -- what a carried layer is, by its sheet, its images and how many pieces it has
@@ -232,9 +294,11 @@ carried_of how format text sheet images total = record {
 }
 
 abbrev six_of : List ℕ → ℕ → ℕ → ℕ → ℕ → ℕ → Carried
-six_of text paths segments pieces inexact dropped = record { text = text; paths = paths; segments = segments; pieces = pieces; inexact = inexact; dropped = dropped }
+six_of text paths segments pieces inexact dropped =
+    record { text = text; paths = paths; segments = segments; pieces = pieces; inexact = inexact; dropped = dropped }
 
-six : (c d : Carried) → c.text ≡ d.text → c.paths ≡ d.paths → c.segments ≡ d.segments → c.pieces ≡ d.pieces → c.inexact ≡ d.inexact → c.dropped ≡ d.dropped → c ≡ d
+six : (c d : Carried) → c.text ≡ d.text → c.paths ≡ d.paths → c.segments ≡ d.segments → c.pieces ≡ d.pieces
+    → c.inexact ≡ d.inexact → c.dropped ≡ d.dropped → c ≡ d
 six c d text paths segments pieces inexact dropped =
     ap (λ t. six_of t c.paths c.segments c.pieces c.inexact c.dropped) text
     ∙ (ap (λ n. six_of d.text n c.segments c.pieces c.inexact c.dropped) paths
@@ -243,31 +307,42 @@ six c d text paths segments pieces inexact dropped =
     ∙ (ap (λ n. six_of d.text d.paths d.segments d.pieces n c.dropped) inexact
     ∙ ap (λ n. six_of d.text d.paths d.segments d.pieces d.inexact n) dropped))))
 
-is_carried_of : (how : How) (tin : Triangulation) (format : Format) (text : List ℕ) (number : ℕ) (before pieces : List Piece) (carried : Carried) (is : IsCarried how tin format text number before pieces carried)
+is_carried_of : (how : How) (tin : Triangulation) (format : Format) (text : List ℕ) (number : ℕ)
+    (before pieces : List Piece) (carried : Carried) (is : IsCarried how tin format text number before pieces carried)
     → (let layer = is.layer in carried ≡ carried_of how format text layer.sheet layer.images (length layer.own))
-is_carried_of how tin format text number before pieces carried is = let layer = is.layer in six carried _ layer.text_is layer.paths layer.segments layer.pieces layer.inexact layer.dropped
+is_carried_of how tin format text number before pieces carried is = let layer =
+    is.layer in six carried _ layer.text_is layer.paths layer.segments layer.pieces layer.inexact layer.dropped
 
-pub carried_one : (texts : LayerTextsAreOne) (how : How) (tin : Triangulation) (format : Format) (text : List ℕ) (number : ℕ) (before pieces others : List Piece) (carried other : Carried) → IsSound tin
-    → IsCarried how tin format text number before pieces carried → IsCarried how tin format text number before others other → carried ≡ other
+pub carried_one : (texts : LayerTextsAreOne) (how : How) (tin : Triangulation) (format : Format) (text : List ℕ)
+    (number : ℕ) (before pieces others : List Piece) (carried other : Carried) → IsSound tin
+    → IsCarried how tin format text number before pieces carried
+    → IsCarried how tin format text number before others other → carried ≡ other
 carried_one texts how tin format text number before pieces others carried other sound is too =
     let x = is.layer in let y = too.layer in
     let sheets : x.sheet ≡ y.sheet = (texts how format text).one_sheet x.sheet y.sheet x.read y.read in
-    let images : x.images ≡ y.images = images_one tin y.sheet x.images y.images sound (subst (λ (s : Contents). AreImagesOf tin s x.images) sheets x.are_images) y.are_images in
+    let images : x.images ≡ y.images = images_one tin y.sheet x.images y.images sound
+    (subst (λ (s : Contents). AreImagesOf tin s x.images) sheets x.are_images) y.are_images in
     let totals : length x.own ≡ length y.own =
     total_one tin (sheet_segments y.sheet) (length x.own) (length y.own)
-    (subst (λ (s : Contents). HaveTotal tin (sheet_segments s) (length x.own)) sheets (total_of tin number (sheet_segments x.sheet) x.own x.are_pieces))
+    (subst (λ (s : Contents). HaveTotal tin (sheet_segments s) (length x.own)) sheets
+    (total_of tin number (sheet_segments x.sheet) x.own x.are_pieces))
     (total_of tin number (sheet_segments y.sheet) y.own y.are_pieces) in
     is_carried_of how tin format text number before pieces carried is
     ∙ (ap (λ (s : Contents). carried_of how format text s x.images (length x.own)) sheets
     ∙ (ap (λ (r : Runs). carried_of how format text y.sheet r (length x.own)) images
-    ∙ (ap (λ (n : ℕ). carried_of how format text y.sheet y.images n) totals ∙ sym (is_carried_of how tin format text number before others other too))))
+    ∙ (ap (λ (n : ℕ). carried_of how format text y.sheet y.images n) totals
+    ∙ sym (is_carried_of how tin format text number before others other too))))
 
 -- and into the same pieces
-pub carried_pieces_one : (texts : LayerTextsAreOne) (how : How) (tin : Triangulation) (format : Format) (text : List ℕ) (number : ℕ) (before pieces others : List Piece) (carried other : Carried) → IsSound tin
-    → IsCarried how tin format text number before pieces carried → IsCarried how tin format text number before others other → pieces ≡ others
+pub carried_pieces_one : (texts : LayerTextsAreOne) (how : How) (tin : Triangulation) (format : Format) (text : List ℕ)
+    (number : ℕ) (before pieces others : List Piece) (carried other : Carried) → IsSound tin
+    → IsCarried how tin format text number before pieces carried
+    → IsCarried how tin format text number before others other → pieces ≡ others
 carried_pieces_one texts how tin format text number before pieces others carried other sound is too =
     let x = is.layer in let y = too.layer in
     let sheets : x.sheet ≡ y.sheet = (texts how format text).one_sheet x.sheet y.sheet x.read y.read in
     x.stand
     ∙ (ap (λ (own : List Piece). before ++ own)
-    (pieces_one tin number (sheet_segments y.sheet) x.own y.own sound (subst (λ (s : Contents). ArePiecesOfAll tin number (sheet_segments s) x.own) sheets x.are_pieces) y.are_pieces) ∙ sym y.stand)
+    (pieces_one tin number (sheet_segments y.sheet) x.own y.own sound
+    (subst (λ (s : Contents). ArePiecesOfAll tin number (sheet_segments s) x.own) sheets x.are_pieces) y.are_pieces)
+    ∙ sym y.stand)

@@ -1,6 +1,7 @@
 -- What a run says of the relations of the pieces of its layers: they are after rounding as in the source, or which
 -- are not.
-use Rattle.std.specs.Prelude.{◌≡◌, ◌≢◌, ◌⊎◌, ℕ, ◌+◌, ◌<◌, List, [], ◌∷◌, ◌++◌, All, AllPairs, Contains, codes, length, slice_index_or, Option, Some, IfSome}
+use Rattle.std.specs.Prelude.{◌≡◌, ◌≢◌, ◌⊎◌, ℕ, ◌+◌, ◌<◌, List, [], ◌∷◌, ◌++◌, All, AllPairs, Contains, codes, length}
+use Rattle.std.specs.Prelude.{slice_index_or, Option, Some, IfSome}
 use Rattle.shelf_io.specs.Files.{Files}
 use Rattle.sheet_base.specs.declared.flags.How.{How}
 use Rattle.sheet_base.specs.Sheets.{Contents}
@@ -28,10 +29,12 @@ use Rattle.report_text.specs.ReportText.{report_text}
 -- the ends of its pieces, unless the format excepts what is written of the layer's bytes
 abbrev pub HasWritten : How → Format → Triangulation → List ℕ → List ℕ → List ℕ → List Piece → Files → Type 0
 HasWritten how format tin folder name bytes own made =
-    (text : List ℕ) × Contains made (name_in folder name, text) × IsBackAsPieces tin bytes (IsLayerText how format) (reads_back_of format how bytes) text own
+    (text : List ℕ) × Contains made (name_in folder name, text)
+    × IsBackAsPieces tin bytes (IsLayerText how format) (reads_back_of format how bytes) text own
 
 -- a layer of these bytes, of its sheet, which is inside, and of its pieces; they are in its written file
-pub record IsKeptLayer (setting : Setting) (folder : List ℕ) (made : Option Files) (number used : ℕ) (name bytes : List ℕ) (own : List Piece) : Type 0 where
+pub record IsKeptLayer (setting : Setting) (folder : List ℕ) (made : Option Files) (number used : ℕ)
+    (name bytes : List ℕ) (own : List Piece) : Type 0 where
   pub format : Format
   pub file : IsLayerFile setting.told name used format bytes
   pub sheet : Contents
@@ -45,11 +48,13 @@ pub record IsKeptLayer (setting : Setting) (folder : List ℕ) (made : Option Fi
 abbrev pub AreKeptLayers : Setting → List ℕ → Option Files → ℕ → ℕ → List (List ℕ) → List Piece → Type 0
 AreKeptLayers setting folder made number used [] pieces = pieces ≡ []
 AreKeptLayers setting folder made number used (name ∷ names) pieces =
-    (bytes : List ℕ) × (own : List Piece) × (rest : List Piece) × IsKeptLayer setting folder made number used name bytes own × (pieces ≡ own ++ rest)
+    (bytes : List ℕ) × (own : List Piece) × (rest : List Piece)
+    × IsKeptLayer setting folder made number used name bytes own × (pieces ≡ own ++ rest)
     × AreKeptLayers setting folder made (number + 1) (used + length bytes) names rest
 
 -- the files give this way and these pieces of all layers, which stand in the written files
-pub record GivesPieces (files : Files) (migration : Migration) (made : Option Files) (tin : Triangulation) (pieces : List Piece) : Type 0 where
+pub record GivesPieces (files : Files) (migration : Migration) (made : Option Files) (tin : Triangulation)
+    (pieces : List Piece) : Type 0 where
   pub way : HasWay files migration tin
   pub layers : AreKeptLayers (setting_of (Some files) migration.how tin) migration.out made 0 0 migration.layers pieces
 
@@ -61,7 +66,8 @@ KeepTheirRelation tin p q = (relation : Rel) × HadRelation tin relation p q × 
 -- the change is that of some piece and a later one: they had one relation in the source, and the segments between the
 -- rounded images of their ends have another
 abbrev pub IsOfSomePair : Triangulation → List Piece → Change → Type 0
-IsOfSomePair tin pieces change = (i : ℕ) × (j : ℕ) × (d : Piece) × (i < j) × (j < length pieces) × IsChangeOf tin (slice_index_or pieces i d) (slice_index_or pieces j d) (Some change)
+IsOfSomePair tin pieces change = (i : ℕ) × (j : ℕ) × (d : Piece) × (i < j) × (j < length pieces)
+    × IsChangeOf tin (slice_index_or pieces i d) (slice_index_or pieces j d) (Some change)
 
 -- the change of the two pieces is among these
 abbrev pub IsAmong : Triangulation → List Change → Piece → Piece → Type 0
@@ -84,8 +90,12 @@ pub record ReportsChanges (tin : Triangulation) (pieces : List Piece) (made : Op
 -- After `Same` each two written segments have the relation of their pieces in the source; after `Changed` the
 -- report names those that have not.
 abbrev pub KeepsRelationsIn : Files → Migration → Status → Option Files → Option Files → Type 0
-KeepsRelationsIn files migration Same layers made = (tin : Triangulation) × (pieces : List Piece) × GivesPieces files migration layers tin pieces × AllPairs (KeepTheirRelation tin) pieces
-KeepsRelationsIn files migration Changed layers made = (tin : Triangulation) × (pieces : List Piece) × GivesPieces files migration layers tin pieces × ReportsChanges tin pieces made
+KeepsRelationsIn files migration Same layers made =
+    (tin : Triangulation) × (pieces : List Piece) × GivesPieces files migration layers tin pieces
+    × AllPairs (KeepTheirRelation tin) pieces
+KeepsRelationsIn files migration Changed layers made =
+    (tin : Triangulation) × (pieces : List Piece) × GivesPieces files migration layers tin pieces
+    × ReportsChanges tin pieces made
 KeepsRelationsIn files migration status layers made = Unit {0}
 
 -- both are made
@@ -95,4 +105,5 @@ KeepsRelations files migration status made = KeepsRelationsIn files migration st
 -- The same of the triangulation and the layer that are made, as of a migration of these two files. Only its report is
 -- made; `layers` has the layer's file that would stand before it.
 abbrev pub KeepsMadeRelations : ℕ → Status → Option Files → Type 0
-KeepsMadeRelations n status made = (layers : Files) × KeepsRelationsIn (made_files n) made_migration status (Some layers) made
+KeepsMadeRelations n status made = (layers : Files)
+    × KeepsRelationsIn (made_files n) made_migration status (Some layers) made

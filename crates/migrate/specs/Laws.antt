@@ -23,13 +23,16 @@ IsMakingEnd n (Ok end) = IsMakingDone n end.0 end.1
 IsMakingEnd n (Err refusal) = IsMigrationRefused (made_files n) made_migration refusal
 
 abbrev pub MigrationIsOne : Type 0
-MigrationIsOne = (files : Files) (migration : Migration) (end other : End) → IsMigrationEnd files migration end → IsMigrationEnd files migration other → end ≡ other
+MigrationIsOne = (files : Files) (migration : Migration) (end other : End) → IsMigrationEnd files migration end
+    → IsMigrationEnd files migration other → end ≡ other
 
 abbrev pub MakingIsOne : Type 0
 MakingIsOne = (n : ℕ) (end other : End) → IsMakingEnd n end → IsMakingEnd n other → end ≡ other
 
 abbrev pub MigrationKeepsRelations : Type 0
-MigrationKeepsRelations = (files : Files) (migration : Migration) (status : Status) (made : Files) → IsMigrationDone files migration status made → KeepsRelations files migration status (Some made)
+MigrationKeepsRelations = (files : Files) (migration : Migration) (status : Status) (made : Files)
+    → IsMigrationDone files migration status made → KeepsRelations files migration status (Some made)
 
 abbrev pub MakingKeepsRelations : Type 0
-MakingKeepsRelations = (n : ℕ) (status : Status) (made : Files) → IsMakingDone n status made → KeepsMadeRelations n status (Some made)
+MakingKeepsRelations = (n : ℕ) (status : Status) (made : Files) → IsMakingDone n status made
+    → KeepsMadeRelations n status (Some made)

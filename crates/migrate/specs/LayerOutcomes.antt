@@ -25,16 +25,19 @@ LacksLayerText how format text fault = refuses_of format how text fault
 
 -- a law: in each format a text is a layer of one sheet, or has one first fault, and not both
 abbrev pub LayerTextsAreOne : Type 0
-LayerTextsAreOne = (how : How) (format : Format) (text : List ℕ) → HasOneOutcome (IsLayerText how format text) (LacksLayerText how format text)
+LayerTextsAreOne = (how : How) (format : Format) (text : List ℕ)
+    → HasOneOutcome (IsLayerText how format text) (LacksLayerText how format text)
 
 -- a law: in each format any text is a layer of some sheet, or has a first fault
 abbrev pub LayerOutcomesExist : Type 0
-LayerOutcomesExist = (how : How) (format : Format) (text : List ℕ) → HasOutcome (IsLayerText how format text) (LacksLayerText how format text)
+LayerOutcomesExist = (how : How) (format : Format) (text : List ℕ)
+    → HasOutcome (IsLayerText how format text) (LacksLayerText how format text)
 
 -- The layer of this number is carried; its pieces stand behind those of the layers before it, and they are not too
 -- many. A format says which texts it reads as which sheets, what it writes in the place of an edit, and of which
 -- sheets and images what is written is read back.
-pub record IsCarriedAs (reads : List ℕ → Contents → Type 0) (writes : List ℕ → Contents → Runs → Edit → List ℕ) (reads_back : List ℕ → Contents → Runs → Type 0)
+pub record IsCarriedAs (reads : List ℕ → Contents → Type 0) (writes : List ℕ → Contents → Runs → Edit → List ℕ)
+    (reads_back : List ℕ → Contents → Runs → Type 0)
     (tin : Triangulation) (text : List ℕ) (number : ℕ) (before after : List Piece) (carried : Carried) : Type 0 where
   pub layer : IsLayerCarried tin text (reads text) (writes text) number before after carried
   pub few : length after ≤ MOST_PIECES
@@ -44,13 +47,16 @@ pub record IsCarriedAs (reads : List ℕ → Contents → Type 0) (writes : List
 
 abbrev pub IsCarried : How → Triangulation → Format → List ℕ → ℕ → List Piece → List Piece → Carried → Type 0
 IsCarried how tin format text number before after carried =
-    IsCarriedAs (IsLayerText how format) (λ text sheet images edit. text_of format text how sheet images edit) (reads_back_of format how) tin text number before after carried
+    IsCarriedAs (IsLayerText how format) (λ text sheet images edit. text_of format text how sheet images edit)
+    (reads_back_of format how) tin text number before after carried
 
 -- its first segment that is not carried is outside: the one of this number, of the path of that number; so many
 -- pieces stand before it
 abbrev pub IsOutside : How → Triangulation → Format → List ℕ → ℕ → ℕ → ℕ → ℕ → Type 0
-IsOutside how tin format text number before path segment = IsLayerOutside tin (IsLayerText how format text) number before MOST_PIECES path segment
+IsOutside how tin format text number before path segment =
+    IsLayerOutside tin (IsLayerText how format text) number before MOST_PIECES path segment
 
 -- its first segment that is not carried is inside, but with its pieces there are too many
 abbrev pub HasTooMany : How → Triangulation → Format → List ℕ → ℕ → ℕ → Type 0
-HasTooMany how tin format text number before = IsLayerTooMany tin (IsLayerText how format text) number before MOST_PIECES
+HasTooMany how tin format text number before =
+    IsLayerTooMany tin (IsLayerText how format text) number before MOST_PIECES

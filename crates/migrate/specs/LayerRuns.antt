@@ -12,7 +12,8 @@ use Rattle.job_words.specs.Formats.{format_of}
 use Rattle.runs.specs.declared.loads.TheConstants.{MOST_BYTES}
 use Rattle.migrate.specs.declared.change_lists.TheConstants.{MOST_CHANGES}
 use Rattle.runs.specs.declared.refusal.Refusal.{Refusal}
-use Rattle.runs.specs.declared.refusal.Refusal.TheVariants.{LayerUnread, LayersLong, Layer, Outside, TooManyPieces, TooManyChanges}
+use Rattle.runs.specs.declared.refusal.Refusal.TheVariants.{LayerUnread, LayersLong, Layer, Outside, TooManyPieces}
+use Rattle.runs.specs.declared.refusal.Refusal.TheVariants.{TooManyChanges}
 use Rattle.migrate.specs.LayerOutcomes.{LacksLayerText, IsCarried, IsOutside, HasTooMany}
 
 -- how layers are carried: the files of the shelf, where it gives them, how files are read, and the triangulation
@@ -32,17 +33,20 @@ pub record Done : Type 0 where
 
 -- the layer of this name has this format and, where the shelf tells its files, these bytes; with those of the layers
 -- before it they are not too many
-pub record IsLayerFile (told : Option Files) (name : List ℕ) (used : ℕ) (format : Format) (bytes : List ℕ) : Type 0 where
-  pub suffix : format_of name ≡ Some format
-  pub found : IfSome told (λ files. bytes_of files name ≡ Some bytes)
-  pub within : used + length bytes ≤ MOST_BYTES
+pub record IsLayerFile (told : Option Files) (name : List ℕ) (used : ℕ) (format : Format) (bytes : List ℕ) : Type 0
+  where
+    pub suffix : format_of name ≡ Some format
+    pub found : IfSome told (λ files. bytes_of files name ≡ Some bytes)
+    pub within : used + length bytes ≤ MOST_BYTES
 
 -- where the shelf tells its files, the layer of this name has too many bytes together with those before it
 abbrev pub IsLongLayer : Option Files → List ℕ → ℕ → Type 0
-IsLongLayer told name used = IfSome told (λ files. (bytes : List ℕ) × (bytes_of files name ≡ Some bytes) × (MOST_BYTES < used + length bytes))
+IsLongLayer told name used = IfSome told (λ files. (bytes : List ℕ) × (bytes_of files name ≡ Some bytes)
+    × (MOST_BYTES < used + length bytes))
 
 -- the layer of this name and number is carried behind `used` bytes and the pieces before it
-pub record IsNextCarried (setting : Setting) (number used : ℕ) (before : List Piece) (name : List ℕ) (bytes : List ℕ) (after : List Piece) (done : Done) : Type 0 where
+pub record IsNextCarried (setting : Setting) (number used : ℕ) (before : List Piece) (name : List ℕ) (bytes : List ℕ)
+    (after : List Piece) (done : Done) : Type 0 where
   pub named : done.name ≡ name
   pub file : IsLayerFile setting.told name used done.format bytes
   pub carried : IsCarried setting.how setting.tin done.format bytes number before after done.carried
@@ -53,7 +57,8 @@ pub record IsNextCarried (setting : Setting) (number used : ℕ) (before : List 
 abbrev pub AreCarried : Setting → ℕ → ℕ → List Piece → List (List ℕ) → List Piece → List Done → ℕ → Type 0
 AreCarried setting number used before [] after done total = (after ≡ before) × (done ≡ []) × (total ≡ used)
 AreCarried setting number used before (name ∷ names) after done total =
-    (bytes : List ℕ) × (pieces : List Piece) × (first : Done) × (rest : List Done) × IsNextCarried setting number used before name bytes pieces first × (done ≡ first ∷ rest)
+    (bytes : List ℕ) × (pieces : List Piece) × (first : Done) × (rest : List Done)
+    × IsNextCarried setting number used before name bytes pieces first × (done ≡ first ∷ rest)
     × AreCarried setting (number + 1) (used + length bytes) pieces names after rest total
 
 -- The layer of this name and number is not carried, behind `used` bytes and so many pieces: one row for each refusal,
@@ -63,11 +68,14 @@ abbrev pub IsNextRefused : Setting → ℕ → ℕ → ℕ → List ℕ → Refu
 IsNextRefused setting number used before name (LayerUnread layer) = (layer ≡ number) × LacksName setting.told name
 IsNextRefused setting number used before name LayersLong = IsLongLayer setting.told name used
 IsNextRefused setting number used before name (Layer layer fault) =
-    (layer ≡ number) × (format : Format) × (bytes : List ℕ) × IsLayerFile setting.told name used format bytes × LacksLayerText setting.how format bytes fault
+    (layer ≡ number) × (format : Format) × (bytes : List ℕ) × IsLayerFile setting.told name used format bytes
+    × LacksLayerText setting.how format bytes fault
 IsNextRefused setting number used before name (Outside layer path segment) =
-    (layer ≡ number) × (format : Format) × (bytes : List ℕ) × IsLayerFile setting.told name used format bytes × IsOutside setting.how setting.tin format bytes number before path segment
+    (layer ≡ number) × (format : Format) × (bytes : List ℕ) × IsLayerFile setting.told name used format bytes
+    × IsOutside setting.how setting.tin format bytes number before path segment
 IsNextRefused setting number used before name TooManyPieces =
-    (format : Format) × (bytes : List ℕ) × IsLayerFile setting.told name used format bytes × HasTooMany setting.how setting.tin format bytes number before
+    (format : Format) × (bytes : List ℕ) × IsLayerFile setting.told name used format bytes
+    × HasTooMany setting.how setting.tin format bytes number before
 IsNextRefused setting number used before name refusal = ⊥
 
 -- the layer of this name and number is one of these, and those before it are carried

@@ -4,7 +4,8 @@ use Rattle.shelf_io.specs.Files.{Files}
 use Rattle.tin_base.specs.declared.pieces.Change.{Change}
 use Rattle.runs.specs.declared.status.Status.{Status}
 use Rattle.runs.specs.declared.refusal.Refusal.{Refusal}
-use Rattle.runs.specs.declared.refusal.Refusal.TheVariants.{Tin, Check, Layer, Outside, TooManyPieces, TooManyChanges, NoMemory}
+use Rattle.runs.specs.declared.refusal.Refusal.TheVariants.{Tin, Check, Layer, Outside, TooManyPieces, TooManyChanges}
+use Rattle.runs.specs.declared.refusal.Refusal.TheVariants.{NoMemory}
 use Rattle.migrate.specs.declared.migrations.Migration.{Migration}
 use Rattle.migrate.specs.MakerTexts.{tin_text, layer_text}
 use Rattle.migrate.specs.RunChanges.{end_with}

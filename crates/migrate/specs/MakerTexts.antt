@@ -25,7 +25,8 @@ row_text elements = codes "[" ++ (join_with_byte COMMA elements ++ codes "]")
 
 -- the row of the corner (i, j): its source in whole metres, ten metres from its neighbours, and its target in metres
 unfoldable pub vertex_row : ℕ → ℕ → List ℕ
-vertex_row i j = row_text (decimal (10 * i) ∷ decimal (10 * j) ∷ written (pos (target_x i j)) ∷ written (pos (target_y i j)) ∷ [])
+vertex_row i j = row_text (decimal (10 * i) ∷ decimal (10 * j) ∷ written (pos (target_x i j))
+    ∷ written (pos (target_y i j)) ∷ [])
 
 -- the row of a triangle, of the numbers of its three corners
 unfoldable pub triangle_row : ℕ → ℕ → ℕ → List ℕ
@@ -47,7 +48,9 @@ triangle_rows n = flat_map (λ j. flat_map (λ i. cell_rows n i j) (below n)) (b
 
 -- the members of a triangulation file before its lists, and the key of the first list
 unfoldable pub tin_front : List ℕ
-tin_front = codes "{\"file_type\":\"triangulation_file\",\"format_version\":\"1.1\",\"transformed_components\":[\"horizontal\"],\"vertices_columns\":[\"source_x\",\"source_y\",\"target_x\",\"target_y\"],\"triangles_columns\":[\"idx_vertex1\",\"idx_vertex2\",\"idx_vertex3\"],\"vertices\":["
+tin_front =
+    codes
+    "{\"file_type\":\"triangulation_file\",\"format_version\":\"1.1\",\"transformed_components\":[\"horizontal\"],\"vertices_columns\":[\"source_x\",\"source_y\",\"target_x\",\"target_y\"],\"triangles_columns\":[\"idx_vertex1\",\"idx_vertex2\",\"idx_vertex3\"],\"vertices\":["
 
 -- what stands between both lists
 unfoldable pub tin_between : List ℕ

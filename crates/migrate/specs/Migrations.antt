@@ -1,5 +1,6 @@
 -- A migration: the triangulation through which layers are carried, what refuses it, and what it makes.
-use Rattle.std.specs.Prelude.{◌≡◌, ◌⊎◌, ℕ, List, [], ◌∷◌, ◌++◌, map, codes, Bool, true, false, Contains, Option, length, Some}
+use Rattle.std.specs.Prelude.{◌≡◌, ◌⊎◌, ℕ, List, [], ◌∷◌, ◌++◌, map, codes, Bool, true, false, Contains, Option, length}
+use Rattle.std.specs.Prelude.{Some}
 use Rattle.shelf_io.specs.Files.{Files}
 use Rattle.shelf_io.specs.Load.{LacksName}
 use Rattle.sheet_base.specs.declared.flags.How.{How}
@@ -35,7 +36,8 @@ directed true tin = turned_of tin
 -- the layers are carried through this one: it is read and sound as it stands, and only then its frames are exchanged,
 -- where that is asked for
 abbrev pub HasTurned : Files → How → List ℕ → Bool → Triangulation → Type 0
-HasTurned files how name inverse tin = (stood : Triangulation) × HasTin files how name stood × (tin ≡ directed inverse stood)
+HasTurned files how name inverse tin = (stood : Triangulation) × HasTin files how name stood
+    × (tin ≡ directed inverse stood)
 
 abbrev pub HasWay : Files → Migration → Triangulation → Type 0
 HasWay files migration tin = HasTurned files migration.how migration.tin migration.inverse tin
@@ -44,7 +46,9 @@ HasWay files migration tin = HasTurned files migration.how migration.tin migrati
 -- the files refuse it: the triangulation, or else a layer or the changes
 pub data IsMigrationRefused (files : Files) (migration : Migration) (refusal : Refusal) : Type 0 where
   by_tin : IsTinRefused files migration.how migration.tin refusal → IsMigrationRefused files migration refusal
-  by_layers : (tin : Triangulation) → HasWay files migration tin → AreRefused (setting_of (Some files) migration.how tin) migration.layers refusal → IsMigrationRefused files migration refusal
+  by_layers : (tin : Triangulation) → HasWay files migration tin
+      → AreRefused (setting_of (Some files) migration.how tin) migration.layers refusal
+      → IsMigrationRefused files migration refusal
 
 -- nothing refuses the migration before the file of the layer of this number
 pub record IsLayerReached (files : Files) (migration : Migration) (number : ℕ) : Type 0 where
@@ -61,7 +65,8 @@ IsReachedBy files migration refusal = ⊥
 
 -- why it may be refused before anything is written
 abbrev pub MayRefuseMigration : Files → Migration → Type 0 → Refusal → Type 0
-MayRefuseMigration files migration shelf_rose refusal = MayRefuse (IsMigrationRefused files migration) (IsReachedBy files migration) shelf_rose refusal
+MayRefuseMigration files migration shelf_rose refusal =
+    MayRefuse (IsMigrationRefused files migration) (IsReachedBy files migration) shelf_rose refusal
 
 -- one of these names is missing from the shelf's files, which are told
 abbrev pub LacksSome : List (List ℕ) → Option Files → Type 0
@@ -101,7 +106,8 @@ file_in folder done = (name_in folder done.name, done.carried.text)
 
 -- all layers are carried: a file for each, in their order, and a report, which lists the changes of the pieces of all
 -- of them
-pub record IsMigrated (files : Files) (migration : Migration) (changes : List Change) (layers : Files) (said : List ℕ) : Type 0 where
+pub record IsMigrated (files : Files) (migration : Migration) (changes : List Change) (layers : Files)
+    (said : List ℕ) : Type 0 where
   pub tin : Triangulation
   pub way : HasWay files migration tin
   pub pieces : List Piece
@@ -133,4 +139,5 @@ pub record IsReportOn (tin : List ℕ) (layers : List (List ℕ)) (said : List �
 -- order and under their last parts in the folder, and a report on them.
 abbrev pub IsMigrationWritten : Migration → Files → List ℕ → Status → Type 0
 IsMigrationWritten migration layers said status =
-    (map (λ (file : List ℕ × List ℕ). file.0) layers ≡ map (name_in migration.out) migration.layers) × IsReportOn migration.tin migration.layers said status
+    (map (λ (file : List ℕ × List ℕ). file.0) layers ≡ map (name_in migration.out) migration.layers)
+    × IsReportOn migration.tin migration.layers said status

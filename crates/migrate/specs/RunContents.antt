@@ -2,7 +2,8 @@
 use Rattle.std.specs.Prelude.{◌≡◌, ℕ, ◌+◌, List, [], ◌∷◌, ◌++◌, map, length, Some}
 use Rattle.carry_map.specs.Layers.{IsLayerOutside, IsLayerTooMany}
 use Rattle.carry_map.specs.declared.faults.CarryFault.{CarryFault}
-use Rattle.carry_map.specs.declared.faults.CarryFault.TheVariants.{Layer as Unread, Outside as CarryOutside, TooMany, NoMemory as CarryMemory}
+use Rattle.carry_map.specs.declared.faults.CarryFault.TheVariants.{Layer as Unread, Outside as CarryOutside, TooMany}
+use Rattle.carry_map.specs.declared.faults.CarryFault.TheVariants.{NoMemory as CarryMemory}
 use Rattle.carry_map.specs.declared.layers.Carried.{Carried}
 use Rattle.carry_map.specs.declared.limits.TheConstants.{MOST_PIECES}
 use Rattle.sheet_base.specs.declared.flags.How.{How}
@@ -13,13 +14,15 @@ use Rattle.tin_base.specs.declared.pieces.Piece.{Piece}
 use Rattle.tin_base.specs.Triangulation.{Triangulation}
 use Rattle.topo_check.specs.Changes.{HasMoreThan}
 use Rattle.topo_check.specs.declared.faults.ChangesFault.{ChangesFault}
-use Rattle.topo_check.specs.declared.faults.ChangesFault.TheVariants.{TooMany as TooManyListed, NoMemory as ChangesMemory}
+use Rattle.topo_check.specs.declared.faults.ChangesFault.TheVariants.{TooMany as TooManyListed}
+use Rattle.topo_check.specs.declared.faults.ChangesFault.TheVariants.{NoMemory as ChangesMemory}
 use Rattle.report_text.specs.declared.rows.LayerRow.{LayerRow}
 use Rattle.report_text.specs.ReportText.{report_text}
 use Rattle.job_words.specs.declared.formats.Format.{Format}
 use Rattle.job_words.specs.Formats.{format_of}
 use Rattle.runs.specs.declared.refusal.Refusal.{Refusal}
-use Rattle.runs.specs.declared.refusal.Refusal.TheVariants.{LayerUnread, LayersLong, Layer, Outside, TooManyPieces, TooManyChanges, NoMemory}
+use Rattle.runs.specs.declared.refusal.Refusal.TheVariants.{LayerUnread, LayersLong, Layer, Outside, TooManyPieces}
+use Rattle.runs.specs.declared.refusal.Refusal.TheVariants.{TooManyChanges, NoMemory}
 use Rattle.runs.specs.declared.output.Output.{Output}
 use Rattle.runs.specs.Output.{file_of}
 use Rattle.migrate.specs.declared.layer_runs.Run.{Run}
@@ -43,19 +46,24 @@ of_changes TooManyListed = TooManyChanges
 of_changes ChangesMemory = NoMemory
 
 -- the layer of this number and text is not carried, where a format reads and refuses texts so, or memory ran out
-abbrev pub IsUncarriedAs : (List ℕ → Contents → Type 0) → (List ℕ → LayerFault → Type 0) → Triangulation → List ℕ → ℕ → ℕ → Refusal → Type 0
+abbrev pub IsUncarriedAs : (List ℕ → Contents → Type 0) → (List ℕ → LayerFault → Type 0) → Triangulation → List ℕ → ℕ
+    → ℕ → Refusal → Type 0
 IsUncarriedAs reads refuses tin text number before (Layer layer fault) = (layer ≡ number) × refuses text fault
-IsUncarriedAs reads refuses tin text number before (Outside layer path segment) = (layer ≡ number) × IsLayerOutside tin (reads text) number before MOST_PIECES path segment
-IsUncarriedAs reads refuses tin text number before TooManyPieces = IsLayerTooMany tin (reads text) number before MOST_PIECES
+IsUncarriedAs reads refuses tin text number before (Outside layer path segment) =
+    (layer ≡ number) × IsLayerOutside tin (reads text) number before MOST_PIECES path segment
+IsUncarriedAs reads refuses tin text number before TooManyPieces =
+    IsLayerTooMany tin (reads text) number before MOST_PIECES
 IsUncarriedAs reads refuses tin text number before NoMemory = Unit {0}
 IsUncarriedAs reads refuses tin text number before refusal = ⊥
 
 -- the same of a format
 abbrev pub IsUncarried : How → Triangulation → Format → List ℕ → ℕ → ℕ → Refusal → Type 0
-IsUncarried how tin format text number before refusal = IsUncarriedAs (IsLayerText how format) (LacksLayerText how format) tin text number before refusal
+IsUncarried how tin format text number before refusal =
+    IsUncarriedAs (IsLayerText how format) (LacksLayerText how format) tin text number before refusal
 
 -- the layer of this number, name and bytes is carried behind what the run had, and is the last that it has now
-pub record AddsLayer (how : How) (tin : Triangulation) (folder : List ℕ) (number : ℕ) (name bytes : List ℕ) (before now : Run) : Type 0 where
+pub record AddsLayer (how : How) (tin : Triangulation) (folder : List ℕ) (number : ℕ) (name bytes : List ℕ)
+    (before now : Run) : Type 0 where
   pub done : Done
   pub named : done.name ≡ name
   pub suffix : format_of name ≡ Some done.format
@@ -65,7 +73,8 @@ pub record AddsLayer (how : How) (tin : Triangulation) (folder : List ℕ) (numb
   pub used : now.used ≡ before.used + length bytes
 
 -- it is not carried behind so many pieces, or memory ran out
-pub record AddsNone (how : How) (tin : Triangulation) (number : ℕ) (name bytes : List ℕ) (before : ℕ) (refusal : Refusal) : Type 0 where
+pub record AddsNone (how : How) (tin : Triangulation) (number : ℕ) (name bytes : List ℕ) (before : ℕ)
+    (refusal : Refusal) : Type 0 where
   pub format : Format
   pub suffix : format_of name ≡ Some format
   pub why : IsUncarried how tin format bytes number before refusal
@@ -88,10 +97,12 @@ pub record HasCarried (setting : Setting) (folder : List ℕ) (names : List (Lis
 
 -- why the layers are not all carried, or their changes not listed: by the files, after a read fault, or because
 -- memory ran out
-pub data AreUncarried (setting : Setting) (names : List (List ℕ)) (shelf_rose : Type 0) (refusal : Refusal) : Type 0 where
-  by_the_layers : AreRefused setting names refusal → AreUncarried setting names shelf_rose refusal
-  by_fault : shelf_rose → (number : ℕ) → (name : List ℕ) → IsReachedLayer setting names number name → refusal ≡ LayerUnread number → AreUncarried setting names shelf_rose refusal
-  out_of_memory : refusal ≡ NoMemory → AreUncarried setting names shelf_rose refusal
+pub data AreUncarried (setting : Setting) (names : List (List ℕ)) (shelf_rose : Type 0) (refusal : Refusal) : Type 0
+  where
+    by_the_layers : AreRefused setting names refusal → AreUncarried setting names shelf_rose refusal
+    by_fault : shelf_rose → (number : ℕ) → (name : List ℕ) → IsReachedLayer setting names number name
+        → refusal ≡ LayerUnread number → AreUncarried setting names shelf_rose refusal
+    out_of_memory : refusal ≡ NoMemory → AreUncarried setting names shelf_rose refusal
 
 -- the pieces have more changes than may be listed, or memory ran out
 abbrev pub IsUnlisted : Triangulation → List Piece → Refusal → Type 0

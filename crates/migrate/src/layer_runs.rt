@@ -1,6 +1,7 @@
 //! The layers of a run, carried one after the other.
 
-ghost use Rattle.std.specs.Prelude.{◌≡◌, ◌≢◌, ◌⊎◌, ◌+◌, ◌≤◌, [], ◌∷◌, ◌++◌, Some, IfOk, IfErr, OnOk, length, vec_len, string_bytes};
+ghost use Rattle.std.specs.Prelude.{◌≡◌, ◌≢◌, ◌⊎◌, ◌+◌, ◌≤◌, [], ◌∷◌, ◌++◌, Some, IfOk, IfErr, OnOk, length, vec_len};
+ghost use Rattle.std.specs.Prelude.{string_bytes};
 ghost use Rattle.shelf_io.specs.Count.{Rose, counted};
 ghost use Rattle.carry_map.specs.declared.limits.TheConstants.{MOST_PIECES};
 ghost use Rattle.job_words.specs.Formats.{format_of as format_by_name};
@@ -14,7 +15,8 @@ ghost use Rattle.runs.specs.Counts.{LeavesFaults};
 ghost use Rattle.runs.specs.Refusals.{status_of};
 ghost use Rattle.migrate.specs.LayerOutcomes.{IsCarriedAs, IsCarried};
 ghost use Rattle.runs.specs.Output.{file_of};
-ghost use Rattle.migrate.specs.RunContents.{IsUncarriedAs, IsUncarried, HasCarried, AreUncarried, IsOfLayers, AddsLayer, AddsNone};
+ghost use Rattle.migrate.specs.RunContents.{IsUncarriedAs, IsUncarried, HasCarried, AreUncarried, IsOfLayers};
+ghost use Rattle.migrate.specs.RunContents.{AddsLayer, AddsNone};
 ghost use Rattle.migrate.specs.LayerRuns.{setting_of};
 
 use crate::migrations::Migration;

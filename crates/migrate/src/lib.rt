@@ -13,8 +13,8 @@ mod report;
 
 pub use change_lists::MOST_CHANGES;
 pub use laws::{
-    layer_outcomes_exist, layer_texts_are_one, limits_are_stated, making_is_one, making_keeps_relations,
-    migration_is_one, migration_keeps_relations,
+    layer_outcomes_exist, layer_texts_are_one, limits_are_stated, making_is_one,
+    making_keeps_relations, migration_is_one, migration_keeps_relations,
 };
 pub use layer_runs::output_name;
 pub use maker::prepare_making;

@@ -6,7 +6,8 @@ ghost use Rattle.job_words.specs.declared.limits.TheConstants.{MOST_SIZE};
 ghost use Rattle.runs.specs.Status.{end_of};
 ghost use Rattle.runs.specs.Output.{files_of, HasForm};
 ghost use Rattle.migrate.specs.Migrations.{HasTurned};
-ghost use Rattle.migrate.specs.Maker.{made_files, made_migration, IsMakingDone, IsMakingWritten, MayNotBeMade, IsOfMaking};
+ghost use Rattle.migrate.specs.Maker.{made_files, made_migration, IsMakingDone, IsMakingWritten, MayNotBeMade};
+ghost use Rattle.migrate.specs.Maker.{IsOfMaking};
 ghost use Rattle.migrate.specs.RunContents.{HasCarried, AreUncarried};
 ghost use Rattle.migrate.specs.LayerRuns.{setting_of};
 

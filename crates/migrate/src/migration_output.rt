@@ -11,7 +11,8 @@ ghost use Rattle.runs.specs.Status.{end_of};
 ghost use Rattle.runs.specs.Counts.{LeavesFaults};
 ghost use Rattle.runs.specs.Output.{files_of, HasForm};
 ghost use Rattle.runs.specs.Causes.{HasCauses};
-ghost use Rattle.migrate.specs.Migrations.{MayBeTaken, MayRefuseMigration, LacksWanted, IsMigrationDone, IsMigrationWritten};
+ghost use Rattle.migrate.specs.Migrations.{MayBeTaken, MayRefuseMigration, LacksWanted, IsMigrationDone};
+ghost use Rattle.migrate.specs.Migrations.{IsMigrationWritten};
 ghost use Rattle.migrate.specs.RunContents.{IsUnlisted, IsReported};
 
 use crate::change_lists::list_changes;

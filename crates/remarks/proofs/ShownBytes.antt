@@ -23,5 +23,6 @@ shown_utf8 bytes =
     let small : All (λ byte. byte < 128) (take (prefix_len is_shown bytes) bytes) =
     λ i d within.
     let before : i < prefix_len is_shown bytes = subst (λ n. i < n) (length-prefix_len is_shown bytes) within in
-    rw (get_or-take (prefix_len is_shown bytes) bytes i d before) (shown_small (get_or bytes i d) (prefix_len_passes is_shown bytes i d before)) in
+    rw (get_or-take (prefix_len is_shown bytes) bytes i d before)
+    (shown_small (get_or bytes i d) (prefix_len_passes is_shown bytes i d before)) in
     IsUtf8-from_ascii _ (IsAscii-from_all _ small)

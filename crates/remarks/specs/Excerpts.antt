@@ -5,7 +5,8 @@ use Rattle.remarks.specs.declared.excerpts.TheConstants.{MOST_SHOWN}
 
 -- a comma, or one of ( ) [ ] { }
 abbrev pub is_bracket : ℕ → Bool
-is_bracket byte = eqb byte 44 || eqb byte 40 || eqb byte 41 || eqb byte 91 || eqb byte 93 || eqb byte 123 || eqb byte 125
+is_bracket byte = eqb byte 44 || eqb byte 40 || eqb byte 41 || eqb byte 91 || eqb byte 93 || eqb byte 123 || eqb byte
+    125
 
 -- printable ASCII other than the blank, the comma and brackets
 abbrev pub is_shown : ℕ → Bool

@@ -1,4 +1,5 @@
--- What standard error says of a file: why it could not be read or written, what was left out of it, and what its numbers look like.
+-- What standard error says of a file: why it could not be read or written, what was left out of it, and what its
+-- numbers look like.
 use Rattle.std.specs.Prelude.{ℕ, List, [], ◌∷◌, ◌++◌, Option, None, Some, codes, decimal, string_bytes}
 use Rattle.std.specs.List.{flat_map}
 use Rattle.remarks.specs.declared.file_lines.KindCount.{KindCount}
@@ -13,7 +14,8 @@ reason_words (Some reason) = codes ": " ++ reason
 
 -- that it could not be written, why where that is known, and what helps
 abbrev pub unwritten_lines_of : List ℕ → Option (List ℕ) → List ℕ
-unwritten_lines_of name reason = codes "tinmove: " ++ name ++ codes ": could not be written" ++ reason_words reason ++ codes "\n" ++ codes "tinmove: look at the disk's room, at who may write in the folder, and at ulimit -f\n"
+unwritten_lines_of name reason = codes "tinmove: " ++ name ++ codes ": could not be written" ++ reason_words reason
+    ++ codes "\n" ++ codes "tinmove: look at the disk's room, at who may write in the folder, and at ulimit -f\n"
 
 -- ---- entities that were left out
 abbrev pub kind_words : KindCount → List ℕ
@@ -28,11 +30,14 @@ kinds_words [] = []
 kinds_words (first ∷ rest) = codes " (" ++ kind_words first ++ flat_map further_kind rest ++ codes ")"
 
 abbrev pub left_out_line_of : List ℕ → ℕ → List KindCount → List ℕ
-left_out_line_of name count kinds = codes "tinmove: " ++ name ++ codes ": " ++ decimal count ++ codes " entities left out" ++ kinds_words kinds ++ codes ": the written drawing is not whole\n"
+left_out_line_of name count kinds = codes "tinmove: " ++ name ++ codes ": " ++ decimal count
+    ++ codes " entities left out" ++ kinds_words kinds ++ codes ": the written drawing is not whole\n"
 
 -- ---- numbers
 abbrev pub rounded_line_of : List ℕ → ℕ → List ℕ
-rounded_line_of name count = codes "tinmove: " ++ name ++ codes ": " ++ decimal count ++ codes " numbers were rounded to the millimetre: ogr2ogr -lco COORDINATE_PRECISION=3 writes no more digits\n"
+rounded_line_of name count = codes "tinmove: " ++ name ++ codes ": " ++ decimal count
+    ++ codes " numbers were rounded to the millimetre: ogr2ogr -lco COORDINATE_PRECISION=3 writes no more digits\n"
 
 abbrev pub degrees_line_of : List ℕ → List ℕ
-degrees_line_of name = codes "tinmove: " ++ name ++ codes ": all source corners are within 360: these look like degrees, and are read as metres\n"
+degrees_line_of name = codes "tinmove: " ++ name
+    ++ codes ": all source corners are within 360: these look like degrees, and are read as metres\n"

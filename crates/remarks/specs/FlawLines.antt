@@ -3,7 +3,8 @@ use Rattle.std.specs.Prelude.{ℕ, List, [], ◌++◌, Option, None, Some, codes
 use Rattle.remarks.specs.RefusalTables.{words_finding, words_cure}
 use Rattle.remarks.specs.Remarks.{cure_line}
 use Rattle.remarks.specs.declared.flaw_lines.WordFlaw.{WordFlaw}
-use Rattle.remarks.specs.declared.flaw_lines.WordFlaw.TheVariants.{NoMode, Mode, Unknown, Twice, NoValue, Missing, TooMany, Refused}
+use Rattle.remarks.specs.declared.flaw_lines.WordFlaw.TheVariants.{NoMode, Mode, Unknown, Twice, NoValue, Missing}
+use Rattle.remarks.specs.declared.flaw_lines.WordFlaw.TheVariants.{TooMany, Refused}
 
 -- what stands in front of the word
 abbrev pub before_word : WordFlaw → List ℕ
@@ -29,4 +30,5 @@ flaw_cure flaw = None
 
 -- which word it is, and that nothing was written
 abbrev pub word_lines_of : WordFlaw → List ℕ → List ℕ
-word_lines_of flaw word = codes "tinmove: " ++ before_word flaw ++ word ++ behind_word flaw ++ codes "\n" ++ cure_line (flaw_cure flaw)
+word_lines_of flaw word = codes "tinmove: " ++ before_word flaw ++ word ++ behind_word flaw ++ codes "\n"
+    ++ cure_line (flaw_cure flaw)

@@ -6,7 +6,8 @@ use Rattle.remarks.specs.Spots.{spot_of, spot_words, shown_words}
 
 -- where it is, what was found, and what stands there
 abbrev pub first_line : Refusal → List ℕ → Option (List ℕ) → List ℕ
-first_line refusal name bytes = codes "tinmove: " ++ spot_words name bytes (spot_of refusal) ++ refusal_finding refusal bytes ++ shown_words bytes (spot_of refusal) ++ codes "\n"
+first_line refusal name bytes = codes "tinmove: " ++ spot_words name bytes (spot_of refusal)
+    ++ refusal_finding refusal bytes ++ shown_words bytes (spot_of refusal) ++ codes "\n"
 
 abbrev pub cure_words : Option (List ℕ) → List ℕ
 cure_words None = []

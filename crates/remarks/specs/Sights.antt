@@ -1,5 +1,6 @@
 -- What the bytes show at the place of a layer's fault, beyond the fault itself.
-use Rattle.std.specs.Prelude.{ℕ, ◌-◌, Bool, false, eqb, ◌&&◌, ◌||◌, List, [], ◌∷◌, length, take, drop, Option, Some, None, codes, if◌then◌else◌}
+use Rattle.std.specs.Prelude.{ℕ, ◌-◌, Bool, false, eqb, ◌&&◌, ◌||◌, List, [], ◌∷◌, length, take, drop, Option, Some}
+use Rattle.std.specs.Prelude.{None, codes, if◌then◌else◌}
 use Rattle.std.specs.Char.{is_ascii_alphabetic, is_ascii_digit}
 use Rattle.std.specs.List.{suffix_len, starts_with, ends_with}
 use Rattle.sheet_base.specs.declared.faults.LayerFault.{LayerFault}
@@ -40,7 +41,8 @@ is_second_geometry bytes at = is_first is_ascii_alphabetic (drop at bytes) && en
 
 -- ---- of a fault
 abbrev pub sight_of_bad : List ℕ → ℕ → Sight
-sight_of_bad bytes at = if eqb at 0 && begins_with_mark bytes then ByteOrderMark else (if is_second_geometry bytes at then SecondGeometry else Plain)
+sight_of_bad bytes at = if eqb at 0 && begins_with_mark bytes then ByteOrderMark else
+    (if is_second_geometry bytes at then SecondGeometry else Plain)
 
 abbrev pub sight_of_code : List ℕ → ℕ → Sight
 sight_of_code bytes line = if eqb line 1 && begins_with_mark bytes then ByteOrderMark else Plain

@@ -12,11 +12,14 @@ use Rattle.tin_file.specs.declared.faults.Rows.TheVariants.{Vertices, Triangles 
 use Rattle.tin_file.specs.declared.faults.TinFault.{TinFault}
 use Rattle.tin_file.specs.declared.faults.TinFault.TheVariants as tins
 use Rattle.runs.specs.declared.refusal.Refusal.{Refusal}
-use Rattle.runs.specs.declared.refusal.Refusal.TheVariants.{Words, TinUnread, TinLong, Tin, Check, LayerUnread, LayersLong, Layer, Outside, TooManyPieces, TooManyChanges, NoMemory}
+use Rattle.runs.specs.declared.refusal.Refusal.TheVariants.{Words, TinUnread, TinLong, Tin, Check, LayerUnread}
+use Rattle.runs.specs.declared.refusal.Refusal.TheVariants.{LayersLong, Layer, Outside, TooManyPieces, TooManyChanges}
+use Rattle.runs.specs.declared.refusal.Refusal.TheVariants.{NoMemory}
 use Rattle.remarks.specs.LineColumns.{line_at, column_at}
 use Rattle.remarks.specs.Excerpts.{excerpt_of}
 use Rattle.remarks.specs.declared.spots.Spot.{Spot}
-use Rattle.remarks.specs.declared.spots.Spot.TheVariants.{Run, LayerWord, File, Byte, Line, Row, Triangle, TrianglePair, Segment}
+use Rattle.remarks.specs.declared.spots.Spot.TheVariants.{Run, LayerWord, File, Byte, Line, Row, Triangle, TrianglePair}
+use Rattle.remarks.specs.declared.spots.Spot.TheVariants.{Segment}
 
 -- ---- where a refusal comes from
 abbrev pub words_spot : WordsFault → Spot
@@ -98,7 +101,8 @@ within_words bytes (Byte at) = byte_words bytes at
 within_words bytes (Line line) = codes ":" ++ decimal line
 within_words bytes (Row list row) = row_words list row
 within_words bytes (Triangle triangle) = codes ": triangle " ++ decimal triangle
-within_words bytes (TrianglePair first second) = codes ": triangles " ++ decimal first ++ codes " and " ++ decimal second
+within_words bytes (TrianglePair first second) =
+    codes ": triangles " ++ decimal first ++ codes " and " ++ decimal second
 within_words bytes (Segment path segment) = codes ": path " ++ decimal path ++ codes " segment " ++ decimal segment
 within_words bytes spot = []
 

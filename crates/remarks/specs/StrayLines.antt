@@ -14,7 +14,8 @@ place_words p = pair_words p.x p.y
 
 -- a number behind a text, and from where to where
 abbrev pub extent_line : List ℕ → ℕ → Pt → Pt → List ℕ
-extent_line before number from to = before ++ decimal number ++ codes ", from " ++ place_words from ++ codes " to " ++ place_words to ++ codes "\n"
+extent_line before number from to = before ++ decimal number ++ codes ", from " ++ place_words from ++ codes " to "
+    ++ place_words to ++ codes "\n"
 
 -- where the segment is
 abbrev pub segment_line : Stray → List ℕ
@@ -27,7 +28,8 @@ box_line stray = extent_line (codes "tinmove: triangles ") stray.triangles stray
 -- whether the layer may have been carried already
 abbrev pub target_line : Bool → List ℕ
 target_line false = []
-target_line true = codes "tinmove: the whole layer is where the triangles are carried to: carried already, or --inverse?\n"
+target_line true =
+    codes "tinmove: the whole layer is where the triangles are carried to: carried already, or --inverse?\n"
 
 -- whether the layer may be in degrees
 abbrev pub degree_line : Bool → List ℕ
@@ -35,4 +37,5 @@ degree_line false = []
 degree_line true = codes "tinmove: the layer's coordinates look like degrees, and are read as metres\n"
 
 abbrev pub outside_lines_of : Stray → List ℕ
-outside_lines_of stray = segment_line stray ++ box_line stray ++ target_line stray.is_in_target ++ degree_line stray.is_small
+outside_lines_of stray = segment_line stray ++ box_line stray ++ target_line stray.is_in_target
+    ++ degree_line stray.is_small

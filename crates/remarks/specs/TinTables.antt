@@ -20,9 +20,12 @@ member_finding tops.Whole = codes "the text is no JSON object"
 member_finding tops.FileType = codes "the member file_type is missing, stands twice, or is not triangulation_file"
 member_finding tops.FormatVersion = codes "the member format_version is missing, stands twice, or is no text"
 member_finding tops.Strategy = codes "the member fallback_strategy stands twice, or is none of the known words"
-member_finding tops.Components = codes "the member transformed_components is missing, stands twice, or is no list of horizontal and vertical"
-member_finding tops.VerticesColumns = codes "the member vertices_columns is missing, stands twice, or does not have each column once"
-member_finding tops.TrianglesColumns = codes "the member triangles_columns is missing, stands twice, or does not have each column once"
+member_finding tops.Components =
+    codes "the member transformed_components is missing, stands twice, or is no list of horizontal and vertical"
+member_finding tops.VerticesColumns = codes
+    "the member vertices_columns is missing, stands twice, or does not have each column once"
+member_finding tops.TrianglesColumns = codes
+    "the member triangles_columns is missing, stands twice, or does not have each column once"
 member_finding tops.Vertices = codes "the member vertices is missing, stands twice, or is no list"
 member_finding tops.Triangles = codes "the member triangles is missing, stands twice, or is no list"
 
@@ -73,8 +76,10 @@ abbrev pub check_finding : CheckFault → List ℕ
 check_finding (checks.Flat triangle Source) = codes "its corners are on one line in the source frame"
 check_finding (checks.Flat triangle Target) = codes "its corners are on one line in the target frame"
 check_finding (checks.TurnsOver triangle) = codes "it is turned over in the target frame"
-check_finding (checks.Meets first second Source) = codes "they overlap in the source frame, or a corner of one is on a side of the other"
-check_finding (checks.Meets first second Target) = codes "they overlap in the target frame, or a corner of one is on a side of the other"
+check_finding (checks.Meets first second Source) =
+    codes "they overlap in the source frame, or a corner of one is on a side of the other"
+check_finding (checks.Meets first second Target) =
+    codes "they overlap in the target frame, or a corner of one is on a side of the other"
 check_finding checks.NoMemory = codes "memory ran out"
 
 abbrev pub check_cure : CheckFault → Option (List ℕ)

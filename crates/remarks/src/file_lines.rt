@@ -3,7 +3,8 @@
 
 ghost use Rattle.std.specs.Prelude.{◌≡◌, ◌++◌, IfOk, OnOk, codes, decimal, string_bytes, option_copied, map};
 ghost use Rattle.std.specs.List.{flat_map};
-ghost use Rattle.remarks.specs.FileLines.{unread_line_of, reason_words, unwritten_lines_of, kind_words, further_kind, kinds_words, left_out_line_of, rounded_line_of, degrees_line_of};
+ghost use Rattle.remarks.specs.FileLines.{unread_line_of, reason_words, unwritten_lines_of, kind_words, further_kind};
+ghost use Rattle.remarks.specs.FileLines.{kinds_words, left_out_line_of, rounded_line_of, degrees_line_of};
 
 use crate::remark_lines::put_number;
 use std::alloc::{AllocError, Global};

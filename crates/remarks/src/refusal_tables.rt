@@ -1,7 +1,8 @@
 //! What the words, a file or a run is refused for, and what helps.
 
 ghost use Rattle.std.specs.Prelude.{◌≡◌, option_copied};
-ghost use Rattle.remarks.specs.RefusalTables.{words_finding as words_finding_of, words_cure as words_cure_of, refusal_finding as refusal_finding_of, refusal_cure as refusal_cure_of};
+ghost use Rattle.remarks.specs.RefusalTables.{words_finding as words_finding_of, words_cure as words_cure_of};
+ghost use Rattle.remarks.specs.RefusalTables.{refusal_finding as refusal_finding_of, refusal_cure as refusal_cure_of};
 
 use crate::sights::{seen_cure, seen_finding, sight_for};
 use crate::tin_tables::{check_cure, check_finding, tin_cure, tin_finding};

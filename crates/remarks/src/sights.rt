@@ -3,7 +3,11 @@
 ghost use Rattle.std.specs.Prelude.{◌≡◌, ◌≤◌, length, take, option_copied};
 ghost use Rattle.std.specs.List.{suffix_len};
 ghost use Rattle.std.specs.Char.{is_ascii_alphabetic};
-ghost use Rattle.remarks.specs.Sights.{begins_with_mark as has_mark, begins_number as is_of_number, is_blank as is_a_blank, is_first, without_blanks as without_blanks_of, ends_with_bracket as is_behind_bracket, is_second_geometry as is_second, sight_of_bad, sight_of_code, sight_of_height, sight_in as sight_inside, sight_of, seen_finding as seen_finding_of, seen_cure as seen_cure_of};
+ghost use Rattle.remarks.specs.Sights.{begins_with_mark as has_mark, begins_number as is_of_number};
+ghost use Rattle.remarks.specs.Sights.{is_blank as is_a_blank, is_first, without_blanks as without_blanks_of};
+ghost use Rattle.remarks.specs.Sights.{ends_with_bracket as is_behind_bracket, is_second_geometry as is_second};
+ghost use Rattle.remarks.specs.Sights.{sight_of_bad, sight_of_code, sight_of_height, sight_in as sight_inside};
+ghost use Rattle.remarks.specs.Sights.{sight_of, seen_finding as seen_finding_of, seen_cure as seen_cure_of};
 
 use crate::layer_tables::{cure, finding};
 use crate::line_columns::{before, from_place};

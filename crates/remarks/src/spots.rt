@@ -1,7 +1,8 @@
 //! Where in a run, a file or a triangulation a refusal comes from.
 
 ghost use Rattle.std.specs.Prelude.{◌≡◌};
-ghost use Rattle.remarks.specs.Spots.{words_spot as spot_of_words, tin_spot as spot_of_tin, check_spot as spot_of_check, layer_spot as spot_of_layer, spot_of};
+ghost use Rattle.remarks.specs.Spots.{words_spot as spot_of_words, tin_spot as spot_of_tin};
+ghost use Rattle.remarks.specs.Spots.{check_spot as spot_of_check, layer_spot as spot_of_layer, spot_of};
 
 use job_words::{Which, WordsFault};
 use runs::Refusal;

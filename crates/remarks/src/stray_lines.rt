@@ -2,7 +2,8 @@
 
 ghost use Rattle.std.specs.Prelude.{◌≡◌, ◌++◌, IfOk, OnOk, decimal};
 ghost use Rattle.mm_decimal.specs.Writing.{written};
-ghost use Rattle.remarks.specs.StrayLines.{pair_words, place_words, extent_line, target_line, degree_line, outside_lines_of};
+ghost use Rattle.remarks.specs.StrayLines.{pair_words, place_words, extent_line, target_line, degree_line};
+ghost use Rattle.remarks.specs.StrayLines.{outside_lines_of};
 
 use itoa::Buffer;
 use plane_base::Pt;

@@ -11,8 +11,10 @@ use Rattle.tin_base.proofs.Slicing.{in_spot}
 use Rattle.tin_base.proofs.TrianglePlaces.{stands}
 use Rattle.seg_walk.specs.Beginning.{MissesTriangle}
 
-pub not_missed : (tin : Triangulation) (a b : Pt) (t : ℕ) (s : Spot) → IsWithinLimits tin → t < length tin.triangles → MissesTriangle tin a b t → IsShared tin a b t s → ⊥
+pub not_missed : (tin : Triangulation) (a b : Pt) (t : ℕ) (s : Spot) → IsWithinLimits tin → t < length tin.triangles
+    → MissesTriangle tin a b t → IsShared tin a b t s → ⊥
 not_missed tin a b t s limits ht misses h = go (stands tin t limits ht)
   where
     go : (r : Tri) × (corners r ≡ places tin Source (numbers_of tin t)) → ⊥
-    go r = misses r.0 r.1 (pos s.of_b) (pos s.of_a +ℤ pos s.of_b) (in_spot a b r.0 s h.some (subst (λ (ps : List Point). IsMix (spot_at a b s) ps) (sym r.1) h.inside))
+    go r = misses r.0 r.1 (pos s.of_b) (pos s.of_a +ℤ pos s.of_b)
+        (in_spot a b r.0 s h.some (subst (λ (ps : List Point). IsMix (spot_at a b s) ps) (sym r.1) h.inside))

@@ -41,4 +41,5 @@ pub record IsStepFrom (tin : Triangulation) (a b : Pt) (x : Spot) (step : Step) 
 
 -- the step with the least triangle that has a part from there, or none where no triangle has one
 abbrev pub GoesOn : Triangulation → Pt → Pt → Spot → Option Step → Type 0
-GoesOn tin a b x next = MatchOption next (HasNoneFrom tin a b x (length tin.triangles)) (λ step. IsStepFrom tin a b x step)
+GoesOn tin a b x next = MatchOption next (HasNoneFrom tin a b x (length tin.triangles))
+    (λ step. IsStepFrom tin a b x step)

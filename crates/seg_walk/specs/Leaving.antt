@@ -21,5 +21,6 @@ pub record IsLeftAt (tin : Triangulation) (a b : Pt) (t k : ℕ) (x : Spot) : Ty
   pub side : k < 3
   pub has : IsShared tin a b t x
   pub last : (s : Spot) → IsShared tin a b t s → IsNotAfter s x
-  pub on_side : IsMix (spot_at a b x) (place_at tin (corner_of tin t k) ∷ place_at tin (corner_of tin t (next_of k)) ∷ [])
+  pub on_side : IsMix (spot_at a b x) (place_at tin (corner_of tin t k) ∷ place_at tin (corner_of tin t (next_of k))
+      ∷ [])
   pub crossed : IsOnLine tin a b (corner_of tin t k) → IsOnLine tin a b (corner_of tin t (next_of k)) → ⊥

@@ -53,8 +53,8 @@ fn is_before_end(at: Frac) -> bool
     at.num < at.den
 }
 
-/// The pieces one after the other: from the end of each, the piece that begins there. `triangle` is the least that contains
-/// the first point.
+/// The pieces one after the other: from the end of each, the piece that begins there. `triangle` is the least that
+/// contains the first point.
 fn cut_way(alloc: Global, index: &TinIndex, a: Pt, b: Pt, triangle: u32) -> Result<Steps, WalkFault>
     requires differ { a ≢ b }
     requires near_b { IsNearCorners index.now b }
@@ -90,7 +90,8 @@ pub fn cut(alloc: Global, index: &TinIndex, a: Pt, b: Pt) -> Result<Steps, WalkF
     cut_from(alloc, index, a, b, 0)
 }
 
-/// As `cut`. It is quicker where `a` is inside of the triangle that is guessed, as that of the piece before; any number will do.
+/// As `cut`. It is quicker where `a` is inside of the triangle that is guessed, as that of the piece before; any number
+/// will do.
 pub fn cut_from(
     alloc: Global,
     index: &TinIndex,

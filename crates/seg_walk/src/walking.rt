@@ -55,8 +55,8 @@ fn next_of(k: u8) -> u8
     }
 }
 
-// The next step where the segment leaves a triangle by a side. At a corner many triangles may go on; inside the side only the
-// one across.
+// The next step where the segment leaves a triangle by a side. At a corner many triangles may go on; inside the side
+// only the one across.
 fn step_over(index: &TinIndex, a: Pt, b: Pt, triangle: u32, side: u8, at: Frac) -> Option<Step>
     requires differ { a ≢ b }
     requires has_a { IsInSome index.now Source (whole a) }

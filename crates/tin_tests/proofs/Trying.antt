@@ -1,5 +1,6 @@
 -- What the test of a triangle and two of its segments needs.
-use Rattle.std.proofs.Common.{◌≡◌, ◌⊎◌, inl, inr, ℕ, ◌<◌, ◌≤◌, ℤ, pos, ◌+ℤ◌, ◌*ℤ◌, ◌<ℤ◌, List, length, get_or, All, unsigned_abs, refl, sym, subst, arith}
+use Rattle.std.proofs.Common.{◌≡◌, ◌⊎◌, inl, inr, ℕ, ◌<◌, ◌≤◌, ℤ, pos, ◌+ℤ◌, ◌*ℤ◌, ◌<ℤ◌, List, length, get_or, All}
+use Rattle.std.proofs.Common.{unsigned_abs, refl, sym, subst, arith}
 use Rattle.std.proofs.lemmas.Int.{ints}
 use lib.Signed.{lt_z_yes}
 use Rattle.plane_base.specs.Plane.{Same, IsNear, whole}
@@ -21,13 +22,15 @@ one : pos 0 <ℤ pos 1
 one = lt_z_yes tt
 
 -- ---- nearness
-near_numbers : (px py qx qy : ℤ) → unsigned_abs px ≤ 32768 → unsigned_abs py ≤ 32768 → unsigned_abs qx ≤ 32768 → unsigned_abs qy ≤ 32768 → IsNear (record { x = px; y = py }) (record { x = qx; y = qy })
+near_numbers : (px py qx qy : ℤ) → unsigned_abs px ≤ 32768 → unsigned_abs py ≤ 32768 → unsigned_abs qx ≤ 32768
+    → unsigned_abs qy ≤ 32768 → IsNear (record { x = px; y = py }) (record { x = qx; y = qy })
 near_numbers px py qx qy a b c d = (omega (arith, ints), omega (arith, ints), omega (arith, ints), omega (arith, ints))
 
 near : (p q : Pt) → IsSmall p → IsSmall q → IsNear p q
 near p q h k = near_numbers p.x p.y q.x q.y h.x h.y k.x k.y
 
-comparable : (tin : Triangulation) (p q : Piece) → IsPieceInside tin p → IsPieceInside tin q → IsSmallPiece p → IsSmallPiece q → AreComparable tin p q
+comparable : (tin : Triangulation) (p q : Piece) → IsPieceInside tin p → IsPieceInside tin q → IsSmallPiece p
+    → IsSmallPiece q → AreComparable tin p q
 comparable tin p q hp hq sp sq =
     record {
       first = hp;
@@ -41,27 +44,40 @@ comparable tin p q hp hq sp sq =
 
 -- pieces that the tests compare, each with each
 pub all_comparable : (tin : Triangulation) (ps : List Piece) → All (λ p. IsTried tin p) ps → AreAllComparable tin ps
-all_comparable tin ps h i d hi j e hj = let p = h i d hi in let q = h j e hj in comparable tin (get_or ps i d) (get_or ps j e) p.0 q.0 p.1 q.1
+all_comparable tin ps h i d hi j e hj = let p = h i d hi in let q =
+    h j e hj in comparable tin (get_or ps i d) (get_or ps j e) p.0 q.0 p.1 q.1
 
 -- ---- a segment of which the triangle has both ends is its own piece
 spot_last : (a b : Pt) → Same (spot_at a b at_b) (whole b)
 spot_last a b = (at_one a.x b.x, at_one a.y b.y)
   where
-    at_one : (x y : ℤ) → (pos 0 *ℤ x +ℤ (pos 1 *ℤ y +ℤ pos 0)) *ℤ pos 1 ≡ y *ℤ (pos 0 *ℤ pos 1 +ℤ (pos 1 *ℤ pos 1 +ℤ pos 0))
-    at_one = solve 2 (λ x y. (num (pos 0) ⊗ x ⊕ (num (pos 1) ⊗ y ⊕ num (pos 0))) ⊗ num (pos 1) ≐ y ⊗ (num (pos 0) ⊗ num (pos 1) ⊕ (num (pos 1) ⊗ num (pos 1) ⊕ num (pos 0)))) tt
+    at_one : (x y : ℤ) → (pos 0 *ℤ x +ℤ (pos 1 *ℤ y +ℤ pos 0)) *ℤ pos 1 ≡ y
+        *ℤ (pos 0 *ℤ pos 1 +ℤ (pos 1 *ℤ pos 1 +ℤ pos 0))
+    at_one = solve 2 (λ x y. (num (pos 0) ⊗ x ⊕ (num (pos 1) ⊗ y ⊕ num (pos 0))) ⊗ num (pos 1) ≐ y
+        ⊗ (num (pos 0) ⊗ num (pos 1) ⊕ (num (pos 1) ⊗ num (pos 1) ⊕ num (pos 0)))) tt
 
-whole_part : (tin : Triangulation) (a b : Pt) → 0 < length tin.triangles → IsInTriangle tin Source 0 (whole a) → IsInTriangle tin Source 0 (whole b) → IsPart tin a b 0 at_a at_b
+whole_part : (tin : Triangulation) (a b : Pt) → 0 < length tin.triangles → IsInTriangle tin Source 0 (whole a)
+    → IsInTriangle tin Source 0 (whole b) → IsPart tin a b 0 at_a at_b
 whole_part tin a b ht ma mb =
     record {
       in_range = ht;
-      has_first = record { some = some_a; inside = mix_moved (whole a) (spot_at a b at_a) (places tin Source (numbers_of tin 0)) one (spot_whole a b) ma };
-      has_last = record { some = omega arith; inside = mix_moved (whole b) (spot_at a b at_b) (places tin Source (numbers_of tin 0)) one (spot_last a b) mb };
+      has_first = record {
+        some = some_a;
+        inside =
+            mix_moved (whole a) (spot_at a b at_a) (places tin Source (numbers_of tin 0)) one (spot_whole a b) ma;
+      };
+      has_last = record {
+        some = omega arith;
+        inside =
+            mix_moved (whole b) (spot_at a b at_b) (places tin Source (numbers_of tin 0)) one (spot_last a b) mb;
+      };
       differ = omega arith;
       none_before = λ s h. omega arith;
       none_after = λ s h. omega arith;
     }
 
-pub own_piece : (tin : Triangulation) (piece : Piece) → 0 < length tin.triangles → piece.tri ≡ 0 → IsInTriangle tin Source 0 (whole piece.a) → IsInTriangle tin Source 0 (whole piece.b) → IsPieceInside tin piece
+pub own_piece : (tin : Triangulation) (piece : Piece) → 0 < length tin.triangles → piece.tri ≡ 0
+    → IsInTriangle tin Source 0 (whole piece.a) → IsInTriangle tin Source 0 (whole piece.b) → IsPieceInside tin piece
 own_piece tin piece ht et ma mb =
     record { is_piece = go (same_or_different piece.a piece.b); begins = (0, ht, ma); ends = (0, ht, mb) }
   where
@@ -73,7 +89,13 @@ own_piece tin piece ht et ma mb =
       record { triangle = piece.tri; first = at_a; last = at_a },
       record {
         triangle = refl;
-        of_point = λ _. record { in_range = subst (λ (t : ℕ). t < length tin.triangles) (sym et) ht; has_point = subst (λ (t : ℕ). IsInTriangle tin Source t (whole piece.a)) (sym et) ma; begins = refl; ends = refl };
+        of_point = λ _. record {
+          in_range = subst (λ (t : ℕ). t < length tin.triangles) (sym et) ht;
+          has_point =
+              subst (λ (t : ℕ). IsInTriangle tin Source t (whole piece.a)) (sym et) ma;
+          begins = refl;
+          ends = refl;
+        };
         of_segment = λ n. absurd (n e);
       },
     )
@@ -82,6 +104,7 @@ own_piece tin piece ht et ma mb =
       record {
         triangle = refl;
         of_point = λ e. none d e;
-        of_segment = λ _. subst (λ (t : ℕ). IsPart tin piece.a piece.b t at_a at_b) (sym et) (whole_part tin piece.a piece.b ht ma mb);
+        of_segment = λ _. subst (λ (t : ℕ). IsPart tin piece.a piece.b t at_a at_b) (sym et)
+            (whole_part tin piece.a piece.b ht ma mb);
       },
     )

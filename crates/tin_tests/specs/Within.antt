@@ -11,11 +11,13 @@ AreBeside c d = (c ≢ d) × ((frame : Frame) → IsNotFarBelow frame c d × IsN
 
 -- the n-th corner is beside the first k
 abbrev pub IsBesideFirst : List Corner → ℕ → ℕ → Type 0
-IsBesideFirst corners n k = (m : ℕ) → m < k → AreBeside (slice_index_or corners m no_corner) (slice_index_or corners n no_corner)
+IsBesideFirst corners n k = (m : ℕ) → m < k
+    → AreBeside (slice_index_or corners m no_corner) (slice_index_or corners n no_corner)
 
 -- the first k corners are in reach, and each of them is beside those before it
 abbrev pub AreFirstFine : List Corner → ℕ → Type 0
-AreFirstFine corners k = (n : ℕ) → n < k → ((frame : Frame) → IsCornerInReach frame (slice_index_or corners n no_corner)) × IsBesideFirst corners n n
+AreFirstFine corners k = (n : ℕ) → n < k → ((frame : Frame)
+    → IsCornerInReach frame (slice_index_or corners n no_corner)) × IsBesideFirst corners n n
 
 -- the numbers of the first k rows are below the count
 abbrev pub AreRowsBelow : List (List ℕ) → ℕ → ℕ → Type 0

@@ -23,7 +23,8 @@ pub(crate) fn at(x: i16, y: i16) -> Pt
     }
 }
 
-/// The triangulation of these corners, if its triangle is neither flat nor turned over. Of others it says that memory is short, which no test wants.
+/// The triangulation of these corners, if its triangle is neither flat nor turned over. Of others it says that memory
+/// is short, which no test wants.
 fn one_triangle(alloc: Global, corners: &[Corner]) -> Result<SoundTin, ChangesFault>
     ensures { IfOk result (λ tin. length tin.triangles ≡ 1) }
 {
@@ -148,7 +149,7 @@ fn found(alloc: Global, dots: u8, most: u32) -> Result<Vec<Change>, ChangesFault
     changes(alloc, &tin, &pieces, most)
 }
 
-/// The points of the line leave it, but for the first one, about which it turns.
+/// The points of the line leave it, except the first one, about which it turns.
 fn wanted(alloc: Global, dots: u8) -> Result<Vec<Change>, AllocError> {
     let place = |path: u32| Place {
         layer: 0,

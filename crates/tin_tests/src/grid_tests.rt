@@ -183,8 +183,8 @@ fn finds_nothing_in_no_boxes(rt: HostRuntime) -> Result<(), Fail> {
     Ok(())
 }
 
-// Two villages at the ends of the country, each of ten rows of ten boxes that touch. In each are 9 times 10 pairs along rows, as many along columns,
-// and twice 9 times 9 at corners.
+// Two villages at the ends of the country, each of ten rows of ten boxes that touch. In each are 9 times 10 pairs along
+// rows, as many along columns, and twice 9 times 9 at corners.
 #[test]
 fn tells_the_pairs_of_two_villages(rt: HostRuntime) -> Result<(), Fail> {
     let alloc = rt.alloc();
@@ -252,8 +252,8 @@ fn tells_a_pair_for_the_smaller_box(rt: HostRuntime) -> Result<(), Fail> {
     Ok(())
 }
 
-// A small box at each of a hundred by a hundred points a kilometre apart, and ten by ten boxes of more than a kilometre, each
-// with one of these points in it. The cells of the small boxes are wider than these boxes need.
+// A small box at each of a hundred by a hundred points a kilometre apart, and ten by ten boxes of more than a
+// kilometre, each with one of these points in it. The cells of the small boxes are wider than these boxes need.
 #[test]
 fn finds_small_boxes_in_large_ones(rt: HostRuntime) -> Result<(), Fail> {
     let alloc = rt.alloc();

@@ -20,7 +20,8 @@ fn dot(tin: &SoundTin, from: Pt, to: Pt, path: u32) -> Result<Piece, ChangesFaul
     Ok(dot)
 }
 
-/// Three points: the first two are a thousand millimetres apart and get one place, the third is at the place of the first and gets another.
+/// Three points: the first two are a thousand millimetres apart and get one place, the third is at the place of the
+/// first and gets another.
 fn three_dots(alloc: Global, tin: &SoundTin) -> Result<Vec<Piece>, ChangesFault>
     requires { length tin.now.triangles ≡ 1 }
     ensures { IfOk result (λ pieces. All (λ piece. IsTried tin.now piece) pieces.items) }

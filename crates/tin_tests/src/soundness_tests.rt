@@ -6,7 +6,8 @@ use std::test::Fail;
 use tin_base::{Corner, Frame, SoundTin};
 use tin_check::{CheckFault, check_tin};
 
-/// What is found of corners and triangles within the limits. Of others it says that memory is short, which no test wants.
+/// What is found of corners and triangles within the limits. Of others it says that memory is short, which no test
+/// wants.
 fn found(
     alloc: Global,
     corners: &[Corner],

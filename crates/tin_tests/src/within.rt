@@ -11,7 +11,8 @@ ghost use Rattle.tin_tests.specs.Within.{AreBeside, IsBesideFirst, AreFirstFine,
 use plane_base::{Pt, SPAN};
 use tin_base::{Corner, Frame, MOST_CORNERS, MOST_TRIANGLES, REACH};
 
-/// Whether a triangulation can have these corners and these triangles. It compares each two corners, and takes no memory.
+/// Whether a triangulation can have these corners and these triangles. It compares each two corners, and takes no
+/// memory.
 pub fn are_within_limits(corners: &[Corner], triangles: &[[u32; 3]]) -> bool
     ensures { (inexact : ℕ) → IsTrue result ↔ IsWithinLimits (triangulation corners.now triangles.now inexact) }
 {

@@ -3,19 +3,24 @@ use Rattle.std.proofs.Common.{◌≡◌, ◌≢◌, ℕ, List, Option, None, Som
 use Rattle.shelf_io.specs.Files.{Files}
 use Rattle.sheet_base.specs.declared.flags.How.{How}
 use Rattle.job_words.specs.declared.faults.WordsFault.{WordsFault}
-use Rattle.job_words.specs.declared.faults.WordsFault.TheVariants.{NoMode, Parse, Size, Many, Name, Suffix, SameName, NoMemory as WordsMemory}
+use Rattle.job_words.specs.declared.faults.WordsFault.TheVariants.{NoMode, Parse, Size, Many, Name, Suffix, SameName}
+use Rattle.job_words.specs.declared.faults.WordsFault.TheVariants.{NoMemory as WordsMemory}
 use Rattle.job_words.specs.declared.jobs.Job.{Job}
 use Rattle.job_words.specs.declared.jobs.Job.TheVariants.{Check as CheckJob}
 use Rattle.job_words.specs.Jobs.{IsJobOf}
 use Rattle.runs.specs.declared.status.Status.{Status}
 use Rattle.runs.specs.declared.status.Status.TheVariants.{Same, Write}
 use Rattle.runs.specs.declared.refusal.Refusal.{Refusal}
-use Rattle.runs.specs.declared.refusal.Refusal.TheVariants.{Words, TinUnread, TinLong, Tin, Check, LayerUnread, LayersLong, Layer, Outside, TooManyPieces, TooManyChanges, NoMemory}
+use Rattle.runs.specs.declared.refusal.Refusal.TheVariants.{Words, TinUnread, TinLong, Tin, Check, LayerUnread}
+use Rattle.runs.specs.declared.refusal.Refusal.TheVariants.{LayersLong, Layer, Outside, TooManyPieces, TooManyChanges}
+use Rattle.runs.specs.declared.refusal.Refusal.TheVariants.{NoMemory}
 use Rattle.runs.specs.Refusals.{status_of, status_of_words, Refuses}
-use Rattle.runs.proofs.Faults.{IsOfTin, refused as refused_tin, limited, wanted, of_text, of_check, IsOfLayer, unread, without_room, of_layer}
+use Rattle.runs.proofs.Faults.{IsOfTin, refused as refused_tin, limited, wanted, of_text, of_check, IsOfLayer, unread}
+use Rattle.runs.proofs.Faults.{without_room, of_layer}
 use Rattle.check_mode.specs.Checks.{IsChecked}
 use Rattle.tinmove.specs.Outcome.{IsJobDone, HasOutcome, no_job, refused, done}
-use Rattle.tinmove.specs.Ends.{Ends, by_outcome, after_read_fault, out_of_memory, made_whole, after_write_fault, EndsTold}
+use Rattle.tinmove.specs.Ends.{Ends, by_outcome, after_read_fault, out_of_memory, made_whole, after_write_fault}
+use Rattle.tinmove.specs.Ends.{EndsTold}
 use Rattle.tinmove.proofs.OneOutcome.{job_one, job_or_fault}
 
 -- ---- no refusal ends with `Same`
@@ -59,28 +64,41 @@ write-same : (status : Status) → status ≡ Write → status ≢ Same
 write-same status is = λ same. let e = sym is ∙ same in cc
 
 -- ---- the end of a check
-outcome_checks : (words : List (List ℕ)) (files : Files) (name : List ℕ) (how : How) (status : Status) (made : Files) → IsJobOf words (CheckJob name how) → status ≡ Same → HasOutcome words files status made
+outcome_checks : (words : List (List ℕ)) (files : Files) (name : List ℕ) (how : How) (status : Status) (made : Files)
+    → IsJobOf words (CheckJob name how) → status ≡ Same → HasOutcome words files status made
     → IsChecked files how name status made
-outcome_checks words files name how status made given same (no_job fault lacks is) = absurd (job_or_fault words (CheckJob name how) fault given lacks)
-outcome_checks words files name how status made given same (refused job also refusal why is) = absurd (refuses-same refusal status made is same)
+outcome_checks words files name how status made given same (no_job fault lacks is) =
+    absurd (job_or_fault words (CheckJob name how) fault given lacks)
+outcome_checks words files name how status made given same (refused job also refusal why is) =
+    absurd (refuses-same refusal status made is same)
 outcome_checks words files name how status made given same (done job also is) =
     subst (λ (j : Job). IsJobDone files j status made) (job_one words job (CheckJob name how) also given) is
 
 -- an end with `Same` is that of the outcome
-outcome_of_same : (words : List (List ℕ)) (files : Files) (shelf_rose press_rose : Type 0) (status : Status) (made : Files) → status ≡ Same → Ends words files shelf_rose press_rose status made → HasOutcome words files status made
+outcome_of_same : (words : List (List ℕ)) (files : Files) (shelf_rose press_rose : Type 0) (status : Status)
+    (made : Files) → status ≡ Same → Ends words files shelf_rose press_rose status made
+    → HasOutcome words files status made
 outcome_of_same words files shelf_rose press_rose status made same (made_whole (by_outcome is)) = is
-outcome_of_same words files shelf_rose press_rose status made same (made_whole (after_read_fault rose job also refusal reached is)) = absurd (refuses-same refusal status made is same)
-outcome_of_same words files shelf_rose press_rose status made same (made_whole (out_of_memory is)) = absurd (refuses-same NoMemory status made is same)
-outcome_of_same words files shelf_rose press_rose status made same (after_write_fault is rose other others makes front) = absurd (write-same status is same)
+outcome_of_same words files shelf_rose press_rose status made same
+    (made_whole (after_read_fault rose job also refusal reached is)) = absurd (refuses-same refusal status made is same)
+outcome_of_same words files shelf_rose press_rose status made same (made_whole (out_of_memory is)) =
+    absurd (refuses-same NoMemory status made is same)
+outcome_of_same words files shelf_rose press_rose status made same
+    (after_write_fault is rose other others makes front) = absurd (write-same status is same)
 
-end_checks : (words : List (List ℕ)) (files : Files) (shelf_rose press_rose : Type 0) (name : List ℕ) (how : How) (status : Status) (made : Files) → IsJobOf words (CheckJob name how) → status ≡ Same
+end_checks : (words : List (List ℕ)) (files : Files) (shelf_rose press_rose : Type 0) (name : List ℕ) (how : How)
+    (status : Status) (made : Files) → IsJobOf words (CheckJob name how) → status ≡ Same
     → Ends words files shelf_rose press_rose status made → IsChecked files how name status made
 end_checks words files shelf_rose press_rose name how status made given same ends =
-    outcome_checks words files name how status made given same (outcome_of_same words files shelf_rose press_rose status made same ends)
+    outcome_checks words files name how status made given same
+    (outcome_of_same words files shelf_rose press_rose status made same ends)
 
 -- of the files that a shelf tells
-pub run_checks : (words : List (List ℕ)) (told : Option Files) (shelf_rose press_rose : Type 0) (status : Status) (made : Option Files) → IfSome told (λ files. EndsTold words files shelf_rose press_rose status made)
-    → IfSome told (λ files. (name : List ℕ) (how : How) → IsJobOf words (CheckJob name how) → status ≡ Same → IfSome made (IsChecked files how name status))
+pub run_checks : (words : List (List ℕ)) (told : Option Files) (shelf_rose press_rose : Type 0) (status : Status)
+    (made : Option Files) → IfSome told (λ files. EndsTold words files shelf_rose press_rose status made)
+    → IfSome told (λ files. (name : List ℕ) (how : How) → IsJobOf words (CheckJob name how) → status ≡ Same
+    → IfSome made (IsChecked files how name status))
 run_checks words None shelf_rose press_rose status made ends = tt
 run_checks words (Some files) shelf_rose press_rose status None ends = λ name how given same. tt
-run_checks words (Some files) shelf_rose press_rose status (Some made) ends = λ name how given same. end_checks words files shelf_rose press_rose name how status made given same ends
+run_checks words (Some files) shelf_rose press_rose status (Some made) ends =
+    λ name how given same. end_checks words files shelf_rose press_rose name how status made given same ends

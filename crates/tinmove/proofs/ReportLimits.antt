@@ -1,5 +1,6 @@
 -- A line that tells of bytes is that of a file with too many: no other line has such a beginning, and no report.
-use Rattle.std.proofs.Common.{◌≡◌, ◌≢◌, inl, inr, ℕ, List, [], ◌∷◌, ◌++◌, map, length, codes, Bool, Option, None, Some, IfSome, refl, sym, ◌∙◌, ap, subst, arith}
+use Rattle.std.proofs.Common.{◌≡◌, ◌≢◌, inl, inr, ℕ, List, [], ◌∷◌, ◌++◌, map, length, codes, Bool, Option, None, Some}
+use Rattle.std.proofs.Common.{IfSome, refl, sym, ◌∙◌, ap, subst, arith}
 use Rattle.std.proofs.Math.Seq.{take-length}
 use Rattle.shelf_io.specs.Files.{Files}
 use Rattle.job_words.specs.declared.jobs.Job.{Job}
@@ -21,12 +22,14 @@ use Rattle.tinmove.proofs.Fronts.{whole-front, slash-dash}
 use Rattle.tinmove.proofs.RunEnds.{HasPrinted, never-write-end}
 
 -- a front of a line that does not tell of bytes does not
-front-none : (line : List ℕ) (made : Files) → TellsNone line → IsFrontOf made ((codes "-", line) ∷ []) → TellsBytes made → ⊥
+front-none : (line : List ℕ) (made : Files) → TellsNone line → IsFrontOf made ((codes "-", line) ∷ []) → TellsBytes made
+    → ⊥
 front-none line made none front (rest, is) =
     let (count, same) = rw is at front in none-begins line rest count none (ap (λ (f : List ℕ × List ℕ). f.1) same)
 
 -- a line that tells of bytes is that of a file with too many
-tells_long : (refusal : Refusal) (passed : Type 0) (made : Files) → IsFrontOf made (line_file refusal) → TellsBytes made → (refusal ≡ TinLong → passed) → (refusal ≡ LayersLong → passed) → passed
+tells_long : (refusal : Refusal) (passed : Type 0) (made : Files) → IsFrontOf made (line_file refusal) → TellsBytes made
+    → (refusal ≡ TinLong → passed) → (refusal ≡ LayersLong → passed) → passed
 tells_long refusal passed made front tells tin layer =
     elim (limit_line refusal) [
       | of_tin is ↦ tin is
@@ -35,7 +38,8 @@ tells_long refusal passed made front tells tin layer =
     ]
 
 -- what is printed of a line is a front of it
-front-of : (line : List ℕ) (wanted result : Status) (made : Files) (press_rose : Type 0) → wanted ≢ Write → HasPrinted ((codes "-", line) ∷ []) wanted result (Some made) press_rose → IsFrontOf made ((codes "-", line) ∷ [])
+front-of : (line : List ℕ) (wanted result : Status) (made : Files) (press_rose : Type 0) → wanted ≢ Write
+    → HasPrinted ((codes "-", line) ∷ []) wanted result (Some made) press_rose → IsFrontOf made ((codes "-", line) ∷ [])
 front-of line wanted result made press_rose other printed =
     elim printed.status [
       | inl is ↦
@@ -44,31 +48,40 @@ front-of line wanted result made press_rose other printed =
       | inr is ↦ printed.front is
     ]
 
-pub limit_told : (refusal : Refusal) (result : Status) (made : Option Files) (press_rose passed : Type 0) → HasPrinted (line_file refusal) (status_of refusal) result made press_rose
+pub limit_told : (refusal : Refusal) (result : Status) (made : Option Files) (press_rose passed : Type 0)
+    → HasPrinted (line_file refusal) (status_of refusal) result made press_rose
     → (refusal ≡ TinLong → passed) → (refusal ≡ LayersLong → passed) → IfSome made (λ files. TellsBytes files → passed)
 limit_told refusal result None press_rose passed printed tin layer = tt
 limit_told refusal result (Some made) press_rose passed printed tin layer = λ tells.
-    tells_long refusal passed made (front-of (line_of refusal) (status_of refusal) result made press_rose (never-write refusal) printed) tells tin layer
+    tells_long refusal passed made (front-of (line_of refusal) (status_of refusal) result made press_rose
+    (never-write refusal) printed) tells tin layer
 
-named-file : (name bytes : List ℕ) (rest made : Files) → HasSlash name → IsFrontOf made ((name, bytes) ∷ rest) → TellsBytes made → ⊥
+named-file : (name bytes : List ℕ) (rest made : Files) → HasSlash name → IsFrontOf made ((name, bytes) ∷ rest)
+    → TellsBytes made → ⊥
 named-file name bytes rest made slash front (behind, is) =
-    let (count, same) = rw is at front in slash-dash (subst HasSlash (sym (ap (λ (f : List ℕ × List ℕ). f.0) same)) slash)
+    let (count, same) = rw is at front in slash-dash
+    (subst HasSlash (sym (ap (λ (f : List ℕ × List ℕ). f.0) same)) slash)
 
 -- a report begins with a t
 report-none : (report : Report) → TellsNone (report_text report)
 unfolding title
 report-none report = t-line _ refl
 
-none-told : (layers : Files) (said : List ℕ) (made : Files) → AreWritable layers → TellsNone said → IsFrontOf made (layers ++ (codes "-", said) ∷ []) → TellsBytes made → ⊥
+none-told : (layers : Files) (said : List ℕ) (made : Files) → AreWritable layers → TellsNone said
+    → IsFrontOf made (layers ++ (codes "-", said) ∷ []) → TellsBytes made → ⊥
 none-told [] said made writable none front tells = front-none said made none front tells
-none-told (file ∷ layers) said made writable none front tells = named-file file.0 file.1 (layers ++ (codes "-", said) ∷ []) made writable.0 front tells
+none-told (file ∷ layers) said made writable none front tells =
+    named-file file.0 file.1 (layers ++ (codes "-", said) ∷ []) made writable.0 front tells
 
-said-none : (job : Job) (layers : Files) (said : List ℕ) (status : Status) → IsWrittenOf job layers said status → TellsNone said
+said-none : (job : Job) (layers : Files) (said : List ℕ) (status : Status) → IsWrittenOf job layers said status
+    → TellsNone said
 said-none (Migrate tin out how inverse names) layers said status (named, on) = rw on.said_is (report-none on.report)
-said-none (CheckJob tin how) layers said status (none, same, line) = rw line.said_is (at-first _ 115 refl (λ e. omega (arith, e)))
+said-none (CheckJob tin how) layers said status (none, same, line) =
+    rw line.said_is (at-first _ 115 refl (λ e. omega (arith, e)))
 said-none (Make n) layers said status (none, on) = rw on.said_is (report-none on.report)
 
-front-done : (whole : Files) (changed : Bool) (result : Status) (made : Files) (press_rose : Type 0) → HasPrinted whole (end_of changed) result (Some made) press_rose → IsFrontOf made whole
+front-done : (whole : Files) (changed : Bool) (result : Status) (made : Files) (press_rose : Type 0)
+    → HasPrinted whole (end_of changed) result (Some made) press_rose → IsFrontOf made whole
 front-done whole changed result made press_rose printed =
     elim printed.status [
       | inl is ↦
@@ -78,10 +91,12 @@ front-done whole changed result made press_rose printed =
     ]
 
 -- what is printed of a success tells of no bytes
-pub limit_done : (job : Job) (written : Output) (result : Status) (made : Option Files) (press_rose passed : Type 0) → HasForm (IsWrittenOf job) written → HasPrinted (files_of written) (end_of written.changed) result made press_rose
+pub limit_done : (job : Job) (written : Output) (result : Status) (made : Option Files) (press_rose passed : Type 0)
+    → HasForm (IsWrittenOf job) written → HasPrinted (files_of written) (end_of written.changed) result made press_rose
     → IfSome made (λ files. TellsBytes files → passed)
 limit_done job written result None press_rose passed form printed = tt
 limit_done job written result (Some made) press_rose passed form printed = λ tells.
     absurd
-    (none-told (map file_of written.layers.items) written.said made form.writable (said-none job (map file_of written.layers.items) written.said (end_of written.changed) form.is_of)
+    (none-told (map file_of written.layers.items) written.said made form.writable
+    (said-none job (map file_of written.layers.items) written.said (end_of written.changed) form.is_of)
     (front-done (files_of written) written.changed result made press_rose printed) tells)

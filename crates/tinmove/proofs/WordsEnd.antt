@@ -1,7 +1,8 @@
 -- How a run ends by what its words ask for: no job, a check, or what wants no file.
 use Rattle.std.proofs.Common.{◌≡◌, ◌≢◌, ◌⊎◌, inl, inr, ℕ, List, Bool, true, false, sym, ◌∙◌, subst}
 use Rattle.job_words.specs.declared.faults.WordsFault.{WordsFault}
-use Rattle.job_words.specs.declared.faults.WordsFault.TheVariants.{NoMode, Parse, Size, Many, Name, Suffix, SameName, NoMemory as WordsMemory}
+use Rattle.job_words.specs.declared.faults.WordsFault.TheVariants.{NoMode, Parse, Size, Many, Name, Suffix, SameName}
+use Rattle.job_words.specs.declared.faults.WordsFault.TheVariants.{NoMemory as WordsMemory}
 use Rattle.job_words.specs.declared.jobs.Job.{Job}
 use Rattle.job_words.specs.declared.jobs.Job.TheVariants.{Migrate, Check as CheckJob, Make}
 use Rattle.job_words.specs.Jobs.{IsJobOf, IsWordsFault}
@@ -16,17 +17,21 @@ use Rattle.tinmove.proofs.OneOutcome.{job_one, job_or_fault}
 use Rattle.tinmove.proofs.RunEnds.{lacks_job}
 
 -- the words of a check give no other job
-pub check_job : (words : List (List ℕ)) (job : Job) (name : List ℕ) (status : Status) → IsJobOf words job → AsksCheck words name → MayEnd job status → IsEndOfCheck status
+pub check_job : (words : List (List ℕ)) (job : Job) (name : List ℕ) (status : Status) → IsJobOf words job
+    → AsksCheck words name → MayEnd job status → IsEndOfCheck status
 check_job words (CheckJob other read) name status given check may = may
-check_job words (Migrate tin out way inverse layers) name status given (how, asks) may = let same = job_one words (Migrate tin out way inverse layers) (CheckJob name how) given asks in cc
-check_job words (Make n) name status given (how, asks) may = let same = job_one words (Make n) (CheckJob name how) given asks in cc
+check_job words (Migrate tin out way inverse layers) name status given (how, asks) may = let same =
+    job_one words (Migrate tin out way inverse layers) (CheckJob name how) given asks in cc
+check_job words (Make n) name status given (how, asks) may = let same =
+    job_one words (Make n) (CheckJob name how) given asks in cc
 
 pub end_as : (status result : Status) → (result ≡ status) ⊎ (result ≡ Write) → IsEndOfCheck status → IsEndOfCheck result
 end_as status result (inl is) may = rw is may
 end_as status result (inr is) may = rw is tt
 
 -- where words are not understood, the run ends so, or because memory ran out, or after a write fault
-pub no_job_end : (fault : WordsFault) (result : Status) → (result ≡ status_of_words fault) ⊎ (result ≡ Write) → (result ≡ WordsStatus) ⊎ ((result ≡ Memory) ⊎ (result ≡ Write))
+pub no_job_end : (fault : WordsFault) (result : Status) → (result ≡ status_of_words fault) ⊎ (result ≡ Write)
+    → (result ≡ WordsStatus) ⊎ ((result ≡ Memory) ⊎ (result ≡ Write))
 no_job_end fault result (inr is) = inr (inr is)
 no_job_end WordsMemory result (inl is) = inr (inl is)
 no_job_end NoMode result (inl is) = inl is
@@ -37,7 +42,9 @@ no_job_end (Name which) result (inl is) = inl is
 no_job_end (Suffix layer) result (inl is) = inl is
 no_job_end (SameName layer) result (inl is) = inl is
 
-pub words_end : (words : List (List ℕ)) (fault : WordsFault) (result : Status) → (fault ≢ WordsMemory → IsWordsFault words fault) → (result ≡ status_of_words fault) ⊎ (result ≡ Write) → result ≡ WordsStatus → LacksJob words
+pub words_end : (words : List (List ℕ)) (fault : WordsFault) (result : Status)
+    → (fault ≢ WordsMemory → IsWordsFault words fault) → (result ≡ status_of_words fault) ⊎ (result ≡ Write)
+    → result ≡ WordsStatus → LacksJob words
 words_end words fault result lacks (inl is) words_is = lacks_job words fault lacks (sym is ∙ words_is)
 words_end words fault result lacks (inr is) words_is = let e = sym is ∙ words_is in cc
 
@@ -45,7 +52,8 @@ words_end words fault result lacks (inr is) words_is = let e = sym is ∙ words_
 -- the job that they give, where they give one, wants none
 pub wants_none : (words : List (List ℕ)) (job : Job) → IsJobOf words job → WantNoFile words → IsWithoutFile job
 wants_none words job given (inl (fault, lacks)) = absurd (job_or_fault words job fault given lacks)
-wants_none words job given (inr (n, asks)) = subst (λ (j : Job). IsWithoutFile j) (job_one words (Make n) job asks given) tt
+wants_none words job given (inr (n, asks)) =
+    subst (λ (j : Job). IsWithoutFile j) (job_one words (Make n) job asks given) tt
 
 pub words_unread : (fault : WordsFault) → status_of_words fault ≢ Read
 words_unread NoMode = λ e. cc
@@ -66,7 +74,8 @@ unread_as status result (inl is) other = λ read. other (sym is ∙ read)
 unread_as status result (inr is) other = λ read. let e = sym is ∙ read in cc
 
 -- ---- a run that is not refused
-pub done_end : (changed : Bool) (result : Status) → (result ≡ end_of changed) ⊎ (result ≡ Write) → (result ≡ Same) ⊎ ((result ≡ Changed) ⊎ (result ≡ Write))
+pub done_end : (changed : Bool) (result : Status) → (result ≡ end_of changed) ⊎ (result ≡ Write)
+    → (result ≡ Same) ⊎ ((result ≡ Changed) ⊎ (result ≡ Write))
 done_end changed result (inr is) = inr (inr is)
 done_end true result (inl is) = inr (inl is)
 done_end false result (inl is) = inl is

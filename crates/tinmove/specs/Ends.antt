@@ -28,10 +28,12 @@ abbrev pub MayRefuseJob : Files → Job → Type 0 → Refusal → Type 0
 MayRefuseJob files job shelf_rose refusal = MayRefuse (IsJobRefused files job) (IsReached files job) shelf_rose refusal
 
 -- what a run makes unless a write fails
-pub data Makes (words : List (List ℕ)) (files : Files) (shelf_rose : Type 0) (status : Status) (made : Files) : Type 0 where
-  by_outcome : HasOutcome words files status made → Makes words files shelf_rose status made
-  after_read_fault : shelf_rose → (job : Job) → IsJobOf words job → (refusal : Refusal) → IsReached files job refusal → Refuses refusal status made → Makes words files shelf_rose status made
-  out_of_memory : Refuses NoMemory status made → Makes words files shelf_rose status made
+pub data Makes (words : List (List ℕ)) (files : Files) (shelf_rose : Type 0) (status : Status) (made : Files) : Type 0
+  where
+    by_outcome : HasOutcome words files status made → Makes words files shelf_rose status made
+    after_read_fault : shelf_rose → (job : Job) → IsJobOf words job → (refusal : Refusal) → IsReached files job refusal
+        → Refuses refusal status made → Makes words files shelf_rose status made
+    out_of_memory : Refuses NoMemory status made → Makes words files shelf_rose status made
 
 -- made files that are a front of others: all whole but the last, which has a front of its bytes
 abbrev pub IsFrontOf : Files → Files → Type 0
@@ -41,16 +43,19 @@ IsFrontOf (file ∷ []) (full ∷ rest) = (count : ℕ) × (file ≡ (full.0, ta
 IsFrontOf (file ∷ next ∷ files) (full ∷ rest) = (file ≡ full) × IsFrontOf (next ∷ files) rest
 
 -- the four ways in which a run ends
-pub data Ends (words : List (List ℕ)) (files : Files) (shelf_rose press_rose : Type 0) (status : Status) (made : Files) : Type 0 where
+pub data Ends (words : List (List ℕ)) (files : Files) (shelf_rose press_rose : Type 0) (status : Status)
+    (made : Files) : Type 0 where
   made_whole : Makes words files shelf_rose status made → Ends words files shelf_rose press_rose status made
   after_write_fault :
-      status ≡ Write → press_rose → (wanted : Status) → (whole : Files) → Makes words files shelf_rose wanted whole → IsFrontOf made whole
+      status ≡ Write → press_rose → (wanted : Status) → (whole : Files) → Makes words files shelf_rose wanted whole
+      → IsFrontOf made whole
       → Ends words files shelf_rose press_rose status made
 
 -- the same where the press may not tell what it made: then for some files
 abbrev pub EndsTold : List (List ℕ) → Files → Type 0 → Type 0 → Status → Option Files → Type 0
 EndsTold words files shelf_rose press_rose status (Some made) = Ends words files shelf_rose press_rose status made
-EndsTold words files shelf_rose press_rose status None = (made : Files) × Ends words files shelf_rose press_rose status made
+EndsTold words files shelf_rose press_rose status None =
+    (made : Files) × Ends words files shelf_rose press_rose status made
 
 -- What is written of a job that is done, whatever files hold, and the status: the layers' files and the text on
 -- standard output.
@@ -62,17 +67,20 @@ IsWrittenOf (Make n) = IsMakingWritten
 -- the files that a run with these words may be to make, whatever files hold, and its status: what is written of the
 -- job, or `-` alone with the line of a refusal
 pub data IsToBeMade (words : List (List ℕ)) (status : Status) (made : Files) : Type 0 where
-  by_job : (job : Job) → IsJobOf words job → (layers : Files) → (said : List ℕ) → IsWrittenOf job layers said status → made ≡ layers ++ (codes "-", said) ∷ [] → IsToBeMade words status made
+  by_job : (job : Job) → IsJobOf words job → (layers : Files) → (said : List ℕ) → IsWrittenOf job layers said status
+      → made ≡ layers ++ (codes "-", said) ∷ [] → IsToBeMade words status made
   by_refusal : (refusal : Refusal) → Refuses refusal status made → IsToBeMade words status made
 
 -- after each status but `Write` all of it; after `Write` a front of it
 pub data Stands (words : List (List ℕ)) (status : Status) (made : Files) : Type 0 where
   all_made : IsToBeMade words status made → Stands words status made
-  front_made : status ≡ Write → (wanted : Status) → (whole : Files) → IsToBeMade words wanted whole → IsFrontOf made whole → Stands words status made
+  front_made : status ≡ Write → (wanted : Status) → (whole : Files) → IsToBeMade words wanted whole
+      → IsFrontOf made whole → Stands words status made
 
 -- a file that the job wants is missing
 abbrev pub LacksWantedFile : Job → Option Files → Type 0
-LacksWantedFile (Migrate tin out how inverse layers) files = LacksWanted (migration_with tin out how inverse layers) files
+LacksWantedFile (Migrate tin out how inverse layers) files =
+    LacksWanted (migration_with tin out how inverse layers) files
 LacksWantedFile (Check tin how) files = LacksName files tin
 LacksWantedFile (Make n) files = ⊥
 

@@ -8,11 +8,13 @@ use Rattle.migrate.specs.declared.migrations.Migration.{Migration}
 
 -- the migration that the words of a job ask for
 abbrev pub migration_with : List ℕ → List ℕ → How → Bool → List (List ℕ) → Migration
-migration_with tin out how inverse layers = record { tin = tin; out = out; how = how; inverse = inverse; layers = layers }
+migration_with tin out how inverse layers =
+    record { tin = tin; out = out; how = how; inverse = inverse; layers = layers }
 
 -- the words ask for this migration
 abbrev pub AsksMigration : List (List ℕ) → Migration → Type 0
-AsksMigration words migration = IsJobOf words (Migrate migration.tin migration.out migration.how migration.inverse migration.layers)
+AsksMigration words migration = IsJobOf words
+    (Migrate migration.tin migration.out migration.how migration.inverse migration.layers)
 
 -- the words ask for a check of this name
 abbrev pub AsksCheck : List (List ℕ) → List ℕ → Type 0

@@ -13,17 +13,21 @@ use Rattle.tinmove.specs.Ends.{EndsTold}
 -- name, the first of them is meant
 abbrev pub OutcomeIsOne : Type 0
 OutcomeIsOne =
-    (words : List (List ℕ)) (files : Files) (status other : Status) (made others : Files) → HasOutcome words files status made → HasOutcome words files other others
+    (words : List (List ℕ)) (files : Files) (status other : Status) (made others : Files)
+    → HasOutcome words files status made → HasOutcome words files other others
     → (status ≡ other) × (made ≡ others)
 
 -- however a run ends whose words ask for a migration, what is said of its relations holds
 abbrev pub EndKeepsRelations : Type 0
 EndKeepsRelations =
-    (words : List (List ℕ)) (files : Files) (shelf_before shelf_now press_before press_now : ℕ) (migration : Migration) (status : Status) (made : Option Files) → AsksMigration words migration
-    → EndsTold words files (Rose shelf_before shelf_now) (Rose press_before press_now) status made → KeepsRelations files migration status made
+    (words : List (List ℕ)) (files : Files) (shelf_before shelf_now press_before press_now : ℕ) (migration : Migration)
+    (status : Status) (made : Option Files) → AsksMigration words migration
+    → EndsTold words files (Rose shelf_before shelf_now) (Rose press_before press_now) status made
+    → KeepsRelations files migration status made
 
 -- so it is of what is made, over any files and without a read fault
 abbrev pub EndKeepsMadeRelations : Type 0
 EndKeepsMadeRelations =
-    (words : List (List ℕ)) (files : Files) (press_before press_now : ℕ) (n : ℕ) (status : Status) (made : Option Files) → AsksMaking words n
+    (words : List (List ℕ)) (files : Files) (press_before press_now : ℕ) (n : ℕ) (status : Status) (made : Option Files)
+    → AsksMaking words n
     → EndsTold words files ⊥ (Rose press_before press_now) status made → KeepsMadeRelations n status made

@@ -17,19 +17,23 @@ use Rattle.tinmove.specs.Jobs.{migration_with}
 
 -- the files refuse the job so; those of the maker are the texts that it makes
 abbrev pub IsJobRefused : Files → Job → Refusal → Type 0
-IsJobRefused files (Migrate tin out how inverse layers) = IsMigrationRefused files (migration_with tin out how inverse layers)
+IsJobRefused files (Migrate tin out how inverse layers) =
+    IsMigrationRefused files (migration_with tin out how inverse layers)
 IsJobRefused files (CheckJob tin how) = IsTinRefused files how tin
 IsJobRefused files (Make n) = IsMigrationRefused (made_files n) made_migration
 
 -- the job is done
 abbrev pub IsJobDone : Files → Job → Status → Files → Type 0
-IsJobDone files (Migrate tin out how inverse layers) status made = IsMigrationDone files (migration_with tin out how inverse layers) status made
+IsJobDone files (Migrate tin out how inverse layers) status made =
+    IsMigrationDone files (migration_with tin out how inverse layers) status made
 IsJobDone files (CheckJob tin how) status made = IsChecked files how tin status made
 IsJobDone files (Make n) status made = IsMakingDone n status made
 
 -- The status and the made files of a run, where no call of the outside fails and memory does not run out.
 -- Where the words give a job, the files refuse it or it is done.
 pub data HasOutcome (words : List (List ℕ)) (files : Files) (status : Status) (made : Files) : Type 0 where
-  no_job : (fault : WordsFault) → IsWordsFault words fault → Refuses (Words fault) status made → HasOutcome words files status made
-  refused : (job : Job) → IsJobOf words job → (refusal : Refusal) → IsJobRefused files job refusal → Refuses refusal status made → HasOutcome words files status made
+  no_job : (fault : WordsFault) → IsWordsFault words fault → Refuses (Words fault) status made
+      → HasOutcome words files status made
+  refused : (job : Job) → IsJobOf words job → (refusal : Refusal) → IsJobRefused files job refusal
+      → Refuses refusal status made → HasOutcome words files status made
   done : (job : Job) → IsJobOf words job → IsJobDone files job status made → HasOutcome words files status made

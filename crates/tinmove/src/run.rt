@@ -1,6 +1,7 @@
 //! The whole program over what it is handed.
 
-ghost use Rattle.std.specs.Prelude.{◌≡◌, ◌≢◌, ◌⊎◌, ◌+◌, ◌≤◌, ℕ, List, [], ◌∷◌, codes, IfSome, IfNone, false, map, string_bytes};
+ghost use Rattle.std.specs.Prelude.{◌≡◌, ◌≢◌, ◌⊎◌, ◌+◌, ◌≤◌, ℕ, List, [], ◌∷◌, codes, IfSome, IfNone, false, map};
+ghost use Rattle.std.specs.Prelude.{string_bytes};
 ghost use Rattle.shelf_io.specs.Count.{Rose, counted};
 ghost use Rattle.shelf_io.specs.Files.{Files};
 ghost use Rattle.sheet_base.specs.declared.flags.How.{How};
@@ -50,8 +51,8 @@ pub fn run_to_end<S: Shelf, P: Press>(
     // Where a check ends with `Same`, what is made is the line of the triangulation of its file, which is sound.
     ensures sound { IfSome (S.files shelf.old) (λ files. (name : List ℕ) (how : How) → IsJobOf (map string_bytes words.now) (Check name how) → result.status ≡ Status.Same → IfSome (P.made press.new) (IsChecked files how name result.status)) }
 
-    // Told or not, where the words give no job or ask for what is made, a run ends so over any files, and never by a
-    // read fault; and what is said of a migration holds of what is made, whose layer is not written.
+    // Told or not, where the words are not understood or ask for what is made, a run ends so over any files, and never
+    // by a read fault; and what is said of a migration holds of what is made, whose layer is not written.
     ensures untold { WantNoFile (map string_bytes words.now) → (files : Files) → EndsTold (map string_bytes words.now) files ⊥ (Rose (P.faults press.old) (P.faults press.new)) result.status (P.made press.new) }
     ensures unread { WantNoFile (map string_bytes words.now) → result.status ≢ Status.Read }
     ensures kept_made { (n : ℕ) → AsksMaking (map string_bytes words.now) n → KeepsMadeRelations n result.status (P.made press.new) }
@@ -122,8 +123,8 @@ pub fn run<S: Shelf, P: Press>(
     // Where a check ends with `Same`, what is made is the line of the triangulation of its file, which is sound.
     ensures sound { IfSome (S.files shelf.old) (λ files. (name : List ℕ) (how : How) → IsJobOf (map string_bytes words.now) (Check name how) → result ≡ Status.Same → IfSome (P.made press.new) (IsChecked files how name result)) }
 
-    // Told or not, where the words give no job or ask for what is made, a run ends so over any files, and never by a
-    // read fault; and what is said of a migration holds of what is made, whose layer is not written.
+    // Told or not, where the words are not understood or ask for what is made, a run ends so over any files, and never
+    // by a read fault; and what is said of a migration holds of what is made, whose layer is not written.
     ensures untold { WantNoFile (map string_bytes words.now) → (files : Files) → EndsTold (map string_bytes words.now) files ⊥ (Rose (P.faults press.old) (P.faults press.new)) result (P.made press.new) }
     ensures unread { WantNoFile (map string_bytes words.now) → result ≢ Status.Read }
     ensures kept_made { (n : ℕ) → AsksMaking (map string_bytes words.now) n → KeepsMadeRelations n result (P.made press.new) }

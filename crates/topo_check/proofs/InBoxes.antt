@@ -1,5 +1,6 @@
 -- The boxes of pieces: each is in its own, and pieces whose boxes are apart have no common point.
-use Rattle.std.proofs.Common.{◌≡◌, ℕ, ◌<◌, ℤ, pos, ◌≤ℤ◌, ◌<ℤ◌, List, [], ◌∷◌, length, get_or, refl, sym, ap, subst, arith}
+use Rattle.std.proofs.Common.{◌≡◌, ℕ, ◌<◌, ℤ, pos, ◌≤ℤ◌, ◌<ℤ◌, List, [], ◌∷◌, length, get_or, refl, sym, ap, subst}
+use Rattle.std.proofs.Common.{arith}
 use Rattle.std.specs.Prelude.{All}
 use Rattle.std.specs.List.{AllByRecursion}
 use Rattle.std.proofs.lemmas.Int.{ints}
@@ -8,7 +9,8 @@ use Rattle.plane_base.specs.Plane.{Point, whole, corners}
 use Rattle.plane_base.specs.declared.shapes.Pt.{Pt}
 use Rattle.plane_base.specs.declared.shapes.Rect.{Rect}
 use Rattle.plane_base.specs.declared.shapes.Tri.{Tri}
-use Rattle.plane_base.proofs.BoxLemmas.{lesser_greatest, greater_least, least_greatest, greatest_least, segment_ordered, between_in, inside_in, common_within, common_has, ordered_by, none_in_both}
+use Rattle.plane_base.proofs.BoxLemmas.{lesser_greatest, greater_least, least_greatest, greatest_least, segment_ordered}
+use Rattle.plane_base.proofs.BoxLemmas.{between_in, inside_in, common_within, common_has, ordered_by, none_in_both}
 use Rattle.tin_base.specs.declared.pieces.Piece.{Piece}
 use Rattle.tin_base.specs.declared.relations.Rel.TheVariants.{Apart}
 use Rattle.tin_base.specs.declared.frames.Frame.TheVariants.{Source}
@@ -24,42 +26,54 @@ use Rattle.topo_check.specs.Changes.{HadRelation, HasRelation}
 use Rattle.topo_check.specs.Boxes.{IsAround, EachCorner, IsAmongCorners, IsExactBox, rounded_box_of}
 
 -- ---- pieces whose boxes are apart are apart
-pub far_had : (tin : Triangulation) (p q : Piece) (r s : Rect) → IsExactBox tin p r → IsExactBox tin q s → AreApart r s → HadRelation tin Apart p q
+pub far_had : (tin : Triangulation) (p q : Piece) (r s : Rect) → IsExactBox tin p r → IsExactBox tin q s → AreApart r s
+    → HadRelation tin Apart p q
 far_had tin p q r s i j apart part other h k = λ point common.
-    none_in_both r s apart point common.positive (i.encloses part h point common.positive common.first) (j.encloses other k point common.positive common.second)
+    none_in_both r s apart point common.positive (i.encloses part h point common.positive common.first)
+    (j.encloses other k point common.positive common.second)
 
 pub far_has : (p q : Piece) → AreApart (rounded_box_of p) (rounded_box_of q) → HasRelation Apart p q
 far_has p q apart = λ point common.
-    none_in_both (rounded_box_of p) (rounded_box_of q) apart point common.positive (between_in p.ia p.ib point common.positive common.first) (between_in q.ia q.ib point common.positive common.second)
+    none_in_both (rounded_box_of p) (rounded_box_of q) apart point common.positive
+    (between_in p.ia p.ib point common.positive common.first)
+    (between_in q.ia q.ib point common.positive common.second)
 
 -- ---- the box of an exact piece
 abbrev IsCorner : Triangulation → Pt → Type 0
 IsCorner tin p = (n : ℕ) × (n < length tin.corners) × (whole p ≡ place Source (corner_at tin n))
 
 -- the points of a triangle are corners
-pub are_corners : (tin : Triangulation) (t : Tri) (ns : List ℕ) → length ns ≡ 3 → All (λ n. n < length tin.corners) ns → corners t ≡ places tin Source ns → AllByRecursion (IsCorner tin) (t.a ∷ t.b ∷ t.c ∷ [])
+pub are_corners : (tin : Triangulation) (t : Tri) (ns : List ℕ) → length ns ≡ 3 → All (λ n. n < length tin.corners) ns
+    → corners t ≡ places tin Source ns → AllByRecursion (IsCorner tin) (t.a ∷ t.b ∷ t.c ∷ [])
 are_corners tin t [] three h e = absurd (omega (arith, three))
 are_corners tin t (i ∷ []) three h e = absurd (omega (arith, three))
 are_corners tin t (i ∷ j ∷ []) three h e = absurd (omega (arith, three))
 are_corners tin t (i ∷ j ∷ k ∷ m ∷ ns) three h e = absurd (omega (arith, three))
 are_corners tin t (i ∷ j ∷ k ∷ []) three h e = (
   (i, h 0 0 (omega arith), ap (λ ps. get_or ps 0 (whole t.a)) e),
-  ((j, h 1 0 (omega arith), ap (λ ps. get_or ps 1 (whole t.a)) e), ((k, h 2 0 (omega arith), ap (λ ps. get_or ps 2 (whole t.a)) e), tt)),
+  (
+    (j, h 1 0 (omega arith), ap (λ ps. get_or ps 1 (whole t.a)) e),
+    ((k, h 2 0 (omega arith), ap (λ ps. get_or ps 2 (whole t.a)) e), tt),
+  ),
 )
 
 -- what each corner keeps to, points that are corners keep to
-keep_to : (tin : Triangulation) (Q : Pt → Type 0) (ps : List Pt) → ((p : Pt) → IsCorner tin p → Q p) → AllByRecursion (IsCorner tin) ps → AllByRecursion Q ps
+keep_to : (tin : Triangulation) (Q : Pt → Type 0) (ps : List Pt) → ((p : Pt) → IsCorner tin p → Q p)
+    → AllByRecursion (IsCorner tin) ps → AllByRecursion Q ps
 keep_to tin Q [] each h = tt
 keep_to tin Q (p ∷ ps) each h = (each p h.0, keep_to tin Q ps each h.1)
 
-x_of : (tin : Triangulation) (P : ℤ → Type 0) → EachCorner tin (λ corner. P corner.sx) → (p : Pt) → IsCorner tin p → P p.x
+x_of : (tin : Triangulation) (P : ℤ → Type 0) → EachCorner tin (λ corner. P corner.sx) → (p : Pt) → IsCorner tin p
+    → P p.x
 x_of tin P each p is = subst (λ (z : ℤ). P z) (sym (ap (λ (q : Point). q.x) is.2)) (each is.0 is.1)
 
-y_of : (tin : Triangulation) (P : ℤ → Type 0) → EachCorner tin (λ corner. P corner.sy) → (p : Pt) → IsCorner tin p → P p.y
+y_of : (tin : Triangulation) (P : ℤ → Type 0) → EachCorner tin (λ corner. P corner.sy) → (p : Pt) → IsCorner tin p
+    → P p.y
 y_of tin P each p is = subst (λ (z : ℤ). P z) (sym (ap (λ (q : Point). q.y) is.2)) (each is.0 is.1)
 
 -- a box round corners is among them
-among_corners : (tin : Triangulation) (ps : List Pt) (box : Rect) → AllByRecursion (IsCorner tin) ps → IsAround ps box → IsAmongCorners tin box
+among_corners : (tin : Triangulation) (ps : List Pt) (box : Rect) → AllByRecursion (IsCorner tin) ps → IsAround ps box
+    → IsAmongCorners tin box
 among_corners tin ps box are h = record {
   left = λ m each. h.left m (each_of (λ p. m ≤ℤ p.x) (x_of tin (λ z. m ≤ℤ z) each));
   bottom = λ m each. h.bottom m (each_of (λ p. m ≤ℤ p.y) (y_of tin (λ z. m ≤ℤ z) each));
@@ -74,7 +88,8 @@ among_corners tin ps box are h = record {
 to_last : (a b c : ℤ) → a ≤ℤ b → b ≤ℤ c → a ≤ℤ c
 to_last a b c h k = omega (arith, ints)
 
-pub among_within : (tin : Triangulation) (outer inner : Rect) → HasBox outer inner → IsAmongCorners tin outer → IsAmongCorners tin inner
+pub among_within : (tin : Triangulation) (outer inner : Rect) → HasBox outer inner → IsAmongCorners tin outer
+    → IsAmongCorners tin inner
 among_within tin outer inner w h = record {
   left = λ m each. to_last m outer.x0 inner.x0 (h.left m each) w.left;
   bottom = λ m each. to_last m outer.y0 inner.y0 (h.bottom m each) w.bottom;
@@ -91,25 +106,35 @@ around_triangle t = record {
 }
 
 -- what the boxes of the segment and of the triangle have in common
-pub exact_boxed : (tin : Triangulation) (piece : Piece) (t : Tri) → IsPieceInside tin piece → IsWithinLimits tin → corners t ≡ places tin Source (numbers_of tin piece.tri)
+pub exact_boxed : (tin : Triangulation) (piece : Piece) (t : Tri) → IsPieceInside tin piece → IsWithinLimits tin
+    → corners t ≡ places tin Source (numbers_of tin piece.tri)
     → IsExactBox tin piece (common_of (box_of_segment piece.a piece.b) (box_of_triangle t))
 exact_boxed tin piece t inside limits is =
     let part = inside.is_piece.0 in
     let of = inside.is_piece.1 in
-    let first = (piece_ends tin piece (record { a = piece.a; b = piece.b; tri = t }) part (record { a_is = refl; b_is = refl; tri_is = is }) of).first_positive in record {
-      ordered = ordered_by box (first_point piece part) first (points part of (first_point piece part) first (mix_first (first_point piece part) (last_point piece part)));
+    let first = (piece_ends tin piece (record { a = piece.a; b = piece.b; tri = t }) part
+    (record { a_is = refl; b_is = refl; tri_is = is }) of).first_positive in record {
+      ordered = ordered_by box (first_point piece part) first
+          (points part of (first_point piece part) first (mix_first (first_point piece part) (last_point piece part)));
       encloses = points;
-      among = among_within tin (box_of_triangle t) box (common_within (box_of_segment piece.a piece.b) (box_of_triangle t)).1
-          (among_corners tin (t.a ∷ t.b ∷ t.c ∷ []) (box_of_triangle t) (are_corners tin t (numbers_of tin piece.tri) (limits.three piece.tri (range_of tin piece inside)) (limits.in_range piece.tri (range_of tin piece inside)) is) (around_triangle t));
+      among = among_within tin (box_of_triangle t) box
+          (common_within (box_of_segment piece.a piece.b) (box_of_triangle t)).1
+          (among_corners tin (t.a ∷ t.b ∷ t.c ∷ []) (box_of_triangle t)
+          (are_corners tin t (numbers_of tin piece.tri) (limits.three piece.tri (range_of tin piece inside))
+          (limits.in_range piece.tri (range_of tin piece inside)) is) (around_triangle t));
     }
   where
     box : Rect
     box = common_of (box_of_segment piece.a piece.b) (box_of_triangle t)
 
-    points : (part : Part) → IsPieceOf tin piece part → (r : Point) → pos 0 <ℤ r.w → IsBetween (first_point piece part) (last_point piece part) r → IsIn (common_of (box_of_segment piece.a piece.b) (box_of_triangle t)) r
+    points : (part : Part) → IsPieceOf tin piece part → (r : Point) → pos 0 <ℤ r.w
+        → IsBetween (first_point piece part) (last_point piece part) r
+        → IsIn (common_of (box_of_segment piece.a piece.b) (box_of_triangle t)) r
     points part of r hr between =
-        let it = (piece_ends tin piece (record { a = piece.a; b = piece.b; tri = t }) part (record { a_is = refl; b_is = refl; tri_is = is }) of).forth r hr between in
-        common_has (box_of_segment piece.a piece.b) (box_of_triangle t) r (between_in piece.a piece.b r hr it.between) (inside_in t r hr it.inside)
+        let it = (piece_ends tin piece (record { a = piece.a; b = piece.b; tri = t }) part
+        (record { a_is = refl; b_is = refl; tri_is = is }) of).forth r hr between in
+        common_has (box_of_segment piece.a piece.b) (box_of_triangle t) r (between_in piece.a piece.b r hr it.between)
+        (inside_in t r hr it.inside)
 
 -- ---- the box of a rounded segment
 pub record IsRoundImages (p : Piece) (box : Rect) : Type 0 where

@@ -1,5 +1,6 @@
 -- Copies of pieces, in their direction or turned, have the same relations.
-use Rattle.std.proofs.Common.{◌≡◌, ◌≢◌, ◌⊎◌, inl, inr, ℕ, ◌*◌, ◌<◌, ℤ, pos, ◌+ℤ◌, ◌*ℤ◌, length, sym, ap, subst, ◌∙◌, arith}
+use Rattle.std.proofs.Common.{◌≡◌, ◌≢◌, ◌⊎◌, inl, inr, ℕ, ◌*◌, ◌<◌, ℤ, pos, ◌+ℤ◌, ◌*ℤ◌, length, sym, ap, subst, ◌∙◌}
+use Rattle.std.proofs.Common.{arith}
 use Rattle.integer_ring.proofs.Ring.{num, ◌⊕◌, ◌⊗◌}
 use Rattle.integer_ring.proofs.Claims.{◌≐◌, solve}
 use Rattle.plane_base.specs.Plane.{Point, whole}
@@ -29,10 +30,16 @@ point_by : (x y w x' y' w' : ℤ) → x ≡ x' → y ≡ y' → w ≡ w' → poi
 point_by x y w x' y' w' e f g = ap (λ z. point z y w) e ∙ ap (λ z. point x' z w) f ∙ ap (λ z. point x' y' z) g
 
 spot_mirrored : (a b : Pt) (s : Spot) → spot_at a b s ≡ spot_at b a (mirrored s)
-spot_mirrored a b s = point_by _ _ _ _ _ _ (axis (pos s.of_a) a.x (pos s.of_b) b.x) (axis (pos s.of_a) a.y (pos s.of_b) b.y) (axis (pos s.of_a) (pos 1) (pos s.of_b) (pos 1))
+spot_mirrored a b s = point_by _ _ _ _ _ _ (axis (pos s.of_a) a.x (pos s.of_b) b.x)
+    (axis (pos s.of_a) a.y (pos s.of_b) b.y) (axis (pos s.of_a) (pos 1) (pos s.of_b) (pos 1))
 
-shared_mirrored : (tin : Triangulation) (a b : Pt) (t : ℕ) (s : Spot) → IsShared tin a b t s → IsShared tin b a t (mirrored s)
-shared_mirrored tin a b t s h = record { some = omega (arith, h.some); inside = subst (λ (p : Point). IsInTriangle tin Source t p) (spot_mirrored a b s) h.inside }
+shared_mirrored : (tin : Triangulation) (a b : Pt) (t : ℕ) (s : Spot) → IsShared tin a b t s
+    → IsShared tin b a t (mirrored s)
+shared_mirrored tin a b t s h = record {
+  some = omega (arith, h.some);
+  inside =
+      subst (λ (p : Point). IsInTriangle tin Source t p) (spot_mirrored a b s) h.inside;
+}
 
 before_mirrored : (f l : Spot) → IsBefore f l → IsBefore (mirrored l) (mirrored f)
 before_mirrored f l h = exchanged f.of_b l.of_a l.of_b f.of_a h
@@ -40,7 +47,8 @@ before_mirrored f l h = exchanged f.of_b l.of_a l.of_b f.of_a h
     exchanged : (a b c d : ℕ) → a * b < c * d → b * a < d * c
     exchanged a b c d h = omega arith
 
-part_mirrored : (tin : Triangulation) (a b : Pt) (t : ℕ) (f l : Spot) → IsPart tin a b t f l → IsPart tin b a t (mirrored l) (mirrored f)
+part_mirrored : (tin : Triangulation) (a b : Pt) (t : ℕ) (f l : Spot) → IsPart tin a b t f l
+    → IsPart tin b a t (mirrored l) (mirrored f)
 part_mirrored tin a b t f l part = record {
   in_range = part.in_range;
   has_first = shared_mirrored tin a b t l part.has_last;
@@ -51,48 +59,64 @@ part_mirrored tin a b t f l part = record {
 }
 
 -- ---- a piece of the same segment and triangle
-piece_same : (tin : Triangulation) (p q : Piece) (s : Part) → p.tri ≡ q.tri → p.a ≡ q.a → p.b ≡ q.b → IsPieceOf tin p s → IsPieceOf tin q s
+piece_same : (tin : Triangulation) (p q : Piece) (s : Part) → p.tri ≡ q.tri → p.a ≡ q.a → p.b ≡ q.b → IsPieceOf tin p s
+    → IsPieceOf tin q s
 piece_same tin p q s t e f of = record {
   triangle = of.triangle ∙ t;
   of_point = λ same. let h = of.of_point (e ∙ same ∙ sym f) in record {
     in_range = subst (λ (n : ℕ). n < length tin.triangles) t h.in_range;
-    has_point = subst (λ (n : ℕ). IsInTriangle tin Source n (whole q.a)) t (subst (λ (c : Pt). IsInTriangle tin Source p.tri (whole c)) e h.has_point);
+    has_point = subst (λ (n : ℕ). IsInTriangle tin Source n (whole q.a)) t
+        (subst (λ (c : Pt). IsInTriangle tin Source p.tri (whole c)) e h.has_point);
     begins = h.begins;
     ends = h.ends;
   };
   of_segment = λ differ.
       subst (λ (n : ℕ). IsPart tin q.a q.b n s.first s.last) t
-      (subst (λ (d : Pt). IsPart tin q.a d p.tri s.first s.last) f (subst (λ (c : Pt). IsPart tin c p.b p.tri s.first s.last) e (of.of_segment (λ same. differ (sym e ∙ same ∙ f)))));
+      (subst (λ (d : Pt). IsPart tin q.a d p.tri s.first s.last) f
+      (subst (λ (c : Pt). IsPart tin c p.b p.tri s.first s.last) e
+      (of.of_segment (λ same. differ (sym e ∙ same ∙ f)))));
 }
 
-had_same : (tin : Triangulation) (p q r : Piece) (was : Rel) → p.tri ≡ q.tri → p.a ≡ q.a → p.b ≡ q.b → HadRelation tin was q r → HadRelation tin was p r
+had_same : (tin : Triangulation) (p q r : Piece) (was : Rel) → p.tri ≡ q.tri → p.a ≡ q.a → p.b ≡ q.b
+    → HadRelation tin was q r → HadRelation tin was p r
 had_same tin p q r was t e f h = λ s u of_s of_u.
-    subst (λ (c : Pt). HaveRelation was (spot_at c p.b s.first) (spot_at c p.b s.last) (first_point r u) (last_point r u)) (sym e)
-    (subst (λ (d : Pt). HaveRelation was (spot_at q.a d s.first) (spot_at q.a d s.last) (first_point r u) (last_point r u)) (sym f) (h s u (piece_same tin p q s t e f of_s) of_u))
+    subst (λ (c : Pt). HaveRelation was (spot_at c p.b s.first) (spot_at c p.b s.last) (first_point r u)
+    (last_point r u)) (sym e)
+    (subst (λ (d : Pt). HaveRelation was (spot_at q.a d s.first) (spot_at q.a d s.last) (first_point r u)
+    (last_point r u)) (sym f) (h s u (piece_same tin p q s t e f of_s) of_u))
 
 -- the part from the other end
 abbrev part_turned : Part → Part
 part_turned s = record { triangle = s.triangle; first = mirrored s.last; last = mirrored s.first }
 
-piece_turned : (tin : Triangulation) (p q : Piece) (s : Part) → p.tri ≡ q.tri → p.a ≡ q.b → p.b ≡ q.a → p.a ≢ p.b → IsPieceOf tin p s → IsPieceOf tin q (part_turned s)
+piece_turned : (tin : Triangulation) (p q : Piece) (s : Part) → p.tri ≡ q.tri → p.a ≡ q.b → p.b ≡ q.a → p.a ≢ p.b
+    → IsPieceOf tin p s → IsPieceOf tin q (part_turned s)
 piece_turned tin p q s t e f differ of = record {
   triangle = of.triangle ∙ t;
   of_point = λ same. absurd (differ (e ∙ sym same ∙ sym f));
   of_segment = λ _.
       subst (λ (n : ℕ). IsPart tin q.a q.b n (mirrored s.last) (mirrored s.first)) t
       (subst (λ (d : Pt). IsPart tin q.a d p.tri (mirrored s.last) (mirrored s.first)) e
-      (subst (λ (c : Pt). IsPart tin c p.a p.tri (mirrored s.last) (mirrored s.first)) f (part_mirrored tin p.a p.b p.tri s.first s.last (of.of_segment differ))));
+      (subst (λ (c : Pt). IsPart tin c p.a p.tri (mirrored s.last) (mirrored s.first)) f
+      (part_mirrored tin p.a p.b p.tri s.first s.last (of.of_segment differ))));
 }
 
-had_turned : (tin : Triangulation) (p q r : Piece) (was : Rel) → p.tri ≡ q.tri → p.a ≡ q.b → p.b ≡ q.a → p.a ≢ p.b → HadRelation tin was q r → HadRelation tin was p r
+had_turned : (tin : Triangulation) (p q r : Piece) (was : Rel) → p.tri ≡ q.tri → p.a ≡ q.b → p.b ≡ q.a → p.a ≢ p.b
+    → HadRelation tin was q r → HadRelation tin was p r
 had_turned tin p q r was t e f differ h = λ s u of_s of_u.
-    subst (λ (c : Pt). HaveRelation was (spot_at c p.b s.first) (spot_at c p.b s.last) (first_point r u) (last_point r u)) (sym e)
-    (subst (λ (d : Pt). HaveRelation was (spot_at q.b d s.first) (spot_at q.b d s.last) (first_point r u) (last_point r u)) (sym f)
-    (subst (λ (x : Point). HaveRelation was x (spot_at q.b q.a s.last) (first_point r u) (last_point r u)) (sym (spot_mirrored q.b q.a s.first))
-    (subst (λ (y : Point). HaveRelation was (spot_at q.a q.b (mirrored s.first)) y (first_point r u) (last_point r u)) (sym (spot_mirrored q.b q.a s.last))
-    (first_turned (spot_at q.a q.b (mirrored s.last)) (spot_at q.a q.b (mirrored s.first)) (first_point r u) (last_point r u) was (h (part_turned s) u (piece_turned tin p q s t e f differ of_s) of_u)))))
+    subst (λ (c : Pt). HaveRelation was (spot_at c p.b s.first) (spot_at c p.b s.last) (first_point r u)
+    (last_point r u)) (sym e)
+    (subst (λ (d : Pt). HaveRelation was (spot_at q.b d s.first) (spot_at q.b d s.last) (first_point r u)
+    (last_point r u)) (sym f)
+    (subst (λ (x : Point). HaveRelation was x (spot_at q.b q.a s.last) (first_point r u) (last_point r u))
+    (sym (spot_mirrored q.b q.a s.first))
+    (subst (λ (y : Point). HaveRelation was (spot_at q.a q.b (mirrored s.first)) y (first_point r u) (last_point r u))
+    (sym (spot_mirrored q.b q.a s.last))
+    (first_turned (spot_at q.a q.b (mirrored s.last)) (spot_at q.a q.b (mirrored s.first)) (first_point r u)
+    (last_point r u) was (h (part_turned s) u (piece_turned tin p q s t e f differ of_s) of_u)))))
 
-had_copy : (tin : Triangulation) (p q r : Piece) (was : Rel) → p.tri ≡ q.tri → IsAsOrTurned p.a p.b q.a q.b → HadRelation tin was q r → HadRelation tin was p r
+had_copy : (tin : Triangulation) (p q r : Piece) (was : Rel) → p.tri ≡ q.tri → IsAsOrTurned p.a p.b q.a q.b
+    → HadRelation tin was q r → HadRelation tin was p r
 had_copy tin p q r was t (inl e) h = had_same tin p q r was t e.0 e.1 h
 had_copy tin p q r was t (inr e) h = go (same_or_different p.a p.b)
   where
@@ -102,13 +126,20 @@ had_copy tin p q r was t (inr e) h = go (same_or_different p.a p.b)
 
 has_copy : (p q r : Piece) (now : Rel) → IsAsOrTurned p.ia p.ib q.ia q.ib → HasRelation now q r → HasRelation now p r
 has_copy p q r now (inl e) h =
-    subst (λ (a : Pt). HaveRelation now (whole a) (whole p.ib) (whole r.ia) (whole r.ib)) (sym e.0) (subst (λ (b : Pt). HaveRelation now (whole q.ia) (whole b) (whole r.ia) (whole r.ib)) (sym e.1) h)
+    subst (λ (a : Pt). HaveRelation now (whole a) (whole p.ib) (whole r.ia) (whole r.ib)) (sym e.0)
+    (subst (λ (b : Pt). HaveRelation now (whole q.ia) (whole b) (whole r.ia) (whole r.ib)) (sym e.1) h)
 has_copy p q r now (inr e) h =
     subst (λ (a : Pt). HaveRelation now (whole a) (whole p.ib) (whole r.ia) (whole r.ib)) (sym e.0)
-    (subst (λ (b : Pt). HaveRelation now (whole q.ib) (whole b) (whole r.ia) (whole r.ib)) (sym e.1) (first_turned (whole q.ia) (whole q.ib) (whole r.ia) (whole r.ib) now h))
+    (subst (λ (b : Pt). HaveRelation now (whole q.ib) (whole b) (whole r.ia) (whole r.ib)) (sym e.1)
+    (first_turned (whole q.ia) (whole q.ib) (whole r.ia) (whole r.ib) now h))
 
-pub copy_of : (tin : Triangulation) (p q : Piece) → p.tri ≡ q.tri → IsAsOrTurned p.a p.b q.a q.b → IsAsOrTurned p.ia p.ib q.ia q.ib → IsCopy tin p q
-copy_of tin p q t exact rounded = record { had = λ was r h. had_copy tin p q r was t exact h; has = λ now r h. has_copy p q r now rounded h }
+pub copy_of : (tin : Triangulation) (p q : Piece) → p.tri ≡ q.tri → IsAsOrTurned p.a p.b q.a q.b
+    → IsAsOrTurned p.ia p.ib q.ia q.ib → IsCopy tin p q
+copy_of tin p q t exact rounded = record {
+  had = λ was r h. had_copy tin p q r was t exact h;
+  has =
+      λ now r h. has_copy p q r now rounded h;
+}
 
 pub copy_itself : (tin : Triangulation) (p : Piece) → IsCopy tin p p
 copy_itself tin p = record { had = λ was r h. h; has = λ now r h. h }
@@ -131,14 +162,19 @@ exchanged p q e f =
     })
 
 pub had_exchanged : (tin : Triangulation) (was : Rel) (p q : Piece) → HadRelation tin was p q → HadRelation tin was q p
-had_exchanged tin was p q h = λ s t of_s of_t. exchanged (first_point p t) (last_point p t) (first_point q s) (last_point q s) was (h t s of_t of_s)
+had_exchanged tin was p q h = λ s t of_s of_t. exchanged (first_point p t) (last_point p t) (first_point q s)
+    (last_point q s) was (h t s of_t of_s)
 
 pub has_exchanged : (now : Rel) (p q : Piece) → HasRelation now p q → HasRelation now q p
 has_exchanged now p q h = exchanged (whole p.ia) (whole p.ib) (whole q.ia) (whole q.ib) now h
 
 -- ---- copies in the place of both
-pub copies_had : (tin : Triangulation) (was : Rel) (p q p' q' : Piece) → IsCopy tin p p' → IsCopy tin q q' → HadRelation tin was p' q' → HadRelation tin was p q
-copies_had tin was p q p' q' first second h = had_exchanged tin was q p (second.had was p (had_exchanged tin was p q' (first.had was q' h)))
+pub copies_had : (tin : Triangulation) (was : Rel) (p q p' q' : Piece) → IsCopy tin p p' → IsCopy tin q q'
+    → HadRelation tin was p' q' → HadRelation tin was p q
+copies_had tin was p q p' q' first second h =
+    had_exchanged tin was q p (second.had was p (had_exchanged tin was p q' (first.had was q' h)))
 
-pub copies_have : (tin : Triangulation) (now : Rel) (p q p' q' : Piece) → IsCopy tin p p' → IsCopy tin q q' → HasRelation now p' q' → HasRelation now p q
-copies_have tin now p q p' q' first second h = has_exchanged now q p (second.has now p (has_exchanged now p q' (first.has now q' h)))
+pub copies_have : (tin : Triangulation) (now : Rel) (p q p' q' : Piece) → IsCopy tin p p' → IsCopy tin q q'
+    → HasRelation now p' q' → HasRelation now p q
+copies_have tin now p q p' q' first second h =
+    has_exchanged now q p (second.has now p (has_exchanged now p q' (first.has now q' h)))

@@ -1,5 +1,6 @@
 -- Lists of boxes, and how near they are to each other.
-use Rattle.std.proofs.Common.{◌≡◌, ℕ, ◌+◌, ◌<◌, ◌≤◌, ℤ, pos, ◌+ℤ◌, ◌-ℤ◌, ◌≤ℤ◌, ◌<ℤ◌, List, [], ◌∷◌, ◌++◌, length, All, get_or, inl, inr, ◌⊎◌, sym, ap, subst, ◌∙◌, arith}
+use Rattle.std.proofs.Common.{◌≡◌, ℕ, ◌+◌, ◌<◌, ◌≤◌, ℤ, pos, ◌+ℤ◌, ◌-ℤ◌, ◌≤ℤ◌, ◌<ℤ◌, List, [], ◌∷◌, ◌++◌, length, All}
+use Rattle.std.proofs.Common.{get_or, inl, inr, ◌⊎◌, sym, ap, subst, ◌∙◌, arith}
 use Rattle.std.proofs.lemmas.List.{get_or_append_left, get_or_push, length_push, get_or_default}
 use Rattle.std.proofs.lemmas.Int.{ints}
 use Rattle.plane_base.specs.declared.shapes.Pt.{Pt}
@@ -28,77 +29,115 @@ less_apart : (s c d : ℤ) → (c -ℤ (s -ℤ pos 1)) ≤ℤ d → (c -ℤ d) <
 less_apart s c d h = omega (arith, ints)
 
 -- ---- boxes among corners
-pub among_span : (tin : Triangulation) (p q : Rect) → IsWithinLimits tin → IsAmongCorners tin p → IsAmongCorners tin q → IsWithinSpan p q
+pub among_span : (tin : Triangulation) (p q : Rect) → IsWithinLimits tin → IsAmongCorners tin p → IsAmongCorners tin q
+    → IsWithinSpan p q
 among_span tin p q limits hp hq = (
   less_apart SPAN q.x1 p.x0
       (hp.left (q.x1 -ℤ (SPAN -ℤ pos 1)) (λ n hn. down_to SPAN q.x1 (corner_at tin n).sx
-      (hq.right ((corner_at tin n).sx +ℤ (SPAN -ℤ pos 1)) (λ m hm. up_to SPAN (corner_at tin m).sx (corner_at tin n).sx (limits.near Source m n hm hn).0)))),
+      (hq.right ((corner_at tin n).sx +ℤ (SPAN -ℤ pos 1))
+      (λ m hm. up_to SPAN (corner_at tin m).sx (corner_at tin n).sx (limits.near Source m n hm hn).0)))),
   less_apart SPAN q.y1 p.y0
       (hp.bottom (q.y1 -ℤ (SPAN -ℤ pos 1)) (λ n hn. down_to SPAN q.y1 (corner_at tin n).sy
-      (hq.top ((corner_at tin n).sy +ℤ (SPAN -ℤ pos 1)) (λ m hm. up_to SPAN (corner_at tin m).sy (corner_at tin n).sy (limits.near Source m n hm hn).1)))),
+      (hq.top ((corner_at tin n).sy +ℤ (SPAN -ℤ pos 1))
+      (λ m hm. up_to SPAN (corner_at tin m).sy (corner_at tin n).sy (limits.near Source m n hm hn).1)))),
 )
 
 -- ---- boxes round points that are near each other
-pub around_span : (a b c d : Pt) (p q : Rect) → AreNear a b c d → IsAround (a ∷ b ∷ []) p → IsAround (c ∷ d ∷ []) q → IsWithinSpan p q
+pub around_span : (a b c d : Pt) (p q : Rect) → AreNear a b c d → IsAround (a ∷ b ∷ []) p → IsAround (c ∷ d ∷ []) q
+    → IsWithinSpan p q
 around_span a b c d p q near hp hq =
     let ac = near.0.1 in let bc = near.0.2 in let ad = near.1.1 in let bd = near.1.2 in (
       less_apart SPAN q.x1 p.x0 (hp.left (q.x1 -ℤ (SPAN -ℤ pos 1)) (
-        down_to SPAN q.x1 a.x (hq.right (a.x +ℤ (SPAN -ℤ pos 1)) (up_to SPAN c.x a.x ac.1, (up_to SPAN d.x a.x ad.1, tt))),
-        (down_to SPAN q.x1 b.x (hq.right (b.x +ℤ (SPAN -ℤ pos 1)) (up_to SPAN c.x b.x bc.1, (up_to SPAN d.x b.x bd.1, tt))), tt),
+        down_to SPAN q.x1 a.x (hq.right (a.x +ℤ (SPAN -ℤ pos 1))
+            (up_to SPAN c.x a.x ac.1, (up_to SPAN d.x a.x ad.1, tt))),
+        (
+          down_to SPAN q.x1 b.x (hq.right (b.x +ℤ (SPAN -ℤ pos 1))
+              (up_to SPAN c.x b.x bc.1, (up_to SPAN d.x b.x bd.1, tt))),
+          tt,
+        ),
       )),
       less_apart SPAN q.y1 p.y0 (hp.bottom (q.y1 -ℤ (SPAN -ℤ pos 1)) (
-        down_to SPAN q.y1 a.y (hq.top (a.y +ℤ (SPAN -ℤ pos 1)) (up_to SPAN c.y a.y ac.3, (up_to SPAN d.y a.y ad.3, tt))),
-        (down_to SPAN q.y1 b.y (hq.top (b.y +ℤ (SPAN -ℤ pos 1)) (up_to SPAN c.y b.y bc.3, (up_to SPAN d.y b.y bd.3, tt))), tt),
+        down_to SPAN q.y1 a.y (hq.top (a.y +ℤ (SPAN -ℤ pos 1))
+            (up_to SPAN c.y a.y ac.3, (up_to SPAN d.y a.y ad.3, tt))),
+        (
+          down_to SPAN q.y1 b.y (hq.top (b.y +ℤ (SPAN -ℤ pos 1))
+              (up_to SPAN c.y b.y bc.3, (up_to SPAN d.y b.y bd.3, tt))),
+          tt,
+        ),
       )),
     )
 
 -- ---- the boxes of pieces
-box_of : (boxes : List Rect) (i : ℕ) (d : Rect) (P : Rect → Type 0) → i < length boxes → P (box_at boxes i) → P (get_or boxes i d)
+box_of : (boxes : List Rect) (i : ℕ) (d : Rect) (P : Rect → Type 0) → i < length boxes → P (box_at boxes i)
+    → P (get_or boxes i d)
 box_of boxes i d P h is = subst P (get_or_default boxes i no_box d h) is
 
-pub exact_ordered : (tin : Triangulation) (pieces : List Piece) (boxes : List Rect) → AreBoxesOf (IsExactBox tin) pieces boxes → AreOrdered boxes
-exact_ordered tin pieces boxes h i d within = box_of boxes i d IsOrdered within (h.each i (omega (arith, h.same))).ordered
+pub exact_ordered : (tin : Triangulation) (pieces : List Piece) (boxes : List Rect)
+    → AreBoxesOf (IsExactBox tin) pieces boxes → AreOrdered boxes
+exact_ordered tin pieces boxes h i d within =
+    box_of boxes i d IsOrdered within (h.each i (omega (arith, h.same))).ordered
 
-pub rounded_ordered : (pieces : List Piece) (boxes : List Rect) → AreBoxesOf IsRoundedBox pieces boxes → AreOrdered boxes
-rounded_ordered pieces boxes h i d within = box_of boxes i d IsOrdered within (subst (λ (r : Rect). IsOrdered r) (sym (h.each i (omega (arith, h.same)))) (rounded_boxed (piece_at pieces i)).ordered)
+pub rounded_ordered : (pieces : List Piece) (boxes : List Rect) → AreBoxesOf IsRoundedBox pieces boxes
+    → AreOrdered boxes
+rounded_ordered pieces boxes h i d within =
+    box_of boxes i d IsOrdered within (subst (λ (r : Rect). IsOrdered r) (sym (h.each i (omega (arith, h.same))))
+    (rounded_boxed (piece_at pieces i)).ordered)
 
-pub exact_spans : (tin : Triangulation) (pieces : List Piece) (boxes : List Rect) → IsWithinLimits tin → AreBoxesOf (IsExactBox tin) pieces boxes → AreWithinSpan boxes
+pub exact_spans : (tin : Triangulation) (pieces : List Piece) (boxes : List Rect) → IsWithinLimits tin
+    → AreBoxesOf (IsExactBox tin) pieces boxes → AreWithinSpan boxes
 exact_spans tin pieces boxes limits h i d hi j e hj =
     box_of boxes i d (λ p. IsWithinSpan p (get_or boxes j e)) hi
     (box_of boxes j e (λ q. IsWithinSpan (box_at boxes i) q) hj
-    (among_span tin (box_at boxes i) (box_at boxes j) limits (h.each i (omega (arith, h.same))).among (h.each j (omega (arith, h.same))).among))
+    (among_span tin (box_at boxes i) (box_at boxes j) limits (h.each i (omega (arith, h.same))).among
+    (h.each j (omega (arith, h.same))).among))
 
-pub rounded_spans : (pieces : List Piece) (boxes : List Rect) → All (λ p. All (λ q. AreNear p.ia p.ib q.ia q.ib) pieces) pieces → AreBoxesOf IsRoundedBox pieces boxes → AreWithinSpan boxes
+pub rounded_spans : (pieces : List Piece) (boxes : List Rect)
+    → All (λ p. All (λ q. AreNear p.ia p.ib q.ia q.ib) pieces) pieces → AreBoxesOf IsRoundedBox pieces boxes
+    → AreWithinSpan boxes
 rounded_spans pieces boxes near h i d hi j e hj =
     let p = piece_at pieces i in let q = piece_at pieces j in
     let wi : i < length pieces = omega (arith, h.same) in let wj : j < length pieces = omega (arith, h.same) in
     box_of boxes i d (λ r. IsWithinSpan r (get_or boxes j e)) hi
     (box_of boxes j e (λ r. IsWithinSpan (box_at boxes i) r) hj
-    (around_span p.ia p.ib q.ia q.ib (box_at boxes i) (box_at boxes j) (near i no_piece wi j no_piece wj) (around i wi) (around j wj)))
+    (around_span p.ia p.ib q.ia q.ib (box_at boxes i) (box_at boxes j) (near i no_piece wi j no_piece wj) (around i wi)
+    (around j wj)))
   where
-    around : (k : ℕ) → k < length pieces → IsAround ((piece_at pieces k).ia ∷ (piece_at pieces k).ib ∷ []) (box_at boxes k)
-    around k hk = subst (λ (r : Rect). IsAround ((piece_at pieces k).ia ∷ (piece_at pieces k).ib ∷ []) r) (sym (h.each k hk)) (rounded_boxed (piece_at pieces k)).around
+    around : (k : ℕ) → k < length pieces → IsAround ((piece_at pieces k).ia ∷ (piece_at pieces k).ib ∷ [])
+        (box_at boxes k)
+    around k hk = subst (λ (r : Rect). IsAround ((piece_at pieces k).ia ∷ (piece_at pieces k).ib ∷ []) r)
+        (sym (h.each k hk)) (rounded_boxed (piece_at pieces k)).around
 
 -- ---- while boxes are put behind each other
-pub record AreBoxesSoFar (IsBoxOf : Piece → Rect → Type 0) (pieces : List Piece) (boxes : List Rect) (i : ℕ) : Type 0 where
-  pub same : length boxes ≡ i
-  pub few : i ≤ length pieces
-  pub each : (n : ℕ) → n < i → IsBoxOf (piece_at pieces n) (box_at boxes n)
+pub record AreBoxesSoFar (IsBoxOf : Piece → Rect → Type 0) (pieces : List Piece) (boxes : List Rect) (i : ℕ) : Type 0
+  where
+    pub same : length boxes ≡ i
+    pub few : i ≤ length pieces
+    pub each : (n : ℕ) → n < i → IsBoxOf (piece_at pieces n) (box_at boxes n)
 
-pub more_boxes : (IsBoxOf : Piece → Rect → Type 0) (pieces : List Piece) (boxes later : List Rect) (i : ℕ) (box : Rect) → i < length pieces → AreBoxesSoFar IsBoxOf pieces boxes i → IsBoxOf (piece_at pieces i) box
+pub more_boxes : (IsBoxOf : Piece → Rect → Type 0) (pieces : List Piece) (boxes later : List Rect) (i : ℕ) (box : Rect)
+    → i < length pieces → AreBoxesSoFar IsBoxOf pieces boxes i → IsBoxOf (piece_at pieces i) box
     → later ≡ boxes ++ box ∷ [] → AreBoxesSoFar IsBoxOf pieces later (i + 1)
 more_boxes IsBoxOf pieces boxes later i box within h is e = record {
   same = ap length e ∙ length_push boxes box ∙ ap (λ n. n + 1) h.same;
   few = omega (arith, within);
-  each = λ n hn. subst (λ (bs : List Rect). IsBoxOf (piece_at pieces n) (box_at bs n)) (sym e) (at_n n hn (below_or_not n i));
+  each = λ n hn. subst (λ (bs : List Rect). IsBoxOf (piece_at pieces n) (box_at bs n)) (sym e)
+      (at_n n hn (below_or_not n i));
 }
   where
     last : (n : ℕ) → n < i + 1 → i ≤ n → i ≡ n
     last n hn past = omega (arith, hn, past)
 
     at_n : (n : ℕ) → n < i + 1 → (n < i) ⊎ (i ≤ n) → IsBoxOf (piece_at pieces n) (box_at (boxes ++ box ∷ []) n)
-    at_n n _ (inl hn) = subst (λ (b : Rect). IsBoxOf (piece_at pieces n) b) (sym (get_or_append_left boxes (box ∷ []) no_box n (omega (arith, h.same)))) (h.each n hn)
-    at_n n hn (inr past) = subst (λ (k : ℕ). IsBoxOf (piece_at pieces k) (box_at (boxes ++ box ∷ []) k)) (last n hn past) (subst (λ (b : Rect). IsBoxOf (piece_at pieces i) b) (sym (get_or_push boxes box no_box i h.same)) is)
+    at_n n _ (inl hn) = subst (λ (b : Rect). IsBoxOf (piece_at pieces n) b)
+        (sym (get_or_append_left boxes (box ∷ []) no_box n (omega (arith, h.same)))) (h.each n hn)
+    at_n n hn (inr past) = subst (λ (k : ℕ). IsBoxOf (piece_at pieces k) (box_at (boxes ++ box ∷ []) k))
+        (last n hn past) (subst (λ (b : Rect). IsBoxOf (piece_at pieces i) b)
+        (sym (get_or_push boxes box no_box i h.same)) is)
 
-pub all_boxes : (IsBoxOf : Piece → Rect → Type 0) (pieces : List Piece) (boxes : List Rect) (i : ℕ) → length pieces ≤ i → AreBoxesSoFar IsBoxOf pieces boxes i → AreBoxesOf IsBoxOf pieces boxes
-all_boxes IsBoxOf pieces boxes i past h = record { same = omega (arith, h.same, h.few); each = λ n hn. h.each n (omega (arith, hn, past)) }
+pub all_boxes : (IsBoxOf : Piece → Rect → Type 0) (pieces : List Piece) (boxes : List Rect) (i : ℕ) → length pieces ≤ i
+    → AreBoxesSoFar IsBoxOf pieces boxes i → AreBoxesOf IsBoxOf pieces boxes
+all_boxes IsBoxOf pieces boxes i past h = record {
+  same = omega (arith, h.same, h.few);
+  each =
+      λ n hn. h.each n (omega (arith, hn, past));
+}

@@ -1,5 +1,6 @@
 -- Shares of a way in whole parts, rounded down and up.
-use Rattle.std.proofs.Common.{◌≡◌, ◌⊎◌, inl, inr, ℤ, pos, ◌+ℤ◌, ◌*ℤ◌, ◌≤ℤ◌, ◌<ℤ◌, ◌-◌, ◌≤◌, unsigned_abs, SFits, arith, mul-le-mul}
+use Rattle.std.proofs.Common.{◌≡◌, ◌⊎◌, inl, inr, ℤ, pos, ◌+ℤ◌, ◌*ℤ◌, ◌≤ℤ◌, ◌<ℤ◌, ◌-◌, ◌≤◌, unsigned_abs, SFits, arith}
+use Rattle.std.proofs.Common.{mul-le-mul}
 use Rattle.std.proofs.lemmas.Int.{ints, unsigned_abs-mul}
 use Rattle.std.specs.Int.{int_div_euclid}
 use mir.Syntax.{w64, w128}
@@ -52,23 +53,32 @@ all_up = follows 3 (λ n d p. n ≼ d ⇒ num (pos 0) ≼ p ⇒ n ⊗ p ≼ p �
 pub up_all : (n d : ℤ) → IsParam n d → (n *ℤ PARTS) ≤ℤ (PARTS *ℤ d)
 up_all n d p = all_up n d PARTS p.2 (omega (arith, ints))
 
-pub parts_up : (n d up : ℤ) → IsParam n d → (up ≡ int_div_euclid (n *ℤ PARTS) d +ℤ pos 1) ⊎ (up ≡ PARTS) → (n *ℤ PARTS) ≤ℤ (up *ℤ d)
+pub parts_up : (n d up : ℤ) → IsParam n d → (up ≡ int_div_euclid (n *ℤ PARTS) d +ℤ pos 1) ⊎ (up ≡ PARTS)
+    → (n *ℤ PARTS) ≤ℤ (up *ℤ d)
 parts_up n d up p (inl e) = rw e (up_next n d p.0)
 parts_up n d up p (inr e) = rw e (up_all n d p)
 
 -- ---- so many parts of a way
-on_front : (p d z q n m : ℤ) → pos 0 <ℤ p → pos 0 <ℤ d → pos 0 ≤ℤ z → (q *ℤ p) ≤ℤ (n *ℤ z) → (n *ℤ d) ≤ℤ (m *ℤ p) → (q *ℤ d) ≤ℤ (m *ℤ z)
+on_front : (p d z q n m : ℤ) → pos 0 <ℤ p → pos 0 <ℤ d → pos 0 ≤ℤ z → (q *ℤ p) ≤ℤ (n *ℤ z) → (n *ℤ d) ≤ℤ (m *ℤ p)
+    → (q *ℤ d) ≤ℤ (m *ℤ z)
 on_front =
-    follows 6 (λ p d z q n m. num (pos 0) ≺ p ⇒ num (pos 0) ≺ d ⇒ num (pos 0) ≼ z ⇒ q ⊗ p ≼ n ⊗ z ⇒ n ⊗ d ≼ m ⊗ p ⇒ q ⊗ d ≼ m ⊗ z
+    follows 6 (λ p d z q n m. num (pos 0) ≺ p ⇒ num (pos 0) ≺ d ⇒ num (pos 0) ≼ z ⇒ q ⊗ p ≼ n ⊗ z ⇒ n ⊗ d ≼ m ⊗ p ⇒ q
+    ⊗ d ≼ m ⊗ z
     otherwise over 5 ⊠ gap 0 ⊞ gap 3 ⊠ gap 1 ⊞ gap 4 ⊠ gap 2 ⊞ over 0) tt
 
-on_back : (p d z q n m : ℤ) → pos 0 <ℤ p → pos 0 <ℤ d → z ≤ℤ pos 0 → (q *ℤ p) ≤ℤ (n *ℤ z) → (m *ℤ p) ≤ℤ (n *ℤ d) → (q *ℤ d) ≤ℤ (m *ℤ z)
+on_back : (p d z q n m : ℤ) → pos 0 <ℤ p → pos 0 <ℤ d → z ≤ℤ pos 0 → (q *ℤ p) ≤ℤ (n *ℤ z) → (m *ℤ p) ≤ℤ (n *ℤ d)
+    → (q *ℤ d) ≤ℤ (m *ℤ z)
 on_back =
-    follows 6 (λ p d z q n m. num (pos 0) ≺ p ⇒ num (pos 0) ≺ d ⇒ z ≼ num (pos 0) ⇒ q ⊗ p ≼ n ⊗ z ⇒ m ⊗ p ≼ n ⊗ d ⇒ q ⊗ d ≼ m ⊗ z
+    follows 6 (λ p d z q n m. num (pos 0) ≺ p ⇒ num (pos 0) ≺ d ⇒ z ≼ num (pos 0) ⇒ q ⊗ p ≼ n ⊗ z ⇒ m ⊗ p ≼ n ⊗ d ⇒ q
+    ⊗ d ≼ m ⊗ z
     otherwise over 5 ⊠ gap 0 ⊞ gap 3 ⊠ gap 1 ⊞ gap 4 ⊠ gap 2 ⊞ over 0) tt
 
-pub below_on : (n d m z : ℤ) → pos 0 <ℤ d → pos 0 ≤ℤ z → (n *ℤ d) ≤ℤ (m *ℤ PARTS) → (int_div_euclid (n *ℤ z) PARTS *ℤ d) ≤ℤ (m *ℤ z)
-below_on n d m z hd hz h = on_front PARTS d z (int_div_euclid (n *ℤ z) PARTS) n m (omega (arith, ints)) hd hz (floor-≤ (n *ℤ z) PARTS (omega (arith, ints))) h
+pub below_on : (n d m z : ℤ) → pos 0 <ℤ d → pos 0 ≤ℤ z → (n *ℤ d) ≤ℤ (m *ℤ PARTS)
+    → (int_div_euclid (n *ℤ z) PARTS *ℤ d) ≤ℤ (m *ℤ z)
+below_on n d m z hd hz h = on_front PARTS d z (int_div_euclid (n *ℤ z) PARTS) n m (omega (arith, ints)) hd hz
+    (floor-≤ (n *ℤ z) PARTS (omega (arith, ints))) h
 
-pub below_back : (n d m z : ℤ) → pos 0 <ℤ d → z ≤ℤ pos 0 → (m *ℤ PARTS) ≤ℤ (n *ℤ d) → (int_div_euclid (n *ℤ z) PARTS *ℤ d) ≤ℤ (m *ℤ z)
-below_back n d m z hd hz h = on_back PARTS d z (int_div_euclid (n *ℤ z) PARTS) n m (omega (arith, ints)) hd hz (floor-≤ (n *ℤ z) PARTS (omega (arith, ints))) h
+pub below_back : (n d m z : ℤ) → pos 0 <ℤ d → z ≤ℤ pos 0 → (m *ℤ PARTS) ≤ℤ (n *ℤ d)
+    → (int_div_euclid (n *ℤ z) PARTS *ℤ d) ≤ℤ (m *ℤ z)
+below_back n d m z hd hz h = on_back PARTS d z (int_div_euclid (n *ℤ z) PARTS) n m (omega (arith, ints)) hd hz
+    (floor-≤ (n *ℤ z) PARTS (omega (arith, ints))) h

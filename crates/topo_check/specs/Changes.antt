@@ -1,5 +1,6 @@
 -- The changes of pieces by rounding.
-use Rattle.std.specs.Prelude.{◌≡◌, ◌≢◌, ◌⊎◌, ℕ, ◌<◌, pos, List, [], ◌∷◌, ◌++◌, length, map, All, Option, None, Some, slice_index_or}
+use Rattle.std.specs.Prelude.{◌≡◌, ◌≢◌, ◌⊎◌, ℕ, ◌<◌, pos, List, [], ◌∷◌, ◌++◌, length, map, All, Option, None, Some}
+use Rattle.std.specs.Prelude.{slice_index_or}
 use Rattle.std.specs.List.{AllPairs}
 use Rattle.plane_base.specs.Plane.{whole}
 use Rattle.plane_base.specs.declared.shapes.Pt.{Pt}
@@ -13,7 +14,8 @@ use Rattle.tin_base.specs.Pieces.{IsPieceOf, IsPieceInside, first_point, last_po
 use Rattle.tin_base.specs.Relations.{HaveRelation}
 use Rattle.meet_rel.specs.Near.{AreNear}
 
--- what the calls ask of two pieces: they are pieces of segments with ends in source triangles, and their rounded images are near each other
+-- what the calls ask of two pieces: they are pieces of segments with ends in source triangles, and their rounded images
+-- are near each other
 pub record AreComparable (tin : Triangulation) (p q : Piece) : Type 0 where
   pub first : IsPieceInside tin p
   pub second : IsPieceInside tin q
@@ -28,16 +30,19 @@ AreAllInside tin pieces = All (λ p. IsPieceInside tin p) pieces
 
 -- the relation of two exact pieces in the source frame
 abbrev pub HadRelation : Triangulation → Rel → Piece → Piece → Type 0
-HadRelation tin was p q = (s t : Part) → IsPieceOf tin p s → IsPieceOf tin q t → HaveRelation was (first_point p s) (last_point p s) (first_point q t) (last_point q t)
+HadRelation tin was p q = (s t : Part) → IsPieceOf tin p s → IsPieceOf tin q t
+    → HaveRelation was (first_point p s) (last_point p s) (first_point q t) (last_point q t)
 
 -- the relation of the segments between the rounded images of the ends of two pieces
 abbrev pub HasRelation : Rel → Piece → Piece → Type 0
 HasRelation now p q = HaveRelation now (whole p.ia) (whole p.ib) (whole q.ia) (whole q.ib)
 
--- by the relation that two pieces had: none where it is the one that they have, else both with the places of the two pieces
+-- by the relation that two pieces had: none where it is the one that they have, else both with the places of the two
+-- pieces
 abbrev pub IsChangeBy : (Rel → Piece → Piece → Type 0) → Piece → Piece → Option Change → Type 0
 IsChangeBy Had p q None = (relation : Rel) × Had relation p q × HasRelation relation p q
-IsChangeBy Had p q (Some change) = (change.first ≡ p.from) × (change.second ≡ q.from) × Had change.was p q × HasRelation change.now p q × (change.was ≢ change.now)
+IsChangeBy Had p q (Some change) = (change.first ≡ p.from) × (change.second ≡ q.from) × Had change.was p q
+    × HasRelation change.now p q × (change.was ≢ change.now)
 
 -- the change of two pieces: by the relation that the exact pieces had
 abbrev pub IsChangeOf : Triangulation → Piece → Piece → Option Change → Type 0
@@ -82,7 +87,8 @@ put (Some change) changes = change ∷ changes
 -- the changes of some pairs, in their order, by the relation that the two of a pair had
 abbrev pub AreChangesBy : (Rel → Piece → Piece → Type 0) → List Pair → List Change → Type 0
 AreChangesBy Had [] changes = changes ≡ []
-AreChangesBy Had (p ∷ ps) changes = (here : Option Change) × (later : List Change) × IsChangeBy Had p.first p.second here × AreChangesBy Had ps later × (changes ≡ put here later)
+AreChangesBy Had (p ∷ ps) changes = (here : Option Change) × (later : List Change)
+    × IsChangeBy Had p.first p.second here × AreChangesBy Had ps later × (changes ≡ put here later)
 
 -- the changes of some pairs
 abbrev pub AreChangesOf : Triangulation → List Pair → List Change → Type 0

@@ -1,5 +1,6 @@
 -- Kinds of pieces: a kind has copies of one piece. Only private functions speak of them.
-use Rattle.std.specs.Prelude.{◌≡◌, ◌⊎◌, ◌≢◌, ◌↔◌, ℕ, ◌+◌, ◌<◌, ◌≤◌, List, [], ◌∷◌, length, slice_index_or, Contains, None, nat_eq}
+use Rattle.std.specs.Prelude.{◌≡◌, ◌⊎◌, ◌≢◌, ◌↔◌, ℕ, ◌+◌, ◌<◌, ◌≤◌, List, [], ◌∷◌, length, slice_index_or, Contains}
+use Rattle.std.specs.Prelude.{None, nat_eq}
 use Rattle.std.specs.List.{IsDistinct}
 use Rattle.number_groups.specs.declared.groups.Entry.{Entry}
 use Rattle.plane_base.specs.declared.shapes.Pt.{Pt}
@@ -62,7 +63,8 @@ pub record AreMembersOf (kinds : List ℕ) (count : ℕ) (members : List (List �
 pub record AreSortsOf (count : ℕ) (members : List (List ℕ)) : Type 0 where
   pub once : (k : ℕ) → k < length members → IsDistinct nat_eq (members_at members k)
   pub within : (k i : ℕ) → k < length members → Contains (members_at members k) i → i < count
-  pub apart : (k m i j : ℕ) → k < length members → m < length members → k < m → Contains (members_at members k) i → Contains (members_at members m) j → j ≢ i
+  pub apart : (k m i j : ℕ) → k < length members → m < length members → k < m → Contains (members_at members k) i
+      → Contains (members_at members m) j → j ≢ i
 
 -- different pairs of kinds, the earlier first
 pub record ArePairsOfKinds (count : ℕ) (found : List ChangedPair) : Type 0 where
@@ -76,11 +78,18 @@ IsPairAcross IsFirst IsSecond i j = (IsFirst i × IsSecond j) ⊎ (IsFirst j × 
 
 -- the two pieces are of the two kinds
 abbrev pub IsPairOfKinds : List (List ℕ) → ChangedPair → ℕ → ℕ → Type 0
-IsPairOfKinds members pair i j = IsPairAcross (Contains (members_at members pair.first)) (Contains (members_at members pair.second)) i j
+IsPairOfKinds members pair i j = IsPairAcross (Contains (members_at members pair.first))
+    (Contains (members_at members pair.second)) i j
 
 abbrev pub IsFoundOf : List (List ℕ) → List ChangedPair → ℕ → ℕ → Type 0
 IsFoundOf members found i j = (pair : ChangedPair) × Contains found pair × IsPairOfKinds members pair i j
 
 -- the pair of the first pieces of two kinds
 abbrev pub of_firsts : List ℕ → ChangedPair → ChangedPair
-of_firsts firsts pair = record { first = at firsts pair.first; second = at firsts pair.second; was = pair.was; now = pair.now }
+of_firsts firsts pair = record {
+  first = at firsts pair.first;
+  second = at firsts pair.second;
+  was = pair.was;
+  now =
+      pair.now;
+}

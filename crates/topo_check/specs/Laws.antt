@@ -14,18 +14,23 @@ use Rattle.topo_check.specs.Changes.{AreAllInside, pairs, AreChangesBy, AreChang
 
 -- pieces have one list of changes
 abbrev pub ChangesAreOne : Type 0
-ChangesAreOne = (tin : Triangulation) (pieces : List Piece) → AreAllInside tin pieces → (first second : List Change) → AreChanges tin pieces first → AreChanges tin pieces second → first ≡ second
+ChangesAreOne = (tin : Triangulation) (pieces : List Piece) → AreAllInside tin pieces → (first second : List Change)
+    → AreChanges tin pieces first → AreChanges tin pieces second → first ≡ second
 
 -- where more pairs than `most` have changed, the list of all changes is longer than `most`
 abbrev pub MoreStayMore : Type 0
-MoreStayMore = (tin : Triangulation) (pieces : List Piece) (most : ℕ) → AreAllInside tin pieces → HasMoreThan tin pieces most → (changes : List Change) → AreChanges tin pieces changes → most < length changes
+MoreStayMore = (tin : Triangulation) (pieces : List Piece) (most : ℕ) → AreAllInside tin pieces
+    → HasMoreThan tin pieces most → (changes : List Change) → AreChanges tin pieces changes → most < length changes
 
 -- the relation of the segments between the exact images of the ends of two pieces
 abbrev pub HadRelationOfImages : Triangulation → Rel → Piece → Piece → Type 0
 HadRelationOfImages tin was p q =
-    (s t : Part) → IsPieceOf tin p s → IsPieceOf tin q t → (a b c d : Point) → AreImages tin p s a b → AreImages tin q t c d → HaveRelation was a b c d
+    (s t : Part) → IsPieceOf tin p s → IsPieceOf tin q t → (a b c d : Point) → AreImages tin p s a b
+    → AreImages tin q t c d → HaveRelation was a b c d
 
--- Of each sound triangulation: pieces have the same changes where their exact images stand in their place in the source frame
+-- Of each sound triangulation: pieces have the same changes where their exact images stand in their place in the source
+-- frame
 abbrev pub ChangesAreByRounding : Type 0
 ChangesAreByRounding =
-    (tin : Triangulation) → IsSound tin → (pieces : List Piece) (changes : List Change) → AreChanges tin pieces changes ↔ AreChangesBy (HadRelationOfImages tin) (pairs pieces) changes
+    (tin : Triangulation) → IsSound tin → (pieces : List Piece) (changes : List Change)
+    → AreChanges tin pieces changes ↔ AreChangesBy (HadRelationOfImages tin) (pairs pieces) changes

@@ -19,7 +19,13 @@ numbers_of pair = record { first = pair.first; second = pair.second }
 
 -- its change
 abbrev pub change_of : List Piece → ChangedPair → Change
-change_of pieces pair = record { first = (piece_at pieces pair.first).from; second = (piece_at pieces pair.second).from; was = pair.was; now = pair.now }
+change_of pieces pair = record {
+  first = (piece_at pieces pair.first).from;
+  second =
+      (piece_at pieces pair.second).from;
+  was = pair.was;
+  now = pair.now;
+}
 
 -- the relation of the two pieces was the one and is the other
 pub record IsChanged (tin : Triangulation) (pieces : List Piece) (pair : ChangedPair) : Type 0 where
@@ -56,13 +62,18 @@ pub record AreCollected (tin : Triangulation) (pieces : List Piece) (most : ℕ)
   pub different : AreDifferent pairs
   pub all : length pairs ≤ most → (i j : ℕ) → i < j → j < length pieces → HasPair pairs i j ⊎ IsUnchanged tin pieces i j
 
--- what was collected before, and of the pairs that are meant those that have changed, each once, and all of them where they are not more than `most`
-pub record DoesCollect (tin : Triangulation) (pieces : List Piece) (most : ℕ) (AreMeant : ℕ → ℕ → Type 0) (before now : List ChangedPair) : Type 0 where
+-- what was collected before, and of the pairs that are meant those that have changed, each once, and all of them where
+-- they are not more than `most`
+pub record DoesCollect (tin : Triangulation) (pieces : List Piece) (most : ℕ) (AreMeant : ℕ → ℕ → Type 0)
+    (before now : List ChangedPair) : Type 0 where
   pub longer : length before ≤ length now
   pub kept : (pair : ChangedPair) → Contains before pair → Contains now pair
-  pub all : length now ≤ most → (i j : ℕ) → i < j → j < length pieces → AreMeant i j → HasPair now i j ⊎ IsUnchanged tin pieces i j
-  pub only : (pair : ChangedPair) → Contains now pair → Contains before pair ⊎ (IsChanged tin pieces pair × AreMeant pair.first pair.second)
-  pub once : AreDifferent before → ((i j : ℕ) → i < j → j < length pieces → AreMeant i j → HasPair before i j → ⊥) → AreDifferent now
+  pub all : length now ≤ most → (i j : ℕ) → i < j → j < length pieces → AreMeant i j
+      → HasPair now i j ⊎ IsUnchanged tin pieces i j
+  pub only : (pair : ChangedPair) → Contains now pair
+      → Contains before pair ⊎ (IsChanged tin pieces pair × AreMeant pair.first pair.second)
+  pub once : AreDifferent before → ((i j : ℕ) → i < j → j < length pieces → AreMeant i j → HasPair before i j → ⊥)
+      → AreDifferent now
 
 -- ---- which pairs are meant
 -- in the target frame each two are compared, and in the source frame those whose rounded boxes are apart
@@ -79,7 +90,8 @@ IsPairOf frame pieces first second i j = IsComparedIn frame pieces i j × (i ≡
 
 -- a pair of this number and another
 abbrev pub IsPairWith : Frame → List Piece → ℕ → (ℕ → Type 0) → ℕ → ℕ → Type 0
-IsPairWith frame pieces number IsOther i j = IsComparedIn frame pieces i j × (((i ≡ number) × IsOther j) ⊎ ((j ≡ number) × IsOther i))
+IsPairWith frame pieces number IsOther i j =
+    IsComparedIn frame pieces i j × (((i ≡ number) × IsOther j) ⊎ ((j ≡ number) × IsOther i))
 
 -- a pair whose boxes in a grid share a point
 abbrev pub DoShareIn : Frame → List Piece → List Rect → ℕ → ℕ → Type 0

@@ -12,7 +12,8 @@ use meet_rel::{Span, piece_span};
 use plane_base::{Pt, Rect};
 use tin_base::{Frame, Piece, SoundTin};
 
-/// A box of whole sides, in millimetres, that the exact piece is in: rounded outward from the piece's exact ends, and no larger than `outer_box`.
+/// A box of whole sides, in millimetres, that the exact piece is in: rounded outward from the piece's exact ends, and
+/// no larger than `outer_box`.
 pub(crate) fn exact_box(tin: &SoundTin, piece: &Piece) -> Rect
     requires { IsPieceInside tin.now piece.now }
     ensures { IsExactBox tin.now piece.now result }
@@ -25,7 +26,8 @@ pub(crate) fn exact_box(tin: &SoundTin, piece: &Piece) -> Rect
     around_span(piece.a, piece.b, span).common(&outer)
 }
 
-/// A box of whole sides, in millimetres, that the exact piece is in: what the boxes of its segment and of its triangle have in common.
+/// A box of whole sides, in millimetres, that the exact piece is in: what the boxes of its segment and of its triangle
+/// have in common.
 pub(crate) fn outer_box(tin: &SoundTin, piece: &Piece) -> Rect
     requires { IsPieceInside tin.now piece.now }
     ensures { IsExactBox tin.now piece.now result }

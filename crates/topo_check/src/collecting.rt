@@ -13,7 +13,9 @@ use std::alloc::{AllocError, Global};
 use tin_base::{Frame, Piece, SoundTin};
 
 /// The pairs of pieces that have changed, each once, in no order. It stops once there are more than `most`.
-/// First the pairs whose rounded boxes share a point are compared, and then, where these are not too many, the others whose exact boxes share one. One grid is kept at a time; the list of boxes of the first is used again for the second.
+/// First the pairs whose rounded boxes share a point are compared, and then, where these are not too many, the others
+/// whose exact boxes share one. One grid is kept at a time; the list of boxes of the first is used again for the
+/// second.
 pub(crate) fn changed_pairs(
     alloc: Global,
     tin: &SoundTin,

@@ -8,7 +8,8 @@ use crate::boxes::rounded_box;
 use meet_rel::{piece_rel, rel};
 use tin_base::{Frame, Piece, Rel, SoundTin};
 
-/// Two pieces by their numbers, the earlier first, whose relation is another after rounding: `was` in the source, `now` between the rounded segments.
+/// Two pieces by their numbers, the earlier first, whose relation is another after rounding: `was` in the source, `now`
+/// between the rounded segments.
 #[derive(Clone, Copy, Debug)]
 pub(crate) struct ChangedPair {
     pub(crate) first: u32,
@@ -17,7 +18,8 @@ pub(crate) struct ChangedPair {
     pub(crate) now: Rel,
 }
 
-/// The pair of two pieces, if they have changed and are compared in this frame: in the target frame each two are, and in the source frame those whose rounded boxes share no point.
+/// The pair of two pieces, if they have changed and are compared in this frame: in the target frame each two are, and
+/// in the source frame those whose rounded boxes share no point.
 pub(crate) fn changed_pair(
     tin: &SoundTin,
     pieces: &[Piece],

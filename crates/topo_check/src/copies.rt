@@ -11,7 +11,8 @@ use meet_rel::{piece_rel, rel};
 use plane_base::Pt;
 use tin_base::{Piece, SoundTin};
 
-/// The first of the kinds near a place whose first piece the piece is a copy of, where copies of it do not change to each other, or else the number of all kinds.
+/// The first of the kinds near a place whose first piece the piece is a copy of, where copies of it do not change to
+/// each other, or else the number of all kinds.
 pub(crate) fn kind_among(
     tin: &SoundTin,
     pieces: &[Piece],

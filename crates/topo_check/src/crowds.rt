@@ -9,7 +9,8 @@ use tin_base::Piece;
 // So many pieces of one mark are a crowd.
 const CROWD: u8 = 32;
 
-/// Whether many pieces may be copies of others: where a mark is that of a crowd, or where more pairs of pieces have one mark than by chance. It decides only whether copies are looked for.
+/// Whether many pieces may be copies of others: where a mark is that of a crowd, or where more pairs of pieces have one
+/// mark than by chance. It decides only whether copies are looked for.
 pub(crate) fn may_have_copies(alloc: Global, pieces: &[Piece]) -> Result<bool, AllocError>
     requires { length pieces.now ≤ MOST_COMPARED }
 {
@@ -38,7 +39,8 @@ fn count_at(counts: &mut Vec<u8>, place: u32) -> u8 {
     }
 }
 
-// About how many pairs of `count` numbers are at one of `size` places where they are spread evenly, and an eighth of the numbers more.
+// About how many pairs of `count` numbers are at one of `size` places where they are spread evenly, and an eighth of
+// the numbers more.
 fn most_by_chance(count: u32, size: u32) -> u64 {
     let all = u64::from(count);
     let even = all * all / (2 * u64::from(size.max(1)));

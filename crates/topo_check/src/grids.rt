@@ -59,7 +59,8 @@ fn exact_boxes(tin: &SoundTin, pieces: &[Piece], boxes: &mut Vec<Rect>) -> Resul
     Ok(())
 }
 
-// A box of the exact piece of a number. Only for a piece of a segment of many pieces are its exact ends asked for: they take a division each.
+// A box of the exact piece of a number. Only for a piece of a segment of many pieces are its exact ends asked for: they
+// take a division each.
 fn box_at(tin: &SoundTin, pieces: &[Piece], number: usize) -> Rect
     requires inside { All (λ piece. IsPieceInside tin.now piece) pieces.now }
     requires number { number < length pieces.now }
@@ -73,7 +74,8 @@ fn box_at(tin: &SoundTin, pieces: &[Piece], number: usize) -> Rect
     }
 }
 
-// Whether the piece is of a segment of many pieces: others come before it, or behind it in the list. It says only which box is worth its time.
+// Whether the piece is of a segment of many pieces: others come before it, or behind it in the list. It says only which
+// box is worth its time.
 fn is_of_many(pieces: &[Piece], number: usize) -> bool
     requires { number < length pieces.now }
 {

@@ -10,7 +10,8 @@ use crate::marks::{mark, seed_of, tag_of};
 use std::alloc::{AllocError, Global};
 use tin_base::{Piece, SoundTin};
 
-/// Kinds of pieces: each piece is a copy of the first of its kind, and pieces of one kind do not change to each other. Copies of one piece can be of several kinds, which costs only time.
+/// Kinds of pieces: each piece is a copy of the first of its kind, and pieces of one kind do not change to each other.
+/// Copies of one piece can be of several kinds, which costs only time.
 #[derive(Debug, Drop)]
 pub(crate) struct Kinds {
     // the first piece of each kind
@@ -32,7 +33,8 @@ const WINDOW: usize = 8;
 // What stands for no kind.
 const NO_KIND: u32 = u32::MAX;
 
-/// The kinds of the pieces, by one pass over them. A kind is in a table at a place by the mark of its pieces, or a few places behind.
+/// The kinds of the pieces, by one pass over them. A kind is in a table at a place by the mark of its pieces, or a few
+/// places behind.
 pub(crate) fn kinds_of(alloc: Global, tin: &SoundTin, pieces: &[Piece]) -> Result<Kinds, AllocError>
     requires comparable { AreAllComparable tin.now pieces.now }
     requires count { length pieces.now ≤ MOST_COMPARED }

@@ -9,13 +9,15 @@ pub fn changes_are_one()
     ensures { ChangesAreOne }
 {}
 
-/// A law: where `changes` finds too many, the one list of all changes is longer than what may be listed. So it finds a list exactly where that list is not.
+/// A law: where `changes` finds too many, the one list of all changes is longer than what may be listed. So it finds a
+/// list exactly where that list is not.
 pub fn more_stay_more()
     ensures { MoreStayMore }
 {}
 
-/// A law: in a sound triangulation a list of changes is the same where the exact images of the pieces stand in the place of the pieces in the source frame.
-/// So each change is by the rounding of images alone, and none is by the triangulation.
+/// A law: in a sound triangulation a list of changes is the same where the exact images of the pieces stand in the
+/// place of the pieces in the source frame. So each change is by the rounding of images alone, and none is by the
+/// triangulation.
 pub fn changes_are_by_rounding()
     ensures { ChangesAreByRounding }
 {}

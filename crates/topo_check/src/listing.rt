@@ -12,8 +12,10 @@ use crate::leads::changed_pairs_by_kinds;
 use std::alloc::{AllocError, Global};
 use tin_base::{Change, Piece, SoundTin};
 
-/// The changes of each two pieces, the earlier first, in the order of the pairs: by the first piece, and then by the second.
-/// It stops at the first change over `most`, and takes memory for changes, for one grid at a time of a box of each piece, with a list of these boxes, and for the numbers of the pieces that are near one; where pieces are copies of others, also for the first piece of each kind.
+/// The changes of each two pieces, the earlier first, in the order of the pairs: by the first piece, and then by the
+/// second. It stops at the first change over `most`, and takes memory for changes, for one grid at a time of a box of
+/// each piece, with a list of these boxes, and for the numbers of the pieces that are near one; where pieces are copies
+/// of others, also for the first piece of each kind.
 pub fn changes(
     alloc: Global,
     tin: &SoundTin,

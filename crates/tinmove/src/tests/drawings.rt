@@ -181,8 +181,8 @@ fn line_with_data(alloc: Global, count: u32) -> Result<String, AllocError> {
     Ok(text)
 }
 
-/// The line becomes 512, each with all of the extended data: with 2^22 bytes of it these are more than the 2^31 bytes that a
-/// written drawing may have, and no memory is asked for.
+/// The line becomes 512, each with all of the extended data: with 2^22 bytes of it these are more than the 2^31 bytes
+/// that a written drawing may have, and no memory is asked for.
 #[test]
 fn a_drawing_that_would_be_too_long_is_not_written(rt: HostRuntime) -> Result<(), Fail> {
     let alloc = rt.alloc();

@@ -18,8 +18,15 @@ returns-in-Ok-clause-fits c =
     let count = ap (λ (ps : List Pt). length ps) points in
     let listed : length c.in-Ok.gathered.points.items ≡ vec_len c.in-Ok.gathered.points = omega arith in
     let below : length c.of-in-Ok-2.result.points < 2 ^ 32 = omega arith in
-    images_fit c.args.index.now c.args.sheet.now c.of-in-Ok-2.result (subst (λ (tin : Triangulation). IsWithinLimits tin) c.tin.ensures c.known.ensures.limits) c.sheet_known.ensures
-    (record { runs = carried.runs; of_vertices = carried.of_vertices; points = points ∙ carried.points_are; run = run ∙ carried.run_are }) below
+    images_fit c.args.index.now c.args.sheet.now c.of-in-Ok-2.result
+    (subst (λ (tin : Triangulation). IsWithinLimits tin) c.tin.ensures c.known.ensures.limits) c.sheet_known.ensures
+    (record {
+      runs = carried.runs;
+      of_vertices = carried.of_vertices;
+      points = points ∙ carried.points_are;
+      run = run
+          ∙ carried.run_are;
+    }) below
 
 pub returns-in-Ok-clause-segments : goal.returns-in-Ok-clause-segments
 returns-in-Ok-clause-segments c =
@@ -27,6 +34,14 @@ returns-in-Ok-clause-segments c =
     let points = c.of-in-Ok-2.ensures.points ∙ c.of.ensures in
     let run = c.of-in-Ok-2.ensures.run ∙ c.of-in-Ok.ensures in
     let count : vec_len c.args.pieces.now ≡ length c.args.pieces.now.items = omega arith in
-    own_segments c.args.index.now c.args.layer c.args.sheet.now c.of-in-Ok-2.result c.args.pieces.now.items c.carry_paths.new.pieces.items carried.own (vec_len c.args.pieces.now)
-    (subst (λ (tin : Triangulation). IsSound tin) c.tin.ensures c.known.ensures.sound) c.sheet_known.ensures carried.inside
-    (record { runs = carried.runs; of_vertices = carried.of_vertices; points = points ∙ carried.points_are; run = run ∙ carried.run_are }) carried.of_segments carried.pieces_are count
+    own_segments c.args.index.now c.args.layer c.args.sheet.now c.of-in-Ok-2.result c.args.pieces.now.items
+    c.carry_paths.new.pieces.items carried.own (vec_len c.args.pieces.now)
+    (subst (λ (tin : Triangulation). IsSound tin) c.tin.ensures c.known.ensures.sound) c.sheet_known.ensures
+    carried.inside
+    (record {
+      runs = carried.runs;
+      of_vertices = carried.of_vertices;
+      points = points ∙ carried.points_are;
+      run = run
+          ∙ carried.run_are;
+    }) carried.of_segments carried.pieces_are count

@@ -12,40 +12,58 @@ use Rattle.carry_map.proofs.carrying.carry_paths.Goals as goal
 pub overflow_cast-track : goal.overflow_cast-track
 overflow_cast-track c =
     let few = few_paths c.args.sheet.now c.points-points.ensures.sheet in
-    let rows : length c.paths-row-items.result.now ≡ length c.args.sheet.now.paths = ap (λ (rs : List PathRow). length rs) c.paths-row-items.ensures.paths in
+    let rows : length c.paths-row-items.result.now ≡ length c.args.sheet.now.paths =
+    ap (λ (rs : List PathRow). length rs) c.paths-row-items.ensures.paths in
     omega arith
 
 pub carry_path-requires-clause-path : goal.carry_path-requires-clause-path
 carry_path-requires-clause-path c =
     let h : c.loop-number.number < length c.paths-row-items.result.now = omega arith in
-    let row = row_of c.args.sheet.now c.points-points.result.now c.paths-row-items.result.now c.loop-number.number c.points-points.ensures.sheet c.points-points.ensures.points c.paths-row-items.ensures.paths h in row.path
+    let row = row_of c.args.sheet.now c.points-points.result.now c.paths-row-items.result.now c.loop-number.number
+    c.points-points.ensures.sheet c.points-points.ensures.points c.paths-row-items.ensures.paths h in row.path
 
 pub carry_path-requires-clause-in_range : goal.carry_path-requires-clause-in_range
 carry_path-requires-clause-in_range c =
     let h : c.loop-number.number < length c.paths-row-items.result.now = omega arith in
-    let row = row_of c.args.sheet.now c.points-points.result.now c.paths-row-items.result.now c.loop-number.number c.points-points.ensures.sheet c.points-points.ensures.points c.paths-row-items.ensures.paths h in row.upto
+    let row = row_of c.args.sheet.now c.points-points.result.now c.paths-row-items.result.now c.loop-number.number
+    c.points-points.ensures.sheet c.points-points.ensures.points c.paths-row-items.ensures.paths h in row.upto
 
 pub returns-in_err-carry_path-clause-cause : goal.returns-in_err-carry_path-clause-cause
 returns-in_err-carry_path-clause-cause c =
     let long : length c.loop-number.pieces.items ≡ vec_len c.loop-number.pieces = omega arith in
     let short : length c.args.pieces.now.items ≡ vec_len c.args.pieces.now = omega arith in
     let read : c.loop-number.number < length c.paths-row-items.result.now = omega arith in
-    let h : c.loop-number.number < length c.args.sheet.now.paths = subst (λ (rs : List PathRow). c.loop-number.number < length rs) c.paths-row-items.ensures.paths read in
+    let h : c.loop-number.number < length c.args.sheet.now.paths =
+    subst (λ (rs : List PathRow). c.loop-number.number < length rs) c.paths-row-items.ensures.paths read in
     let row = get_or c.paths-row-items.result.now c.loop-number.number no_row in
     let fault = c.in_err-carry_path.field-0.0 in
-    exits (λ fault. IsCause c.args.index.now c.args.layer (vec_len c.args.pieces.now) c.args.most (sheet_segments c.args.sheet.now) fault) fault c.from_residual-in_err-carry_path.result c.from_residual-in_err-carry_path.ensures.1
-    (subst (λ (n : ℕ). IsCause c.args.index.now c.args.layer n c.args.most (sheet_segments c.args.sheet.now) fault) short
-    (subst (λ (points : List Pt). IsCause c.args.index.now c.args.layer (length c.args.pieces.now.items) c.args.most (segments_begun (vertices_from points 0 c.args.sheet.now.paths)) fault) c.points-points.ensures.points
-    (sheet_cause c.args.index.now c.args.layer c.points-points.result.now c.args.sheet.now.paths c.args.most c.loop-number.gathered.points.items c.loop-number.gathered.run.items c.args.pieces.now.items c.loop-number.pieces.items c.loop-number.number
-    row fault h (row_read c.args.sheet.now.paths c.paths-row-items.result.now c.loop-number.number c.paths-row-items.ensures.paths read) c.loop-number.invariant
-    (subst (λ (n : ℕ). IsCause c.args.index.now c.args.layer n c.args.most (segments_begun (path_vertices c.points-points.result.now c.loop-number.number row)) fault) (sym long) c.in_err-carry_path.ensures.cause))))
+    exits (λ fault. IsCause c.args.index.now c.args.layer (vec_len c.args.pieces.now) c.args.most
+    (sheet_segments c.args.sheet.now) fault) fault c.from_residual-in_err-carry_path.result
+    c.from_residual-in_err-carry_path.ensures.1
+    (subst (λ (n : ℕ). IsCause c.args.index.now c.args.layer n c.args.most (sheet_segments c.args.sheet.now) fault)
+    short
+    (subst (λ (points : List Pt). IsCause c.args.index.now c.args.layer (length c.args.pieces.now.items) c.args.most
+    (segments_begun (vertices_from points 0 c.args.sheet.now.paths)) fault) c.points-points.ensures.points
+    (sheet_cause c.args.index.now c.args.layer c.points-points.result.now c.args.sheet.now.paths c.args.most
+    c.loop-number.gathered.points.items c.loop-number.gathered.run.items c.args.pieces.now.items
+    c.loop-number.pieces.items c.loop-number.number
+    row fault h (row_read c.args.sheet.now.paths c.paths-row-items.result.now c.loop-number.number
+    c.paths-row-items.ensures.paths read) c.loop-number.invariant
+    (subst (λ (n : ℕ). IsCause c.args.index.now c.args.layer n c.args.most
+    (segments_begun (path_vertices c.points-points.result.now c.loop-number.number row)) fault) (sym long)
+    c.in_err-carry_path.ensures.cause))))
 
 pub loop-number-preserved : goal.loop-number-preserved
 loop-number-preserved c =
     let read : c.loop-number.number < length c.paths-row-items.result.now = omega arith in
-    let h : c.loop-number.number < length c.args.sheet.now.paths = subst (λ (rs : List PathRow). c.loop-number.number < length rs) c.paths-row-items.ensures.paths read in
+    let h : c.loop-number.number < length c.args.sheet.now.paths =
+    subst (λ (rs : List PathRow). c.loop-number.number < length rs) c.paths-row-items.ensures.paths read in
     let room = c.in_ok-carry_path.ensures.room in
     let few = c.in_ok-carry_path.ensures.few in
-    sheet_next c.args.index.now c.args.layer c.points-points.result.now c.args.sheet.now.paths c.args.most c.loop-number.gathered.points.items c.carry_path.new.gathered.points.items c.loop-number.gathered.run.items c.carry_path.new.gathered.run.items
-    c.args.pieces.now.items c.loop-number.pieces.items c.carry_path.new.pieces.items c.loop-number.number (get_or c.paths-row-items.result.now c.loop-number.number no_row) h
-    (row_read c.args.sheet.now.paths c.paths-row-items.result.now c.loop-number.number c.paths-row-items.ensures.paths read) c.loop-number.invariant c.in_ok-carry_path.ensures.carried (omega arith) (omega arith)
+    sheet_next c.args.index.now c.args.layer c.points-points.result.now c.args.sheet.now.paths c.args.most
+    c.loop-number.gathered.points.items c.carry_path.new.gathered.points.items c.loop-number.gathered.run.items
+    c.carry_path.new.gathered.run.items
+    c.args.pieces.now.items c.loop-number.pieces.items c.carry_path.new.pieces.items c.loop-number.number
+    (get_or c.paths-row-items.result.now c.loop-number.number no_row) h
+    (row_read c.args.sheet.now.paths c.paths-row-items.result.now c.loop-number.number c.paths-row-items.ensures.paths
+    read) c.loop-number.invariant c.in_ok-carry_path.ensures.carried (omega arith) (omega arith)

@@ -7,5 +7,6 @@ use Rattle.carry_map.proofs.layers.path_count.Goals as goal
 pub overflow_cast-result : goal.overflow_cast-result
 overflow_cast-result c =
     let few = few_paths c.args.sheet.now c.paths.ensures.sheet in
-    let rows : length c.paths.result.now ≡ length c.args.sheet.now.paths = ap (λ (rs : List PathRow). length rs) c.paths.ensures.paths in
+    let rows : length c.paths.result.now ≡ length c.args.sheet.now.paths =
+    ap (λ (rs : List PathRow). length rs) c.paths.ensures.paths in
     omega arith

@@ -5,4 +5,5 @@ use Rattle.affine_image.specs.Rounded.{IsRoundedImage}
 use Rattle.carry_map.proofs.paths.find.Goals as goal
 
 pub returns-clause-some : goal.returns-clause-some
-returns-clause-some c = subst (λ (tin : Triangulation). IsRoundedImage tin c.args.p c.image_of.result) c.tin.ensures c.image_of.ensures
+returns-clause-some c = subst (λ (tin : Triangulation). IsRoundedImage tin c.args.p c.image_of.result) c.tin.ensures
+    c.image_of.ensures

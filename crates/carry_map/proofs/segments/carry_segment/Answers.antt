@@ -9,5 +9,10 @@ pub returns-clause-carried : goal.returns-clause-carried
 returns-clause-carried c =
     let told = c.in_ok-end.ensures.told in
     let count : c.len-before.result ≡ length c.args.pieces.now.items = omega arith in
-    let own = behind_front c.args.pieces.now.items told.own c.deref.result.now c.len-before.result (c.deref.ensures.value ∙ told.are) count in
-    record { told = told; crossings = c.in_ok-push_ends.ensures.ok ∙ ap (λ (xs : List Piece). c.args.points.now.items ++ inner_images xs) own }
+    let own = behind_front c.args.pieces.now.items told.own c.deref.result.now c.len-before.result
+    (c.deref.ensures.value ∙ told.are) count in
+    record {
+      told = told;
+      crossings = c.in_ok-push_ends.ensures.ok
+          ∙ ap (λ (xs : List Piece). c.args.points.now.items ++ inner_images xs) own;
+    }

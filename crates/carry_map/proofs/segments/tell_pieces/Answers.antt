@@ -5,26 +5,38 @@ use Rattle.carry_map.proofs.Telling.{told_none, told_next, told_all, step_told}
 use Rattle.carry_map.proofs.segments.tell_pieces.Goals as goal
 
 pub loop-number-init : goal.loop-number-init
-loop-number-init c = told_none c.args.tin.now c.args.way.a c.args.way.b c.args.way.from c.args.steps.now c.args.image c.args.pieces.now.items c.requires.sound c.requires.inside c.requires.steps c.requires.image
+loop-number-init c = told_none c.args.tin.now c.args.way.a c.args.way.b c.args.way.from c.args.steps.now c.args.image
+    c.args.pieces.now.items c.requires.sound c.requires.inside c.requires.steps c.requires.image
 
 pub end_of-end-requires-clause-in_range : goal.end_of-end-requires-clause-in_range
 end_of-end-requires-clause-in_range c =
-    let known = step_told c.args.tin.now c.args.way.a c.args.way.b c.args.steps.now c.loop-number.number c.index-steps-number.result c.requires.limits c.requires.steps (omega arith) c.index-steps-number.is in known.in_range
+    let known = step_told c.args.tin.now c.args.way.a c.args.way.b c.args.steps.now c.loop-number.number
+    c.index-steps-number.result c.requires.limits c.requires.steps (omega arith)
+    c.index-steps-number.is in known.in_range
 
 pub end_of-end-requires-clause-slice : goal.end_of-end-requires-clause-slice
 end_of-end-requires-clause-slice c =
-    let known = step_told c.args.tin.now c.args.way.a c.args.way.b c.args.steps.now c.loop-number.number c.index-steps-number.result c.requires.limits c.requires.steps (omega arith) c.index-steps-number.is in known.slice
+    let known = step_told c.args.tin.now c.args.way.a c.args.way.b c.args.steps.now c.loop-number.number
+    c.index-steps-number.result c.requires.limits c.requires.steps (omega arith)
+    c.index-steps-number.is in known.slice
 
 pub end_of-end-requires-clause-near : goal.end_of-end-requires-clause-near
 end_of-end-requires-clause-near c =
-    let known = step_told c.args.tin.now c.args.way.a c.args.way.b c.args.steps.now c.loop-number.number c.index-steps-number.result c.requires.limits c.requires.steps (omega arith) c.index-steps-number.is in
-    ends_near c.args.tin.now c.args.way.a c.args.way.b c.index-steps-number.result.tri c.requires.limits known.in_range c.requires.inside
+    let known = step_told c.args.tin.now c.args.way.a c.args.way.b c.args.steps.now c.loop-number.number
+    c.index-steps-number.result c.requires.limits c.requires.steps (omega arith) c.index-steps-number.is in
+    ends_near c.args.tin.now c.args.way.a c.args.way.b c.index-steps-number.result.tri c.requires.limits known.in_range
+    c.requires.inside
 
 pub loop-number-preserved : goal.loop-number-preserved
 loop-number-preserved c =
-    told_next c.args.tin.now c.args.way.a c.args.way.b c.args.way.from c.args.steps.now c.loop-number.number c.index-steps-number.result c.loop-number.start c.end_of-end.result c.args.pieces.now.items c.loop-number.pieces.items c.push.new.self.items
-    c.requires.limits c.requires.sound c.requires.inside c.requires.steps c.requires.first (omega arith) c.index-steps-number.is c.end_of-end.ensures c.loop-number.invariant c.in_ok-push.ensures.items
+    told_next c.args.tin.now c.args.way.a c.args.way.b c.args.way.from c.args.steps.now c.loop-number.number
+    c.index-steps-number.result c.loop-number.start c.end_of-end.result c.args.pieces.now.items
+    c.loop-number.pieces.items c.push.new.self.items
+    c.requires.limits c.requires.sound c.requires.inside c.requires.steps c.requires.first (omega arith)
+    c.index-steps-number.is c.end_of-end.ensures c.loop-number.invariant c.in_ok-push.ensures.items
 
 pub returns-clause-told : goal.returns-clause-told
 returns-clause-told c =
-    told_all c.args.tin.now c.args.way.a c.args.way.b c.args.way.from c.args.steps.now c.loop-number.number c.loop-number.start c.args.pieces.now.items c.loop-number.pieces.items c.requires.steps (omega arith) c.loop-number.invariant
+    told_all c.args.tin.now c.args.way.a c.args.way.b c.args.way.from c.args.steps.now c.loop-number.number
+    c.loop-number.start c.args.pieces.now.items c.loop-number.pieces.items c.requires.steps (omega arith)
+    c.loop-number.invariant

@@ -5,4 +5,5 @@ use Rattle.change_places.proofs.features.put_geometry.Goals as goal
 
 pub returns : goal.returns
 unfolding geometry_text
-returns c = five _ _ _ _ _ _ _ _ _ _ _ c.in_ok-put.ensures c.in_ok-put_segment.ensures c.in_ok-put-2.ensures c.in_ok-put_segment-2.ensures c.in_ok-put-3.ensures
+returns c = five _ _ _ _ _ _ _ _ _ _ _ c.in_ok-put.ensures c.in_ok-put_segment.ensures c.in_ok-put-2.ensures
+    c.in_ok-put_segment-2.ensures c.in_ok-put-3.ensures

@@ -5,4 +5,5 @@ use Rattle.change_places.proofs.features.put_line.Goals as goal
 
 pub returns : goal.returns
 unfolding line_text
-returns c = five _ _ _ _ _ _ _ _ _ _ _ c.in_ok-put.ensures c.in_ok-put_position.ensures c.in_ok-put-2.ensures c.in_ok-put_position-2.ensures c.in_ok-put-3.ensures
+returns c = five _ _ _ _ _ _ _ _ _ _ _ c.in_ok-put.ensures c.in_ok-put_position.ensures c.in_ok-put-2.ensures
+    c.in_ok-put_position-2.ensures c.in_ok-put-3.ensures

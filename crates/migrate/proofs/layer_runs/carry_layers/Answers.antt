@@ -2,7 +2,8 @@
 use Rattle.std.proofs.Common.{◌≤◌, ◌+◌, ◌-◌, length, ◌∙◌}
 use Rattle.runs.specs.declared.loads.TheConstants.{MOST_BYTES}
 use Rattle.runs.proofs.PassedRefusals.{handed_on}
-use Rattle.migrate.proofs.MigrationSteps.{unloaded_at, lacks_at, uncarried_at, carried_at, given_more, used_more, filled}
+use Rattle.migrate.proofs.MigrationSteps.{unloaded_at, lacks_at, uncarried_at, carried_at, given_more, used_more}
+use Rattle.migrate.proofs.MigrationSteps.{filled}
 use Rattle.migrate.proofs.layer_runs.carry_layers.Goals as goal
 use Rattle.migrate.specs.LayerRuns.{setting_of}
 
@@ -11,41 +12,63 @@ returns-in_err-bytes-clause-refused g c =
     let shelf = g.S.Shelf in
     let here = c.loop-number.invariant in
     handed_on _ c.in_err-bytes.field-0.0 c.from_residual.result c.from_residual.ensures.1
-    (unloaded_at (setting_of (shelf.files c.args.shelf.now) c.args.migration.now.how c.args.index.now) c.args.migration.now.layers c.loop-number.number c.name-item.result c.args.migration.now.out c.loop-number.run _ _ _ c.in_err-bytes.field-0.0
-    (rw c.items-name-items.ensures at c.loop-number-test.true) (rw c.items-name-items.ensures at c.name-item.is) here.carried here.used (λ rose. rose) (rw (here.files, here.faults, c.text.ensures) at c.in_err-bytes.ensures.refused))
+    (unloaded_at (setting_of (shelf.files c.args.shelf.now) c.args.migration.now.how c.args.index.now)
+    c.args.migration.now.layers c.loop-number.number c.name-item.result c.args.migration.now.out c.loop-number.run _
+    _ _ c.in_err-bytes.field-0.0
+    (rw c.items-name-items.ensures at c.loop-number-test.true) (rw c.items-name-items.ensures at c.name-item.is)
+    here.carried here.used (λ rose. rose) (rw (here.files, here.faults, c.text.ensures) at
+    c.in_err-bytes.ensures.refused))
 
 pub returns-in_err-bytes-clause-read : goal.returns-in_err-bytes-clause-read
 returns-in_err-bytes-clause-read g c =
     let shelf = g.S.Shelf in
     let here = c.loop-number.invariant in
     handed_on _ c.in_err-bytes.field-0.0 c.from_residual.result c.from_residual.ensures.1
-    (lacks_at (setting_of (shelf.files c.args.shelf.now) c.args.migration.now.how c.args.index.now) c.args.migration.now.layers c.loop-number.number c.name-item.result (MOST_BYTES - c.loop-number.run.used) _ _ _ c.in_err-bytes.field-0.0
-    (rw c.items-name-items.ensures at c.loop-number-test.true) (rw c.items-name-items.ensures at c.name-item.is) (λ rose. rose) (rw (here.files, here.faults, c.text.ensures) at c.in_err-bytes.ensures.refused))
+    (lacks_at (setting_of (shelf.files c.args.shelf.now) c.args.migration.now.how c.args.index.now)
+    c.args.migration.now.layers c.loop-number.number c.name-item.result (MOST_BYTES - c.loop-number.run.used) _ _ _
+    c.in_err-bytes.field-0.0
+    (rw c.items-name-items.ensures at c.loop-number-test.true) (rw c.items-name-items.ensures at c.name-item.is)
+    (λ rose. rose) (rw (here.files, here.faults, c.text.ensures) at c.in_err-bytes.ensures.refused))
 
 pub returns-in_err-carry_next-clause-refused : goal.returns-in_err-carry_next-clause-refused
 returns-in_err-carry_next-clause-refused g c =
     let shelf = g.S.Shelf in
     let here = c.loop-number.invariant in
-    handed_on _ c.in_err-carry_next.field-0.0 c.from_residual-in_err-carry_next.result c.from_residual-in_err-carry_next.ensures.1
-    (uncarried_at (setting_of (shelf.files c.args.shelf.now) c.args.migration.now.how c.args.index.now) c.args.migration.now.layers c.loop-number.number c.name-item.result c.args.migration.now.out c.in_ok-bytes.bytes.items c.loop-number.run _
-    c.in_err-carry_next.field-0.0 (rw c.items-name-items.ensures at c.loop-number-test.true) (rw c.items-name-items.ensures at c.name-item.is) here.carried (rw (here.files, c.text.ensures) at c.in_ok-bytes.ensures.ok)
-    (filled c.loop-number.run.used c.in_ok-bytes.bytes.len (length c.in_ok-bytes.bytes.items) c.in_ok-bytes.bytes.ok.0 here.used c.in_ok-bytes.ensures.within) (rw c.deref.ensures.value at c.in_err-carry_next.ensures.refused))
+    handed_on _ c.in_err-carry_next.field-0.0 c.from_residual-in_err-carry_next.result
+    c.from_residual-in_err-carry_next.ensures.1
+    (uncarried_at (setting_of (shelf.files c.args.shelf.now) c.args.migration.now.how c.args.index.now)
+    c.args.migration.now.layers c.loop-number.number c.name-item.result c.args.migration.now.out
+    c.in_ok-bytes.bytes.items c.loop-number.run _
+    c.in_err-carry_next.field-0.0 (rw c.items-name-items.ensures at c.loop-number-test.true)
+    (rw c.items-name-items.ensures at c.name-item.is) here.carried
+    (rw (here.files, c.text.ensures) at c.in_ok-bytes.ensures.ok)
+    (filled c.loop-number.run.used c.in_ok-bytes.bytes.len (length c.in_ok-bytes.bytes.items) c.in_ok-bytes.bytes.ok.0
+    here.used c.in_ok-bytes.ensures.within) (rw c.deref.ensures.value at c.in_err-carry_next.ensures.refused))
 
 pub loop-number-preserved : goal.loop-number-preserved
 loop-number-preserved g c =
     let shelf = g.S.Shelf in
     let here = c.loop-number.invariant in
     let adds = rw c.deref.ensures.value at c.in_ok-carry_next.ensures.ok in
-    let few : c.loop-number.run.used + length c.in_ok-bytes.bytes.items ≤ MOST_BYTES = filled c.loop-number.run.used c.in_ok-bytes.bytes.len (length c.in_ok-bytes.bytes.items) c.in_ok-bytes.bytes.ok.0 here.used c.in_ok-bytes.ensures.within in
+    let few : c.loop-number.run.used + length c.in_ok-bytes.bytes.items ≤ MOST_BYTES =
+    filled c.loop-number.run.used c.in_ok-bytes.bytes.len (length c.in_ok-bytes.bytes.items)
+    c.in_ok-bytes.bytes.ok.0 here.used c.in_ok-bytes.ensures.within in
     record {
       files = c.in_ok-bytes.ensures.files ∙ here.files;
       faults = c.in_ok-bytes.ensures.faults.same ∙ here.faults;
       given =
-          given_more (shelf.given c.args.shelf.now) c.loop-number.run.used (shelf.given c.loop-number.shelf) c.in_ok-bytes.bytes.len (length c.in_ok-bytes.bytes.items) (shelf.given c.load_file.new.shelf) c.carry_next.new.run.used here.given
+          given_more (shelf.given c.args.shelf.now) c.loop-number.run.used (shelf.given c.loop-number.shelf)
+          c.in_ok-bytes.bytes.len (length c.in_ok-bytes.bytes.items) (shelf.given c.load_file.new.shelf)
+          c.carry_next.new.run.used here.given
           c.in_ok-bytes.ensures.given c.in_ok-bytes.bytes.ok.0 adds.used;
-      used = used_more c.loop-number.run.used (length c.in_ok-bytes.bytes.items) c.carry_next.new.run.used few adds.used;
+      used = used_more c.loop-number.run.used (length c.in_ok-bytes.bytes.items) c.carry_next.new.run.used few
+          adds.used;
       room = c.in_ok-carry_next.ensures.room;
       carried =
-          carried_at (setting_of (shelf.files c.args.shelf.now) c.args.migration.now.how c.args.index.now) c.args.migration.now.layers c.loop-number.number c.name-item.result c.args.migration.now.out c.in_ok-bytes.bytes.items c.loop-number.run
-          c.carry_next.new.run (rw c.items-name-items.ensures at c.loop-number-test.true) (rw c.items-name-items.ensures at c.name-item.is) here.carried (rw (here.files, c.text.ensures) at c.in_ok-bytes.ensures.ok) few adds;
+          carried_at (setting_of (shelf.files c.args.shelf.now) c.args.migration.now.how c.args.index.now)
+          c.args.migration.now.layers c.loop-number.number c.name-item.result c.args.migration.now.out
+          c.in_ok-bytes.bytes.items c.loop-number.run
+          c.carry_next.new.run (rw c.items-name-items.ensures at c.loop-number-test.true)
+          (rw c.items-name-items.ensures at c.name-item.is) here.carried
+          (rw (here.files, c.text.ensures) at c.in_ok-bytes.ensures.ok) few adds;
     }

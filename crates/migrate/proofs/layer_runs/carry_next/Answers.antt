@@ -10,21 +10,31 @@ use Rattle.runs.specs.Output.{file_of}
 use Rattle.migrate.proofs.layer_runs.carry_next.Goals as goal
 
 -- one more file
-one_more_file : (before now : List LayerFile) (file : LayerFile) (folder : List ℕ) (done : Done) → now ≡ before ++ file ∷ [] → file_of file ≡ file_in folder done → map file_of now ≡ map file_of before ++ file_in folder done ∷ []
+one_more_file : (before now : List LayerFile) (file : LayerFile) (folder : List ℕ) (done : Done)
+    → now ≡ before ++ file ∷ [] → file_of file ≡ file_in folder done
+    → map file_of now ≡ map file_of before ++ file_in folder done ∷ []
 one_more_file before now file folder done is same =
-    ap (λ (files : List LayerFile). map file_of files) is ∙ (map-append file_of before (file ∷ []) ∙ ap (λ f. map file_of before ++ f ∷ []) same)
+    ap (λ (files : List LayerFile). map file_of files) is
+    ∙ (map-append file_of before (file ∷ []) ∙ ap (λ f. map file_of before ++ f ∷ []) same)
 
 pub returns-clause-ok : goal.returns-clause-ok
 returns-clause-ok c =
     let added = c.in_ok-add_layer.ensures in
-    let done : Done = record { name = c.args.name.now; format = c.known_format-format.result; carried = c.in_ok-carried.carried } in
+    let done : Done = record {
+      name = c.args.name.now;
+      format = c.known_format-format.result;
+      carried =
+          c.in_ok-carried.carried;
+    } in
     record {
       done = done;
       named = refl;
-      suffix = subst (λ (name : List ℕ). format_of name ≡ Some c.known_format-format.result) c.text.ensures c.known_format-format.ensures;
+      suffix = subst (λ (name : List ℕ). format_of name ≡ Some c.known_format-format.result) c.text.ensures
+          c.known_format-format.ensures;
       carried =
           rw added.pieces c.in_ok-carried.ensures.ok;
-      files = one_more_file c.args.run.now.files.items c.add_layer.new.run.files.items c.in_ok-file.file c.args.folder.now done added.files c.in_ok-file.ensures;
+      files = one_more_file c.args.run.now.files.items c.add_layer.new.run.files.items c.in_ok-file.file
+          c.args.folder.now done added.files c.in_ok-file.ensures;
       rows = added.rows ∙ ap (λ (row : LayerRow). c.args.run.now.rows.items ++ row ∷ []) c.in_ok-row.ensures;
       used = ap (λ u. u + length c.args.bytes.now) added.used;
     }

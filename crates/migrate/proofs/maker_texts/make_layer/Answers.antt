@@ -8,4 +8,8 @@ pub loop-k-preserved : goal.loop-k-preserved
 loop-k-preserved c =
     let here = c.loop-k.invariant in
     let put = c.in_ok-put_line.ensures in
-    record { text = one_more_text (λ k. layer_line c.args.n k) [] _ _ _ here.text put.text; short = omega (arith, here.short, put.short) }
+    record {
+      text = one_more_text (λ k. layer_line c.args.n k) [] _ _ _ here.text put.text;
+      short =
+          omega (arith, here.short, put.short);
+    }

@@ -8,4 +8,7 @@ pub loop-i-preserved : goal.loop-i-preserved
 loop-i-preserved c =
     let here = c.loop-i.invariant in
     let put = c.in_ok-put_cell.ensures in
-    record { text = one_more_list (λ i. cell_rows c.args.n i c.args.j) c.args.out.now.items _ _ _ here.text put.text; short = omega (arith, here.short, put.short) }
+    record {
+      text = one_more_list (λ i. cell_rows c.args.n i c.args.j) c.args.out.now.items _ _ _ here.text put.text;
+      short = omega (arith, here.short, put.short);
+    }

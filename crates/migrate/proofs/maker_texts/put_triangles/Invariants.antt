@@ -7,6 +7,7 @@ use Rattle.migrate.proofs.maker_texts.put_triangles.Given as goal
 
 abbrev pub invariant-loop-j : goal.invariant-loop-j
 invariant-loop-j l = record {
-  text : l.out.items ≡ l.initial.out.items ++ ended_rows (flat_map (λ j. flat_map (λ i. cell_rows l.n i j) (below l.n)) (below l.j));
+  text : l.out.items ≡ l.initial.out.items ++ ended_rows
+      (flat_map (λ j. flat_map (λ i. cell_rows l.n i j) (below l.n)) (below l.j));
   short : vec_len l.out ≤ vec_len l.initial.out + TRIANGLE_MOST * 1024 * l.j;
 }

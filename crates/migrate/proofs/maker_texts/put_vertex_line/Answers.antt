@@ -8,4 +8,8 @@ pub loop-i-preserved : goal.loop-i-preserved
 loop-i-preserved c =
     let here = c.loop-i.invariant in
     let put = c.in_ok-put_vertex.ensures in
-    record { text = one_more_row (λ i. vertex_row i c.args.j) c.args.out.now.items _ _ _ here.text put.text; short = omega (arith, here.short, put.short) }
+    record {
+      text = one_more_row (λ i. vertex_row i c.args.j) c.args.out.now.items _ _ _ here.text put.text;
+      short =
+          omega (arith, here.short, put.short);
+    }

@@ -8,4 +8,8 @@ pub loop-j-preserved : goal.loop-j-preserved
 loop-j-preserved c =
     let here = c.loop-j.invariant in
     let put = c.in_ok-put_vertex_line.ensures in
-    record { text = one_more_list (λ j. map (λ i. vertex_row i j) (below (c.args.n + 1))) c.args.out.now.items _ _ _ here.text put.text; short = omega (arith, here.short, put.short) }
+    record {
+      text = one_more_list (λ j. map (λ i. vertex_row i j) (below (c.args.n + 1))) c.args.out.now.items _ _ _
+          here.text put.text;
+      short = omega (arith, here.short, put.short);
+    }

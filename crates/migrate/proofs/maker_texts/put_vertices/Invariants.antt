@@ -7,6 +7,7 @@ use Rattle.migrate.proofs.maker_texts.put_vertices.Given as goal
 
 abbrev pub invariant-loop-j : goal.invariant-loop-j
 invariant-loop-j l = record {
-  text : l.out.items ≡ l.initial.out.items ++ ended_rows (flat_map (λ j. map (λ i. vertex_row i j) (below (l.n + 1))) (below l.j));
+  text : l.out.items ≡ l.initial.out.items ++ ended_rows
+      (flat_map (λ j. map (λ i. vertex_row i j) (below (l.n + 1))) (below l.j));
   short : vec_len l.out ≤ vec_len l.initial.out + VERTEX_MOST * 513 * l.j;
 }

@@ -6,4 +6,5 @@ use Rattle.remarks.specs.FileLines.{further_kind}
 use Rattle.remarks.proofs.file_lines.put_further.Given as goal
 
 abbrev pub invariant-loop-kind : goal.invariant-loop-kind
-invariant-loop-kind l = string_bytes l.text ≡ string_bytes l.initial.text ++ flat_map further_kind (take l.kind-index l.kinds)
+invariant-loop-kind l = string_bytes l.text ≡ string_bytes l.initial.text
+    ++ flat_map further_kind (take l.kind-index l.kinds)

@@ -7,7 +7,9 @@ turn-requires c =
     record {
       near = (
         near_both c.args.tin.now c.args.a c.args.b c.requires.limits c.requires.has_a c.requires.near_b,
-        near_place c.args.tin.now c.args.corner c.args.a c.place.result c.requires.corner c.place.ensures.place (near_each c.args.tin.now c.args.a c.requires.limits c.requires.has_a),
-        near_place c.args.tin.now c.args.corner c.args.b c.place.result c.requires.corner c.place.ensures.place c.requires.near_b,
+        near_place c.args.tin.now c.args.corner c.args.a c.place.result c.requires.corner c.place.ensures.place
+            (near_each c.args.tin.now c.args.a c.requires.limits c.requires.has_a),
+        near_place c.args.tin.now c.args.corner c.args.b c.place.result c.requires.corner c.place.ensures.place
+            c.requires.near_b,
       );
     }

@@ -8,4 +8,6 @@ use Rattle.tin_tests.proofs.copy_tests.line_and_copies.Goals as goal
 pub loop-number-preserved : goal.loop-number-preserved
 loop-number-preserved c =
     let tin = c.args.tin.now in
-    subst (λ (ps : List Piece). All (λ p. IsTried tin p) ps) (sym c.in_ok-push-2.ensures.items) (All-push (λ p. IsTried tin p) c.loop-number.pieces.items c.in_ok-dot.field-0 c.loop-number.invariant c.in_ok-dot.ensures)
+    subst (λ (ps : List Piece). All (λ p. IsTried tin p) ps) (sym c.in_ok-push-2.ensures.items)
+    (All-push (λ p. IsTried tin p) c.loop-number.pieces.items c.in_ok-dot.field-0 c.loop-number.invariant
+    c.in_ok-dot.ensures)

@@ -7,4 +7,5 @@ use Rattle.tin_tests.proofs.copy_tests.of_copies.Goals as goal
 
 pub changes-requires-clause-comparable : goal.changes-requires-clause-comparable
 changes-requires-clause-comparable c =
-    subst (λ (ps : List Piece). AreAllComparable c.in_ok-tin.tin ps) (sym c.deref.ensures.value) (all_comparable c.in_ok-tin.tin c.in_ok-pieces.pieces.items c.in_ok-pieces.ensures)
+    subst (λ (ps : List Piece). AreAllComparable c.in_ok-tin.tin ps) (sym c.deref.ensures.value)
+    (all_comparable c.in_ok-tin.tin c.in_ok-pieces.pieces.items c.in_ok-pieces.ensures)

@@ -15,4 +15,11 @@ returns c t =
     let right = simp to_z-of_z at c.if-rect-gt100000000.false in
     let bottom = simp to_z-of_z at c.if-rect-ltminus100000000-2.false in
     let top = simp to_z-of_z at c.if-rect-gt100000000-2.false in
-    record { ordered = c.if-not-is_ordered.ensures refl; left = omega (arith, ints, left); right = omega (arith, ints, right); bottom = omega (arith, ints, bottom); top = omega (arith, ints, top) }
+    record {
+      ordered = c.if-not-is_ordered.ensures refl;
+      left = omega (arith, ints, left);
+      right =
+          omega (arith, ints, right);
+      bottom = omega (arith, ints, bottom);
+      top = omega (arith, ints, top);
+    }

@@ -5,4 +5,5 @@ use Rattle.tin_base.proofs.Telling.{told}
 use Rattle.tin_tests.proofs.image_tests.image.Goals as goal
 
 pub image_of-requires-clause-inside : goal.image_of-requires-clause-inside
-image_of-requires-clause-inside c = subst (λ (cs : List Point). IsMix (whole c.args.p) cs) c.tri-source.ensures.corners (told c.if-not-holds.ensures)
+image_of-requires-clause-inside c = subst (λ (cs : List Point). IsMix (whole c.args.p) cs) c.tri-source.ensures.corners
+    (told c.if-not-holds.ensures)

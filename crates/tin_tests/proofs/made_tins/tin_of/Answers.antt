@@ -8,5 +8,7 @@ use Rattle.tin_tests.proofs.made_tins.tin_of.Goals as goal
 
 pub of-requires : goal.of-requires
 of-requires c =
-    subst (λ (rows : List (List ℕ)). IsWithinLimits (triangulation c.args.corners.items rows c.args.inexact)) c.deref-2.ensures.value
-    (subst (λ (cs : List Corner). IsWithinLimits (triangulation cs c.deref-2.result.now c.args.inexact)) c.deref.ensures.value (told (c.if-are_within_limits.ensures c.args.inexact)))
+    subst (λ (rows : List (List ℕ)). IsWithinLimits (triangulation c.args.corners.items rows c.args.inexact))
+    c.deref-2.ensures.value
+    (subst (λ (cs : List Corner). IsWithinLimits (triangulation cs c.deref-2.result.now c.args.inexact))
+    c.deref.ensures.value (told (c.if-are_within_limits.ensures c.args.inexact)))

@@ -10,15 +10,18 @@ use Rattle.tin_tests.proofs.LimitsTold.{at_end}
 use Rattle.tin_tests.proofs.within.are_all_fine.Goals as goal
 
 pub returns-then-not-is_corner_in_reach : goal.returns-then-not-is_corner_in_reach
-returns-then-not-is_corner_in_reach c = no (λ all. denied c.if-not-is_corner_in_reach.ensures (all c.loop-n.n c.loop-n-test.true).0)
+returns-then-not-is_corner_in_reach c = no
+    (λ all. denied c.if-not-is_corner_in_reach.ensures (all c.loop-n.n c.loop-n-test.true).0)
 
 pub returns-then-not-is_beside_earlier : goal.returns-then-not-is_beside_earlier
-returns-then-not-is_beside_earlier c = no (λ all. denied c.if-not-is_beside_earlier.ensures (all c.loop-n.n c.loop-n-test.true).1)
+returns-then-not-is_beside_earlier c = no (λ all. denied c.if-not-is_beside_earlier.ensures
+    (all c.loop-n.n c.loop-n-test.true).1)
 
 pub loop-n-preserved : goal.loop-n-preserved
 loop-n-preserved c =
     let corners = c.args.corners.now in
-    below_more (λ (k : ℕ). ((frame : Frame) → IsCornerInReach frame (get_or corners k no_corner)) × IsBesideFirst corners k k) c.loop-n.n c.loop-n.invariant
+    below_more (λ (k : ℕ). ((frame : Frame) → IsCornerInReach frame (get_or corners k no_corner))
+    × IsBesideFirst corners k k) c.loop-n.n c.loop-n.invariant
     (told c.if-not-is_corner_in_reach.ensures, told c.if-not-is_beside_earlier.ensures)
 
 pub returns : goal.returns

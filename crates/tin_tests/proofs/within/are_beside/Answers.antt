@@ -8,4 +8,5 @@ pub returns-then-not-are_near : goal.returns-then-not-are_near
 returns-then-not-are_near c = no (λ h. denied c.if-not-are_near.ensures (h.1 Source))
 
 pub returns : goal.returns
-returns c = beside_told c.args.c.now c.args.d.now c.are_near-2.result (denied c.if-is_same.ensures) (told c.if-not-are_near.ensures) c.are_near-2.ensures
+returns c = beside_told c.args.c.now c.args.d.now c.are_near-2.result (denied c.if-is_same.ensures)
+    (told c.if-not-are_near.ensures) c.are_near-2.ensures

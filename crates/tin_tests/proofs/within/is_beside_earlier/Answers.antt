@@ -7,4 +7,5 @@ use Rattle.tin_tests.specs.Within.{AreBeside}
 use Rattle.tin_tests.proofs.within.is_beside_earlier.Goals as goal
 
 pub loop-m-preserved : goal.loop-m-preserved
-loop-m-preserved c = below_more (λ (k : ℕ). AreBeside (get_or c.args.corners.now k no_corner) (get_or c.args.corners.now c.args.n no_corner)) c.loop-m.m c.loop-m.invariant (told c.if-not-are_beside.ensures)
+loop-m-preserved c = below_more (λ (k : ℕ). AreBeside (get_or c.args.corners.now k no_corner)
+    (get_or c.args.corners.now c.args.n no_corner)) c.loop-m.m c.loop-m.invariant (told c.if-not-are_beside.ensures)

@@ -9,4 +9,5 @@ pub returns-then-not-is_place_in_reach : goal.returns-then-not-is_place_in_reach
 returns-then-not-is_place_in_reach c = no (λ h. denied c.if-not-is_place_in_reach.ensures (h Source))
 
 pub returns : goal.returns
-returns c = both_told (λ frame. IsCornerInReach frame c.args.corner.now) c.is_place_in_reach-2.result (told c.if-not-is_place_in_reach.ensures) c.is_place_in_reach-2.ensures
+returns c = both_told (λ frame. IsCornerInReach frame c.args.corner.now) c.is_place_in_reach-2.result
+    (told c.if-not-is_place_in_reach.ensures) c.is_place_in_reach-2.ensures

@@ -15,4 +15,5 @@ pub returns : goal.returns
 returns c =
     let px : FitsSigned w64 c.args.p.x = search rules in let qx : FitsSigned w64 c.args.q.x = search rules in
     let py : FitsSigned w64 c.args.p.y = search rules in let qy : FitsSigned w64 c.args.q.y = search rules in
-    near_both c.args.p c.args.q c.is_near_on-2.result (simp to_z-of_z at (told c.if-not-is_near_on.ensures)) (simp to_z-of_z at c.is_near_on-2.ensures)
+    near_both c.args.p c.args.q c.is_near_on-2.result (simp to_z-of_z at (told c.if-not-is_near_on.ensures))
+    (simp to_z-of_z at c.is_near_on-2.ensures)

@@ -71,17 +71,45 @@ returns c =
     let f9 : SFits w64 c.lesser-2.result = search rules in
     let f10 : SFits w64 c.greater.result = search rules in
     let f11 : SFits w64 c.greater-2.result = search rules in
-    let left = c.lesser.ensures.below in let bottom = c.lesser-2.ensures.below in let right = c.greater.ensures.above in let top = c.greater-2.ensures.above in
-    let box : Rect = record { x0 = c.lesser.result; y0 = c.lesser-2.result; x1 = c.greater.result; y1 = c.greater-2.result } in
+    let left = c.lesser.ensures.below in let bottom = c.lesser-2.ensures.below in let right =
+    c.greater.ensures.above in let top = c.greater-2.ensures.above in
+    let box : Rect = record {
+      x0 = c.lesser.result;
+      y0 = c.lesser-2.result;
+      x1 = c.greater.result;
+      y1 =
+          c.greater-2.result;
+    } in
     let first = place_in box a b lo c.low_at.result c.low_at-3.result c.high_at.result c.high_at-3.result c.requires.lo
-    (simp to_z-of_z at (c.low_at.ensures lo (c.share_of-lo.ensures))) (simp to_z-of_z at (c.low_at-3.ensures lo (c.share_of-lo.ensures))) (simp to_z-of_z at (c.high_at.ensures lo (c.share_of-lo.ensures))) (simp to_z-of_z at (c.high_at-3.ensures lo (c.share_of-lo.ensures)))
-    (omega (arith, ints, left.0)) (omega (arith, ints, bottom.0)) (omega (arith, ints, right.0)) (omega (arith, ints, top.0)) in
-    let second = place_in box a b hi c.low_at-2.result c.low_at-4.result c.high_at-2.result c.high_at-4.result c.requires.hi
-    (simp to_z-of_z at (c.low_at-2.ensures hi (c.share_of-hi.ensures))) (simp to_z-of_z at (c.low_at-4.ensures hi (c.share_of-hi.ensures))) (simp to_z-of_z at (c.high_at-2.ensures hi (c.share_of-hi.ensures))) (simp to_z-of_z at (c.high_at-4.ensures hi (c.share_of-hi.ensures)))
-    (omega (arith, ints, left.1)) (omega (arith, ints, bottom.1)) (omega (arith, ints, right.1)) (omega (arith, ints, top.1)) in (
-      record { left = simp to_z-of_z first.left; right = simp to_z-of_z first.right; bottom = simp to_z-of_z first.bottom; top = simp to_z-of_z first.top },
+    (simp to_z-of_z at (c.low_at.ensures lo (c.share_of-lo.ensures)))
+    (simp to_z-of_z at (c.low_at-3.ensures lo (c.share_of-lo.ensures)))
+    (simp to_z-of_z at (c.high_at.ensures lo (c.share_of-lo.ensures)))
+    (simp to_z-of_z at (c.high_at-3.ensures lo (c.share_of-lo.ensures)))
+    (omega (arith, ints, left.0)) (omega (arith, ints, bottom.0)) (omega (arith, ints, right.0))
+    (omega (arith, ints, top.0)) in
+    let second = place_in box a b hi c.low_at-2.result c.low_at-4.result c.high_at-2.result c.high_at-4.result
+    c.requires.hi
+    (simp to_z-of_z at (c.low_at-2.ensures hi (c.share_of-hi.ensures)))
+    (simp to_z-of_z at (c.low_at-4.ensures hi (c.share_of-hi.ensures)))
+    (simp to_z-of_z at (c.high_at-2.ensures hi (c.share_of-hi.ensures)))
+    (simp to_z-of_z at (c.high_at-4.ensures hi (c.share_of-hi.ensures)))
+    (omega (arith, ints, left.1)) (omega (arith, ints, bottom.1)) (omega (arith, ints, right.1))
+    (omega (arith, ints, top.1)) in (
+      record {
+        left = simp to_z-of_z first.left;
+        right = simp to_z-of_z first.right;
+        bottom =
+            simp to_z-of_z first.bottom;
+        top = simp to_z-of_z first.top;
+      },
       (
-        record { left = simp to_z-of_z second.left; right = simp to_z-of_z second.right; bottom = simp to_z-of_z second.bottom; top = simp to_z-of_z second.top },
+        record {
+          left = simp to_z-of_z second.left;
+          right = simp to_z-of_z second.right;
+          bottom =
+              simp to_z-of_z second.bottom;
+          top = simp to_z-of_z second.top;
+        },
         tt,
       ),
     )

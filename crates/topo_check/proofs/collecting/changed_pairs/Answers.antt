@@ -15,8 +15,10 @@ returns c =
     let tin = c.args.tin.now in let pieces = c.args.pieces.now in let most = c.args.most in
     let ys : List ChangedPair = c.collect.new.pairs.items in
     let zs : List ChangedPair = c.collect-2.new.pairs.items in
-    both_collected tin pieces most c.in_ok-grid.grid.boxes c.in_ok-grid-2.grid.boxes ys zs c.boxes_share_a_point_or_are_apart.ensures c.in_ok-grid.ensures c.in_ok-grid-2.ensures
-    (subst (λ (xs : List ChangedPair). DoesCollect tin pieces most (DoShareIn Target pieces c.in_ok-grid.grid.boxes) xs ys) c.new-pairs.ensures.items c.in_ok-collect.ensures) c.in_ok-collect-2.ensures
+    both_collected tin pieces most c.in_ok-grid.grid.boxes c.in_ok-grid-2.grid.boxes ys zs
+    c.boxes_share_a_point_or_are_apart.ensures c.in_ok-grid.ensures c.in_ok-grid-2.ensures
+    (subst (λ (xs : List ChangedPair). DoesCollect tin pieces most (DoShareIn Target pieces c.in_ok-grid.grid.boxes) xs
+    ys) c.new-pairs.ensures.items c.in_ok-collect.ensures) c.in_ok-collect-2.ensures
 
 pub returns-then-len-most : goal.returns-then-len-most
 returns-then-len-most c =
@@ -24,5 +26,6 @@ returns-then-len-most c =
     let ys : List ChangedPair = c.collect.new.pairs.items in
     let grid : List Rect = c.in_ok-grid.grid.boxes in
     let more : most < length ys = omega (arith, c.if-len-most.true, c.len.ensures, c.collect.new.pairs.ok.0) in
-    let collects = subst (λ (xs : List ChangedPair). DoesCollect tin pieces most (DoShareIn Target pieces grid) xs ys) c.new-pairs.ensures.items c.in_ok-collect.ensures in
+    let collects = subst (λ (xs : List ChangedPair). DoesCollect tin pieces most (DoShareIn Target pieces grid) xs ys)
+    c.new-pairs.ensures.items c.in_ok-collect.ensures in
     over_collected tin pieces most (DoShareIn Target pieces grid) ys collects more

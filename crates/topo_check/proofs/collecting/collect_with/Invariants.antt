@@ -6,7 +6,9 @@ use Rattle.topo_check.proofs.collecting.collect_with.Given as goal
 
 -- the pairs with the others so far are collected
 abbrev pub invariant-loop-place : goal.invariant-loop-place
-invariant-loop-place l = (l.place ≤ length l.others) × DoesCollect l.tin l.pieces l.most (IsPairWith l.frame l.pieces l.number (IsOneOf l.others l.place)) l.initial.pairs.items l.pairs.items
+invariant-loop-place l = (l.place ≤ length l.others)
+    × DoesCollect l.tin l.pieces l.most (IsPairWith l.frame l.pieces l.number (IsOneOf l.others l.place))
+    l.initial.pairs.items l.pairs.items
 
 abbrev pub decreases-loop-place : goal.decreases-loop-place
 decreases-loop-place l = length l.others - l.place

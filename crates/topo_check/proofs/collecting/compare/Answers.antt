@@ -4,8 +4,10 @@ use Rattle.topo_check.proofs.collecting.compare.Goals as goal
 
 pub returns-in_ok-push : goal.returns-in_ok-push
 returns-in_ok-push c =
-    pair_collected c.args.tin.now c.args.pieces.now c.args.most c.args.frame c.args.first c.args.second c.args.pairs.now.items c.push.new.self.items c.in-Some.pair c.in-Some.ensures.numbers c.in-Some.ensures.changed
+    pair_collected c.args.tin.now c.args.pieces.now c.args.most c.args.frame c.args.first c.args.second
+    c.args.pairs.now.items c.push.new.self.items c.in-Some.pair c.in-Some.ensures.numbers c.in-Some.ensures.changed
     c.in-Some.ensures.compared c.in_ok-push.ensures.items
 
 pub returns-in_default : goal.returns-in_default
-returns-in_default c = pair_unchanged c.args.tin.now c.args.pieces.now c.args.most c.args.frame c.args.first c.args.second c.args.pairs.now.items c.in_default.ensures.none
+returns-in_default c = pair_unchanged c.args.tin.now c.args.pieces.now c.args.most c.args.frame c.args.first
+    c.args.second c.args.pairs.now.items c.in_default.ensures.none

@@ -8,6 +8,7 @@ pub returns : goal.returns
 returns c =
     let moved = c.sort_unstable_by_key.ensures.permutation in
     record {
-      ascending = ascending _ (c.sort_unstable_by_key.ensures.sorted (λ pair. (pair.first, pair.second)) (answers_always _ _ _ (λ f a r g h. search rules))) (different_moved _ _ moved c.requires);
+      ascending = ascending _ (c.sort_unstable_by_key.ensures.sorted (λ pair. (pair.first, pair.second))
+          (answers_always _ _ _ (λ f a r g h. search rules))) (different_moved _ _ moved c.requires);
       same = moved;
     }

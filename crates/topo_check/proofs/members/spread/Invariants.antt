@@ -6,7 +6,8 @@ use Rattle.topo_check.proofs.members.spread.Given as goal
 
 -- the pairs of the kinds that were found so far are collected
 abbrev pub invariant-loop-place : goal.invariant-loop-place
-invariant-loop-place l = (l.place ≤ length l.found) × DoesCollect l.tin l.pieces l.most (IsFoundBefore l.members l.found l.place) [] l.pairs.items
+invariant-loop-place l = (l.place ≤ length l.found)
+    × DoesCollect l.tin l.pieces l.most (IsFoundBefore l.members l.found l.place) [] l.pairs.items
 
 abbrev pub decreases-loop-place : goal.decreases-loop-place
 decreases-loop-place l = length l.found - l.place

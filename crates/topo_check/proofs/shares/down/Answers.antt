@@ -13,12 +13,15 @@ returns-then-way-lt0-clause-below c = λ of is.
     let hq : SFits w64 c.part_of.result = search rules in
     let e : c.part_of.result ≡ int_div_euclid (n *ℤ z) PARTS = simp to_z-of_z at c.part_of.ensures in
     let low : z ≤ℤ pos 0 = omega (arith, ints, c.if-way-lt0.true) in
-    simp to_z-of_z (subst (λ (y : ℤ). (y *ℤ of.den) ≤ℤ (of.num *ℤ z)) (sym e) (below_back n of.den of.num z of.positive low is.up))
+    simp to_z-of_z (subst (λ (y : ℤ). (y *ℤ of.den) ≤ℤ (of.num *ℤ z)) (sym e)
+    (below_back n of.den of.num z of.positive low is.up))
 
 pub returns-else-way-lt0-clause-below : goal.returns-else-way-lt0-clause-below
 returns-else-way-lt0-clause-below c = λ of is.
     let z = c.args.way in let n = c.args.share.down in let hz = c.ranges.way in let hn : SFits w64 n = search rules in
     let hq : SFits w64 c.part_of-else-way-lt0.result = search rules in
-    let e : c.part_of-else-way-lt0.result ≡ int_div_euclid (n *ℤ z) PARTS = simp to_z-of_z at c.part_of-else-way-lt0.ensures in
+    let e : c.part_of-else-way-lt0.result ≡ int_div_euclid (n *ℤ z) PARTS =
+    simp to_z-of_z at c.part_of-else-way-lt0.ensures in
     let high : pos 0 ≤ℤ z = omega (arith, ints, c.if-way-lt0.false) in
-    simp to_z-of_z (subst (λ (y : ℤ). (y *ℤ of.den) ≤ℤ (of.num *ℤ z)) (sym e) (below_on n of.den of.num z of.positive high is.down))
+    simp to_z-of_z (subst (λ (y : ℤ). (y *ℤ of.den) ≤ℤ (of.num *ℤ z)) (sym e)
+    (below_on n of.den of.num z of.positive high is.down))

@@ -11,7 +11,8 @@ overflow_add-result c =
     let hf = c.ranges.from in let ht = c.ranges.to in
     let hr : SFits w64 r = search rules in
     let way : SFits w64 (to -ℤ from) = short_fits (to -ℤ from) c.requires in
-    simp to_z-of_z (sum_fits from to r hf ht (simp to_z-of_z at c.down.ensures.low) (simp to_z-of_z at c.down.ensures.high))
+    simp to_z-of_z (sum_fits from to r hf ht (simp to_z-of_z at c.down.ensures.low)
+    (simp to_z-of_z at c.down.ensures.high))
 
 pub returns : goal.returns
 returns c = λ of is.
@@ -19,5 +20,6 @@ returns c = λ of is.
     let hf = c.ranges.from in let ht = c.ranges.to in
     let hr : SFits w64 r = search rules in
     let way : SFits w64 (to -ℤ from) = short_fits (to -ℤ from) c.requires in
-    let fits : SFits w64 (from +ℤ r) = sum_fits from to r hf ht (simp to_z-of_z at c.down.ensures.low) (simp to_z-of_z at c.down.ensures.high) in
+    let fits : SFits w64 (from +ℤ r) = sum_fits from to r hf ht (simp to_z-of_z at c.down.ensures.low)
+    (simp to_z-of_z at c.down.ensures.high) in
     simp to_z-of_z (low_place from to of.num of.den r (from +ℤ r) refl (simp to_z-of_z at (c.down.ensures.below of is)))

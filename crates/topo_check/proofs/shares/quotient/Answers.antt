@@ -14,5 +14,6 @@ returns c =
     let parts_is : to_z w128 (of_z w128 c.from.result) ≡ PARTS = omega (arith, ints) in
     let product : SFits w128 (n *ℤ PARTS) = wide_fits n c.args.share.num_small in
     let hq : SFits w128 c.div_euclid.result = search rules in
-    let is : c.div_euclid.result ≡ int_div_euclid (n *ℤ PARTS) c.args.share.den = simp (parts_is, to_z-of_z) at c.div_euclid.ensures in
+    let is : c.div_euclid.result ≡ int_div_euclid (n *ℤ PARTS) c.args.share.den =
+    simp (parts_is, to_z-of_z) at c.div_euclid.ensures in
     simp to_z-of_z is

@@ -17,7 +17,8 @@ next_part-requires c =
 
 pub invariant_of-result : goal.invariant_of-result
 invariant_of-result c =
-    let n = c.args.share.num in let d = c.args.share.den in let q = c.parts_in-down.result in let up = c.next_part.result in
+    let n = c.args.share.num in let d = c.args.share.den in let q = c.parts_in-down.result in let up =
+    c.next_part.result in
     let hq : SFits w64 q = search rules in let hu : SFits w64 up = search rules in
     let is : q ≡ int_div_euclid (n *ℤ PARTS) d = c.parts_in-down.ensures in
     record {
@@ -28,11 +29,13 @@ invariant_of-result c =
 
 pub returns : goal.returns
 returns c =
-    let n = c.args.share.num in let d = c.args.share.den in let q = c.parts_in-down.result in let up = c.next_part.result in
+    let n = c.args.share.num in let d = c.args.share.den in let q = c.parts_in-down.result in let up =
+    c.next_part.result in
     let hq : SFits w64 q = search rules in let hu : SFits w64 up = search rules in
     let is : q ≡ int_div_euclid (n *ℤ PARTS) d = c.parts_in-down.ensures in
     let next : (up ≡ q +ℤ pos 1) ⊎ (up ≡ PARTS) = simp to_z-of_z at c.next_part.ensures.next in
     record {
-      down = simp to_z-of_z (subst (λ (y : ℤ). (y *ℤ d) ≤ℤ (n *ℤ PARTS)) (sym is) (floor-≤ (n *ℤ PARTS) d c.args.share.positive));
+      down = simp to_z-of_z (subst (λ (y : ℤ). (y *ℤ d) ≤ℤ (n *ℤ PARTS)) (sym is)
+          (floor-≤ (n *ℤ PARTS) d c.args.share.positive));
       up = simp to_z-of_z (parts_up n d up c.requires (subst (λ (y : ℤ). (up ≡ y +ℤ pos 1) ⊎ (up ≡ PARTS)) is next));
     }

@@ -3,4 +3,9 @@ use Rattle.std.proofs.Common.{sym, ◌∙◌}
 use Rattle.tin_tests.proofs.carried_layer_tests.DiagonalLayer.outcome_is_one.Goals as goal
 
 pub returns : goal.returns
-returns c = λ how bytes. record { one_sheet = λ sheet other is too. is ∙ sym too; one_fault = λ fault other is too. absurd is; apart = λ sheet fault is none. none }
+returns c = λ how bytes. record {
+  one_sheet = λ sheet other is too. is
+      ∙ sym too;
+  one_fault = λ fault other is too. absurd is;
+  apart = λ sheet fault is none. none;
+}
