@@ -30,7 +30,7 @@ use Rattle.affine_image.proofs.Joining.{same_or}
 use Rattle.affine_image.proofs.Segmenting.{begun_append}
 use Rattle.affine_image.proofs.Told.{told_length, end_images, inner_ends}
 use Rattle.tin_base.proofs.Spots.{first_inside, last_inside}
-use Rattle.seg_walk.proofs.Outcomes as walks
+use Rattle.tin_base.proofs.Outcomes as walks
 use Rattle.carry_map.specs.declared.faults.CarryFault.TheVariants.{Outside, TooMany}
 use Rattle.carry_map.specs.Causes.{HaveRoom, IsFirstOutside, IsFirstTooMany}
 use Rattle.carry_map.specs.Outcomes.{HasCarried, HasFirstFault, OutcomeExists}
