@@ -52,6 +52,8 @@ impl<P: Press + Drop> Press for PressNotes<P> {
 
     ghost faults = { λ p. P.faults p.press };
 
+    ghost broken = { λ p. P.broken p.press };
+
     fn begin(&mut self, name: &str) -> Result<(), Failed> {
         self.name.clear();
         let _ = self.name.push_str(name);
