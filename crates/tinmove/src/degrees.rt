@@ -12,14 +12,17 @@ const CORNERS: &[u8] = b"\"vertices\"";
 /// How many digits the greatest number of degrees has before its point.
 const MOST_DIGITS: usize = 3;
 
-/// The bytes of the first row of corners, from the member's name to the first closing bracket.
-fn first_row(bytes: &[u8]) -> Option<&[u8]> {
+/// The bytes from the rows of corners on.
+fn corner_rows(bytes: &[u8]) -> Option<&[u8]> {
     let at = bytes
         .windows(CORNERS.len())
         .position(|window| window == CORNERS)?;
-    let behind = bytes.get(at..)?.get(CORNERS.len()..)?;
-    let end = behind.iter().position(|byte| *byte == b']')?;
-    behind.get(..end)
+    bytes.get(at..)?.get(CORNERS.len()..)
+}
+
+/// Whether the bytes have a digit.
+fn has_digit(row: &[u8]) -> bool {
+    row.iter().any(|byte| byte.is_ascii_digit())
 }
 
 /// Whether a number of the row has so few digits before its point that it may be a number of degrees.
@@ -31,11 +34,19 @@ fn has_short_number(row: &[u8]) -> bool {
     })
 }
 
-/// Whether all source corners of the file's triangulation are such as degrees are. Where the first row has no short
-/// number the file is not read once more.
+/// Whether each row of corners has a number that may be a number of degrees. Behind the last row is no digit before the
+/// next bracket.
+fn have_short_numbers(rows: &[u8]) -> bool {
+    rows.split(|byte| *byte == b']')
+        .take_while(|row| has_digit(row))
+        .all(has_short_number)
+}
+
+/// Whether all source corners of the file's triangulation are such as degrees are. Where a row has no short number the
+/// triangulation is not read once more.
 fn is_in_degrees(rt: &HostRuntime, name: &str, how: How) -> Option<bool> {
     let bytes = bytes_again(rt, name)?;
-    if !has_short_number(first_row(&bytes)?) {
+    if !have_short_numbers(corner_rows(&bytes)?) {
         return None;
     }
     let tin = read_tin(rt.alloc(), &bytes, how).ok()?;
