@@ -1,14 +1,11 @@
 -- Rounding half up of one value in other spellings, and between bounds.
-use Rattle.std.proofs.Common.{◌≡◌, refl, ℤ, pos, negsuc, ◌+ℤ◌, ◌-ℤ◌, ◌*ℤ◌, ◌≤ℤ◌, ◌<ℤ◌}
+use Rattle.std.proofs.Common.{◌≡◌, ℤ, pos, negsuc, ◌+ℤ◌, ◌-ℤ◌, ◌*ℤ◌, ◌≤ℤ◌, ◌<ℤ◌}
 use Rattle.integer_ring.proofs.Ring.{num, ◌⊕◌, ◌⊖◌, ◌⊗◌}
 use Rattle.integer_ring.proofs.Signs.{≤_of_mul, <_of_mul}
 use Rattle.integer_ring.proofs.Claims.{◌≐◌, ◌≼◌, ◌≺◌, gap, over, eqn, nat, ◌⊞◌, ◌⊠◌, ◌because◌, ◌otherwise◌, ◌⇒◌}
 use Rattle.integer_ring.proofs.Claims.{follows, solve}
-use Rattle.frac128.specs.Rounding.{half_up_of, IsWithinHalf}
-use Rattle.frac128.proofs.Nearest.{half_up_is_within_half}
-
-pub within : (n d : ℤ) → pos 0 <ℤ d → IsWithinHalf n d (half_up_of n d)
-within n d h = (half_up_is_within_half n d (half_up_of n d) h).1 refl
+use Rattle.frac128.specs.Rounding.{half_up_of}
+use Rattle.frac128.proofs.Nearest.{half_up_is_within_half, within}
 
 -- ---- a/d and b/e of one value
 low_same : (a d b e r : ℤ) → pos 0 <ℤ e → a *ℤ e ≡ b *ℤ d → ((pos 2 *ℤ r -ℤ pos 1) *ℤ d) ≤ℤ (pos 2 *ℤ a)

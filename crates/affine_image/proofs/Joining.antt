@@ -4,7 +4,7 @@ use Rattle.std.proofs.Common.{◌≡◌, ◌≢◌, ◌⊎◌, inl, inr, ℕ, ze
 use Rattle.std.proofs.Common.{length, ap, ap₂, sym, subst, arith}
 use Rattle.std.proofs.lemmas.Int.{ints}
 use Rattle.integer_ring.proofs.Ring.{num, ◌⊕◌, ◌⊖◌, ◌⊗◌}
-use Rattle.integer_ring.proofs.Claims.{◌≐◌, eqn, ◌because◌, ◌⇒◌, follows, solve}
+use Rattle.integer_ring.proofs.Claims.{◌≐◌, eqn, ◌because◌, ◌⇒◌, follows}
 use Rattle.plane_base.specs.Plane.{Same, whole}
 use Rattle.plane_base.specs.declared.shapes.Pt.{Pt}
 use Rattle.plane_base.proofs.Mixes.{same_trans, weights_between}
@@ -12,7 +12,7 @@ use Rattle.tin_base.specs.Triangulation.{Triangulation}
 use Rattle.tin_base.specs.Soundness.{IsSound}
 use Rattle.tin_base.specs.Segments.{Spot, spot_at, at_a, at_b, IsSameSpot, IsInside, Part, part_at, ArePieces}
 use Rattle.tin_base.specs.Segments.{ArePiecesAt, ArePiecesOf, AreChain}
-use Rattle.tin_base.proofs.Spots.{one, spot-w}
+use Rattle.tin_base.proofs.Spots.{one, spot-w, spot_first, spot_last, first_axis, spot_of_point}
 use Rattle.tin_base.proofs.Chain.{chain}
 
 -- ---- two points are the same, or not
@@ -44,30 +44,6 @@ same_of_spots a b s t e =
     let k = pos s.of_a in let l = pos s.of_b in let m = pos t.of_a in let n = pos t.of_b in
     (spot_axis k l m n a.x b.x (pos 1) (pos 1) (ap pos e), spot_axis k l m n a.y b.y (pos 1) (pos 1) (ap pos e))
 
-first_axis : (a b : ℤ) → (pos 1 *ℤ a +ℤ (pos 0 *ℤ b +ℤ pos 0)) *ℤ pos 1 ≡ a
-    *ℤ (pos 1 *ℤ pos 1 +ℤ (pos 0 *ℤ pos 1 +ℤ pos 0))
-first_axis = solve 2 (λ a b. (num (pos 1) ⊗ a ⊕ (num (pos 0) ⊗ b ⊕ num (pos 0))) ⊗ num (pos 1) ≐ a
-    ⊗ (num (pos 1) ⊗ num (pos 1) ⊕ (num (pos 0) ⊗ num (pos 1) ⊕ num (pos 0)))) tt
-
-last_axis : (a b : ℤ) → (pos 0 *ℤ a +ℤ (pos 1 *ℤ b +ℤ pos 0)) *ℤ pos 1 ≡ b
-    *ℤ (pos 0 *ℤ pos 1 +ℤ (pos 1 *ℤ pos 1 +ℤ pos 0))
-last_axis = solve 2 (λ a b. (num (pos 0) ⊗ a ⊕ (num (pos 1) ⊗ b ⊕ num (pos 0))) ⊗ num (pos 1) ≐ b
-    ⊗ (num (pos 0) ⊗ num (pos 1) ⊕ (num (pos 1) ⊗ num (pos 1) ⊕ num (pos 0)))) tt
-
-pub first_same : (a b : Pt) → Same (spot_at a b at_a) (whole a)
-first_same a b = (first_axis a.x b.x, first_axis a.y b.y)
-
-pub last_same : (a b : Pt) → Same (spot_at a b at_b) (whole b)
-last_same a b = (last_axis a.x b.x, last_axis a.y b.y)
-
-point_axis : (k l a : ℤ) → (k *ℤ a +ℤ (l *ℤ a +ℤ pos 0)) *ℤ pos 1 ≡ a *ℤ (k *ℤ pos 1 +ℤ (l *ℤ pos 1 +ℤ pos 0))
-point_axis = solve 3 (λ k l a. (k ⊗ a ⊕ (l ⊗ a ⊕ num (pos 0))) ⊗ num (pos 1) ≐ a
-    ⊗ (k ⊗ num (pos 1) ⊕ (l ⊗ num (pos 1) ⊕ num (pos 0)))) tt
-
--- all spots of a segment from a point to itself are this point
-pub point_same : (a : Pt) (s : Spot) → Same (spot_at a a s) (whole a)
-point_same a s = (point_axis (pos s.of_a) (pos s.of_b) a.x, point_axis (pos s.of_a) (pos s.of_b) a.y)
-
 -- ---- the parts of a segment that is inside
 pub record AreInLine (a b : Pt) (parts : List Part) : Type 0 where
   pub some : 0 < length parts
@@ -86,10 +62,10 @@ way_in_line tin a b parts sound differ inside pieces = go (chain tin a b parts s
     go follow = record {
       some = follow.some;
       begins = same_trans (spot_at a b (part_at parts 0).first) (spot_at a b at_a) (whole a) one
-          (same_of_spots a b (part_at parts 0).first at_a follow.begins) (first_same a b);
+          (same_of_spots a b (part_at parts 0).first at_a follow.begins) (spot_first a b);
       joined = λ i h. same_of_spots a b (part_at parts i).last (part_at parts (i + 1)).first (follow.joined i h);
       ends = λ i e. same_trans (spot_at a b (part_at parts i).last) (spot_at a b at_b) (whole b) one
-          (same_of_spots a b (part_at parts i).last at_b (follow.ends i e)) (last_same a b);
+          (same_of_spots a b (part_at parts i).last at_b (follow.ends i e)) (spot_last a b);
       first-w = λ i h. let part = pieces.part i h in let has =
           part.has_first in spot-w a b (part_at parts i).first has.some;
       last-w = λ i h. let part = pieces.part i h in let has =
@@ -99,7 +75,7 @@ way_in_line tin a b parts sound differ inside pieces = go (chain tin a b parts s
 one_part : (a : Pt) (part : Part) → part.first ≡ at_a → part.last ≡ at_a → AreInLine a a (part ∷ [])
 one_part a part ef el = record {
   some = omega arith;
-  begins = point_same a part.first;
+  begins = spot_of_point a part.first;
   joined = λ i h. absurd (omega arith);
   ends = ends;
   first-w = first;
@@ -110,7 +86,7 @@ one_part a part ef el = record {
     positive s e = subst (λ (x : Spot). pos 0 <ℤ (spot_at a a x).w) (sym e) one
 
     ends : (i : ℕ) → i + 1 ≡ 1 → Same (spot_at a a (part_at (part ∷ []) i).last) (whole a)
-    ends i e = point_same a (part_at (part ∷ []) i).last
+    ends i e = spot_of_point a (part_at (part ∷ []) i).last
 
     first : (i : ℕ) → i < 1 → pos 0 <ℤ (spot_at a a (part_at (part ∷ []) i).first).w
     first zero h = positive part.first ef

@@ -3,7 +3,7 @@ use Rattle.std.proofs.Common.{◌≡◌, ◌≢◌, ℕ, zero, suc, ◌<◌, ℤ
 use Rattle.std.proofs.Common.{get_or, refl, sym, ap, subst, arith}
 use Rattle.std.proofs.lemmas.Int.{ints}
 use Rattle.integer_ring.proofs.Ring.{num, ◌⊕◌, ◌⊖◌, ◌⊗◌}
-use Rattle.integer_ring.proofs.Claims.{◌≐◌, eqn, ◌⊞◌, ◌because◌, ◌⇒◌, follows}
+use Rattle.integer_ring.proofs.Claims.{◌≐◌, eqn, ◌because◌, ◌⇒◌, follows}
 use Rattle.frac128.specs.declared.frac.Frac.{Frac}
 use Rattle.plane_base.specs.Plane.{Point, Same, whole, along, turn_of, IsMix, corners, IsNear, IsNearAll, IsNearTri}
 use Rattle.plane_base.specs.Slices.{IsParam, IsCommon, AreEnds, IsWholeWay, IsCrossed, IsEnd, LiesAt}
@@ -30,6 +30,7 @@ use Rattle.tin_base.proofs.SlicedParts.{params}
 use Rattle.tin_base.proofs.TrianglePlaces.{source_at, stands}
 use Rattle.affine_image.specs.Sides.{corner_number, next_corner}
 use Rattle.affine_image.proofs.Crossing.{parallel, crossing, IsOnSide}
+use Rattle.plain_laws.proofs.Weights.{share_axis}
 
 abbrev point_of : Point → Pt
 point_of p = record { x = p.x; y = p.y }
@@ -75,9 +76,6 @@ next_below (suc zero) = omega arith
 next_below (suc (suc k)) = omega arith
 
 -- ---- the spot of a parameter
-one_axis : (n d k l a b : ℤ) → n ≡ k → d -ℤ n ≡ l → (d -ℤ n) *ℤ a +ℤ n *ℤ b ≡ l *ℤ a +ℤ (k *ℤ b +ℤ pos 0)
-one_axis = follows 6 (λ n d k l a b. n ≐ k ⇒ d ⊖ n ≐ l ⇒ (d ⊖ n) ⊗ a ⊕ n ⊗ b ≐ l ⊗ a
-    ⊕ (k ⊗ b ⊕ num (pos 0)) because eqn 0 b ⊞ eqn 1 a) tt
 
 pub same_place : (a b : Pt) (f : Frac) → IsParam f.num f.den
     → Same (spot_at a b (spot_of f)) (along (whole a) (whole b) f.num f.den)
@@ -86,8 +84,8 @@ same_place a b f h =
     let x = spot_of f in
     let k = pos x.of_b in let l = pos x.of_a in
     same_moved (spot_at a b x) (spot_at a b x) (along (whole a) (whole b) f.num f.den)
-    (sym (one_axis f.num f.den k l a.x b.x s.share s.rest)) (sym (one_axis f.num f.den k l a.y b.y s.share s.rest))
-    (sym (one_axis f.num f.den k l (pos 1) (pos 1) s.share s.rest)) (same_refl (spot_at a b x))
+    (sym (share_axis f.num f.den k l a.x b.x s.share s.rest)) (sym (share_axis f.num f.den k l a.y b.y s.share s.rest))
+    (sym (share_axis f.num f.den k l (pos 1) (pos 1) s.share s.rest)) (same_refl (spot_at a b x))
 
 at_end : (n d a b : ℤ) → n ≡ d → ((d -ℤ n) *ℤ a +ℤ n *ℤ b) *ℤ pos 1 ≡ b *ℤ ((d -ℤ n) *ℤ pos 1 +ℤ n *ℤ pos 1)
 at_end = follows 4 (λ n d a b. n ≐ d ⇒ ((d ⊖ n) ⊗ a ⊕ n ⊗ b) ⊗ num (pos 1) ≐ b

@@ -9,6 +9,7 @@ use Rattle.plane_base.specs.Plane.{Same, weighed, whole, corners, holds_of, IsNe
 use Rattle.plane_base.specs.declared.shapes.Pt.{Pt}
 use Rattle.plane_base.specs.declared.shapes.Tri.{Tri}
 use Rattle.plane_base.specs.declared.shapes.TheConstants.{SPAN}
+use Rattle.plain_laws.proofs.Weights.{three_positive}
 
 -- z is a mix of three numbers, none of which is s or more above q
 above : (s a b c q z i j k : ℤ) → (a -ℤ q) <ℤ s → (b -ℤ q) <ℤ s → (c -ℤ q) <ℤ s → pos 0 ≤ℤ i → pos 0 ≤ℤ j → pos 0 ≤ℤ k
@@ -35,9 +36,6 @@ below =
     ⇒ q ⊖ z ≺ s otherwise over 0 ⊠ gap 3 ⊞ over 1 ⊠ gap 4 ⊞ over 2 ⊠ gap 5 ⊞ gap 6 ⊠ gap 8 ⊞ over 6 ⊞ eqn 7
     (num (negsuc 0))) tt
 
-some_weight : (i j k : ℕ) → 0 < sum (i ∷ j ∷ k ∷ []) → pos 0 <ℤ (pos i +ℤ pos j +ℤ pos k)
-some_weight i j k h = omega (arith, ints)
-
 pub itself : (p : Pt) → IsNear p p
 itself p = (omega (arith, ints), omega (arith, ints), omega (arith, ints), omega (arith, ints))
 
@@ -48,7 +46,7 @@ turned p q (a, b, c, d) = (b, a, d, c)
 near_one : (t : Tri) (p q : Pt) (i j k : ℕ) → 0 < sum (i ∷ j ∷ k ∷ [])
     → Same (whole p) (weighed (i ∷ j ∷ k ∷ []) (corners t)) → IsNear q t.a → IsNear q t.b → IsNear q t.c → IsNear q p
 near_one t p q i j k some same a b c =
-    let i0 = nonneg_pos i in let j0 = nonneg_pos j in let k0 = nonneg_pos k in let w = some_weight i j k some in (
+    let i0 = nonneg_pos i in let j0 = nonneg_pos j in let k0 = nonneg_pos k in let w = three_positive i j k some in (
       below SPAN t.a.x t.b.x t.c.x q.x p.x (pos i) (pos j) (pos k) a.0 b.0 c.0 i0 j0 k0 w same.0,
       above SPAN t.a.x t.b.x t.c.x q.x p.x (pos i) (pos j) (pos k) a.1 b.1 c.1 i0 j0 k0 w same.0,
       below SPAN t.a.y t.b.y t.c.y q.y p.y (pos i) (pos j) (pos k) a.2 b.2 c.2 i0 j0 k0 w same.1,

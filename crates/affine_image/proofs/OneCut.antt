@@ -16,13 +16,12 @@ use Rattle.tin_base.proofs.Spots.{spot-w}
 use Rattle.affine_image.proofs.Joining.{same_or, same_of_spots}
 use Rattle.affine_image.proofs.Moving.{rounded_moved}
 use Rattle.affine_image.proofs.Rounding.{rounded_images_agree}
+use Rattle.plain_laws.proofs.Order.{trichotomy}
+use Rattle.tin_base.proofs.Ends.{up_to_same}
 
 -- ---- the order of spots
 same_up : (m n : ℕ) → m ≡ n → m ≤ n
 same_up m n e = omega arith
-
-up_to_same : (s t : Spot) → IsSameSpot s t → IsNotAfter s t
-up_to_same s t e = same_up (s.of_b * t.of_a) (t.of_b * s.of_a) e
 
 not_sooner : (s t : Spot) → s ≡ t → IsNotAfter s t
 not_sooner s t e = rw e (same_up (t.of_b * t.of_a) (t.of_b * t.of_a) refl)
@@ -49,15 +48,12 @@ first_some : (tin : Triangulation) (a b : Pt) (parts : List Part) (i : ℕ) → 
     → IsSpot (part_at parts i).first
 first_some tin a b parts i p h = let part = p.part i h in let has = part.has_first in has.some
 
-less_or : (m n : ℕ) → (m < n) ⊎ ((m ≡ n) ⊎ (n < m))
-less_or m n = grind arith
-
 -- a later part is alike to a later one
 later : (tin : Triangulation) (a b : Pt) (parts others : List Part) (i i' j j' : ℕ) → ArePieces tin a b parts
     → ArePieces tin a b others → i < i' → i' < length parts
     → j < length others → j' < length others → IsSameSpot (part_at others j).first (part_at parts i).first
     → IsSameSpot (part_at others j').first (part_at parts i').first → j < j'
-later tin a b parts others i i' j j' p q less within near near' same same' = go (less_or j j')
+later tin a b parts others i i' j j' p q less within near near' same same' = go (trichotomy j j')
   where
     clash : IsNotAfter (part_at others j').first (part_at others j).first → j < j'
     clash up =
@@ -171,7 +167,7 @@ all_alike (part ∷ parts) (other ∷ others) count twins =
 
 -- neither of two numbers is below the other
 neither : (m n : ℕ) → (m < n → ⊥) → (n < m → ⊥) → m ≡ n
-neither m n h k = go (less_or m n)
+neither m n h k = go (trichotomy m n)
   where
     go : (m < n) ⊎ ((m ≡ n) ⊎ (n < m)) → m ≡ n
     go (inl less) = absurd (h less)

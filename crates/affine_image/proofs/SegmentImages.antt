@@ -6,7 +6,7 @@ use Rattle.integer_ring.proofs.Ring.{num, neg, ◌⊕◌, ◌⊖◌, ◌⊗◌}
 use Rattle.integer_ring.proofs.Order.{nonneg_pos}
 use Rattle.integer_ring.proofs.Claims.{◌≐◌, ◌≼◌, ◌≺◌, gap, over, eqn, ◌⊞◌, ◌⊠◌, ◌because◌, ◌otherwise◌, ◌⇒◌, follows}
 use Rattle.integer_ring.proofs.Claims.{solve}
-use Rattle.plain_laws.proofs.Weights.{two_positive}
+use Rattle.plain_laws.proofs.Weights.{two_positive, weight_above}
 use Rattle.plane_base.specs.Plane.{Point, Same, IsMix, whole}
 use Rattle.plane_base.specs.declared.shapes.Pt.{Pt}
 use Rattle.plane_base.proofs.Mixes.{same_refl, same_sym, same_trans, Between, between_weights, weights_between}
@@ -22,9 +22,9 @@ use Rattle.tin_base.specs.Segments.{ArePieces, ArePiecesAt}
 use Rattle.tin_base.proofs.Agreement.{each_has_image}
 use Rattle.tin_base.proofs.Carrying.{images_between, each_between}
 use Rattle.tin_base.proofs.Chain.{covered}
-use Rattle.tin_base.proofs.Spots.{one, spot-w}
+use Rattle.tin_base.proofs.Spots.{one, spot-w, spot_of_point}
 use Rattle.affine_image.specs.SegmentImages.{IsImageOfSome, IsOnImageOf, PieceImagesAreTheImage}
-use Rattle.affine_image.proofs.Joining.{same_or, point_same}
+use Rattle.affine_image.proofs.Joining.{same_or}
 use Rattle.affine_image.proofs.Moving.{image_moved}
 
 -- ---- a spot between two others is a mix of them
@@ -42,7 +42,7 @@ mix_axis =
     ⊗ (s1 ⊗ c ⊕ (s2 ⊗ d ⊕ num (pos 0)))
     because eqn 1 (k ⊗ (a ⊗ d ⊖ b ⊗ c)) ⊞ eqn 0 (neg (l ⊗ (a ⊗ d ⊖ b ⊗ c)))) tt
 
--- one of the two weights is above 0
+-- one of the two weights is weight_above 0
 some_weight : (k l f1 f2 g1 g2 s1 s2 : ℤ) → k +ℤ s2 *ℤ g1 ≡ s1 *ℤ g2 → l +ℤ s1 *ℤ f2 ≡ s2 *ℤ f1 → pos 0 ≤ℤ k
     → pos 0 ≤ℤ l
     → pos 0 ≤ℤ (f1 +ℤ f2) → pos 0 ≤ℤ (g1 +ℤ g2) → pos 0 <ℤ (s1 +ℤ s2) → (f2 *ℤ g1) <ℤ (g2 *ℤ f1) → pos 0 <ℤ (k +ℤ l)
@@ -56,9 +56,6 @@ some_weight =
 -- what is left of a number
 left : (m n : ℕ) → m ≤ n → (k : ℕ) × (k + m ≡ n)
 left m n h = (n - m, omega arith)
-
-above : (m n : ℕ) → pos 0 <ℤ (pos m +ℤ pos n) → 0 < m + n
-above m n h = omega (arith, ints)
 
 below : (m n : ℕ) → m < n → pos m <ℤ pos n
 below m n h = omega (arith, ints)
@@ -90,7 +87,7 @@ spot_between a b f g s before some from upto =
         weights_between (spot_at a b f) (spot_at a b g) (spot_at a b s) (record {
           k = k;
           l = l;
-          some = above k l (some_weight (pos k) (pos l) f1 f2 g1 g2 s1 s2 ek el (nonneg_pos k) (nonneg_pos l)
+          some = weight_above k l (some_weight (pos k) (pos l) f1 f2 g1 g2 s1 s2 ek el (nonneg_pos k) (nonneg_pos l)
               (both f.of_a f.of_b) (both g.of_a g.of_b)
               (two_positive s.of_a s.of_b some) (below (f.of_b * g.of_a) (g.of_b * f.of_a) before));
           same = (
@@ -227,12 +224,12 @@ point_forth tin a (part ∷ []) r inside pieces positive image = (
     at_point mix =
         let s : Spot = record { of_a = mix.k; of_b = mix.l } in
         same_sym image.0 (whole a) (same_trans image.0 (spot_at a a s) (whole a) (spot-w a a s mix.some) mix.same
-        (point_same a s))
+        (spot_of_point a s))
 
     at_spot : (s : Spot) → IsImage tin (spot_at a a s) r
     at_spot s =
         image_moved tin image.0 (spot_at a a s) r image.1
-        (same_trans (spot_at a a s) (whole a) image.0 one (point_same a s)
+        (same_trans (spot_at a a s) (whole a) image.0 one (spot_of_point a s)
         (at_point (between_weights (whole a) (whole a) image.0 image.2))) image.3
 point_forth tin a (part ∷ next ∷ parts) r inside pieces positive image = absurd pieces
 
@@ -243,8 +240,8 @@ point_carried : (tin : Triangulation) (a : Pt) (t : ℕ) (f l : Spot) (first las
 point_carried tin a t f l first last in_range has some_f some_l is_first is_last first_positive last_positive = record {
   triangle = t;
   in_range = in_range;
-  begins = mix_moved (whole a) (spot_at a a f) _ one (point_same a f) has;
-  ends = mix_moved (whole a) (spot_at a a l) _ one (point_same a l) has;
+  begins = mix_moved (whole a) (spot_at a a f) _ one (spot_of_point a f) has;
+  ends = mix_moved (whole a) (spot_at a a l) _ one (spot_of_point a l) has;
   image_begins = is_first;
   image_ends = is_last;
   positive = spot-w a a f some_f;

@@ -31,6 +31,7 @@ use Rattle.affine_image.proofs.Rounding.{rounded_images_agree}
 use Rattle.affine_image.proofs.Fitting.{AreJoined, begin_is, run_count, alone_run}
 use Rattle.affine_image.proofs.Told.{end_images, inner_ends, piece_images_are_joined}
 use Rattle.affine_image.proofs.OneCut.{cut_alike, ends_one}
+use Rattle.plain_laws.proofs.Lists.{take_front}
 
 -- ---- from point to point
 abbrev pub between_points : List Pt → List Ends
@@ -529,21 +530,17 @@ split_pieces tin layer (s ∷ ss) ts pieces (own, rest, all, is, others) =
       of_back = t.of_back;
     }
 
-split_inside : (tin : Triangulation) (ss ts : List Segment) → AreInside tin (ss ++ ts)
+pub split_inside : (tin : Triangulation) (ss ts : List Segment) → AreInside tin (ss ++ ts)
     → AreInside tin ss × AreInside tin ts
 split_inside tin [] ts all = (tt, all)
 split_inside tin (s ∷ ss) ts all = let (front, back) = split_inside tin ss ts all.1 in ((all.0, front), back)
-
-take_length : {A : Type 0} (xs ys : List A) → take (length xs) (xs ++ ys) ≡ xs
-take_length [] ys = refl
-take_length (x ∷ xs) ys = ap (λ zs. x ∷ zs) (take_length xs ys)
 
 begins_behind_runs : (images : Runs) (front back : List (List Pt)) (n : ℕ) → AreJoined images (front ++ back)
     → n ≡ length front → run_begin images n ≡ length (joined front)
 begins_behind_runs images front back n joint e =
     let fits : length front ≤ length (front ++ back) = let f = length-append front back in omega (arith, f) in
     ap (run_begin images) e ∙ begin_is images (front ++ back) (length front) joint fits
-    ∙ ap (λ rs. length (joined rs)) (take_length front back)
+    ∙ ap (λ rs. length (joined rs)) (take_front front back)
 
 module _ (tin : Triangulation) (layer : ℕ) (sound : IsSound tin) (points : List Pt) (images : Runs) where
   paths_again : (path : ℕ) (rows : List PathRow) (first past : ℕ) (before runs : List (List Pt)) (pieces : List Piece)

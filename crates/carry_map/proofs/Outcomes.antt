@@ -27,7 +27,7 @@ use Rattle.affine_image.specs.SheetSegments.{segments_begun, sheet_vertices, she
 use Rattle.affine_image.specs.SheetPieces.{next_place, AreTold, first_place, ArePiecesOfSegment, AreInside}
 use Rattle.affine_image.specs.SheetImages.{AreCrossings, AreRuns, joined, begins_from}
 use Rattle.affine_image.proofs.Joining.{same_or}
-use Rattle.affine_image.proofs.Segmenting.{begun_append}
+use Rattle.affine_image.proofs.Segmenting.{begun_append, split_inside}
 use Rattle.affine_image.proofs.Told.{told_length, end_images, inner_ends}
 use Rattle.tin_base.proofs.Spots.{first_inside, last_inside}
 use Rattle.tin_base.proofs.Outcomes as walks
@@ -232,11 +232,6 @@ ready_more : (tin : Triangulation) (vs ws : List PathVertex) → AreReady tin vs
 ready_more tin [] ws h k = k
 ready_more tin (v ∷ vs) ws h k = (h.0, h.1, ready_more tin vs ws h.2 k)
 
-inside_parts : (tin : Triangulation) (ss ts : List Segment) → AreInside tin (ss ++ ts)
-    → AreInside tin ss × AreInside tin ts
-inside_parts tin [] ts h = (tt, h)
-inside_parts tin (s ∷ ss) ts h = let rest = inside_parts tin ss ts h.1 in ((h.0, rest.0), rest.1)
-
 module _ (tin : Triangulation) (points : List Pt) (path : ℕ) (row : PathRow)
     (are_few : AreFew (segments_in row) (points_in row)) where
   -- the place of the vertex of this number, where it is none of the first
@@ -299,7 +294,7 @@ ready_paths tin points n [] first past tiled inside = tt
 ready_paths tin points n (row ∷ rows) first past tiled inside =
     let path = tiled.0 in
     let from : IsPathFrom row.first row = record { begins = refl; some = path.some; dot = path.dot } in
-    let (own, others) = inside_parts tin (segments_begun (path_vertices points n row))
+    let (own, others) = split_inside tin (segments_begun (path_vertices points n row))
     (segments_begun (vertices_from points (n + 1) rows))
     (subst (AreInside tin) (begun_append (path_vertices points n row) (vertices_from points (n + 1) rows)) inside) in
     ready_more tin (path_vertices points n row) (vertices_from points (n + 1) rows)

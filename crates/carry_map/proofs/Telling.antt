@@ -16,8 +16,8 @@ use Rattle.tin_base.specs.Segments.{Part, part_at, no_part, spot_at, IsInside, A
 use Rattle.affine_image.specs.Rounded.{IsRoundedImage, IsRoundedImageAt}
 use Rattle.affine_image.specs.SheetPieces.{AreTold}
 use Rattle.affine_image.proofs.Moving.{rounded_moved}
-use Rattle.tin_base.proofs.Spots.{spot-w}
-use Rattle.affine_image.proofs.Joining.{same_or, point_same, AreInLine, in_line}
+use Rattle.tin_base.proofs.Spots.{spot-w, spot_of_point}
+use Rattle.affine_image.proofs.Joining.{same_or, AreInLine, in_line}
 use Rattle.affine_image.proofs.Told.{place_on, told_more, told_length}
 use Rattle.seg_walk.specs.declared.steps.Step.{Step}
 use Rattle.tin_base.specs.Slices.{spot_of, IsSliceIn}
@@ -80,8 +80,8 @@ ends_by : (a b : Pt) (which : (a ≡ b) ⊎ (a ≢ b)) (step : Step)
 ends_by a b (inl e) step =
     let last = (point_of step).last in let hi = spot_of step.slice.hi in
     subst (λ (q : Pt). Same (spot_at a q last) (spot_at a q hi)) e
-    (same_trans (spot_at a a last) (whole a) (spot_at a a hi) (omega (arith, ints)) (point_same a last)
-    (same_sym (spot_at a a hi) (whole a) (point_same a hi)))
+    (same_trans (spot_at a a last) (whole a) (spot_at a a hi) (omega (arith, ints)) (spot_of_point a last)
+    (same_sym (spot_at a a hi) (whole a) (spot_of_point a hi)))
 ends_by a b (inr n) step = same_refl (spot_at a b (spot_of step.slice.hi))
 
 triangle_by : (a b : Pt) (which : (a ≡ b) ⊎ (a ≢ b)) (step : Step) → (told_by which step).triangle ≡ step.tri

@@ -6,7 +6,7 @@ use Rattle.std.specs.List.Sorted.{IsStrictlyIncreasing}
 use Rattle.std.proofs.lemmas.Bool.{cases_lt, cases_eq, cases_Bool, false_from_ne_true, false≢true}
 use borrow.Author.Tests.{eqb-true}
 use Rattle.std.proofs.Common.{eq-eqb}
-use Rattle.std.proofs.lemmas.List.{length_push, length-append, length-map, get_or_append_left, get_or_push}
+use Rattle.std.proofs.lemmas.List.{length-append, length-map}
 use Rattle.std.proofs.lemmas.List.{get_or_default, append-nil}
 use Rattle.std.proofs.lemmas.List.Elements.{All-append, All-map, Contains-push, Contains-push_cases}
 use Rattle.std.proofs.lemmas.List.Elements.{Contains-append_left, Contains-get_or, All-from_recursion}
@@ -21,6 +21,7 @@ use Rattle.cell_grid.specs.Cells.{cell_of, IsPlaceOf, IsOnLevel}
 use Rattle.cell_grid.specs.LevelLists.{AreLaid}
 use Rattle.cell_grid.specs.Entries.{entered, ArePlacesOf, AreEntered}
 use Rattle.cell_grid.specs.declared.levels.Level.{Level}
+use Rattle.plain_laws.proofs.Lists.{increasing_push}
 
 -- ---- numbers of entries behind others
 cond_append : (b : Bool) (n : ℕ) (xs ys : List ℕ) → cond b (n ∷ (xs ++ ys)) (xs ++ ys) ≡ cond b (n ∷ xs) xs ++ ys
@@ -104,18 +105,6 @@ here : (key : ℕ) (places : List ℕ) (number : ℕ) (xs ys : List ℕ) → Ent
     → Contains ys number
 here key places number xs ys (inl e) c = subst (λ (l : List ℕ). Contains l number) (sym e.1) (Contains-push xs number)
 here key places number xs ys (inr e) c = absurd (e.0 c)
-
--- ascending numbers and one more
-pub increasing_push : (xs : List ℕ) (n : ℕ) → IsStrictlyIncreasing xs → ((k : ℕ) → Contains xs k → k < n)
-    → IsStrictlyIncreasing (xs ++ n ∷ [])
-increasing_push xs n up below k within =
-    let long = length_push xs n in
-    let low : get_or (xs ++ n ∷ []) k 0 ≡ get_or xs k 0 = get_or_append_left xs (n ∷ []) 0 k (omega arith) in
-    ⊎_elim
-    (λ inside. rw (low, get_or_append_left xs (n ∷ []) 0 (k + 1) inside) (up k inside))
-    (λ at_end. rw (low, get_or_push xs n 0 (k + 1) (omega arith))
-    (below (get_or xs k 0) (Contains-get_or xs k 0 (omega arith))))
-    (cases_lt (k + 1) (length xs))
 
 ascending_more : (key : ℕ) (places : List ℕ) (number : ℕ) (xs ys : List ℕ) → Enters key places number xs ys
     → IsStrictlyIncreasing xs → ((k : ℕ) → Contains xs k → k < number) → IsStrictlyIncreasing ys

@@ -19,10 +19,10 @@ use Rattle.tin_base.proofs.Ends.{IsSpot, before_trans_left, before_trans_right, 
 use Rattle.tin_base.proofs.Outcomes.{outcome}
 use Rattle.tin_base.proofs.Params.{spot_some, below}
 use Rattle.tin_base.proofs.SlicedParts.{HasParams, params, within, part_told}
-use Rattle.tin_base.proofs.Spots.{spot-w}
+use Rattle.tin_base.proofs.Spots.{spot-w, spot_first, spot_last}
 use Rattle.affine_image.specs.Rounded.{IsRoundedImage, IsRoundedImageAt}
 use Rattle.affine_image.specs.SheetImages.{AreEndsOfAllButLast}
-use Rattle.affine_image.proofs.Joining.{same_or, same_of_spots, first_same, last_same}
+use Rattle.affine_image.proofs.Joining.{same_or, same_of_spots}
 use Rattle.affine_image.proofs.Moving.{rounded_moved}
 use Rattle.cert_check.specs.RightLists.{AreFollowing, IsOneWith, IsRightList}
 use Rattle.cert_check.specs.SheetLists.{HasPart, IsEndImage, AreEndImages, IsRunBehind, IsTriangleWith}
@@ -208,7 +208,7 @@ first_has tin a b t ts right = go (same_or a b)
         let has = part.has_first in (
           part.in_range,
           mix_moved (spot_at a b at_a) (whole a) (places tin Source (numbers_of tin t)) (spot-w a b at_a (omega arith))
-              (same_sym (spot_at a b at_a) (whole a) (first_same a b))
+              (same_sym (spot_at a b at_a) (whole a) (spot_first a b))
               (mix_moved (spot_at a b f) (spot_at a b at_a) (places tin Source (numbers_of tin t))
               (spot-w a b f has.some) (same_of_spots a b at_a f (sym same)) has.inside),
         )
@@ -224,7 +224,7 @@ way_end tin a b x [] last (f, l, part, same, ends) =
     let has = part.has_last in (
       part.in_range,
       mix_moved (spot_at a b at_b) (whole b) (places tin Source (numbers_of tin last)) (spot-w a b at_b (omega arith))
-          (same_sym (spot_at a b at_b) (whole b) (last_same a b))
+          (same_sym (spot_at a b at_b) (whole b) (spot_last a b))
           (mix_moved (spot_at a b l) (spot_at a b at_b) (places tin Source (numbers_of tin last))
           (spot-w a b l has.some) (same_of_spots a b at_b l (sym ends)) has.inside),
     )

@@ -1,7 +1,7 @@
 -- The edits of an entity stand at the pairs of the drawing.
 use Rattle.std.proofs.Common.{◌≡◌, ℕ, zero, suc, ◌+◌, ◌<◌, pos, List, [], ◌∷◌, ◌++◌, take, Bool, true, false, cond}
 use Rattle.std.proofs.Common.{refl, ap, sym, ◌∙◌, subst, arith, inl, inr, Ok, Option, None, Some}
-use Rattle.std.specs.Prelude.{◌⊎◌, ◌||◌, ⊤, codes, take_while, int_lt}
+use Rattle.std.specs.Prelude.{◌⊎◌, ⊤, codes, take_while, int_lt}
 use Rattle.std.specs.List.{prefix_len}
 use Rattle.std.proofs.lemmas.List.{append_assoc}
 use Rattle.std.proofs.lemmas.List.Sums.{take_while-cons}
@@ -31,6 +31,7 @@ use Rattle.dxf_layer.proofs.ValueTexts.{plain_value, plain_digits, plain_written
 use Rattle.dxf_layer.proofs.CopiedPairs.{nothing_adds, both_add, pair_adds, AreBody, IsFront, copied_on, copied_adds}
 use Rattle.dxf_layer.proofs.PairPlaces.{entity_is, stands_whole, tiles_behind, lines_behind}
 use Rattle.dxf_layer.proofs.VertexPlaces.{IsProper, vertices_stand}
+use Rattle.std.proofs.lemmas.Bool.{or_right}
 
 -- the pairs of an entity behind its head
 pub record AreOfEntity (bytes : List ℕ) (start line : ℕ) (pairs body : List Pair) : Type 0 where
@@ -236,10 +237,6 @@ AreSources read [] = ⊤
 AreSources read (entity ∷ entities) = (IsSource read entity ⊎ (ends_section read.bytes entity.head ≡ true))
     × AreSources read entities
 
-second_holds : (a b : Bool) → b ≡ true → (a || b) ≡ true
-second_holds true b is = refl
-second_holds false b is = is
-
 pub sources : GroupsFollow → (read : Reading) (past : ℕ) → AreTiles 0 1 read.pairs past
     → AreInLines read.bytes read.pairs → (front pairs : List Pair) (place : Where) → read.pairs ≡ front ++ pairs
     → AreSources read (entities_from read.bytes place pairs)
@@ -253,7 +250,7 @@ sources follow read past tiles lines front (pair ∷ pairs) place are =
       by_pairs [] all =
           let ends : EndsDrawing read.bytes pair =
           lines_behind read.bytes front pair [] (subst (λ (ps : List Pair). AreInLines read.bytes ps) all lines) in
-          inr (second_holds (is_pair read.bytes (pos 0) (codes "ENDSEC") pair)
+          inr (or_right (is_pair read.bytes (pos 0) (codes "ENDSEC") pair)
           (is_pair read.bytes (pos 0) (codes "EOF") pair) ends.last)
       by_pairs (next ∷ more) all = inl (source_of follow read past tiles lines front pair next more all)
 

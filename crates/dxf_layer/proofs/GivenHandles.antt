@@ -24,6 +24,7 @@ use Rattle.dxf_layer.specs.Copies.{line_values, vertex_values, handles_in, value
 use Rattle.dxf_layer.specs.Copies.{HandlesAreNew}
 use Rattle.dxf_layer.proofs.Taking.{earlier_take}
 use Rattle.dxf_layer.proofs.Whole.{sheet_in_order}
+use Rattle.plain_laws.proofs.Lists.{take_front}
 
 -- ---- the handles of the copies of one entity
 lines_behind : (next : ℕ) (images : List Pt)
@@ -115,10 +116,6 @@ at_front : (front : List Edit) (edit : Edit) (behind : List Edit)
     → slice_index_or (front ++ edit ∷ behind) (length front) no_edit ≡ edit
 at_front [] edit behind = refl
 at_front (first ∷ front) edit behind = at_front front edit behind
-
-take_front : (front behind : List Edit) → take (length front) (front ++ behind) ≡ front
-take_front [] behind = refl
-take_front (first ∷ front) behind = ap (λ (rest : List Edit). first ∷ rest) (take_front front behind)
 
 -- the next handle where an edit stands is behind those of the edits in front of it
 next_behind_front : (read : Reading) (front : List Edit) (edit : Edit) (behind : List Edit)

@@ -1,6 +1,6 @@
 -- What is written has a next handle where the drawing has one, and comes to an end.
 use Rattle.std.proofs.Common.{◌≡◌, ℕ, Bool, true, false, cond, refl, ap, sym, ◌∙◌, List, [], ◌∷◌, ◌++◌}
-use Rattle.std.specs.Prelude.{◌||◌, ⊤}
+use Rattle.std.specs.Prelude.{⊤}
 use Rattle.std.specs.List.{list_any}
 use Rattle.std.proofs.lemmas.List.{append_assoc}
 use Rattle.dxf_pairs.specs.declared.pairs.Pair.{Pair}
@@ -15,6 +15,7 @@ use Rattle.dxf_layer.proofs.GroupDrawings.{begins_seeded, seeded_from}
 use Rattle.dxf_layer.proofs.CopiedPairs.{AreBody}
 use Rattle.dxf_layer.proofs.EntityTurns.{groups_told, HaveNoHead, AreWholeTold}
 use Rattle.dxf_layer.proofs.WrittenGroups.{ends}
+use Rattle.std.proofs.lemmas.Bool.{or_right}
 
 abbrev pub HasSome : List Pair → Type 0
 HasSome [] = ⊥
@@ -29,13 +30,9 @@ pub record IsKept (bytes : List ℕ) (place : Where) (pairs : List Pair) (groups
 pub kept_none : (bytes : List ℕ) (place : Where) → IsKept bytes place [] []
 kept_none bytes place = record { begins = λ is. refl; seeded = refl; ending = λ some. absurd some }
 
-pub either_true : (first second : Bool) → second ≡ true → (first || second) ≡ true
-either_true true second is = refl
-either_true false second is = is
-
 any_behind : (groups more : List Group) → list_any ends more ≡ true → list_any ends (groups ++ more) ≡ true
 any_behind [] more is = is
-any_behind (group ∷ groups) more is = either_true (ends group) (list_any ends (groups ++ more))
+any_behind (group ∷ groups) more is = or_right (ends group) (list_any ends (groups ++ more))
     (any_behind groups more is)
 
 -- no entity gives the next handle

@@ -19,9 +19,9 @@ use Rattle.dxf_layer.specs.ReadBack.{begins_at, covers, is_of_value, groups_for}
 use Rattle.dxf_layer.specs.Copies.{WrittenIsADrawing}
 use Rattle.dxf_layer.proofs.EditedPairs.{StartsAt, StandsOn, StandOn, groups_in}
 use Rattle.dxf_layer.proofs.SplicedPairs.{no_end}
-use Rattle.dxf_layer.proofs.KeptSeeds.{either_true}
 use Rattle.dxf_layer.proofs.WrittenGroups.{ends, is_drawing}
 use Rattle.dxf_layer.proofs.WrittenPairs.{edits_stand, written}
+use Rattle.std.proofs.lemmas.Bool.{or_right}
 
 -- ---- no edit is at the last pair
 pub record IsAside (pair : Pair) (edit : Edit) : Type 0 where
@@ -99,7 +99,7 @@ none_replaces pair (edit ∷ edits) aside = let here = aside.0.of_value in rw he
 -- ---- so the groups come to an end
 any_behind : (groups more : List Group) → list_any ends more ≡ true → list_any ends (groups ++ more) ≡ true
 any_behind [] more is = is
-any_behind (group ∷ groups) more is = either_true (ends group) (list_any ends (groups ++ more))
+any_behind (group ∷ groups) more is = or_right (ends group) (list_any ends (groups ++ more))
     (any_behind groups more is)
 
 abbrev AllAsideLast : List Pair → List Edit → Type 0

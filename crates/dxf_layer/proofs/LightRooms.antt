@@ -26,7 +26,7 @@ use Rattle.dxf_layer.specs.Rendering.{Reading, starts_before, coded_before, last
 use Rattle.dxf_layer.specs.Rendering.{crossings_of, text_of}
 use Rattle.dxf_layer.proofs.Members.{went, Follow, IsIn}
 use Rattle.dxf_layer.proofs.Apart.{StandApart}
-use Rattle.dxf_layer.proofs.VertexOrder.{IsVertex, vertex_is, no_fault, both_true, ordered}
+use Rattle.dxf_layer.proofs.VertexOrder.{IsVertex, vertex_is, no_fault, ordered}
 use Rattle.dxf_layer.proofs.SplicedPairs.{between_both}
 use Rattle.dxf_layer.proofs.ValueTexts.{plain_value, plain_written}
 use Rattle.dxf_layer.proofs.CopiedPairs.{AreBody}
@@ -34,6 +34,7 @@ use Rattle.dxf_layer.proofs.CopiedGroups.{AddsAs, none_added, both_added, alone_
 use Rattle.dxf_layer.proofs.PairPlaces.{AreGroup, last_ten, last_twenty, tiles_behind}
 use Rattle.dxf_layer.proofs.ValueTurns.{AreSome, some_at}
 use Rattle.dxf_layer.proofs.LightPoints.{point_groups, EndsBehind, group_below}
+use Rattle.std.proofs.lemmas.Bool.{and_parts}
 
 -- the room for crossings behind a vertex
 abbrev pub room : ℕ → Vertex → Edit
@@ -362,7 +363,7 @@ known_of follow read past tiles all some exact front (x ∷ y ∷ fields) others
           let second = went (λ (more : List Vertex). Ok (first.value ∷ more)) (vertices_in read.bytes exact fields)
           vertices first.gives in
           let whole : first.value ∷ second.value ≡ vertices = cc in
-          let codes = both_true (has_code (pos 10) x) (has_code (pos 20) y) begins in
+          let codes = and_parts (has_code (pos 10) x) (has_code (pos 20) y) begins in
           subst (AreKnown read all from n) whole
           (one_known follow read past tiles all some exact front fields others x y first.value second.value from last n
           are body inner follows ((Decides-int_eq x.code (pos 10)).0 codes.0)

@@ -20,13 +20,14 @@ use Rattle.dxf_layer.proofs.GroupFields.{number_in}
 use Rattle.dxf_layer.proofs.GroupPolylines.{is_good_in_vertex, behind_vertex, points_in}
 use Rattle.dxf_layer.proofs.ChangedFields.{may_change, with_value, DoStay}
 use Rattle.dxf_layer.proofs.WrittenNumbers.{number_written}
-use Rattle.dxf_layer.proofs.VertexOrder.{IsVertex, vertex_is, no_fault, both_true}
+use Rattle.dxf_layer.proofs.VertexOrder.{IsVertex, vertex_is, no_fault}
 use Rattle.dxf_layer.proofs.ValueTurns.{AreGoodImages, image_within}
 use Rattle.dxf_layer.proofs.CopyWalks.{AllWithin}
 use Rattle.dxf_layer.proofs.WholeTurns.{range_within}
 use Rattle.dxf_layer.proofs.LightGroups.{made, left, made_both}
 use Rattle.dxf_layer.proofs.LightPoints.{point_groups, spread, AreTexts, AreImages, EndsBehind, behind_less, texts_more}
 use Rattle.dxf_layer.proofs.LightPoints.{no_text, not_number, was_good, group_below, crossed}
+use Rattle.std.proofs.lemmas.Bool.{and_parts}
 
 drop_within : (points : List Pt) → AllWithin points → AllWithin (drop 1 points)
 drop_within [] within = tt
@@ -225,7 +226,7 @@ module _ (bytes : List ℕ) (exact : Bool) (images : Runs) (count : ℕ) (good :
             subst (λ (vs : List Vertex). n + length vs ≤ count) (sym whole) inside in
             let images_are : AreImages value images n (first.value ∷ second.value) =
             subst (AreImages value images n) (sym whole) valued in
-            let codes = both_true (has_code (pos 10) x) (has_code (pos 20) y) begins in
+            let codes = and_parts (has_code (pos 10) x) (has_code (pos 20) y) begins in
             subst (AreAgain from n (x ∷ y ∷ fields)) whole
             (one_again x y fields from past n first.value second.value follow begins
             ((Decides-int_eq x.code (pos 10)).0 codes.0) (vertex_is bytes exact x y fields first.value first.is)

@@ -15,11 +15,12 @@ use Rattle.dxf_layer.specs.Polylines.{vertex_of, begins_vertex, is_number, verti
 use Rattle.dxf_layer.specs.Rendering.{Reading, coded_before}
 use Rattle.dxf_layer.specs.Copies.{HasOwnFields, VerticesCopyOwnFields}
 use Rattle.dxf_layer.proofs.Members.{went}
-use Rattle.dxf_layer.proofs.VertexOrder.{IsVertex, vertex_is, both_true}
+use Rattle.dxf_layer.proofs.VertexOrder.{IsVertex, vertex_is}
 use Rattle.dxf_layer.proofs.CopiedPairs.{IsFront}
 use Rattle.dxf_layer.proofs.PairPlaces.{before_is, coded, last_ten, last_twenty, tiles_behind, lines_behind}
 use Rattle.dxf_layer.proofs.VertexPlaces.{IsProper, ends_at, in_front_of, in_front_one, in_front_two}
 use Rattle.dxf_layer.proofs.EntityPlaces.{of_entity, front_taken, front_proper}
+use Rattle.std.proofs.lemmas.Bool.{and_parts}
 
 -- one vertex, with the fields of its group behind it
 one_vertex : (read : Reading) (past : ℕ) → AreTiles 0 1 read.pairs past
@@ -75,7 +76,7 @@ all_vertices read past tiles exact front (first ∷ second ∷ fields) (x ∷ y 
           let more = went (λ (more : List Vertex). Ok (one.value ∷ more)) (vertices_in read.bytes exact fields) vertices
           one.gives in
           let whole : one.value ∷ more.value ≡ vertices = cc in
-          let codes = both_true (has_code (pos 10) first) (has_code (pos 20) second) begins in
+          let codes = and_parts (has_code (pos 10) first) (has_code (pos 20) second) begins in
           let vertex : IsVertex read.bytes x y fields one.value =
           subst (λ (p : Pair). IsVertex read.bytes p y fields one.value) proper.0
           (subst (λ (p : Pair). IsVertex read.bytes first p fields one.value) proper.1.0

@@ -18,12 +18,10 @@ use Rattle.dxf_layer.specs.Rendering.{Reading}
 use Rattle.dxf_layer.proofs.GroupShapes.{is_seeded}
 use Rattle.dxf_layer.proofs.GroupDrawings.{behind_group, begins_seeded, is_group, names_next, seeded_from}
 use Rattle.dxf_layer.proofs.WrittenGroups.{ends}
-use Rattle.dxf_layer.proofs.KeptSeeds.{HasSome, IsKept, either_true}
+use Rattle.dxf_layer.proofs.KeptSeeds.{HasSome, IsKept}
 use Rattle.dxf_layer.proofs.WrittenWalks.{IsHarmless, harmless_behind}
-
-both_first : (a b : Bool) → (a && b) ≡ true → a ≡ true
-both_first true b is = refl
-both_first false b is = absurd (cc)
+use Rattle.std.proofs.lemmas.Bool.{or_right}
+use Rattle.plain_laws.proofs.Booleans.{and_first}
 
 some_seed : (good : Bool) (pair : Pair) → good ≡ is_seeded (cond good (Some pair) None)
 some_seed true pair = refl
@@ -54,7 +52,7 @@ header_stays bytes Entities pair is = absurd (cc)
 header_stays bytes Other pair is = absurd (cc)
 header_stays bytes Header pair is =
     let nine : has_code (pos 9) pair ≡ true =
-    both_first (has_code (pos 9) pair) (bytes_eq (value_in bytes pair) (codes "$HANDSEED")) is in
+    and_first (has_code (pos 9) pair) (bytes_eq (value_in bytes pair) (codes "$HANDSEED")) is in
     let code : pair.code ≡ pos 9 = (Decides-int_eq pair.code (pos 9)).0 nine in
     let no_head : has_code (pos 0) pair ≡ false = ap (λ (c : ℤ). int_eq c (pos 0)) code in
     rw no_head refl
@@ -86,9 +84,9 @@ kept_single read extra pair pairs place h lines groups rest = record {
       → list_any ends (group ∷ groups) ≡ true
   by_more [] last later =
       let zero : has_code (pos 0) pair ≡ true =
-      both_first (has_code (pos 0) pair) (bytes_eq (value_in read.bytes pair) (codes "EOF")) last.last in
+      and_first (has_code (pos 0) pair) (bytes_eq (value_in read.bytes pair) (codes "EOF")) last.last in
       let code : pair.code ≡ pos 0 = (Decides-int_eq pair.code (pos 0)).0 zero in
       let no_five : has_code (pos 5) pair ≡ false = ap (λ (c : ℤ). int_eq c (pos 5)) code in
       let here : ends group ≡ true = ap (is_last pair.code) (h.same no_five) ∙ last.last in
       ap (λ (b : Bool). b || list_any ends groups) here
-  by_more (next ∷ more) both later = either_true (ends group) (list_any ends groups) (later tt)
+  by_more (next ∷ more) both later = or_right (ends group) (list_any ends groups) (later tt)

@@ -1,7 +1,7 @@
 -- The groups of spliced bytes, where the edits stand at the pairs.
 use Rattle.std.proofs.Common.{◌≡◌, ℕ, zero, suc, ◌+◌, ◌-◌, ◌≤◌, ◌<◌, pos, List, [], ◌∷◌, ◌++◌, length, take, drop, Bool}
 use Rattle.std.proofs.Common.{true, false, refl, ap, sym, ◌∙◌, subst, arith, inl, inr}
-use Rattle.std.specs.Prelude.{◌&&◌, flat_map}
+use Rattle.std.specs.Prelude.{flat_map}
 use Rattle.std.specs.Str.{bytes_eq}
 use Rattle.std.proofs.lemmas.List.{append_assoc, drop-drop, take-append-drop}
 use Rattle.std.proofs.Math.Seq.{take-add}
@@ -19,6 +19,7 @@ use Rattle.dxf_layer.specs.Rendering.{Reading, text_of}
 use Rattle.dxf_layer.proofs.EditedPairs.{AddsGroups, IsOfValue, StartsAt, StandsOn, StandOn, groups_in, feed_behind}
 use Rattle.dxf_layer.proofs.EditedPairs.{order_earlier, starts_behind, stand_later, kept, passed, covered_first}
 use Rattle.dxf_layer.proofs.EditedPairs.{covered_later, inserted, replaced}
+use Rattle.plain_laws.proofs.Booleans.{and_first}
 
 -- bytes from one place to another, by a place between them
 pub between_both : (bytes : List ℕ) (from middle past : ℕ) → from ≤ middle → middle ≤ past
@@ -51,17 +52,13 @@ on_to bytes text from middle size (edit ∷ edits) first order =
     ∙ append_assoc (between from middle bytes) (between middle edit.start bytes)
     (text edit ++ spliced_from bytes text edit.end edits)
 
-both_of : (a b : Bool) → (a && b) ≡ true → a ≡ true
-both_of true b is = refl
-both_of false b is = absurd (cc)
-
 pub not_last : (pair : Pair) (value : List ℕ) → has_code (pos 0) pair ≡ false → is_last pair.code value ≡ false
 not_last pair value no_head = rw no_head refl
 
 pub no_end : (bytes : List ℕ) (pair : Pair) → EndsDrawing bytes pair → has_code (pos 0) pair ≡ false → ⊥
 no_end bytes pair ends no_head =
     let head : has_code (pos 0) pair ≡ true =
-    both_of (has_code (pos 0) pair) (bytes_eq (value_in bytes pair) LAST_VALUE.now) ends.last in
+    and_first (has_code (pos 0) pair) (bytes_eq (value_in bytes pair) LAST_VALUE.now) ends.last in
     cc
 
 -- a pair with a value in front of a text

@@ -1,7 +1,7 @@
 -- Texts that are written as values: numbers and handles.
 use Rattle.std.proofs.Common.{◌≡◌, ◌==◌, ℕ, zero, suc, ◌+◌, ◌-◌, ◌/◌, ◌%◌, ◌<◌, ℤ, pos, negsuc, List, [], ◌∷◌, ◌++◌}
 use Rattle.std.proofs.Common.{length, get_or, Bool, true, false, cond, refl, arith}
-use Rattle.std.specs.Prelude.{⊤, ◌&&◌, nat_lt, decimal}
+use Rattle.std.specs.Prelude.{⊤, nat_lt, decimal}
 use Rattle.std.specs.List.{list_all}
 use Rattle.std.specs.Char.{is_ascii_hexdigit}
 use Rattle.std.specs.Fmt.{digits, digit_glyph, digits_onto}
@@ -10,6 +10,7 @@ use Rattle.mm_decimal.specs.Writing.{digit_text, metres_text, written}
 use Rattle.dxf_pairs.specs.declared.line_ends.TheConstants.{LINE_FEED}
 use Rattle.dxf_pairs.specs.Values.{is_blank}
 use Rattle.dxf_pairs.specs.InLines.{IsValue}
+use Rattle.std.proofs.lemmas.Bool.{and_parts}
 
 -- every byte comes behind the space
 abbrev pub IsPlain : List ℕ → Type 0
@@ -77,13 +78,8 @@ plain_written (negsuc size) = (omega arith, plain_metres (suc size))
 plain_hex : (byte : ℕ) → is_ascii_hexdigit byte ≡ true → 32 < byte
 plain_hex byte is = grind (arith, nat_tests)
 
-both_hold : (a b : Bool) → (a && b) ≡ true → (a ≡ true) × (b ≡ true)
-both_hold true true is = (refl, refl)
-both_hold true false is = absurd (cc)
-both_hold false b is = absurd (cc)
-
 pub plain_hexes : (text : List ℕ) → list_all is_ascii_hexdigit text ≡ true → IsPlain text
 plain_hexes [] all = tt
 plain_hexes (byte ∷ text) all =
-    let both = both_hold (is_ascii_hexdigit byte) (list_all is_ascii_hexdigit text) all in
+    let both = and_parts (is_ascii_hexdigit byte) (list_all is_ascii_hexdigit text) all in
     (plain_hex byte both.0, plain_hexes text both.1)

@@ -2,7 +2,7 @@
 use Rattle.std.proofs.Common.{◌≡◌, ℕ, ◌+◌, ◌≤◌, ◌<◌, ℤ, pos, List, [], ◌∷◌, Bool, true, false, cond, refl, ap, sym, ◌∙◌}
 use Rattle.std.proofs.Common.{subst, arith, inl, inr, Result, Ok, Err, Option, None, Some}
 use Rattle.std.proofs.lemmas.Int.{ints}
-use Rattle.std.specs.Prelude.{◌⊎◌, ◌&&◌, ⊤}
+use Rattle.std.specs.Prelude.{◌⊎◌, ⊤}
 use Rattle.std.proofs.lemmas.Bool.Decides.{Decides-int_eq}
 use Rattle.sheet_base.specs.declared.edits.Edit.{Edit}
 use Rattle.sheet_base.specs.declared.edits.What.{What}
@@ -19,6 +19,7 @@ use Rattle.dxf_layer.specs.Polylines.{is_group_code, fault_in_group, first_fault
 use Rattle.dxf_layer.specs.Polylines.{is_number, vertices_in, vertex_edits}
 use Rattle.dxf_layer.proofs.Apart.{IsApart, StandApart, wider, no_edits, both_apart}
 use Rattle.dxf_layer.proofs.Members.{went, Follow, by_past, IsIn, Lies, lies, coordinate_is}
+use Rattle.std.proofs.lemmas.Bool.{and_parts}
 
 -- what is read of one vertex
 pub record IsVertex (bytes : List ℕ) (x y : Pair) (pairs : List Pair) (vertex : Vertex) : Type 0 where
@@ -179,11 +180,6 @@ skipped bytes pair fields from past vertices follow rest =
 
 other_code : (a b : ℤ) (p q : Pair) → p ≡ q → p.code ≡ a → q.code ≡ b → (a ≡ b → ⊥) → ⊥
 other_code a b p q same first second other = other (sym first ∙ (ap (λ (r : Pair). r.code) same ∙ second))
-
-pub both_true : (a b : Bool) → (a && b) ≡ true → (a ≡ true) × (b ≡ true)
-both_true true true is = (refl, refl)
-both_true true false is = absurd (cc)
-both_true false b is = absurd (cc)
 
 single : (what : What) (pair : Pair) (from past : ℕ) → Lies from pair past
     → StandApart from (value_edit what pair ∷ []) past
@@ -408,7 +404,7 @@ ordered bytes exact (x ∷ y ∷ pairs) from past vertices follow is =
           let second = went (λ (more : List Vertex). Ok (first.value ∷ more)) (vertices_in bytes exact pairs) vertices
           first.gives in
           let whole : first.value ∷ second.value ≡ vertices = cc in
-          let codes = both_true (has_code (pos 10) x) (has_code (pos 20) y) begins in
+          let codes = and_parts (has_code (pos 10) x) (has_code (pos 20) y) begins in
           subst (λ vs. AreOrdered bytes (x ∷ y ∷ pairs) from past vs) whole
           (one_ordered bytes x y pairs from past first.value second.value follow
           ((Decides-int_eq x.code (pos 10)).0 codes.0) ((Decides-int_eq y.code (pos 20)).0 codes.1)

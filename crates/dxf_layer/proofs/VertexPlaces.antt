@@ -26,13 +26,14 @@ use Rattle.dxf_layer.specs.Polylines.{is_group_code, fault_in_group, past_group,
 use Rattle.dxf_layer.specs.Polylines.{vertices_in, vertex_edits}
 use Rattle.dxf_layer.specs.Rendering.{Reading, coded_before, field_copy, field_copies, crossings_of, text_of}
 use Rattle.dxf_layer.proofs.Members.{went}
-use Rattle.dxf_layer.proofs.VertexOrder.{IsVertex, vertex_is, no_fault, both_true}
+use Rattle.dxf_layer.proofs.VertexOrder.{IsVertex, vertex_is, no_fault}
 use Rattle.dxf_layer.proofs.EditedPairs.{AddsGroups, StandsOn, StandOn}
 use Rattle.dxf_layer.proofs.SplicedPairs.{between_both}
 use Rattle.dxf_layer.proofs.ValueTexts.{plain_value, plain_written}
 use Rattle.dxf_layer.proofs.CopiedPairs.{nothing_adds, both_add, value_adds}
 use Rattle.dxf_layer.proofs.PairPlaces.{before_is, AreGroup, coded, last_ten, last_twenty, stands_whole, tiles_behind}
 use Rattle.dxf_layer.proofs.PairPlaces.{lines_behind}
+use Rattle.std.proofs.lemmas.Bool.{and_parts}
 
 -- these are the first of the pairs, and there are more
 abbrev pub IsProper : List Pair → List Pair → Type 0
@@ -283,7 +284,7 @@ vertices_stand follow read past tiles lines exact front (first ∷ second ∷ fi
           let more = went (λ (more : List Vertex). Ok (one.value ∷ more)) (vertices_in read.bytes exact fields) vertices
           one.gives in
           let whole : one.value ∷ more.value ≡ vertices = cc in
-          let codes = both_true (has_code (pos 10) first) (has_code (pos 20) second) begins in
+          let codes = and_parts (has_code (pos 10) first) (has_code (pos 20) second) begins in
           let vertex : IsVertex read.bytes x y fields one.value =
           subst (λ (p : Pair). IsVertex read.bytes p y fields one.value) proper.0
           (subst (λ (p : Pair). IsVertex read.bytes first p fields one.value) proper.1.0

@@ -1,5 +1,5 @@
 -- Lines whose groups come to an end are those of a drawing.
-use Rattle.std.proofs.Common.{◌≡◌, ◌==◌, min, codes, get_or, ℕ, ◌+◌, ℤ, Bool, true, false, cond, refl, ap, sym, subst}
+use Rattle.std.proofs.Common.{◌≡◌, ◌==◌, min, codes, ℕ, ◌+◌, ℤ, Bool, true, false, cond, refl, ap, sym, subst}
 use Rattle.std.proofs.Common.{List, [], ◌∷◌, ◌++◌, length, Option, None, Some, Result, Ok, Err, inl, inr, nat_eq, arith}
 use Rattle.std.specs.List.{list_any, starts_with, AllPass, slice_split, onto_first}
 use Rattle.std.proofs.lemmas.Bool.Decides.{nat_tests}
@@ -17,6 +17,7 @@ use Rattle.dxf_pairs.specs.Values.{is_blank, value_of}
 use Rattle.dxf_pairs.specs.Codes.{code_of}
 use Rattle.dxf_pairs.specs.Pairs.{pair_of, is_last, first_pair, of_two, reading, drawing, behind}
 use Rattle.dxf_pairs.specs.Groups.{Group, first_group, group_of_two, groups_of_lines, groups_of}
+use Rattle.plain_laws.proofs.Lists.{same_first}
 
 -- a group that ends a drawing
 abbrev pub ends : Group → Bool
@@ -58,9 +59,6 @@ lines_read size start number (first ∷ second ∷ texts) some =
     (groups_of_lines texts)
     (λ more. lines_read size (past size (past size start first) second) (number + 1 + 1) texts more) some
 
-first_same : (a b : ℕ) (x y : List ℕ) → a ∷ x ≡ b ∷ y → a ≡ b
-first_same a b x y is = ap (λ (t : List ℕ). get_or t 0 0) is
-
 -- a line of a group code does not begin with a letter
 no_code : (text : List ℕ) (code : ℤ) → code_of (65 ∷ text) ≡ Some code → ⊥
 no_code text code is =
@@ -70,7 +68,7 @@ no_code text code is =
       by_digits [] behind whole numeral = let some = numeral.0 in omega arith
       by_digits (byte ∷ digits) behind whole numeral =
           let (low, high) = digit_from_value byte numeral.1.0 in
-          omega (arith, first_same 65 byte text (digits ++ behind) whole)
+          omega (arith, same_first 65 byte text (digits ++ behind) whole)
 
       by_sign : (sign digits behind : List ℕ) → 65 ∷ text ≡ (sign ++ digits) ++ behind → IsNumeral 10 digits
           → IsSigned sign (digits_value 10 digits) code → ⊥
@@ -79,10 +77,10 @@ no_code text code is =
       by_sign sign digits behind whole numeral (inl (inr plus, is)) =
           let w : 65 ∷ text ≡ (codes "+" ++ digits) ++ behind =
           subst (λ (s : List ℕ). 65 ∷ text ≡ (s ++ digits) ++ behind) plus whole in omega
-          (arith, first_same 65 43 text (digits ++ behind) w)
+          (arith, same_first 65 43 text (digits ++ behind) w)
       by_sign sign digits behind whole numeral (inr (minus, is)) = let w : 65 ∷ text ≡ (codes "-" ++ digits) ++ behind =
           subst (λ (s : List ℕ). 65 ∷ text ≡ (s ++ digits) ++ behind) minus whole in omega
-          (arith, first_same 65 45 text (digits ++ behind) w)
+          (arith, same_first 65 45 text (digits ++ behind) w)
 
       by_parts : (before sign digits behind : List ℕ) → 65 ∷ text ≡ before ++ ((sign ++ digits) ++ behind)
           → AllPass is_blank before → IsNumeral 10 digits → IsSigned sign (digits_value 10 digits) code → ⊥
@@ -90,7 +88,7 @@ no_code text code is =
       by_parts (byte ∷ before) sign digits behind whole blanks numeral signed =
           let blank : is_blank byte ≡ true = blanks 0 0 (omega arith) in
           let never : is_blank 65 ≡ true = subst (λ (b : ℕ). is_blank b ≡ true)
-          (sym (first_same 65 byte text (before ++ ((sign ++ digits) ++ behind)) whole)) blank in
+          (sym (same_first 65 byte text (before ++ ((sign ++ digits) ++ behind)) whole)) blank in
           cc
 
 no_group : (code : Option ℤ) (value : List ℕ) (groups : List Group) → ((number : ℤ) → code ≡ Some number → ⊥)

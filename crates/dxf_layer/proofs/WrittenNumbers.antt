@@ -1,30 +1,30 @@
 -- Numbers that are written are read: images, counts and handles.
 use Rattle.std.proofs.Common.{◌≡◌, ◌==◌, ℕ, zero, suc, ◌+◌, ◌-◌, ◌*◌, ◌/◌, ◌%◌, ◌^◌, ◌<◌, ◌≤◌, ℤ, pos, Bool, true}
 use Rattle.std.proofs.Common.{false, cond, refl, ap, sym, ◌∙◌, subst, List, [], ◌∷◌, ◌++◌, length, None, Some, Ok}
-use Rattle.std.proofs.Common.{arith, decimal, unsigned_abs, length-append}
-use Rattle.std.specs.Prelude.{◌&&◌, nat_lt, nat_le}
-use Rattle.std.specs.List.{AllByRecursion, list_all}
+use Rattle.std.proofs.Common.{arith, decimal, unsigned_abs}
+use Rattle.std.specs.Prelude.{nat_lt, nat_le}
+use Rattle.std.specs.List.{list_all}
 use Rattle.std.specs.Ordering.{int_eq}
 use Rattle.std.specs.Fmt.{digits, digits_onto, digit_glyph}
 use Rattle.std.specs.Char.{is_ascii_hexdigit}
 use Rattle.dxf_layer.specs.declared.handles.TheConstants.{MOST_DIGITS}
 use Rattle.dxf_layer.specs.Handles.{is_handle}
-use Rattle.std.proofs.lemmas.Fmt.{decimal_by_steps, length-decimal-le}
+use Rattle.std.proofs.lemmas.Fmt.{length-decimal-le}
 use native.Mathlib.Nat.{pow-succ'}
 use Rattle.std.proofs.lemmas.Bool.Decides.{nat_tests, Decides-int_eq}
-use Rattle.mm_decimal.specs.Numerals.{Bare, Numeral, IsDigit, Value, HasValue, number_of}
+use Rattle.mm_decimal.specs.Numerals.{Bare, Numeral, Value, HasValue, number_of}
 use Rattle.mm_decimal.specs.Millimetres.{mm_of, IsRead}
 use Rattle.mm_decimal.specs.Writing.{written}
 use Rattle.mm_decimal.specs.Measured.{measured}
 use Rattle.mm_decimal.specs.declared.limits.TheConstants.{LIMIT}
 use Rattle.mm_decimal.specs.declared.reading.MmRead.{MmRead}
-use Rattle.mm_decimal.proofs.Values.{number_after-append, number_after-none}
 use Rattle.mm_decimal.proofs.Scales.{whole_rounds}
 use Rattle.mm_decimal.proofs.Floors.{floor_signed}
 use Rattle.mm_decimal.proofs.MeasuredAnswers.{answer_is_measured}
-use Rattle.mm_decimal.proofs.RoundTrip.{written_reads}
+use Rattle.mm_decimal.proofs.RoundTrip.{written_reads, decimal_is, IsDecimal}
 use Rattle.dxf_layer.specs.Fields.{is_exactly}
 use Rattle.dxf_layer.proofs.GroupFields.{number_by, number_in, is_number}
+use Rattle.plain_laws.proofs.Booleans.{and_three}
 
 abbrev exact_read : ℤ → MmRead
 exact_read mm = record { mm = mm; exact = true }
@@ -39,30 +39,6 @@ kept_always false mm = refl
 -- an image's number
 pub number_written : (exact : Bool) (mm : ℤ) → unsigned_abs mm ≤ LIMIT → number_in exact (written mm) ≡ Some mm
 number_written exact mm within = ap (number_by exact) (measured_written mm within) ∙ kept_always exact mm
-
--- the digits of a whole number
-record IsDecimal (number : ℕ) (text : List ℕ) : Type 0 where
-  all : AllByRecursion IsDigit text
-  some : 0 < length text
-  worth : number_of text ≡ number
-
-all_both : (xs ys : List ℕ) → AllByRecursion IsDigit xs → AllByRecursion IsDigit ys → AllByRecursion IsDigit (xs ++ ys)
-all_both [] ys a b = b
-all_both (x ∷ xs) ys a b = (a.0, all_both xs ys a.1 b)
-
-one_more : (text : List ℕ) (digit : ℕ) → number_of (text ++ (48 + digit) ∷ []) ≡ 10 * number_of text + digit
-one_more text digit =
-    sym (number_after-none (text ++ (48 + digit) ∷ [])) ∙ number_after-append 0 text ((48 + digit) ∷ [])
-    ∙ ap (λ n. 10 * n + ((48 + digit) - 48)) (number_after-none text) ∙ omega arith
-
-decimal_is : (number : ℕ) → number < 2 ^ 64 → IsDecimal number (decimal number)
-decimal_is = decimal_by_steps IsDecimal
-    (λ n small. record { all = ((omega arith, omega arith), tt); some = omega arith; worth = omega arith })
-    (λ n text large h. record {
-      all = all_both text ((48 + n % 10) ∷ []) h.all ((omega arith, omega arith), tt);
-      some = omega (arith, length-append text ((48 + n % 10) ∷ []));
-      worth = one_more text (n % 10) ∙ ap (λ k. 10 * k + n % 10) h.worth ∙ omega arith;
-    })
 
 abbrev whole_numeral : ℕ → Numeral
 whole_numeral number = record { sign = Bare; whole = decimal number; fraction = None; power = None }
@@ -189,9 +165,6 @@ digits_few (suc k) n most text small = by_test (n / 16 == 0) refl tt (λ m t les
 passes_le : (a b : ℕ) → a ≤ b → nat_le a b ≡ true
 passes_le a b is = grind (arith, nat_tests)
 
-all_three : (a b c : Bool) → a ≡ true → b ≡ true → c ≡ true → (a && b && c) ≡ true
-all_three a b c one two three = rw (one, two, three) refl
-
 pub handle_written : (number : ℕ) → number < 16 ^ MOST_DIGITS → is_handle (digits 16 true number) ≡ true
 unfolding digits
 handle_written number small =
@@ -200,5 +173,5 @@ handle_written number small =
     let some : 0 < length text = one_digit 63 number [] in
     let low : nat_le 1 (length text) ≡ true = passes_le 1 (length text) some in
     let high : nat_le (length text) 15 ≡ true = passes_le (length text) 15 few in
-    all_three (nat_le 1 (length text)) (nat_le (length text) 15) (list_all is_ascii_hexdigit text) low high
+    and_three (nat_le 1 (length text)) (nat_le (length text) 15) (list_all is_ascii_hexdigit text) low high
     (hexes 64 number [] refl)

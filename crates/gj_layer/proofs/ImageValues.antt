@@ -22,12 +22,9 @@ use Rattle.gj_layer.specs.declared.positions.Position.{Position}
 use Rattle.gj_layer.specs.Faults.{and_then}
 use Rattle.gj_layer.specs.Positions.{accepted, number, position_from, position, positions, in_front, point_of, lost_of}
 use Rattle.gj_layer.specs.Texts.{image_text, texts_behind, list_text, ring_text}
+use Rattle.plain_laws.proofs.Lists.{all_append}
 
 -- ---- a written number is a JSON number
-digits_append : (xs ys : List ℕ) → AllByRecursion IsDigit xs → AllByRecursion IsDigit ys
-    → AllByRecursion IsDigit (xs ++ ys)
-digits_append [] ys are more = more
-digits_append (x ∷ xs) ys are more = (are.0, digits_append xs ys are.1 more)
 
 digit_is : (n : ℕ) → AllByRecursion IsDigit (digit_text n)
 digit_is n = ((omega arith, omega arith), tt)
@@ -59,7 +56,7 @@ decimal_written = decimal_by_steps (λ n digits. IsWritten n digits)
       int = one_digit n small;
     })
     (λ n digits large h.
-    let all = digits_append h.more (digit_text n) h.digits (digit_is n) in
+    let all = all_append IsDigit h.more (digit_text n) h.digits (digit_is n) in
     let lead = h.lead (omega (arith, large)) in
     record {
       first = h.first;

@@ -18,8 +18,9 @@ use Rattle.gj_layer.specs.Objects.{content_key, content_form, has_crs, value_edi
 use Rattle.gj_layer.specs.Reading.{reading, content_reading}
 use Rattle.gj_layer.proofs.Saying.{says_one}
 use Rattle.gj_layer.proofs.Fine.{tested}
-use Rattle.gj_layer.proofs.Opened.{bbox_apart, crs_apart, both_true}
+use Rattle.gj_layer.proofs.Opened.{bbox_apart, crs_apart}
 use Rattle.gj_layer.proofs.Turns.{IsFlat}
+use Rattle.plain_laws.proofs.Booleans.{and_second}
 
 -- a member of the same name, and of the same value where it tells the type
 pub record IsLike (old new : Member) : Type 0 where
@@ -230,7 +231,7 @@ module _ (text : Edit → List ℕ) (holder : Holder) (type : GeoType) (bounds :
   crs_turned one is =
       let never : is_named (codes "type") one ≡ false =
       says_one (units_of one.key) (codes "crs") (codes "type") refl
-      (both_true (has_crs holder) (is_named (codes "crs") one) is) in
+      (and_second (has_crs holder) (is_named (codes "crs") one) is) in
       record {
         now = null;
         swap = subst (Swapped text one.start (spelling one.value) (value_edit one Null ∷ [])) (nulls one)
@@ -279,7 +280,7 @@ module _ (text : Edit → List ℕ) (holder : Holder) (type : GeoType) (bounds :
         | inr b ↦ elim (tested (is_crs here)) [
           | inl c ↦
               let t : is_content here ≡ false = says_one (units_of key) (codes "crs") (content_key type)
-              (crs_apart type) (both_true (has_crs holder) (is_named (codes "crs") here) c) in
+              (crs_apart type) (and_second (has_crs holder) (is_named (codes "crs") here) c) in
               put (value_edit here Null ∷ []) (edits_are here false true (is_content here) b c refl)
               (passed here (members_at next rest) t found) (crs_turned here c) (λ is. let e = sym is ∙ t in cc)
           | inr c ↦ elim (tested (is_content here)) [

@@ -43,6 +43,7 @@ use Rattle.gj_layer.proofs.Holding.{length-rows_from}
 use Rattle.gj_layer.proofs.Saying.{says_one}
 use Rattle.sheet_base.specs.Splices.{AreInOrder}
 use Rattle.gj_layer.proofs.Laying.{MembersFine, all_by, members_rise, laid_around, laid_alone, fits_one, fits_rest}
+use Rattle.plain_laws.proofs.Booleans.{and_second}
 
 pub joined_nothing : (part : Part) → joined part nothing ≡ part
 joined_nothing part =
@@ -151,10 +152,6 @@ crs_all : (members : List Member) → all_by (λ one. true && is_named (codes "c
 crs_all [] = refl
 crs_all (one ∷ members) = ap (λ ms. if is_named (codes "crs") one then one ∷ ms else ms) (crs_all members)
 
-pub both_true : (a b : Bool) → (a && b) ≡ true → b ≡ true
-both_true true b is = is
-both_true false b is = cc
-
 both_false : (a b : Bool) → b ≡ false → (a && b) ≡ false
 both_false true b is = is
 both_false false b is = refl
@@ -181,7 +178,7 @@ module _ (holder : Holder) (type : GeoType) (place : ℕ) (members : Members) wh
 
   second_alone : (one : Member) → second one ≡ true → third one ≡ false
   second_alone one is = says_one (units_of one.key) (codes "crs") (content_key type) (crs_apart type)
-      (both_true (has_crs holder) (is_named (codes "crs") one) is)
+      (and_second (has_crs holder) (is_named (codes "crs") one) is)
 
   crs_so : (holder : Holder) (crs : Option Member) → find_crs holder all_here ≡ Ok crs
       → at_most_one (all_by (λ one. has_crs holder && is_named (codes "crs") one) all_here) ≡ Ok crs

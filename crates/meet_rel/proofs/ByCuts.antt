@@ -101,6 +101,12 @@ pub record AreMeeting (p q : Clip) (lo hi t lo' hi' t' : Frac) : Type 0 where
   pub meets_p : turn_of (whole q.a) (whole q.b) (at p.a p.b t) ≡ pos 0
   pub meets_q : turn_of (whole p.a) (whole p.b) (at q.a q.b t') ≡ pos 0
 
+pub meeting_of : (p q : Clip) (lo hi t lo' hi' t' : Frac) → AreAcross p.a p.b q.a q.b → IsCut p p.a p.b lo hi
+    → IsCut q q.a q.b lo' hi' → turn_of (whole q.a) (whole q.b) (at p.a p.b t) ≡ pos 0
+    → turn_of (whole p.a) (whole p.b) (at q.a q.b t') ≡ pos 0 → AreMeeting p q lo hi t lo' hi' t'
+meeting_of p q lo hi t lo' hi' t' across one other first second =
+    record { across = across; cut_p = one; cut_q = other; meets_p = first; meets_q = second }
+
 -- before the one or behind the other
 abbrev pub IsOutside : Frac → Frac → Frac → Type 0
 IsOutside t lo hi = IsBelow t lo ⊎ IsBelow hi t

@@ -1,7 +1,5 @@
 -- The clips of pieces in a triangulation.
-use Rattle.std.proofs.Common.{◌≡◌, ◌<◌, ℤ, pos, ◌+ℤ◌, ◌*ℤ◌, ◌<ℤ◌, List, [], ◌∷◌, length, refl, sym, subst, arith}
-use Rattle.integer_ring.proofs.Ring.{num, ◌⊕◌, ◌⊗◌}
-use Rattle.integer_ring.proofs.Claims.{◌≐◌, solve}
+use Rattle.std.proofs.Common.{◌<◌, ℤ, pos, ◌<ℤ◌, List, [], ◌∷◌, length, refl, sym, subst, arith}
 use Rattle.plane_base.specs.Plane.{Point, IsMix, whole, corners, turn_of, IsNear, IsNearAll, IsNearTri}
 use Rattle.plane_base.specs.declared.shapes.Pt.{Pt}
 use Rattle.plane_base.specs.declared.shapes.Tri.{Tri}
@@ -16,34 +14,16 @@ use Rattle.meet_rel.specs.declared.clips.Clip.{Clip}
 use Rattle.meet_rel.specs.Clips.{IsProper, AreClose}
 use Rattle.meet_rel.proofs.Scale.{mix_first}
 use Rattle.meet_rel.proofs.Ending.{IsClipOf, piece_ends, has_ends}
-
--- each corner is in the triangle
-first_z : (x y z : ℤ) → x *ℤ (pos 1 *ℤ pos 1 +ℤ (pos 0 *ℤ pos 1 +ℤ (pos 0 *ℤ pos 1 +ℤ pos 0)))
-    ≡ (pos 1 *ℤ x +ℤ (pos 0 *ℤ y +ℤ (pos 0 *ℤ z +ℤ pos 0))) *ℤ pos 1
-first_z = solve 3 (λ x y z. x ⊗ (num (pos 1) ⊗ num (pos 1)
-    ⊕ (num (pos 0) ⊗ num (pos 1) ⊕ (num (pos 0) ⊗ num (pos 1) ⊕ num (pos 0))))
-    ≐ (num (pos 1) ⊗ x ⊕ (num (pos 0) ⊗ y ⊕ (num (pos 0) ⊗ z ⊕ num (pos 0)))) ⊗ num (pos 1)) tt
-
-second_z : (x y z : ℤ) → y *ℤ (pos 0 *ℤ pos 1 +ℤ (pos 1 *ℤ pos 1 +ℤ (pos 0 *ℤ pos 1 +ℤ pos 0)))
-    ≡ (pos 0 *ℤ x +ℤ (pos 1 *ℤ y +ℤ (pos 0 *ℤ z +ℤ pos 0))) *ℤ pos 1
-second_z = solve 3 (λ x y z. y ⊗ (num (pos 0) ⊗ num (pos 1)
-    ⊕ (num (pos 1) ⊗ num (pos 1) ⊕ (num (pos 0) ⊗ num (pos 1) ⊕ num (pos 0))))
-    ≐ (num (pos 0) ⊗ x ⊕ (num (pos 1) ⊗ y ⊕ (num (pos 0) ⊗ z ⊕ num (pos 0)))) ⊗ num (pos 1)) tt
-
-third_z : (x y z : ℤ) → z *ℤ (pos 0 *ℤ pos 1 +ℤ (pos 0 *ℤ pos 1 +ℤ (pos 1 *ℤ pos 1 +ℤ pos 0)))
-    ≡ (pos 0 *ℤ x +ℤ (pos 0 *ℤ y +ℤ (pos 1 *ℤ z +ℤ pos 0))) *ℤ pos 1
-third_z = solve 3 (λ x y z. z ⊗ (num (pos 0) ⊗ num (pos 1)
-    ⊕ (num (pos 0) ⊗ num (pos 1) ⊕ (num (pos 1) ⊗ num (pos 1) ⊕ num (pos 0))))
-    ≐ (num (pos 0) ⊗ x ⊕ (num (pos 0) ⊗ y ⊕ (num (pos 1) ⊗ z ⊕ num (pos 0)))) ⊗ num (pos 1)) tt
+use Rattle.tin_base.proofs.NearTriangles.{corner_axis, second_axis, third_axis}
 
 at_a : (t : Tri) → IsMix (whole t.a) (corners t)
-at_a t = (1 ∷ 0 ∷ 0 ∷ [], refl, omega arith, (first_z t.a.x t.b.x t.c.x, first_z t.a.y t.b.y t.c.y))
+at_a t = (1 ∷ 0 ∷ 0 ∷ [], refl, omega arith, (corner_axis t.a.x t.b.x t.c.x, corner_axis t.a.y t.b.y t.c.y))
 
 at_b : (t : Tri) → IsMix (whole t.b) (corners t)
-at_b t = (0 ∷ 1 ∷ 0 ∷ [], refl, omega arith, (second_z t.a.x t.b.x t.c.x, second_z t.a.y t.b.y t.c.y))
+at_b t = (0 ∷ 1 ∷ 0 ∷ [], refl, omega arith, (second_axis t.a.x t.b.x t.c.x, second_axis t.a.y t.b.y t.c.y))
 
 at_c : (t : Tri) → IsMix (whole t.c) (corners t)
-at_c t = (0 ∷ 0 ∷ 1 ∷ [], refl, omega arith, (third_z t.a.x t.b.x t.c.x, third_z t.a.y t.b.y t.c.y))
+at_c t = (0 ∷ 0 ∷ 1 ∷ [], refl, omega arith, (third_axis t.a.x t.b.x t.c.x, third_axis t.a.y t.b.y t.c.y))
 
 pub range_of : (tin : Triangulation) (piece : Piece) → IsPieceInside tin piece → piece.tri < length tin.triangles
 range_of tin piece h = let k = h.is_piece in let e = has_ends tin piece k.0 k.1 in e.in_range

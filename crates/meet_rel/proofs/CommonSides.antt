@@ -7,7 +7,7 @@ use lib.Signed.{lt_z_yes}
 use Rattle.integer_ring.proofs.Ring.{num, ◌⊕◌, ◌⊗◌}
 use Rattle.integer_ring.proofs.Order.{≤_antisymm, nonneg_pos}
 use Rattle.integer_ring.proofs.Signs.{zero_cases}
-use Rattle.integer_ring.proofs.Claims.{◌≐◌, ◌≼◌, gap, ◌⊞◌, ◌⊠◌, ◌because◌, ◌⇒◌, follows, solve}
+use Rattle.integer_ring.proofs.Claims.{◌≐◌, ◌≼◌, gap, ◌⊞◌, ◌⊠◌, ◌because◌, ◌⇒◌, follows}
 use Rattle.plane_base.specs.Plane.{Point, Same, turn_of, weighed, IsMix, whole, corners}
 use Rattle.plane_base.specs.declared.shapes.Pt.{Pt}
 use Rattle.plane_base.specs.declared.shapes.Tri.{Tri}
@@ -21,19 +21,12 @@ use Rattle.tin_base.specs.Relations.{IsCommonPoint, IsOnlyCommonPoint, IsAnEnd, 
 use Rattle.meet_rel.specs.declared.clips.Clip.{Clip}
 use Rattle.meet_rel.specs.Clips.{IsOf, AreEnds, IsProper, IsSideFrom}
 use Rattle.meet_rel.proofs.Scale.{line_moved, turn_between, mix_first, mix_last}
+use Rattle.plain_laws.proofs.Weights.{no_third, no_first, no_second}
 
 one : pos 0 <ℤ pos 1
 one = lt_z_yes tt
 
 -- ---- a point of a side is one of the triangle
-no_third : (k l a b c : ℤ) → k *ℤ a +ℤ (l *ℤ b +ℤ pos 0) ≡ k *ℤ a +ℤ (l *ℤ b +ℤ (pos 0 *ℤ c +ℤ pos 0))
-no_third = solve 5 (λ k l a b c. k ⊗ a ⊕ (l ⊗ b ⊕ num (pos 0)) ≐ k ⊗ a ⊕ (l ⊗ b ⊕ (num (pos 0) ⊗ c ⊕ num (pos 0)))) tt
-
-no_first : (k l a b c : ℤ) → k *ℤ b +ℤ (l *ℤ c +ℤ pos 0) ≡ pos 0 *ℤ a +ℤ (k *ℤ b +ℤ (l *ℤ c +ℤ pos 0))
-no_first = solve 5 (λ k l a b c. k ⊗ b ⊕ (l ⊗ c ⊕ num (pos 0)) ≐ num (pos 0) ⊗ a ⊕ (k ⊗ b ⊕ (l ⊗ c ⊕ num (pos 0)))) tt
-
-no_second : (k l a b c : ℤ) → k *ℤ c +ℤ (l *ℤ a +ℤ pos 0) ≡ l *ℤ a +ℤ (pos 0 *ℤ b +ℤ (k *ℤ c +ℤ pos 0))
-no_second = solve 5 (λ k l a b c. k ⊗ c ⊕ (l ⊗ a ⊕ num (pos 0)) ≐ l ⊗ a ⊕ (num (pos 0) ⊗ b ⊕ (k ⊗ c ⊕ num (pos 0)))) tt
 
 first_in : (a b c r : Point) → IsMix r (a ∷ b ∷ []) → IsMix r (a ∷ b ∷ c ∷ [])
 first_in a b c r m =

@@ -16,6 +16,7 @@ use Rattle.tin_base.specs.declared.relations.Rel.TheVariants.{Apart, Touching, C
 use Rattle.tin_base.specs.Relations.{IsCommonPoint, IsAnEnd, HaveRelation}
 use Rattle.meet_rel.specs.Signs.{AreOnOneSide, IsSomeZero}
 use Rattle.meet_rel.proofs.Scale.{line_moved, turn_between}
+use Rattle.plain_laws.proofs.Weights.{two_positive}
 
 one : pos 0 <ℤ pos 1
 one = lt_z_yes tt
@@ -243,9 +244,6 @@ not_zero' =
     ⊕ l ⇒ u ≺ num (pos 0) ⇒ v ≺ num (pos 0) ⇒ k ⊗ u ⊕ l ⊗ v ≐ num (pos 0) ⇒ never
     because eqn 5 (neg (num (pos 1))) ⊞ gap 0 ⊠ over 3 ⊞ gap 1 ⊠ over 4 ⊞ over 2) tt
 
-some_z : (k l : ℕ) → 0 < k + l → pos 0 <ℤ (pos k +ℤ pos l)
-some_z k l h = omega (arith, ints)
-
 -- no point of a segment on one side of a line is on the line
 no_point : (a b p q r : Point) → pos 0 <ℤ p.w → pos 0 <ℤ q.w → pos 0 <ℤ r.w
     → AreOnOneSide (turn_of a b p) (turn_of a b q) → turn_of a b r ≡ pos 0 → IsMix r (p ∷ q ∷ []) → ⊥
@@ -260,9 +258,9 @@ no_point a b p q r hp hq hr side z m = go side
 
     go : AreOnOneSide (turn_of a b p) (turn_of a b q) → ⊥
     go (inl h) = not_zero (pos i.k) (pos i.l) (turn_of a b p) (turn_of a b q) (nonneg_pos i.k) (nonneg_pos i.l)
-        (some_z i.k i.l i.some) h.0 h.1 zero
+        (two_positive i.k i.l i.some) h.0 h.1 zero
     go (inr h) = not_zero' (pos i.k) (pos i.l) (turn_of a b p) (turn_of a b q) (nonneg_pos i.k) (nonneg_pos i.l)
-        (some_z i.k i.l i.some) h.0 h.1 zero
+        (two_positive i.k i.l i.some) h.0 h.1 zero
 
 pub apart_by_second : (a b c d : Pt) → AreOnOneSide (turn_of (whole a) (whole b) (whole c))
     (turn_of (whole a) (whole b) (whole d)) → HaveRelation Apart (whole a) (whole b) (whole c) (whole d)

@@ -2,7 +2,7 @@
 use Rattle.std.proofs.Common.{◌≡◌, ◌≢◌, ◌⊎◌, inl, inr, ℕ, ◌+◌, ◌<◌, ℤ, pos, ◌*ℤ◌, ◌+ℤ◌, ◌-ℤ◌, ◌<ℤ◌, List, [], ◌∷◌}
 use Rattle.std.proofs.Common.{length, sym, ap₂, subst, arith}
 use Rattle.integer_ring.proofs.Ring.{num, ◌⊕◌, ◌⊖◌, ◌⊗◌}
-use Rattle.integer_ring.proofs.Claims.{◌≐◌, ◌≺◌, never, over, ◌because◌, ◌⇒◌, follows, solve}
+use Rattle.integer_ring.proofs.Claims.{◌≺◌, never, over, ◌because◌, ◌⇒◌, follows}
 use Rattle.plane_base.specs.Plane.{Point, Same, IsMix, whole, corners}
 use Rattle.plane_base.specs.declared.shapes.Pt.{Pt}
 use Rattle.plane_base.proofs.Mixes.{same_refl, same_sym, same_trans, Between, between_weights, weights_between}
@@ -12,7 +12,7 @@ use Rattle.tin_base.specs.declared.pieces.Piece.{Piece}
 use Rattle.tin_base.specs.Triangulation.{Triangulation, numbers_of, places, IsInTriangle}
 use Rattle.tin_base.specs.Segments.{Spot, Part, at_a, spot_at, IsShared, IsPart}
 use Rattle.tin_base.specs.Pieces.{IsPieceOf, first_point, last_point}
-use Rattle.tin_base.proofs.Spots.{one, spot-w}
+use Rattle.tin_base.proofs.Spots.{one, spot-w, spot_first}
 use Rattle.tin_base.proofs.Closeness.{places_stand}
 use Rattle.tin_base.proofs.Overlap.{at_twice}
 use Rattle.meet_rel.specs.declared.clips.Clip.{Clip}
@@ -129,14 +129,6 @@ part_ends tin a b t clip first last ea eb et d part =
 pub some_a : 0 < at_a.of_a + at_a.of_b
 some_a = omega arith
 
-pub spot_whole : (a b : Pt) → Same (spot_at a b at_a) (whole a)
-spot_whole a b = (at_one a.x b.x, at_one a.y b.y)
-  where
-    at_one : (x y : ℤ) → (pos 1 *ℤ x +ℤ (pos 0 *ℤ y +ℤ pos 0)) *ℤ pos 1 ≡ x
-        *ℤ (pos 1 *ℤ pos 1 +ℤ (pos 0 *ℤ pos 1 +ℤ pos 0))
-    at_one = solve 2 (λ x y. (num (pos 1) ⊗ x ⊕ (num (pos 0) ⊗ y ⊕ num (pos 0))) ⊗ num (pos 1) ≐ x
-        ⊗ (num (pos 1) ⊗ num (pos 1) ⊕ (num (pos 0) ⊗ num (pos 1) ⊕ num (pos 0)))) tt
-
 -- a segment from a point to itself has this point alone
 pub one_point : (a b : Pt) (r : Point) → a ≡ b → IsMix r (whole a ∷ whole b ∷ []) → Same r (whole a)
 one_point a b r e m = at_twice r (whole a) one (subst (λ (p : Pt). IsMix r (whole a ∷ whole p ∷ [])) (sym e) m)
@@ -148,9 +140,9 @@ point_ends tin a b t clip ea eb et e inside =
     record {
       first_positive = hf;
       last_positive = hf;
-      forth = λ r hr m. there r hr (same_trans r f (whole a) hf (at_twice r f hf m) (spot_whole a b));
+      forth = λ r hr m. there r hr (same_trans r f (whole a) hf (at_twice r f hf m) (spot_first a b));
       back = λ r hr of. mix_moved f r (f ∷ f ∷ []) hf
-          (same_trans r (whole a) f one (one_point a b r e (of_between r of)) (same_sym f (whole a) (spot_whole a b)))
+          (same_trans r (whole a) f one (one_point a b r e (of_between r of)) (same_sym f (whole a) (spot_first a b)))
           (mix_first f f);
     }
   where
@@ -202,7 +194,7 @@ has_ends tin piece part h = go (same_or_different piece.a piece.b)
     at_point : IsInTriangle tin Source piece.tri (whole piece.a)
         → IsInTriangle tin Source piece.tri (spot_at piece.a piece.b at_a)
     at_point m = mix_moved (whole piece.a) (spot_at piece.a piece.b at_a) (places tin Source (numbers_of tin piece.tri))
-        one (spot_whole piece.a piece.b) m
+        one (spot_first piece.a piece.b) m
 
     go : (piece.a ≡ piece.b) ⊎ AreDifferent piece.a piece.b → HasEnds tin piece part
     go (inl e) =

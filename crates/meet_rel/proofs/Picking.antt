@@ -17,6 +17,7 @@ use Rattle.meet_rel.specs.Signs.{AreOnOneLine}
 use Rattle.meet_rel.proofs.Axes.{same_or_not}
 use Rattle.meet_rel.proofs.Ways.{AreDifferent, far}
 use Rattle.meet_rel.proofs.Ending.{same_or_different}
+use Rattle.plain_laws.proofs.Order.{up_trans}
 
 -- ---- one of four
 pub one_of : (a b c d m n r : Pt) → (m ≡ a) ⊎ (m ≡ b) → (n ≡ c) ⊎ (n ≡ d) → (r ≡ m) ⊎ (r ≡ n) → IsOneOf r a b c d
@@ -34,9 +35,6 @@ picked P a b c d r pa pb pc pd (inr (inr (inr e))) = subst P (sym e) pd
 -- ---- the order of points
 less_trans : (a b c : ℤ) → a <ℤ b → b <ℤ c → a <ℤ c
 less_trans a b c h k = omega (arith, ints)
-
-up_trans : (a b c : ℤ) → a ≤ℤ b → b ≤ℤ c → a ≤ℤ c
-up_trans a b c h k = omega (arith, ints)
 
 pub not_after_trans : (p q r : Pt) → IsNotAfter p q → IsNotAfter q r → IsNotAfter p r
 not_after_trans p q r (inl h) (inl k) = inl (less_trans p.x q.x r.x h k)

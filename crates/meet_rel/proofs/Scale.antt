@@ -14,6 +14,7 @@ use Rattle.plane_base.proofs.Points.{turn, plus, nothing, solve_at}
 use Rattle.plane_base.proofs.Turns.{turn_same}
 use Rattle.plane_base.proofs.Mixes.{mixed, Between, between_weights, weights_between, between-w, same_refl, mix_moved}
 use Rattle.plane_base.proofs.Mixes.{mix_swapped}
+use Rattle.plain_laws.proofs.Weights.{zero_mix, zero_factor}
 
 -- two whole points, and a direction whose share is not the same at both
 pub record Scale : Type 0 where
@@ -139,29 +140,24 @@ level_same s p q hp hq l =
     )
 
 -- ---- the points between two points of the line
-line_between : (k l s t : ℤ) → s ≡ pos 0 → t ≡ pos 0 → k *ℤ s +ℤ l *ℤ t ≡ pos 0
-line_between = follows 4 (λ k l s t. s ≐ num (pos 0) ⇒ t ≐ num (pos 0) ⇒ k ⊗ s ⊕ l ⊗ t
-    ≐ num (pos 0) because eqn 0 k ⊞ eqn 1 l) tt
 
 pub turn_between : (a b p q : Point) (k l : ℕ)
     → turn_of a b (mixed k l p q) ≡ pos k *ℤ turn_of a b p +ℤ pos l *ℤ turn_of a b q
 turn_between a b p q k l = solve_at 4 2 (λ a b p q k l. turn a b (plus k p (plus l q nothing)) ≐ k ⊗ turn a b p ⊕ l
     ⊗ turn a b q) tt a b p q (pos k) (pos l)
 
-zero_of : (s t v : ℤ) → s *ℤ t ≡ v *ℤ pos 0 → t *ℤ s ≡ pos 0 *ℤ s
-zero_of = follows 3 (λ s t v. s ⊗ t ≐ v ⊗ num (pos 0) ⇒ t ⊗ s ≐ num (pos 0) ⊗ s because eqn 0 (num (pos 1))) tt
-
 -- a point in the place of one of a line is of the line
 pub line_moved : (a b p q : Point) → pos 0 <ℤ q.w → Same p q → turn_of a b q ≡ pos 0 → turn_of a b p ≡ pos 0
 line_moved a b p q h same z = ≡_of_mul (turn_of a b p) (pos 0) q.w h
-    (zero_of q.w (turn_of a b p) p.w (subst (λ (t : ℤ). q.w *ℤ turn_of a b p ≡ p.w *ℤ t) z (turn_same a b p q same)))
+    (zero_factor q.w (turn_of a b p) p.w (subst (λ (t : ℤ). q.w *ℤ turn_of a b p ≡ p.w *ℤ t) z
+        (turn_same a b p q same)))
 
 pub between_line : (a b p q r : Point) → pos 0 <ℤ p.w → pos 0 <ℤ q.w → turn_of a b p ≡ pos 0 → turn_of a b q ≡ pos 0
     → IsMix r (p ∷ q ∷ []) → turn_of a b r ≡ pos 0
 between_line a b p q r hp hq zp zq m =
     let i = between_weights p q r m in
     line_moved a b r (mixed i.k i.l p q) (between-w p q r i hp hq) i.same
-    (turn_between a b p q i.k i.l ∙ line_between (pos i.k) (pos i.l) (turn_of a b p) (turn_of a b q) zp zq)
+    (turn_between a b p q i.k i.l ∙ zero_mix (pos i.k) (pos i.l) (turn_of a b p) (turn_of a b q) zp zq)
 
 pub between_on : (s : Scale) (p q r : Point) → IsOn s p → IsOn s q → pos 0 <ℤ r.w → IsMix r (p ∷ q ∷ []) → IsOn s r
 between_on s p q r hp hq hr m = record {

@@ -1,6 +1,5 @@
 -- Small points are near each other, and a small clip of which the triangle has some points is proper.
-use Rattle.std.proofs.Common.{◌≤◌, ℤ, pos, ◌<ℤ◌, unsigned_abs, Option, None, Some, arith}
-use Rattle.std.proofs.lemmas.Int.{ints}
+use Rattle.std.proofs.Common.{ℤ, pos, ◌<ℤ◌, Option, None, Some}
 use Rattle.std.specs.Option.{IsSome}
 use Rattle.std.proofs.lemmas.Bool.{false≢true}
 use Rattle.plane_base.specs.Plane.{IsNear, IsNearAll, IsNearTri, turn_of, whole}
@@ -13,10 +12,7 @@ use Rattle.meet_rel.specs.Clips.{at, IsProper, AreClose}
 use Rattle.meet_rel.specs.Small.{IsSmall, IsSmallClip}
 use Rattle.meet_rel.proofs.Ways.{at-w}
 use Rattle.meet_rel.proofs.Cutting.{param_between}
-
-near_numbers : (px py qx qy : ℤ) → unsigned_abs px ≤ 32768 → unsigned_abs py ≤ 32768 → unsigned_abs qx ≤ 32768
-    → unsigned_abs qy ≤ 32768 → IsNear (record { x = px; y = py }) (record { x = qx; y = qy })
-near_numbers px py qx qy a b c d = (omega (arith, ints), omega (arith, ints), omega (arith, ints), omega (arith, ints))
+use Rattle.plane_base.proofs.NearPoints.{near_numbers}
 
 pub near : (p q : Pt) → IsSmall p → IsSmall q → IsNear p q
 near p q h k = near_numbers p.x p.y q.x q.y h.x h.y k.x k.y

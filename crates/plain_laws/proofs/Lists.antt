@@ -1,6 +1,6 @@
 -- Lists: equal heads and tails, what is behind a place, and numbers that ascend.
 use Rattle.std.proofs.Common.{◌≡◌, ◌⊎◌, ⊎_elim, ℕ, ◌+◌, ◌-◌, ◌<◌, List, [], ◌∷◌, ◌++◌, length, take, drop, get_or}
-use Rattle.std.proofs.Common.{arith}
+use Rattle.std.proofs.Common.{refl, ap, arith}
 use Rattle.std.specs.Prelude.{Contains}
 use Rattle.std.specs.List.{AllByRecursion}
 use Rattle.std.specs.List.Sorted.{IsStrictlyIncreasing}
@@ -36,3 +36,8 @@ increasing_push xs n up below k within =
     (λ at_end. rw (low, get_or_push xs n 0 (k + 1) (omega arith))
     (below (get_or xs k 0) (Contains-get_or xs k 0 (omega arith))))
     (cases_lt (k + 1) (length xs))
+
+-- the front of two lists that are joined
+pub take_front : {A : Type 0} (front back : List A) → take (length front) (front ++ back) ≡ front
+take_front [] back = refl
+take_front (x ∷ front) back = ap (λ xs. x ∷ xs) (take_front front back)

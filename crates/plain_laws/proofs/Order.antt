@@ -14,3 +14,7 @@ equal_of_both m n h k = omega arith
 
 pub ≤_trans : (a b c : ℤ) → a ≤ℤ b → b ≤ℤ c → a ≤ℤ c
 ≤_trans a b c h k = omega (arith, ints)
+
+-- two steps up are one
+pub up_trans : (a b c : ℤ) → a ≤ℤ b → b ≤ℤ c → a ≤ℤ c
+up_trans a b c h k = omega (arith, ints)

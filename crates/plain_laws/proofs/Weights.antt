@@ -55,3 +55,17 @@ lift_both m n y z h k = (omega (arith, ints), omega (arith, ints))
 pub lift_times : (n d z : ℤ) → pos 0 ≤ℤ (n +ℤ z) → pos 0 ≤ℤ n → pos 0 <ℤ d → pos 0 ≤ℤ (n *ℤ d +ℤ z)
 lift_times = follows 3 (λ n d z. num (pos 0) ≼ n ⊕ z ⇒ num (pos 0) ≼ n ⇒ num (pos 0) ≺ d ⇒ num (pos 0) ≼ n ⊗ d
     ⊕ z because gap 0 ⊞ gap 1 ⊠ over 2) tt
+
+-- of two weights one is some
+pub weight_above : (k l : ℕ) → pos 0 <ℤ (pos k +ℤ pos l) → 0 < k + l
+weight_above k l h = omega (arith, ints)
+
+-- a mix of two numbers is one of three, where the third, the first or the second has no weight
+pub no_third : (k l a b c : ℤ) → k *ℤ a +ℤ (l *ℤ b +ℤ pos 0) ≡ k *ℤ a +ℤ (l *ℤ b +ℤ (pos 0 *ℤ c +ℤ pos 0))
+no_third = solve 5 (λ k l a b c. k ⊗ a ⊕ (l ⊗ b ⊕ num (pos 0)) ≐ k ⊗ a ⊕ (l ⊗ b ⊕ (num (pos 0) ⊗ c ⊕ num (pos 0)))) tt
+
+pub no_first : (k l a b c : ℤ) → k *ℤ b +ℤ (l *ℤ c +ℤ pos 0) ≡ pos 0 *ℤ a +ℤ (k *ℤ b +ℤ (l *ℤ c +ℤ pos 0))
+no_first = solve 5 (λ k l a b c. k ⊗ b ⊕ (l ⊗ c ⊕ num (pos 0)) ≐ num (pos 0) ⊗ a ⊕ (k ⊗ b ⊕ (l ⊗ c ⊕ num (pos 0)))) tt
+
+pub no_second : (k l a b c : ℤ) → k *ℤ c +ℤ (l *ℤ a +ℤ pos 0) ≡ l *ℤ a +ℤ (pos 0 *ℤ b +ℤ (k *ℤ c +ℤ pos 0))
+no_second = solve 5 (λ k l a b c. k ⊗ c ⊕ (l ⊗ a ⊕ num (pos 0)) ≐ l ⊗ a ⊕ (num (pos 0) ⊗ b ⊕ (k ⊗ c ⊕ num (pos 0)))) tt

@@ -1,5 +1,5 @@
 -- Two triangles to the left of one side have a common point that is not on it.
-use Rattle.std.proofs.Common.{◌≡◌, ℕ, ◌+◌, ◌<◌, ℤ, pos, negsuc, ◌+ℤ◌, ◌*ℤ◌, ◌≤ℤ◌, ◌<ℤ◌, [], ◌∷◌, sum, sym, subst, refl}
+use Rattle.std.proofs.Common.{◌≡◌, ℕ, ◌+◌, ◌<◌, ℤ, pos, ◌+ℤ◌, ◌*ℤ◌, ◌≤ℤ◌, ◌<ℤ◌, [], ◌∷◌, sum, sym, subst, refl}
 use Rattle.std.proofs.Common.{arith}
 use Rattle.std.proofs.lemmas.Int.{ints}
 use Rattle.integer_ring.proofs.Ring.{num, ◌⊕◌, ◌⊗◌}
@@ -8,18 +8,12 @@ use Rattle.integer_ring.proofs.Claims.{◌≐◌, ◌≼◌, ◌≺◌, gap, ove
 use Rattle.plane_base.specs.Plane.{Point, turn_of, weighed, IsMix}
 use Rattle.plane_base.proofs.Points.{turn, plus, nothing, solve_at}
 use Rattle.plane_base.proofs.InTriangle.{mix_of_turns}
+use Rattle.plain_laws.proofs.Weights.{lift_both, lift_times, lift}
 
 abbrev NonNeg : ℤ → Type 0
 NonNeg z = pos 0 ≤ℤ z
 
 -- ---- a natural number that is as large as a number is below 0
-fill : (z : ℤ) → (n : ℕ) × (pos 0 ≤ℤ (pos n +ℤ z))
-fill (pos k) = (0, omega (arith, ints))
-fill (negsuc k) = (k + 1, omega (arith, ints))
-
-fill_both : (m n : ℕ) (y z : ℤ) → pos 0 ≤ℤ (pos m +ℤ y) → pos 0 ≤ℤ (pos n +ℤ z)
-    → (pos 0 ≤ℤ (pos (m + n) +ℤ y)) × (pos 0 ≤ℤ (pos (m + n) +ℤ z))
-fill_both m n y z h k = (omega (arith, ints), omega (arith, ints))
 
 -- a point of the one triangle that is near the middle of the side: its turns with the sides of the other
 turn_near_b : (a b c g : Point) (n : ℤ) → turn_of b g
@@ -60,10 +54,6 @@ near-w =
     follows 4 (λ v w x n. num (pos 0) ≺ v ⇒ num (pos 0) ≺ w ⇒ num (pos 0) ≺ x ⇒ num (pos 0) ≼ n
     ⇒ num (pos 0) ≺ n ⊗ v ⊕ (n ⊗ w ⊕ (num (pos 1) ⊗ x ⊕ num (pos 0))) because gap 3 ⊠ gap 0 ⊞ gap 3 ⊠ gap 1 ⊞ over 2) tt
 
-far_enough : (n d z : ℤ) → pos 0 ≤ℤ (n +ℤ z) → pos 0 ≤ℤ n → pos 0 <ℤ d → pos 0 ≤ℤ (n *ℤ d +ℤ z)
-far_enough = follows 3 (λ n d z. num (pos 0) ≼ n ⊕ z ⇒ num (pos 0) ≼ n ⇒ num (pos 0) ≺ d ⇒ num (pos 0) ≼ n ⊗ d
-    ⊕ z because gap 0 ⊞ gap 1 ⊠ over 2) tt
-
 some_weight : (n : ℕ) → 0 < sum (n ∷ n ∷ 1 ∷ [])
 some_weight n = omega arith
 
@@ -75,9 +65,9 @@ pub overlap_at_side : (a b c g : Point) → pos 0 <ℤ a.w → pos 0 <ℤ b.w �
     → pos 0 <ℤ turn_of a b c → pos 0 <ℤ turn_of a b g
     → ((p : Point) → pos 0 <ℤ p.w → IsMix p (a ∷ b ∷ c ∷ []) → IsMix p (a ∷ b ∷ g ∷ []) → turn_of a b p ≡ pos 0) → ⊥
 overlap_at_side a b c g ha hb hc hg d d' only =
-    let m = fill (turn_of b g c) in
-    let k = fill (turn_of g a c) in
-    go (m.0 + k.0) (fill_both m.0 k.0 (turn_of b g c) (turn_of g a c) m.1 k.1)
+    let m = lift (turn_of b g c) in
+    let k = lift (turn_of g a c) in
+    go (m.0 + k.0) (lift_both m.0 k.0 (turn_of b g c) (turn_of g a c) m.1 k.1)
   where
     go : (n : ℕ) → (pos 0 ≤ℤ (pos n +ℤ turn_of b g c)) × (pos 0 ≤ℤ (pos n +ℤ turn_of g a c)) → ⊥
     go n h =
@@ -85,8 +75,8 @@ overlap_at_side a b c g ha hb hc hg d d' only =
         let w : pos 0 <ℤ p.w = near-w a.w b.w c.w (pos n) ha hb hc (nonneg_pos n) in
         let at_ab : pos 0 <ℤ turn_of a b p = subst (λ (z : ℤ). pos 0 <ℤ z) (sym (turn_near a b c (pos n))) d in
         let at_bg : pos 0 ≤ℤ turn_of b g p = subst NonNeg (sym (turn_near_b a b c g (pos n)))
-        (far_enough (pos n) (turn_of a b g) (turn_of b g c) h.0 (nonneg_pos n) d') in
+        (lift_times (pos n) (turn_of a b g) (turn_of b g c) h.0 (nonneg_pos n) d') in
         let at_ga : pos 0 ≤ℤ turn_of g a p = subst NonNeg (sym (turn_near_a a b c g (pos n)))
-        (far_enough (pos n) (turn_of a b g) (turn_of g a c) h.1 (nonneg_pos n) d') in
+        (lift_times (pos n) (turn_of a b g) (turn_of g a c) h.1 (nonneg_pos n) d') in
         let in_u = mix_of_turns a b g p ha hb hg w d' (≤_of_< (pos 0) (turn_of a b p) at_ab) at_bg at_ga in
         not_both (turn_of a b p) at_ab (only p w (n ∷ n ∷ 1 ∷ [], refl, some_weight n, (refl, refl)) in_u)

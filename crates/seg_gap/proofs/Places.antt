@@ -7,7 +7,7 @@ use Rattle.integer_ring.proofs.Order.{nonneg_pos, nonneg_square}
 use Rattle.integer_ring.proofs.Signs.{≤_of_mul, mul-positive}
 use Rattle.integer_ring.proofs.Claims.{◌≐◌, ◌≼◌, ◌≺◌, never, gap, over, eqn, square, ◌⊞◌, ◌⊠◌, ◌because◌, ◌⇒◌, follows}
 use Rattle.integer_ring.proofs.Claims.{solve}
-use Rattle.plain_laws.proofs.Weights.{two_positive}
+use Rattle.plain_laws.proofs.Weights.{two_positive, weight_above}
 use Rattle.plane_base.specs.Plane.{Point, Same, whole}
 use Rattle.plane_base.specs.declared.shapes.Pt.{Pt}
 use Rattle.plane_base.proofs.Mixes.{mixed, between_weights, between-w, weights_between, mix_swapped}
@@ -34,9 +34,6 @@ same_axis : (k l a b : ℤ)
 same_axis = solve 4 (λ k l a b. (k ⊗ a ⊕ l ⊗ b) ⊗ (k ⊗ num (pos 1) ⊕ (l ⊗ num (pos 1) ⊕ num (pos 0)))
     ≐ (k ⊗ a ⊕ (l ⊗ b ⊕ num (pos 0))) ⊗ (k ⊕ l)) tt
 
-some_of : (k l : ℕ) → pos 0 <ℤ (pos k +ℤ pos l) → 0 < k + l
-some_of k l h = omega (arith, ints)
-
 pub of_weights : (a b : Pt) (k l : ℤ) → AreWeights k l → IsOfSegment a b (mix_at a b k l)
 of_weights a b (pos k) (pos l) w =
     record {
@@ -44,7 +41,7 @@ of_weights a b (pos k) (pos l) w =
       mix = weights_between (whole a) (whole b) (mix_at a b (pos k) (pos l)) (record {
         k = k;
         l = l;
-        some = some_of k l w.some;
+        some = weight_above k l w.some;
         same = (same_axis (pos k) (pos l) a.x b.x, same_axis (pos k) (pos l) a.y b.y);
       });
     }

@@ -1,8 +1,7 @@
 -- Where a segment leaves a triangle: each other triangle that has the spot shares the corners that the spot stands
 -- between.
 use Rattle.std.proofs.Common.{◌≡◌, ◌≢◌, ◌⊎◌, inl, inr, ⊎_elim, ℕ, zero, suc, ◌+◌, ◌<◌, ℤ, pos, ◌+ℤ◌, ◌*ℤ◌, ◌<ℤ◌, Bool}
-use Rattle.std.proofs.Common.{true, false, ◌||◌, eqb, List, [], ◌∷◌, length, get_or, refl, sym, ◌∙◌, subst, arith}
-use Rattle.std.proofs.lemmas.Bool.{eq-eqb}
+use Rattle.std.proofs.Common.{true, false, List, [], ◌∷◌, length, get_or, refl, sym, ◌∙◌, subst, arith}
 use Rattle.std.proofs.lemmas.Int.{ints}
 use Rattle.integer_ring.proofs.Ring.{num, neg, ◌⊕◌, ◌⊗◌}
 use Rattle.integer_ring.proofs.Claims.{◌≐◌, eqn, ◌⊞◌, ◌because◌, ◌⇒◌, follows}
@@ -21,8 +20,9 @@ use Rattle.tin_base.proofs.Stepping.{turn_mixed}
 use Rattle.tin_base.proofs.Weights.{HasAll, common_in_first, common_in_second}
 use Rattle.tin_index.specs.Sides.{HasCorner, corner_of, next_of, IsAcross}
 use Rattle.tin_index.proofs.Corners.{Numbered, numbered}
-use Rattle.tin_index.proofs.Across.{mix_in, member}
 use Rattle.seg_walk.specs.Leaving.{place_at, IsOnLine, IsLeftAt}
+use Rattle.tin_base.proofs.Members.{has_first_of_two, has_second_of_two, one_of_three}
+use Rattle.tin_base.proofs.Overlap.{in_more}
 
 -- ---- weights on a line
 moved : (v w t s z : ℤ) → v *ℤ t ≡ w *ℤ s → t ≡ pos 0 → z ≡ s → z *ℤ w ≡ pos 0 *ℤ w
@@ -78,19 +78,19 @@ record Sided (tin : Triangulation) (ns : List ℕ) (c d : ℕ) : Type 0 where
 sided_list : (tin : Triangulation) (i j l k : ℕ) → k < 3
     → pos 0 <ℤ turn_of (place_at tin i) (place_at tin j) (place_at tin l)
     → Sided tin (i ∷ j ∷ l ∷ []) (get_or (i ∷ j ∷ l ∷ []) k 0) (get_or (i ∷ j ∷ l ∷ []) (next_of k) 0)
-sided_list tin i j l zero h t = record { e = l; positive = t; only = λ n m. member i j l n m }
+sided_list tin i j l zero h t = record { e = l; positive = t; only = λ n m. one_of_three i j l n m }
 sided_list tin i j l (suc zero) h t =
     record {
       e = i;
       positive = subst (λ (z : ℤ). pos 0 <ℤ z) (turn_cycle (place_at tin i) (place_at tin j) (place_at tin l)) t;
-      only = λ n m. ⊎_elim (λ e. inr (inr e)) (λ r. ⊎_elim (λ e. inl e) (λ e. inr (inl e)) r) (member i j l n m);
+      only = λ n m. ⊎_elim (λ e. inr (inr e)) (λ r. ⊎_elim (λ e. inl e) (λ e. inr (inl e)) r) (one_of_three i j l n m);
     }
 sided_list tin i j l (suc (suc zero)) h t =
     record {
       e = j;
       positive = subst (λ (z : ℤ). pos 0 <ℤ z) (turn_cycle (place_at tin j) (place_at tin l) (place_at tin i))
           (subst (λ (z : ℤ). pos 0 <ℤ z) (turn_cycle (place_at tin i) (place_at tin j) (place_at tin l)) t);
-      only = λ n m. ⊎_elim (λ e. inr (inl e)) (λ r. ⊎_elim (λ e. inr (inr e)) (λ e. inl e) r) (member i j l n m);
+      only = λ n m. ⊎_elim (λ e. inr (inl e)) (λ r. ⊎_elim (λ e. inr (inr e)) (λ e. inl e) r) (one_of_three i j l n m);
     }
 sided_list tin i j l (suc (suc (suc k))) h t = absurd (omega arith)
 
@@ -104,19 +104,6 @@ sided tin t k limits sound ht hk = go (numbered tin t limits sound ht)
         (sided_list tin s.i s.j s.k k hk s.positive)
 
 -- ---- a triangle without a corner of another has of this one only the side opposite
-or_left : (x y : Bool) → x ≡ true → (x || y) ≡ true
-or_left true y e = refl
-or_left false y e = cc
-
-or_right : (x y : Bool) → y ≡ true → (x || y) ≡ true
-or_right true y e = refl
-or_right false y e = e
-
-is_first : (d e n : ℕ) → d ≡ n → has (d ∷ e ∷ []) n ≡ true
-is_first d e n s = or_left (eqb d n) (eqb e n || false) (eq-eqb d n s)
-
-is_second : (d e n : ℕ) → e ≡ n → has (d ∷ e ∷ []) n ≡ true
-is_second d e n s = or_right (eqb d n) (eqb e n || false) (or_left (eqb e n) false (eq-eqb e n s))
 
 without : (ns us cs : List ℕ) (c d e : ℕ) → HasAll ns cs → HasAll us cs
     → ((n : ℕ) → has ns n ≡ true → (c ≡ n) ⊎ ((d ≡ n) ⊎ (e ≡ n))) → (has us c ≡ true → ⊥) → HasAll (d ∷ e ∷ []) cs
@@ -126,8 +113,8 @@ without ns us (n ∷ cs) c d e in_ns in_us only out =
   where
     here : (c ≡ n) ⊎ ((d ≡ n) ⊎ (e ≡ n)) → has (d ∷ e ∷ []) n ≡ true
     here (inl s) = absurd (out (subst (λ (m : ℕ). has us m ≡ true) (sym s) in_us.0))
-    here (inr (inl s)) = is_first d e n s
-    here (inr (inr s)) = is_second d e n s
+    here (inr (inl s)) = has_first_of_two d e n s
+    here (inr (inr s)) = has_second_of_two d e n s
 
 -- a triangle that has a point of another, which is not on the side opposite to a corner, has this corner
 keeps_corner : (tin : Triangulation) (t u c d e : ℕ) (p : Point) → IsSound tin → t ≢ u → t < length tin.triangles
@@ -147,7 +134,7 @@ keeps_corner tin t u c d e p sound differ ht hu only hp in_t in_u off = go (has 
         (common_in_first (numbers_of tin t) (numbers_of tin u))
         (common_in_second (numbers_of tin t) (numbers_of tin u)) only (λ f. no_true (sym h ∙ f)) in
         absurd (off (turn_on_side (place_at tin d) (place_at tin e) p one one
-        (mix_in tin (d ∷ e ∷ []) (common_of tin t u) p all (fit.meet p hp in_t in_u))))
+        (in_more tin (d ∷ e ∷ []) (common_of tin t u) p all (fit.meet p hp in_t in_u))))
 
 not_zero : (z : ℤ) → pos 0 <ℤ z → z ≡ pos 0 → ⊥
 not_zero z h e = no (subst (λ (y : ℤ). pos 0 <ℤ y) e h)

@@ -14,9 +14,7 @@ use Rattle.tin_base.specs.Images.{IsInSome}
 use Rattle.tin_base.specs.Limits.{IsWithinLimits}
 use Rattle.tin_base.proofs.TrianglePlaces.{source_at}
 use Rattle.tin_index.specs.Boxes.{IsNearCorners}
-
-some_weight : (i j k : ℕ) → 0 < sum (i ∷ j ∷ k ∷ []) → pos 0 <ℤ (pos i +ℤ pos j +ℤ pos k)
-some_weight i j k h = omega (arith, ints)
+use Rattle.plain_laws.proofs.Weights.{three_positive}
 
 -- what is near three numbers is near their mix
 near_mix : (q a b c z : ℤ) (i j k : ℕ) → 0 < sum (i ∷ j ∷ k ∷ []) → ((q -ℤ a) <ℤ SPAN) × ((a -ℤ q) <ℤ SPAN)
@@ -25,9 +23,9 @@ near_mix : (q a b c z : ℤ) (i j k : ℕ) → 0 < sum (i ∷ j ∷ k ∷ []) �
     ≡ (pos i *ℤ a +ℤ (pos j *ℤ b +ℤ (pos k *ℤ c +ℤ pos 0))) *ℤ pos 1 → ((q -ℤ z) <ℤ SPAN) × ((z -ℤ q) <ℤ SPAN)
 near_mix q a b c z i j k some ha hb hc e =
     let low = not_below (q -ℤ SPAN +ℤ pos 1) a b c z (pos i) (pos j) (pos k) (up a ha.0) (up b hb.0) (up c hc.0)
-    (nonneg_pos i) (nonneg_pos j) (nonneg_pos k) (some_weight i j k some) e in
+    (nonneg_pos i) (nonneg_pos j) (nonneg_pos k) (three_positive i j k some) e in
     let high = not_above (q +ℤ SPAN -ℤ pos 1) a b c z (pos i) (pos j) (pos k) (down a ha.1) (down b hb.1) (down c hc.1)
-    (nonneg_pos i) (nonneg_pos j) (nonneg_pos k) (some_weight i j k some) e in
+    (nonneg_pos i) (nonneg_pos j) (nonneg_pos k) (three_positive i j k some) e in
     (omega (arith, ints), omega (arith, ints))
   where
     up : (r : ℤ) → (q -ℤ r) <ℤ SPAN → (q -ℤ SPAN +ℤ pos 1) ≤ℤ r

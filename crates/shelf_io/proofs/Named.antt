@@ -5,7 +5,6 @@ use Rattle.std.proofs.Common.{sym, ◌∙◌, ap, arith, ◌↔◌, option_map, 
 use Rattle.std.proofs.lemmas.List.{length-map, nil_from_length, drop-drop, take-append-drop}
 use Rattle.std.proofs.lemmas.Option.{slice_get-map}
 use Rattle.std.proofs.Math.Seq.{take-append_seam}
-use Rattle.std.proofs.lemmas.Grind.{common_steps}
 use Rattle.std.specs.List.{position, position_from, position_or_len}
 use Rattle.std.proofs.lemmas.Iterator.Adapters.{position_from-zero}
 use Rattle.std.specs.Str.{bytes_eq}
@@ -97,10 +96,6 @@ takes_there files number place count file copied after is same size ended =
 
     whole : take count (copied ++ after) ++ drop (place + count) file.bytes.items ≡ drop place file.bytes.items
     whole = rw (front, ← drop-drop count place file.bytes.items) (take-append-drop count (drop place file.bytes.items))
-
--- all that stands from a place on
-pub take-rest : (bytes : List ℕ) (place : ℕ) → take (length bytes - place) (drop place bytes) ≡ drop place bytes
-take-rest bytes place = grind (arith, common_steps)
 
 -- nothing is given exactly at the end
 pub none_at_end : (bytes buf : List ℕ) (place most count : ℕ) → 0 < length buf → 0 < most

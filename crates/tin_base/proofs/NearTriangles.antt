@@ -15,19 +15,19 @@ use Rattle.tin_base.proofs.Closeness.{near_inside}
 use Rattle.tin_base.proofs.Spots.{first_inside, last_inside}
 use Rattle.tin_base.proofs.TrianglePlaces.{moved_to}
 
-corner_axis : (a b c : ℤ) → a *ℤ (pos 1 *ℤ pos 1 +ℤ (pos 0 *ℤ pos 1 +ℤ (pos 0 *ℤ pos 1 +ℤ pos 0)))
+pub corner_axis : (a b c : ℤ) → a *ℤ (pos 1 *ℤ pos 1 +ℤ (pos 0 *ℤ pos 1 +ℤ (pos 0 *ℤ pos 1 +ℤ pos 0)))
     ≡ (pos 1 *ℤ a +ℤ (pos 0 *ℤ b +ℤ (pos 0 *ℤ c +ℤ pos 0))) *ℤ pos 1
 corner_axis = solve 3 (λ a b c. a ⊗ (num (pos 1) ⊗ num (pos 1)
     ⊕ (num (pos 0) ⊗ num (pos 1) ⊕ (num (pos 0) ⊗ num (pos 1) ⊕ num (pos 0))))
     ≐ (num (pos 1) ⊗ a ⊕ (num (pos 0) ⊗ b ⊕ (num (pos 0) ⊗ c ⊕ num (pos 0)))) ⊗ num (pos 1)) tt
 
-second_axis : (a b c : ℤ) → b *ℤ (pos 0 *ℤ pos 1 +ℤ (pos 1 *ℤ pos 1 +ℤ (pos 0 *ℤ pos 1 +ℤ pos 0)))
+pub second_axis : (a b c : ℤ) → b *ℤ (pos 0 *ℤ pos 1 +ℤ (pos 1 *ℤ pos 1 +ℤ (pos 0 *ℤ pos 1 +ℤ pos 0)))
     ≡ (pos 0 *ℤ a +ℤ (pos 1 *ℤ b +ℤ (pos 0 *ℤ c +ℤ pos 0))) *ℤ pos 1
 second_axis = solve 3 (λ a b c. b ⊗ (num (pos 0) ⊗ num (pos 1)
     ⊕ (num (pos 1) ⊗ num (pos 1) ⊕ (num (pos 0) ⊗ num (pos 1) ⊕ num (pos 0))))
     ≐ (num (pos 0) ⊗ a ⊕ (num (pos 1) ⊗ b ⊕ (num (pos 0) ⊗ c ⊕ num (pos 0)))) ⊗ num (pos 1)) tt
 
-third_axis : (a b c : ℤ) → c *ℤ (pos 0 *ℤ pos 1 +ℤ (pos 0 *ℤ pos 1 +ℤ (pos 1 *ℤ pos 1 +ℤ pos 0)))
+pub third_axis : (a b c : ℤ) → c *ℤ (pos 0 *ℤ pos 1 +ℤ (pos 0 *ℤ pos 1 +ℤ (pos 1 *ℤ pos 1 +ℤ pos 0)))
     ≡ (pos 0 *ℤ a +ℤ (pos 0 *ℤ b +ℤ (pos 1 *ℤ c +ℤ pos 0))) *ℤ pos 1
 third_axis = solve 3 (λ a b c. c ⊗ (num (pos 0) ⊗ num (pos 1)
     ⊕ (num (pos 0) ⊗ num (pos 1) ⊕ (num (pos 1) ⊗ num (pos 1) ⊕ num (pos 0))))

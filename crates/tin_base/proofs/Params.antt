@@ -1,5 +1,5 @@
 -- Parameters from 0 to 1 as spots: their order is the order of the values.
-use Rattle.std.proofs.Common.{◌≡◌, ℕ, ◌+◌, ◌*◌, ◌<◌, ℤ, pos, ◌-ℤ◌, ◌*ℤ◌, ◌≤ℤ◌, ◌<ℤ◌, unsigned_abs, ap, ap₂, arith}
+use Rattle.std.proofs.Common.{◌≡◌, ℕ, ◌*◌, ◌<◌, ℤ, pos, ◌-ℤ◌, ◌*ℤ◌, ◌≤ℤ◌, ◌<ℤ◌, unsigned_abs, ap, ap₂, arith}
 use Rattle.std.proofs.lemmas.Int.{ints}
 use Rattle.integer_ring.proofs.Ring.{num, neg, ◌⊖◌, ◌⊗◌}
 use Rattle.integer_ring.proofs.Order.{≤-to-nonneg}
@@ -11,6 +11,7 @@ use Rattle.tin_base.specs.Segments.{Spot, IsBefore, IsSameSpot}
 use Rattle.tin_base.proofs.Ends.{IsSpot}
 use Rattle.tin_base.proofs.Slicing.{IsSpotAt}
 use Rattle.tin_base.specs.Slices.{spot_of}
+use Rattle.plain_laws.proofs.Weights.{share_some}
 
 abs_is : (z : ℤ) → pos 0 ≤ℤ z → z ≡ pos (unsigned_abs z)
 abs_is z h = omega (arith, ints)
@@ -18,11 +19,8 @@ abs_is z h = omega (arith, ints)
 pub at_spot : (f : Frac) → IsParam f.num f.den → IsSpotAt f.num f.den (spot_of f)
 at_spot f h = record { share = abs_is f.num h.1; rest = abs_is (f.den -ℤ f.num) (≤-to-nonneg f.num f.den h.2) }
 
-some_of : (n d : ℤ) (k l : ℕ) → n ≡ pos k → d -ℤ n ≡ pos l → pos 0 <ℤ d → 0 < l + k
-some_of n d k l e f h = omega (arith, ints)
-
 pub spot_some : (f : Frac) → IsParam f.num f.den → IsSpot (spot_of f)
-spot_some f h = let s = at_spot f h in some_of f.num f.den (spot_of f).of_b (spot_of f).of_a s.share s.rest h.0
+spot_some f h = let s = at_spot f h in share_some f.num f.den (spot_of f).of_b (spot_of f).of_a s.share s.rest h.0
 
 -- a spot is told by its parameter
 abbrev spot : ℕ → ℕ → Spot

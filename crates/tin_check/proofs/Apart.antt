@@ -97,21 +97,17 @@ span_of r s p q near hp hq = (
         near r.c c (inr (inr (inl refl))) h in
         pick p.y0 r.a.y r.b.y r.c.y (λ z. (c.y -ℤ z) <ℤ SPAN) hp.bottom a.3 b.3 d.3
 
-box_of : (boxes : List Rect) (i : ℕ) (d : Rect) (P : Rect → Type 0) → i < length boxes → P (box_at boxes i)
-    → P (get_or boxes i d)
-box_of boxes i d P h is = subst P (get_or_default boxes i no_box d h) is
-
 pub boxes_ordered : (tin : Triangulation) (frame : Frame) (boxes : List Rect)
     → AreBoxesIn tin frame (length tin.triangles) boxes → AreOrdered boxes
 boxes_ordered tin frame boxes are i d within =
-    box_of boxes i d IsOrdered within (let is =
+    subst IsOrdered (get_or_default boxes i no_box d within) (let is =
     are.each i (omega (arith, are.count)) in box_ordered is.tri (box_at boxes i) is.of)
 
 pub boxes_span : (tin : Triangulation) (frame : Frame) (boxes : List Rect) → IsWithinLimits tin
     → AreBoxesIn tin frame (length tin.triangles) boxes → AreWithinSpan boxes
 boxes_span tin frame boxes limits are i d hi j e hj =
-    box_of boxes i d (λ p. IsWithinSpan p (get_or boxes j e)) hi
-    (box_of boxes j e (λ q. IsWithinSpan (box_at boxes i) q) hj
+    subst (λ p. IsWithinSpan p (get_or boxes j e)) (get_or_default boxes i no_box d hi)
+    (subst (λ q. IsWithinSpan (box_at boxes i) q) (get_or_default boxes j no_box e hj)
     (let p = are.each i (omega (arith, are.count)) in
     let q = are.each j (omega (arith, are.count)) in
     span_of p.tri q.tri (box_at boxes i) (box_at boxes j)

@@ -15,6 +15,7 @@ use Rattle.plane_base.proofs.InTriangle.{turns_of_mix, mix_of_turns}
 use Rattle.plane_base.proofs.Mixes.{turn_on_side}
 use Rattle.tin_check.specs.Meeting.{HaveCommonPoint, MeetOnlyIn}
 use Rattle.tin_check.proofs.Places.{side_bc_in}
+use Rattle.plain_laws.proofs.Weights.{two_some, one_positive}
 
 abbrev NonNeg : ℤ → Type 0
 NonNeg z = pos 0 ≤ℤ z
@@ -38,9 +39,6 @@ ahead-w : (v w l m : ℤ) → pos 0 <ℤ v → pos 0 <ℤ w → pos 0 ≤ℤ l �
 ahead-w =
     follows 4 (λ v w l m. num (pos 0) ≺ v ⇒ num (pos 0) ≺ w ⇒ num (pos 0) ≼ l ⇒ num (pos 0) ≼ m ⇒ num (pos 0) ≺ l ⊕ m
     ⇒ num (pos 0) ≺ l ⊗ v ⊕ (m ⊗ w ⊕ num (pos 0)) because gap 2 ⊠ over 0 ⊞ gap 3 ⊠ over 1 ⊞ over 4) tt
-
-some_weight : (k l : ℕ) → pos 0 <ℤ (pos k +ℤ pos l) → 0 < sum (k ∷ l ∷ [])
-some_weight k l h = omega (arith, ints)
 
 -- d·u - k·v is not negative, where v is 0 or where k·v is at most d·u
 not_below : (d u k v : ℤ) → (k *ℤ v) ≤ℤ (u *ℤ d) → pos 0 ≤ℤ (d *ℤ u -ℤ k *ℤ v)
@@ -83,7 +81,7 @@ first_side a b c f g p ha hb hc hf hg d d' tl tm some tf tg order =
         (not_below_zero (turn_of a b c) (turn_of g a p) (turn_of b c p) (turn_of g a a) d tg (turn_there a g)) in (
           q,
           w,
-          (l.0 ∷ m.0 ∷ [], refl, some_weight l.0 m.0 some', (refl, refl)),
+          (l.0 ∷ m.0 ∷ [], refl, two_some l.0 m.0 some', (refl, refl)),
           mix_of_turns a f g q ha hf hg w d' at_af
               at_fg at_ga,
         )
@@ -157,9 +155,6 @@ not_zero =
     ≐ num (pos 0) ⇒ num (pos 0) ≺ p ⇒ num (pos 0) ≺ k ⇒ num (pos 0) ≺ d ⇒ never
     because over 2 ⊠ gap 3 ⊠ gap 4 ⊞ over 3 ⊠ gap 4 ⊞ over 4 ⊞ eqn 0 (num (negsuc 0)) ⊞ eqn 1 v) tt
 
-a_weight : (k : ℕ) → 0 < sum (k ∷ []) → pos 0 <ℤ pos k
-a_weight k h = omega (arith, ints)
-
 -- no point of the side bc is a mix of the corner a alone
 pub not_corner : (a b c p : Point) → pos 0 <ℤ p.w → pos 0 <ℤ b.w → pos 0 <ℤ c.w → pos 0 <ℤ turn_of a b c
     → IsMix p (b ∷ c ∷ []) → IsMix p (a ∷ []) → ⊥
@@ -172,7 +167,7 @@ not_corner a b c p hp hb hc d on at = go at.0 at.1 at.2 at.3
         let q = weighed (k ∷ []) (a ∷ []) in
         not_zero q.w (turn_of b c p) p.w (pos k) (turn_of a b c)
         (turn_same b c p q s ∙ ap (λ (z : ℤ). p.w *ℤ z) (one_turn a b c (pos k))) (turn_on_side b c p hb hc on) hp
-        (a_weight k h) d
+        (one_positive k h) d
 
 pub not_only_at_corner : (a b c : Point) (us : List Point) → pos 0 <ℤ b.w → pos 0 <ℤ c.w → pos 0 <ℤ turn_of a b c
     → HaveCommonPoint (b ∷ c ∷ []) us → MeetOnlyIn (a ∷ b ∷ c ∷ []) us (a ∷ []) → ⊥

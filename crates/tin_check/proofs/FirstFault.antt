@@ -11,15 +11,13 @@ use Rattle.tin_check.specs.declared.faults.CheckFault.TheVariants.{Flat, TurnsOv
 use Rattle.tin_check.specs.Faults.{IsFault, frame_rank, rank, IsBefore, IsFirstFault, IsCause, FirstFaultIsOne}
 use Rattle.tin_check.specs.Faults.{FaultsAreUnsound}
 use Rattle.tin_check.specs.Progress.{ArePositive, IsBeforePair, DoFitBefore, DoAllFit, IsFirstPair}
+use Rattle.plain_laws.proofs.Order.{trichotomy}
 
 not_zero : (z : ℤ) → pos 0 <ℤ z → z ≡ pos 0 → ⊥
 not_zero z h e = absurd (omega (arith, ints))
 
 not_negative : (z : ℤ) → pos 0 <ℤ z → z <ℤ pos 0 → ⊥
 not_negative z h k = absurd (omega (arith, ints))
-
-three_ways : (m n : ℕ) → (m < n) ⊎ ((m ≡ n) ⊎ (n < m))
-three_ways m n = grind arith
 
 -- ---- the first fault of a triangle
 -- of a fault before the k-th of triangle t: that triangle is flat, in a frame of lower rank, or it is turned over
@@ -107,7 +105,7 @@ still_before : (tin : Triangulation) (frame : Frame) (a b c d : ℕ) → (IsBefo
 still_before tin frame a b c d not fit t u order within before = fit t u order within (still t u a b c d not before)
   where
     still : (t u a b c d : ℕ) → (IsBeforePair c d a b → ⊥) → IsBeforePair t u a b → IsBeforePair t u c d
-    still t u a b c d not before = go (three_ways t c) (three_ways u d) before
+    still t u a b c d not before = go (trichotomy t c) (trichotomy u d) before
       where
         first : t < a → c < t → ⊥
         first h k = not (inl (omega arith))
@@ -215,7 +213,7 @@ in_order : (ms ns : List ℕ) → length ms ≡ length ns → IsBefore ms ns ⊎
 in_order [] [] e = inr (inl refl)
 in_order [] (n ∷ ns) e = absurd (omega arith)
 in_order (m ∷ ms) [] e = absurd (omega arith)
-in_order (m ∷ ms) (n ∷ ns) e = go (three_ways m n) (in_order ms ns (omega arith))
+in_order (m ∷ ms) (n ∷ ns) e = go (trichotomy m n) (in_order ms ns (omega arith))
   where
     go : (m < n) ⊎ ((m ≡ n) ⊎ (n < m)) → IsBefore ms ns ⊎ ((ms ≡ ns) ⊎ IsBefore ns ms)
         → IsBefore (m ∷ ms) (n ∷ ns) ⊎ ((m ∷ ms ≡ n ∷ ns) ⊎ IsBefore (n ∷ ns) (m ∷ ms))

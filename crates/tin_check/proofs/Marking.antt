@@ -1,7 +1,7 @@
 -- Corners that are marked by their numbers.
 use Rattle.std.proofs.Common.{◌≡◌, ◌⊎◌, ◌↔◌, inl, inr, ℕ, suc, ◌<◌, ◌≤◌, Bool, true, false, ◌||◌, IsTrue, eqb, cond}
 use Rattle.std.proofs.Common.{List, [], ◌∷◌, ◌++◌, length, map, get_or, ap, ap₂, sym, ◌∙◌, subst, refl, arith}
-use Rattle.std.proofs.lemmas.Bool.{eq-eqb, eqb-true}
+use Rattle.std.proofs.lemmas.Bool.{eqb-true}
 use Rattle.std.proofs.lemmas.List.{length-map}
 use Rattle.plane_base.specs.Plane.{Point, IsMix, whole, corners}
 use Rattle.plane_base.specs.declared.shapes.Pt.{Pt}
@@ -13,6 +13,7 @@ use Rattle.tin_base.specs.Limits.{IsWithinLimits}
 use Rattle.tin_base.proofs.Standing.{near_points}
 use Rattle.tin_check.specs.Meeting.{MeetOnlyIn}
 use Rattle.tin_check.specs.Marks.{points_of, marked_of, IsAmong, HaveSamePoints, AreNearTris}
+use Rattle.tin_base.proofs.Members.{has_head}
 
 -- ---- the places of the marked corners are those of the common numbers
 pub marked-places : (tin : Triangulation) (frame : Frame) (ns us : List ℕ) (ps : List Pt)
@@ -66,9 +67,6 @@ later n ns us tin frame p a = record {
     or_right true b e = refl
     or_right false b e = e
 
-first_has : (n : ℕ) (ns : List ℕ) → has (n ∷ ns) n ≡ true
-first_has n ns = ap (λ (b : Bool). b || has ns n) (eq-eqb n n refl)
-
 at_of_marked : (tin : Triangulation) (frame : Frame) (ns us : List ℕ) (ps : List Pt) (p : Pt)
     → map whole ps ≡ places tin frame ns → IsAmong (marked_of (map (has us) ns) ps) p → IsAt tin frame ns us p
 at_of_marked tin frame [] us ps p e h = absurd h
@@ -84,7 +82,7 @@ at_of_marked tin frame (n ∷ ns) us (q ∷ ps) p e h =
         → IsAt tin frame (n ∷ ns) us p
     go true f here more (inl k) = record {
       number = n;
-      in_first = first_has n ns;
+      in_first = has_head n ns;
       in_second = f;
       stands =
           ap (λ (r : Pt). whole r) k ∙ here;

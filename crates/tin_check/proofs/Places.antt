@@ -9,13 +9,7 @@ use Rattle.plane_base.specs.Plane.{Point, Same, weighed, IsMix, along}
 use Rattle.plane_base.proofs.Points.{plus, nothing, solve_at}
 use Rattle.plane_base.specs.Slices.{IsParam}
 use Rattle.plane_base.proofs.Mixes.{same_moved, Between, between_weights, weights_between}
-
--- a point of a side is in the triangle
-no_third : (k l a b c : ℤ) → k *ℤ a +ℤ (l *ℤ b +ℤ pos 0) ≡ k *ℤ a +ℤ (l *ℤ b +ℤ (pos 0 *ℤ c +ℤ pos 0))
-no_third = solve 5 (λ k l a b c. k ⊗ a ⊕ (l ⊗ b ⊕ num (pos 0)) ≐ k ⊗ a ⊕ (l ⊗ b ⊕ (num (pos 0) ⊗ c ⊕ num (pos 0)))) tt
-
-no_first : (k l a b c : ℤ) → k *ℤ b +ℤ (l *ℤ c +ℤ pos 0) ≡ pos 0 *ℤ a +ℤ (k *ℤ b +ℤ (l *ℤ c +ℤ pos 0))
-no_first = solve 5 (λ k l a b c. k ⊗ b ⊕ (l ⊗ c ⊕ num (pos 0)) ≐ num (pos 0) ⊗ a ⊕ (k ⊗ b ⊕ (l ⊗ c ⊕ num (pos 0)))) tt
+use Rattle.plain_laws.proofs.Weights.{no_third, no_first}
 
 pub side_ab_in : (p a b c : Point) → IsMix p (a ∷ b ∷ []) → IsMix p (a ∷ b ∷ c ∷ [])
 side_ab_in p a b c m =

@@ -3,7 +3,7 @@
 use Rattle.std.proofs.Common.{◌≡◌, ◌≢◌, ◌⊎◌, inl, inr, ⊎_elim, ℕ, zero, suc, ◌<◌, ◌≤◌, ℤ, pos, ◌<ℤ◌, Bool, true, false}
 use Rattle.std.proofs.Common.{◌||◌, cond, eqb, List, [], ◌∷◌, length, get_or, refl, sym, ◌∙◌, subst, arith}
 use Rattle.std.proofs.lemmas.Bool.Decides.{eqb_tells}
-use Rattle.std.proofs.lemmas.Bool.{cases_eq, eq-eqb}
+use Rattle.std.proofs.lemmas.Bool.{cases_eq, eq-eqb, or_right, or_left}
 use Rattle.std.proofs.lemmas.Grind.{get_or_default_zero}
 use Rattle.std.proofs.lemmas.List.Elements.{Contains-get_or}
 use Rattle.plane_base.specs.Plane.{Point, turn_of, IsMix}
@@ -15,16 +15,12 @@ use Rattle.tin_base.specs.Soundness.{has, common, common_of, DoFit, IsSound}
 use Rattle.tin_base.specs.Limits.{IsWithinLimits}
 use Rattle.tin_base.proofs.Spots.{one}
 use Rattle.tin_base.proofs.Weights.{HasAll}
-use Rattle.tin_base.proofs.Alike.{alike_of, alike_in, alike_more}
 use Rattle.tin_index.specs.Sides.{HasCorner, corner_of, next_of, IsAcross, IsStar}
-use Rattle.tin_index.proofs.Corners.{Numbered, numbered, read_differ, own, first_has, second_has, third_has}
+use Rattle.tin_index.proofs.Corners.{Numbered, numbered, read_differ, own}
 use Rattle.plane_base.proofs.LeftOfSide.{overlap_at_side}
-
--- some of the corners, in another order or twice, have no other mixes
-pub mix_in : (tin : Triangulation) (ns ks : List ℕ) (p : Point) → HasAll ns ks → IsMix p (places tin Source ks)
-    → IsMix p (places tin Source ns)
-mix_in tin ns ks p h m = let q = alike_of tin Source ks p m in alike_in tin Source ns p q.0
-    (alike_more tin Source ns ks p q.0 h q.2)
+use Rattle.tin_base.proofs.Overlap.{in_more}
+use Rattle.tin_base.proofs.Members.{one_of_three, has_first, has_second, has_third}
+use Rattle.plain_laws.proofs.Booleans.{or_rest}
 
 -- three corners to the left of the way from corner c to corner d: f is the third of them
 record LeftOf (tin : Triangulation) (ns : List ℕ) (c d : ℕ) : Type 0 where
@@ -37,30 +33,13 @@ record LeftOf (tin : Triangulation) (ns : List ℕ) (c d : ℕ) : Type 0 where
 no_true : {P : Type 0} → false ≡ true → P
 no_true e = cc
 
-or_false : (x y : Bool) → x ≡ false → (x || y) ≡ true → y ≡ true
-or_false true y e h = cc
-or_false false y e h = h
-
-or_left : (x y : Bool) → x ≡ true → (x || y) ≡ true
-or_left true y e = refl
-or_left false y e = cc
-
-or_right : (x y : Bool) → y ≡ true → (x || y) ≡ true
-or_right true y e = refl
-or_right false y e = e
-
 -- the first number, or one of the others
 first_or : (n c : ℕ) (ns : List ℕ) → has (n ∷ ns) c ≡ true → (n ≡ c) ⊎ (has ns c ≡ true)
 first_or n c ns h = go (eqb_tells n c)
   where
     go : ((eqb n c ≡ true) × (n ≡ c)) ⊎ ((eqb n c ≡ false) × (n ≡ c → ⊥)) → (n ≡ c) ⊎ (has ns c ≡ true)
     go (inl e) = inl e.1
-    go (inr e) = inr (or_false (eqb n c) (has ns c) e.0 h)
-
-pub member : (i j k c : ℕ) → has (i ∷ j ∷ k ∷ []) c ≡ true → (i ≡ c) ⊎ ((j ≡ c) ⊎ (k ≡ c))
-member i j k c h = ⊎_elim (λ e. inl e) (λ r. ⊎_elim (λ e. inr (inl e))
-    (λ q. ⊎_elim (λ e. inr (inr e)) (λ n. no_true n) (first_or k c [] q)) (first_or j c (k ∷ []) r))
-    (first_or i c (j ∷ k ∷ []) h)
+    go (inr e) = inr (or_rest (eqb n c) (has ns c) e.0 h)
 
 -- a number of both lists is common to them
 has_common : (ks ns : List ℕ) (c : ℕ) → has ks c ≡ true → has ns c ≡ true → has (common ks ns) c ≡ true
@@ -115,12 +94,12 @@ hands tin ns c d s differ hc hd =
     left ms m n l e f is_e is_f t all =
         subst (λ (x : ℕ). LeftOf tin ms x f) is_e
         (subst (λ (x : ℕ). LeftOf tin ms m x) is_f
-        (record { f = l; positive = t; into = λ p mix. mix_in tin ms (m ∷ n ∷ l ∷ []) p all mix }))
+        (record { f = l; positive = t; into = λ p mix. in_more tin ms (m ∷ n ∷ l ∷ []) p all mix }))
 
     go : (i j k : ℕ) → pos 0 <ℤ turn_of (place Source (corner_at tin i)) (place Source (corner_at tin j))
         (place Source (corner_at tin k)) → has (i ∷ j ∷ k ∷ []) c ≡ true → has (i ∷ j ∷ k ∷ []) d ≡ true
         → LeftOf tin (i ∷ j ∷ k ∷ []) c d ⊎ LeftOf tin (i ∷ j ∷ k ∷ []) d c
-    go i j k t hc hd = by (member i j k c hc) (member i j k d hd)
+    go i j k t hc hd = by (one_of_three i j k c hc) (one_of_three i j k d hd)
       where
         t' : pos 0 <ℤ turn_of (place Source (corner_at tin j)) (place Source (corner_at tin k))
             (place Source (corner_at tin i))
@@ -133,13 +112,13 @@ hands tin ns c d s differ hc hd =
             (place Source (corner_at tin k)) (place Source (corner_at tin i))) t'
 
         in_i : has (i ∷ j ∷ k ∷ []) i ≡ true
-        in_i = first_has i j k
+        in_i = has_first i j k
 
         in_j : has (i ∷ j ∷ k ∷ []) j ≡ true
-        in_j = second_has i j k
+        in_j = has_second i j k
 
         in_k : has (i ∷ j ∷ k ∷ []) k ≡ true
-        in_k = third_has i j k
+        in_k = has_third i j k
 
         by : (i ≡ c) ⊎ ((j ≡ c) ⊎ (k ≡ c)) → (i ≡ d) ⊎ ((j ≡ d) ⊎ (k ≡ d))
             → LeftOf tin (i ∷ j ∷ k ∷ []) c d ⊎ LeftOf tin (i ∷ j ∷ k ∷ []) d c
@@ -162,7 +141,7 @@ clash tin t u c d sound differ ht hu two tc td uc ud of_t of_u =
     (place Source (corner_at tin of_t.f)) (place Source (corner_at tin of_u.f)) one one one one of_t.positive
     of_u.positive
     (λ p hp in_t in_u. turn_on_side (place Source (corner_at tin c)) (place Source (corner_at tin d)) p one one
-    (mix_in tin (c ∷ d ∷ []) (common_of tin t u) p all (fit.meet p hp (of_t.into p in_t) (of_u.into p in_u))))
+    (in_more tin (c ∷ d ∷ []) (common_of tin t u) p all (fit.meet p hp (of_t.into p in_t) (of_u.into p in_u))))
   where
     fit : DoFit tin Source t u
     fit = sound.fit Source t u differ ht hu

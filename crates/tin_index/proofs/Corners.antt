@@ -1,13 +1,13 @@
 -- The three corners of a triangle with positive turn are different ones.
-use Rattle.std.proofs.Common.{◌≡◌, ◌≢◌, ℕ, zero, suc, ◌<◌, ℤ, pos, ◌<ℤ◌, Bool, true, false, ◌||◌, eqb, List, [], ◌∷◌}
+use Rattle.std.proofs.Common.{◌≡◌, ◌≢◌, ℕ, zero, suc, ◌<◌, ℤ, pos, ◌<ℤ◌, true, List, [], ◌∷◌}
 use Rattle.std.proofs.Common.{length, get_or, All, refl, sym, ◌∙◌, subst, arith}
-use Rattle.std.proofs.lemmas.Bool.{eq-eqb}
 use Rattle.plane_base.specs.Plane.{Point, turn_of}
 use Rattle.plane_base.proofs.Turns.{turn_cycle, turn_twice}
 use Rattle.tin_base.specs.declared.frames.Frame.TheVariants.{Source}
 use Rattle.tin_base.specs.Triangulation.{Triangulation, place, corner_at, numbers_of, places}
 use Rattle.tin_base.specs.Soundness.{turn_of_three, has, IsSound}
 use Rattle.tin_base.specs.Limits.{IsWithinLimits}
+use Rattle.tin_base.proofs.Members.{has_first, has_second, has_third}
 
 not_zero : (z : ℤ) → pos 0 <ℤ z → z ≡ pos 0 → ⊥
 not_zero z h e = no (subst (λ (y : ℤ). pos 0 <ℤ y) e h)
@@ -99,34 +99,14 @@ three_read tin t limits sound ht = go (numbered tin t limits sound ht)
         ∷ get_or (numbers_of tin t) 1 0 ∷ get_or (numbers_of tin t) 2 0 ∷ []
     go s = subst (λ (ns : List ℕ). ns ≡ get_or ns 0 0 ∷ get_or ns 1 0 ∷ get_or ns 2 0 ∷ []) (sym s.is) refl
 
--- a triangle has its own corners
-or_true : (x y : Bool) → x ≡ true → (x || y) ≡ true
-or_true true y e = refl
-or_true false y e = cc
-
-or_later : (x y : Bool) → y ≡ true → (x || y) ≡ true
-or_later true y e = refl
-or_later false y e = e
-
-pub first_has : (i j k : ℕ) → has (i ∷ j ∷ k ∷ []) i ≡ true
-first_has i j k = or_true (eqb i i) (eqb j i || (eqb k i || false)) (eq-eqb i i refl)
-
-pub second_has : (i j k : ℕ) → has (i ∷ j ∷ k ∷ []) j ≡ true
-second_has i j k = or_later (eqb i j) (eqb j j || (eqb k j || false))
-    (or_true (eqb j j) (eqb k j || false) (eq-eqb j j refl))
-
-pub third_has : (i j k : ℕ) → has (i ∷ j ∷ k ∷ []) k ≡ true
-third_has i j k = or_later (eqb i k) (eqb j k || (eqb k k || false))
-    (or_later (eqb j k) (eqb k k || false) (or_true (eqb k k) false (eq-eqb k k refl)))
-
 pub own : (tin : Triangulation) (t k : ℕ) → IsWithinLimits tin → IsSound tin → t < length tin.triangles → k < 3
     → has (numbers_of tin t) (get_or (numbers_of tin t) k 0) ≡ true
 own tin t k limits sound ht hk = go (numbered tin t limits sound ht)
   where
     each : (i j l k : ℕ) → k < 3 → has (i ∷ j ∷ l ∷ []) (get_or (i ∷ j ∷ l ∷ []) k 0) ≡ true
-    each i j l zero h = first_has i j l
-    each i j l (suc zero) h = second_has i j l
-    each i j l (suc (suc zero)) h = third_has i j l
+    each i j l zero h = has_first i j l
+    each i j l (suc zero) h = has_second i j l
+    each i j l (suc (suc zero)) h = has_third i j l
     each i j l (suc (suc (suc k))) h = absurd (omega arith)
 
     go : Numbered tin (numbers_of tin t) → has (numbers_of tin t) (get_or (numbers_of tin t) k 0) ≡ true

@@ -11,6 +11,7 @@ use Rattle.plane_base.specs.declared.shapes.Pt.{Pt}
 use Rattle.plane_base.specs.declared.shapes.Tri.{Tri}
 use Rattle.plane_base.specs.declared.shapes.TheConstants.{SPAN}
 use Rattle.tin_index.specs.Boxes.{IsUpTo, low_of, high_of}
+use Rattle.plain_laws.proofs.Weights.{three_positive}
 
 -- a mix of three numbers is not below what none of them is below
 pub not_below : (l a b c z i j k : ℤ) → l ≤ℤ a → l ≤ℤ b → l ≤ℤ c → pos 0 ≤ℤ i → pos 0 ≤ℤ j → pos 0 ≤ℤ k
@@ -54,23 +55,20 @@ max_second a b c = omega (arith, ints, int_max_is a (int_max b c), int_max_is b 
 max_third : (a b c : ℤ) → c ≤ℤ int_max a (int_max b c)
 max_third a b c = omega (arith, ints, int_max_is a (int_max b c), int_max_is b c)
 
-some_weight : (i j k : ℕ) → 0 < sum (i ∷ j ∷ k ∷ []) → pos 0 <ℤ (pos i +ℤ pos j +ℤ pos k)
-some_weight i j k h = omega (arith, ints)
-
 -- a mix of three numbers is between the least and the greatest of them
 low_on : (a b c z : ℤ) (i j k : ℕ) → 0 < sum (i ∷ j ∷ k ∷ [])
     → z *ℤ (pos i *ℤ pos 1 +ℤ (pos j *ℤ pos 1 +ℤ (pos k *ℤ pos 1 +ℤ pos 0)))
     ≡ (pos i *ℤ a +ℤ (pos j *ℤ b +ℤ (pos k *ℤ c +ℤ pos 0))) *ℤ pos 1 → int_min a (int_min b c) ≤ℤ z
 low_on a b c z i j k some e =
     not_below (int_min a (int_min b c)) a b c z (pos i) (pos j) (pos k) (min_first a b c) (min_second a b c)
-    (min_third a b c) (nonneg_pos i) (nonneg_pos j) (nonneg_pos k) (some_weight i j k some) e
+    (min_third a b c) (nonneg_pos i) (nonneg_pos j) (nonneg_pos k) (three_positive i j k some) e
 
 high_on : (a b c z : ℤ) (i j k : ℕ) → 0 < sum (i ∷ j ∷ k ∷ [])
     → z *ℤ (pos i *ℤ pos 1 +ℤ (pos j *ℤ pos 1 +ℤ (pos k *ℤ pos 1 +ℤ pos 0)))
     ≡ (pos i *ℤ a +ℤ (pos j *ℤ b +ℤ (pos k *ℤ c +ℤ pos 0))) *ℤ pos 1 → z ≤ℤ int_max a (int_max b c)
 high_on a b c z i j k some e =
     not_above (int_max a (int_max b c)) a b c z (pos i) (pos j) (pos k) (max_first a b c) (max_second a b c)
-    (max_third a b c) (nonneg_pos i) (nonneg_pos j) (nonneg_pos k) (some_weight i j k some) e
+    (max_third a b c) (nonneg_pos i) (nonneg_pos j) (nonneg_pos k) (three_positive i j k some) e
 
 pub in_box : (t : Tri) (p : Pt) → holds_of t p → IsUpTo (low_of t) p × IsUpTo p (high_of t)
 in_box t p m = go m.0 m.1 m.2 m.3

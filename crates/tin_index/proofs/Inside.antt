@@ -1,7 +1,7 @@
 -- A point inside of a triangle is in no other: it would be on a side.
-use Rattle.std.proofs.Common.{◌≡◌, ◌⊎◌, inl, inr, ⊎_elim, ◌↔◌, IsTrue, ℕ, ◌<◌, ◌≤◌, ℤ, pos, ◌<ℤ◌, Bool, true, false}
-use Rattle.std.proofs.Common.{◌||◌, eqb, List, [], ◌∷◌, length, get_or, refl, sym, subst, arith}
-use Rattle.std.proofs.lemmas.Bool.{cases_eq, eq-eqb}
+use Rattle.std.proofs.Common.{◌≡◌, ◌⊎◌, inl, inr, ⊎_elim, ◌↔◌, IsTrue, ℕ, ◌<◌, ◌≤◌, ℤ, pos, ◌<ℤ◌, Bool}
+use Rattle.std.proofs.Common.{List, [], ◌∷◌, length, get_or, refl, sym, subst, arith}
+use Rattle.std.proofs.lemmas.Bool.{cases_eq}
 use Rattle.integer_ring.proofs.Order.{≤_of_<}
 use Rattle.plane_base.specs.Plane.{Point, turn_of, IsMix, whole, corners}
 use Rattle.plane_base.specs.declared.shapes.Pt.{Pt}
@@ -15,7 +15,8 @@ use Rattle.tin_base.specs.Limits.{IsWithinLimits}
 use Rattle.tin_base.proofs.Spots.{one}
 use Rattle.tin_base.proofs.Weights.{HasAll, common_in_first}
 use Rattle.tin_index.specs.Locating.{IsInsideOf, IsOnlyIn}
-use Rattle.tin_index.proofs.Across.{mix_in, member}
+use Rattle.tin_base.proofs.Members.{has_first_of_two, has_second_of_two, one_of_three}
+use Rattle.tin_base.proofs.Overlap.{in_more}
 
 -- what a test of three numbers tells of three that are equal to them
 pub by_tests : (u v w x y z : ℤ) (r : Bool) → u ≡ x → v ≡ y → w ≡ z
@@ -25,45 +26,30 @@ by_tests u v w x y z r e f g h =
     (subst (λ (n : ℤ). IsTrue r ↔ ((pos 0 <ℤ u) × (pos 0 <ℤ n) × (pos 0 <ℤ z))) f
     (subst (λ (n : ℤ). IsTrue r ↔ ((pos 0 <ℤ u) × (pos 0 <ℤ v) × (pos 0 <ℤ n))) g h))
 
-is_first : (d e n : ℕ) → d ≡ n → has (d ∷ e ∷ []) n ≡ true
-is_first d e n s = or_left (eqb d n) (eqb e n || false) (eq-eqb d n s)
-  where
-    or_left : (x y : Bool) → x ≡ true → (x || y) ≡ true
-    or_left true y e = refl
-    or_left false y e = cc
-
-is_second : (d e n : ℕ) → e ≡ n → has (d ∷ e ∷ []) n ≡ true
-is_second d e n s = or_right (eqb d n) (eqb e n) (eq-eqb e n s)
-  where
-    or_right : (x y : Bool) → y ≡ true → (x || (y || false)) ≡ true
-    or_right true y e = refl
-    or_right false true e = refl
-    or_right false false e = cc
-
 -- of three numbers two at most: those of one side
 abbrev OnSide : ℕ → ℕ → ℕ → List ℕ → Type 0
 OnSide i j k cs = HasAll (i ∷ j ∷ []) cs ⊎ (HasAll (j ∷ k ∷ []) cs ⊎ HasAll (k ∷ i ∷ []) cs)
 
 on_a_side : (i j k : ℕ) (cs : List ℕ) → length cs ≤ 2 → HasAll (i ∷ j ∷ k ∷ []) cs → OnSide i j k cs
 on_a_side i j k [] few all = inl tt
-on_a_side i j k (x ∷ []) few all = go (member i j k x all.0)
+on_a_side i j k (x ∷ []) few all = go (one_of_three i j k x all.0)
   where
     go : (i ≡ x) ⊎ ((j ≡ x) ⊎ (k ≡ x)) → OnSide i j k (x ∷ [])
-    go (inl e) = inl (is_first i j x e, tt)
-    go (inr (inl e)) = inl (is_second i j x e, tt)
-    go (inr (inr e)) = inr (inl (is_second j k x e, tt))
-on_a_side i j k (x ∷ y ∷ []) few all = go (member i j k x all.0) (member i j k y all.1.0)
+    go (inl e) = inl (has_first_of_two i j x e, tt)
+    go (inr (inl e)) = inl (has_second_of_two i j x e, tt)
+    go (inr (inr e)) = inr (inl (has_second_of_two j k x e, tt))
+on_a_side i j k (x ∷ y ∷ []) few all = go (one_of_three i j k x all.0) (one_of_three i j k y all.1.0)
   where
     go : (i ≡ x) ⊎ ((j ≡ x) ⊎ (k ≡ x)) → (i ≡ y) ⊎ ((j ≡ y) ⊎ (k ≡ y)) → OnSide i j k (x ∷ y ∷ [])
-    go (inl e) (inl f) = inl (is_first i j x e, (is_first i j y f, tt))
-    go (inl e) (inr (inl f)) = inl (is_first i j x e, (is_second i j y f, tt))
-    go (inl e) (inr (inr f)) = inr (inr (is_second k i x e, (is_first k i y f, tt)))
-    go (inr (inl e)) (inl f) = inl (is_second i j x e, (is_first i j y f, tt))
-    go (inr (inl e)) (inr (inl f)) = inl (is_second i j x e, (is_second i j y f, tt))
-    go (inr (inl e)) (inr (inr f)) = inr (inl (is_first j k x e, (is_second j k y f, tt)))
-    go (inr (inr e)) (inl f) = inr (inr (is_first k i x e, (is_second k i y f, tt)))
-    go (inr (inr e)) (inr (inl f)) = inr (inl (is_second j k x e, (is_first j k y f, tt)))
-    go (inr (inr e)) (inr (inr f)) = inr (inl (is_second j k x e, (is_second j k y f, tt)))
+    go (inl e) (inl f) = inl (has_first_of_two i j x e, (has_first_of_two i j y f, tt))
+    go (inl e) (inr (inl f)) = inl (has_first_of_two i j x e, (has_second_of_two i j y f, tt))
+    go (inl e) (inr (inr f)) = inr (inr (has_second_of_two k i x e, (has_first_of_two k i y f, tt)))
+    go (inr (inl e)) (inl f) = inl (has_second_of_two i j x e, (has_first_of_two i j y f, tt))
+    go (inr (inl e)) (inr (inl f)) = inl (has_second_of_two i j x e, (has_second_of_two i j y f, tt))
+    go (inr (inl e)) (inr (inr f)) = inr (inl (has_first_of_two j k x e, (has_second_of_two j k y f, tt)))
+    go (inr (inr e)) (inl f) = inr (inr (has_first_of_two k i x e, (has_second_of_two k i y f, tt)))
+    go (inr (inr e)) (inr (inl f)) = inr (inl (has_second_of_two j k x e, (has_first_of_two j k y f, tt)))
+    go (inr (inr e)) (inr (inr f)) = inr (inl (has_second_of_two j k x e, (has_second_of_two j k y f, tt)))
 on_a_side i j k (x ∷ y ∷ z ∷ cs) few all = absurd (omega arith)
 
 not_zero : (z : ℤ) → pos 0 <ℤ z → z ≡ pos 0 → ⊥
@@ -114,7 +100,7 @@ not_on_side tin ns cs p few all left m = go
         → pos 0 <ℤ turn_of (place Source (corner_at tin c)) (place Source (corner_at tin d)) p → ⊥
     side c d h t = not_zero (turn_of (place Source (corner_at tin c)) (place Source (corner_at tin d)) p) t
         (turn_on_side (place Source (corner_at tin c)) (place Source (corner_at tin d)) p one one
-        (mix_in tin (c ∷ d ∷ []) cs p h m))
+        (in_more tin (c ∷ d ∷ []) cs p h m))
 
     go : OnSide left.i left.j left.k cs → ⊥
     go (inl h) = side left.i left.j h left.first

@@ -1,9 +1,8 @@
 -- The box of all corners has the points of each triangle, and each of its points is near each corner.
-use Rattle.std.proofs.Common.{◌≡◌, ◌⊎◌, inl, inr, ⊎_elim, Bool, true, false, cond, ℕ, ◌+◌, ◌<◌, ◌≤◌, ℤ, ◌-ℤ◌, ◌≤ℤ◌}
-use Rattle.std.proofs.Common.{◌<ℤ◌, List, length, get_or, refl, sym, ap, ◌∙◌, subst, arith}
+use Rattle.std.proofs.Common.{◌≡◌, ◌⊎◌, inl, inr, ⊎_elim, ℕ, ◌+◌, ◌<◌, ◌≤◌, ℤ, ◌-ℤ◌, ◌≤ℤ◌}
+use Rattle.std.proofs.Common.{◌<ℤ◌, List, length, get_or, sym, ap, ◌∙◌, subst, arith}
 use Rattle.std.proofs.lemmas.Bool.{cases_lt}
 use Rattle.std.proofs.lemmas.Int.{ints, int_min_is, int_max_is}
-use Rattle.std.specs.Prelude.{int_lt}
 use Rattle.std.specs.Int.{int_min, int_max}
 use Rattle.plane_base.specs.Plane.{Point, IsMix, whole, corners}
 use Rattle.plane_base.specs.declared.shapes.Pt.{Pt}
@@ -19,6 +18,7 @@ use Rattle.tin_base.specs.Triangulation.{Triangulation, place, no_corner, corner
 use Rattle.tin_index.specs.Boxes.{source_at, IsNearCorners, IsOfOne, IsRound}
 use Rattle.tin_index.proofs.Boxing.{standing, tri_of}
 use Rattle.tin_index.proofs.InBox.{in_box}
+use Rattle.plane_base.proofs.BoxLemmas.{lesser_is_one, greater_is_one}
 
 -- ---- corner by corner
 -- the corner as it is read
@@ -81,20 +81,6 @@ round_first tin p rect n e is same =
         zero_is : (k : ℕ) → k < 1 → 0 ≡ k
         zero_is k h = omega arith
 
-one_less : (y z : ℤ) → (int_min y z ≡ y) ⊎ (int_min y z ≡ z)
-one_less y z = go (int_lt z y)
-  where
-    go : (b : Bool) → (cond b z y ≡ y) ⊎ (cond b z y ≡ z)
-    go true = inr refl
-    go false = inl refl
-
-one_more : (y z : ℤ) → (int_max y z ≡ y) ⊎ (int_max y z ≡ z)
-one_more y z = go (int_lt z y)
-  where
-    go : (b : Bool) → (cond b y z ≡ y) ⊎ (cond b y z ≡ z)
-    go true = inl refl
-    go false = inr refl
-
 of_one_more : (number : Pt → ℤ) (tin : Triangulation) (n : ℕ) (w y z : ℤ) → 0 < n → (0 < n → IsOfOne number tin n y)
     → z ≡ number (source_at tin n) → (w ≡ y) ⊎ (w ≡ z) → IsOfOne number tin (n + 1) w
 of_one_more number tin n w y z some of is = go (of some)
@@ -135,10 +121,12 @@ round_more tin p old rect n more is r same =
     (record {
       has = λ k h. ⊎_elim (λ l. wider old p (source_at tin k) (r.has k l))
           (λ l. subst (λ (m : ℕ). HasPoint (widened old p) (source_at tin m)) (last k h l) here) (cases_lt k n);
-      left = λ _. of_one_more (λ q. q.x) tin n (int_min old.x0 p.x) old.x0 p.x some r.left x (one_less old.x0 p.x);
-      right = λ _. of_one_more (λ q. q.x) tin n (int_max old.x1 p.x) old.x1 p.x some r.right x (one_more old.x1 p.x);
-      bottom = λ _. of_one_more (λ q. q.y) tin n (int_min old.y0 p.y) old.y0 p.y some r.bottom y (one_less old.y0 p.y);
-      top = λ _. of_one_more (λ q. q.y) tin n (int_max old.y1 p.y) old.y1 p.y some r.top y (one_more old.y1 p.y);
+      left = λ _. of_one_more (λ q. q.x) tin n (int_min old.x0 p.x) old.x0 p.x some r.left x (lesser_is_one old.x0 p.x);
+      right = λ _. of_one_more (λ q. q.x) tin n (int_max old.x1 p.x) old.x1 p.x some r.right x
+          (greater_is_one old.x1 p.x);
+      bottom = λ _. of_one_more (λ q. q.y) tin n (int_min old.y0 p.y) old.y0 p.y some r.bottom y
+          (lesser_is_one old.y0 p.y);
+      top = λ _. of_one_more (λ q. q.y) tin n (int_max old.y1 p.y) old.y1 p.y some r.top y (greater_is_one old.y1 p.y);
     })
   where
     some : 0 < n

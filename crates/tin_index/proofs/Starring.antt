@@ -5,8 +5,8 @@ use Rattle.std.proofs.Common.{◌==◌, cond, eqb, List, [], ◌∷◌, ◌++◌
 use Rattle.std.proofs.Common.{◌∙◌, subst, arith}
 use Rattle.std.proofs.lemmas.Bool.{cases_lt}
 use Rattle.std.proofs.lemmas.Bool.Decides.{eqb_tells}
-use Rattle.std.proofs.lemmas.List.{length_push, get_or_append_left, get_or_push, append-nil}
-use Rattle.std.proofs.lemmas.List.Elements.{Contains-push, Contains-push_cases, Contains-get_or, Contains-append_left}
+use Rattle.std.proofs.lemmas.List.{length_push, append-nil}
+use Rattle.std.proofs.lemmas.List.Elements.{Contains-push, Contains-push_cases, Contains-append_left}
 use Rattle.std.proofs.lemmas.List.Elements.{All-push}
 use Rattle.std.specs.List.Sorted.{IsStrictlyIncreasing}
 use Rattle.number_groups.specs.declared.groups.Entry.{Entry}
@@ -17,18 +17,9 @@ use Rattle.tin_base.specs.Limits.{IsWithinLimits}
 use Rattle.tin_index.proofs.Corners.{three_read, read_differ}
 use Rattle.tin_index.specs.Sides.{HasCorner, IsStar}
 use Rattle.tin_index.specs.Stars.{one_if, star_to, AreEntriesTo, AreStarsTo}
+use Rattle.plain_laws.proofs.Lists.{increasing_push}
 
 -- ---- ascending numbers and one more
-increasing_push : (xs : List ℕ) (n : ℕ) → IsStrictlyIncreasing xs → ((k : ℕ) → Contains xs k → k < n)
-    → IsStrictlyIncreasing (xs ++ n ∷ [])
-increasing_push xs n up below k within =
-    let long = length_push xs n in
-    let low : get_or (xs ++ n ∷ []) k 0 ≡ get_or xs k 0 = get_or_append_left xs (n ∷ []) 0 k (omega arith) in
-    ⊎_elim
-    (λ inside. rw (low, get_or_append_left xs (n ∷ []) 0 (k + 1) inside) (up k inside))
-    (λ at_end. rw (low, get_or_push xs n 0 (k + 1) (omega arith))
-    (below (get_or xs k 0) (Contains-get_or xs k 0 (omega arith))))
-    (cases_lt (k + 1) (length xs))
 
 -- ---- what the list of a corner has
 none_in : (k : ℕ) → Contains [] k → ⊥

@@ -11,12 +11,13 @@ use Rattle.tin_base.specs.declared.pieces.Piece.{Piece}
 use Rattle.tin_base.specs.Triangulation.{Triangulation, numbers_of, places, IsInTriangle}
 use Rattle.tin_base.specs.Segments.{Part, at_a, at_b, spot_at, IsPart}
 use Rattle.tin_base.specs.Pieces.{IsPieceOf, IsPieceInside}
-use Rattle.meet_rel.proofs.Ending.{same_or_different, different_not, spot_whole, some_a}
+use Rattle.meet_rel.proofs.Ending.{same_or_different, different_not, some_a}
 use Rattle.meet_rel.proofs.Ways.{AreDifferent}
 use Rattle.integer_ring.proofs.Ring.{num, ◌⊕◌, ◌⊗◌}
 use Rattle.integer_ring.proofs.Claims.{◌≐◌, solve}
 use Rattle.topo_check.specs.Changes.{AreComparable, AreAllComparable}
 use Rattle.tin_tests.specs.Small.{IsSmall, IsSmallPiece, IsTried}
+use Rattle.tin_base.proofs.Spots.{spot_first}
 
 one : pos 0 <ℤ pos 1
 one = lt_z_yes tt
@@ -64,7 +65,7 @@ whole_part tin a b ht ma mb =
       has_first = record {
         some = some_a;
         inside =
-            mix_moved (whole a) (spot_at a b at_a) (places tin Source (numbers_of tin 0)) one (spot_whole a b) ma;
+            mix_moved (whole a) (spot_at a b at_a) (places tin Source (numbers_of tin 0)) one (spot_first a b) ma;
       };
       has_last = record {
         some = omega arith;

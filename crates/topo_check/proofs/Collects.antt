@@ -1,7 +1,7 @@
 -- Changed pairs that are collected one after another.
 use Rattle.std.proofs.Common.{◌≡◌, ◌⊎◌, inl, inr, ⊎_elim, ℕ, ◌<◌, ◌≤◌, List, [], ◌∷◌, ◌++◌, length, get_or, Contains}
-use Rattle.std.proofs.Common.{Bool, true, false, ◌&&◌, nat_eq, refl, subst, arith}
-use Rattle.std.proofs.lemmas.Bool.{false_from_ne_true, eqb-true}
+use Rattle.std.proofs.Common.{true, false, nat_eq, subst, arith}
+use Rattle.std.proofs.lemmas.Bool.{false_from_ne_true, eqb-true, and_parts}
 use Rattle.std.proofs.lemmas.List.{get_or_default, length_push}
 use Rattle.std.proofs.lemmas.List.Elements.{Contains-push, Contains-push_cases, Contains-append_left}
 use Rattle.std.proofs.lemmas.List.Quantifiers.{all_pairs_push}
@@ -11,16 +11,10 @@ use Rattle.topo_check.specs.declared.comparing.ChangedPair.{ChangedPair}
 use Rattle.topo_check.specs.Pairs.{IsChanged, IsUnchanged, is_same_pair, AreDifferent, HasPair, DoesCollect}
 
 -- ---- a pair that is not listed yet
-both_are : (a b : Bool) → (a && b) ≡ true → (a ≡ true) × (b ≡ true)
-both_are true b e = (refl, e)
-both_are false b e = absurd (no_truth e)
-  where
-    no_truth : false ≡ true → ⊥
-    no_truth e = cc
 
 pub same_numbers : (c d : ChangedPair) → is_same_pair c d ≡ true → (c.first ≡ d.first) × (c.second ≡ d.second)
 same_numbers c d e =
-    let both = both_are (nat_eq c.first d.first) (nat_eq c.second d.second)
+    let both = and_parts (nat_eq c.first d.first) (nat_eq c.second d.second)
     e in (eqb-true c.first d.first both.0, eqb-true c.second d.second both.1)
 
 different_push : (xs : List ChangedPair) (c : ChangedPair) → AreDifferent xs → (HasPair xs c.first c.second → ⊥)

@@ -3,7 +3,6 @@ use Rattle.std.proofs.Common.{◌≡◌, ℕ, ◌<◌, ℤ, pos, ◌≤ℤ◌, �
 use Rattle.std.proofs.Common.{arith}
 use Rattle.std.specs.Prelude.{All}
 use Rattle.std.specs.List.{AllByRecursion}
-use Rattle.std.proofs.lemmas.Int.{ints}
 use Rattle.plane_base.specs.Boxes.{IsIn, IsOrdered, AreApart, HasBox, box_of_segment, box_of_triangle, common_of}
 use Rattle.plane_base.specs.Plane.{Point, whole, corners}
 use Rattle.plane_base.specs.declared.shapes.Pt.{Pt}
@@ -24,6 +23,7 @@ use Rattle.meet_rel.proofs.Ending.{piece_ends}
 use Rattle.meet_rel.proofs.Scale.{mix_first}
 use Rattle.topo_check.specs.Changes.{HadRelation, HasRelation}
 use Rattle.topo_check.specs.Boxes.{IsAround, EachCorner, IsAmongCorners, IsExactBox, rounded_box_of}
+use Rattle.plain_laws.proofs.Order.{up_trans}
 
 -- ---- pieces whose boxes are apart are apart
 pub far_had : (tin : Triangulation) (p q : Piece) (r s : Rect) → IsExactBox tin p r → IsExactBox tin q s → AreApart r s
@@ -84,17 +84,13 @@ among_corners tin ps box are h = record {
     each_of : (Q : Pt → Type 0) → ((p : Pt) → IsCorner tin p → Q p) → AllByRecursion Q ps
     each_of Q each = keep_to tin Q ps each are
 
--- a box in one that is among the corners is
-to_last : (a b c : ℤ) → a ≤ℤ b → b ≤ℤ c → a ≤ℤ c
-to_last a b c h k = omega (arith, ints)
-
 pub among_within : (tin : Triangulation) (outer inner : Rect) → HasBox outer inner → IsAmongCorners tin outer
     → IsAmongCorners tin inner
 among_within tin outer inner w h = record {
-  left = λ m each. to_last m outer.x0 inner.x0 (h.left m each) w.left;
-  bottom = λ m each. to_last m outer.y0 inner.y0 (h.bottom m each) w.bottom;
-  right = λ m each. to_last inner.x1 outer.x1 m w.right (h.right m each);
-  top = λ m each. to_last inner.y1 outer.y1 m w.top (h.top m each);
+  left = λ m each. up_trans m outer.x0 inner.x0 (h.left m each) w.left;
+  bottom = λ m each. up_trans m outer.y0 inner.y0 (h.bottom m each) w.bottom;
+  right = λ m each. up_trans inner.x1 outer.x1 m w.right (h.right m each);
+  top = λ m each. up_trans inner.y1 outer.y1 m w.top (h.top m each);
 }
 
 around_triangle : (t : Tri) → IsAround (t.a ∷ t.b ∷ t.c ∷ []) (box_of_triangle t)

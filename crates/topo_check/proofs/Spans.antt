@@ -68,26 +68,24 @@ around_span a b c d p q near hp hq =
     )
 
 -- ---- the boxes of pieces
-box_of : (boxes : List Rect) (i : ℕ) (d : Rect) (P : Rect → Type 0) → i < length boxes → P (box_at boxes i)
-    → P (get_or boxes i d)
-box_of boxes i d P h is = subst P (get_or_default boxes i no_box d h) is
 
 pub exact_ordered : (tin : Triangulation) (pieces : List Piece) (boxes : List Rect)
     → AreBoxesOf (IsExactBox tin) pieces boxes → AreOrdered boxes
 exact_ordered tin pieces boxes h i d within =
-    box_of boxes i d IsOrdered within (h.each i (omega (arith, h.same))).ordered
+    subst IsOrdered (get_or_default boxes i no_box d within) (h.each i (omega (arith, h.same))).ordered
 
 pub rounded_ordered : (pieces : List Piece) (boxes : List Rect) → AreBoxesOf IsRoundedBox pieces boxes
     → AreOrdered boxes
 rounded_ordered pieces boxes h i d within =
-    box_of boxes i d IsOrdered within (subst (λ (r : Rect). IsOrdered r) (sym (h.each i (omega (arith, h.same))))
+    subst IsOrdered (get_or_default boxes i no_box d within)
+        (subst (λ (r : Rect). IsOrdered r) (sym (h.each i (omega (arith, h.same))))
     (rounded_boxed (piece_at pieces i)).ordered)
 
 pub exact_spans : (tin : Triangulation) (pieces : List Piece) (boxes : List Rect) → IsWithinLimits tin
     → AreBoxesOf (IsExactBox tin) pieces boxes → AreWithinSpan boxes
 exact_spans tin pieces boxes limits h i d hi j e hj =
-    box_of boxes i d (λ p. IsWithinSpan p (get_or boxes j e)) hi
-    (box_of boxes j e (λ q. IsWithinSpan (box_at boxes i) q) hj
+    subst (λ p. IsWithinSpan p (get_or boxes j e)) (get_or_default boxes i no_box d hi)
+    (subst (λ q. IsWithinSpan (box_at boxes i) q) (get_or_default boxes j no_box e hj)
     (among_span tin (box_at boxes i) (box_at boxes j) limits (h.each i (omega (arith, h.same))).among
     (h.each j (omega (arith, h.same))).among))
 
@@ -97,8 +95,8 @@ pub rounded_spans : (pieces : List Piece) (boxes : List Rect)
 rounded_spans pieces boxes near h i d hi j e hj =
     let p = piece_at pieces i in let q = piece_at pieces j in
     let wi : i < length pieces = omega (arith, h.same) in let wj : j < length pieces = omega (arith, h.same) in
-    box_of boxes i d (λ r. IsWithinSpan r (get_or boxes j e)) hi
-    (box_of boxes j e (λ r. IsWithinSpan (box_at boxes i) r) hj
+    subst (λ r. IsWithinSpan r (get_or boxes j e)) (get_or_default boxes i no_box d hi)
+    (subst (λ r. IsWithinSpan (box_at boxes i) r) (get_or_default boxes j no_box e hj)
     (around_span p.ia p.ib q.ia q.ib (box_at boxes i) (box_at boxes j) (near i no_piece wi j no_piece wj) (around i wi)
     (around j wj)))
   where

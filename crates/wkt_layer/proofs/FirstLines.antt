@@ -1,6 +1,5 @@
 -- The first line of a text.
-use Rattle.std.proofs.Common.{◌≡◌, ◌+◌, ◌-◌, ℕ, List, [], ◌∷◌, length, take, drop, arith}
-use Rattle.std.proofs.lemmas.List.{take_all, length-drop}
+use Rattle.std.proofs.Common.{◌≡◌, ◌+◌, ℕ, List, [], ◌∷◌, length, take, drop, arith}
 use Rattle.memchr.specs.Find.{is_byte, Nowhere, NoneBefore, Passes}
 use Rattle.wkt_layer.specs.declared.limits.TheConstants.{LINE_FEED}
 use Rattle.text_places.proofs.LineParts.{part_alone, part_before}
@@ -15,7 +14,3 @@ pub line_before : (text : List ℕ) (end : ℕ) → NoneBefore (Passes (is_byte 
     → Passes (is_byte LINE_FEED) text end
     → lines_of text ≡ take end text ∷ lines_of (drop (end + 1) text)
 line_before text end first here = part_before LINE_FEED text end first.high (λ k. first.before k (omega arith)) here
-
--- a range up to the end is all behind its start
-pub rest_to_end : (text : List ℕ) (n : ℕ) → take (length text - n) (drop n text) ≡ drop n text
-rest_to_end text n = take_all (length text - n) (drop n text) (let size = length-drop n text in omega (arith, size))

@@ -25,6 +25,7 @@ use Rattle.wkt_layer.proofs.Passing.{read_line, fault_at_token, fault_at_end}
 use Rattle.wkt_layer.proofs.InBrackets.{step_in}
 use Rattle.wkt_layer.specs.Reached.{IsIn, Reached}
 use Rattle.wkt_layer.proofs.Naming.{named}
+use Rattle.plain_laws.proofs.Lists.{take_front}
 
 -- bytes of a token that are passed over
 pub passed : (count at : ℕ) (bytes : List ℕ) → tokens_behind count at bytes ≡ tokens_of (at + count) (drop count bytes)
@@ -136,10 +137,6 @@ some_fault : (exact : Bool) (line : List Placed) (end : ℕ) (fault : LayerFault
     → IsFaultOf exact line end fault → IsLineFault exact line end fault
 some_fault exact [] end fault some is = absurd (some refl)
 some_fault exact (one ∷ more) end fault some is = is
-
-pub take_front : {A : Type 0} (front back : List A) → take (length front) (front ++ back) ≡ front
-take_front [] back = refl
-take_front (x ∷ front) back = ap (λ xs. x ∷ xs) (take_front front back)
 
 tokens_length : (front : List Placed) → length (tokens_in front) ≡ length front
 tokens_length [] = refl

@@ -13,6 +13,7 @@ use Rattle.wkt_layer.specs.Faults.{joined_points, EndsInPoints, Row, kind, heigh
 use Rattle.wkt_layer.specs.Faults.{Speaks, Decides, IsAnswer, IsTokenFault, IsFaultBehind, IsLineFault}
 use Rattle.wkt_layer.specs.Layers.{lines_of, IsFirstLineFault, IsRefusedBy}
 use Rattle.wkt_layer.proofs.OneSheet.{line_apart}
+use Rattle.plain_laws.proofs.Order.{trichotomy}
 
 -- ---- the row that decides
 row_of_rank : (row other : Row) → rank row ≡ rank other → row ≡ other
@@ -24,12 +25,9 @@ row_of_rank inexact inexact e = refl
 row_of_rank ring ring e = refl
 row_of_rank row other e = absurd (omega (arith, e))
 
-less_or : (m n : ℕ) → (m < n) ⊎ ((m ≡ n) ⊎ (n < m))
-less_or m n = grind arith
-
 row_one : (exact : Bool) (front : List Placed) (token : Token) (row other : Row) → Decides exact front token row
     → Decides exact front token other → row ≡ other
-row_one exact front token row other x y = go (less_or (rank row) (rank other))
+row_one exact front token row other x y = go (trichotomy (rank row) (rank other))
   where
     go : (rank row < rank other) ⊎ ((rank row ≡ rank other) ⊎ (rank other < rank row)) → row ≡ other
     go (inl h) = absurd (y.first row h x.speaks)

@@ -2,9 +2,9 @@
 use Rattle.std.proofs.Common.{◌≡◌, ◌+◌, ◌-◌, take, drop, length, sym, ap, subst, arith}
 use Rattle.sheet_base.proofs.HandedOn.{passed_on}
 use Rattle.wkt_layer.specs.Passes.{Reads}
-use Rattle.wkt_layer.proofs.FirstLines.{rest_to_end}
 use Rattle.wkt_layer.proofs.Lexing.{token_reads, token_fails}
 use Rattle.wkt_layer.proofs.reading.read_token.Goals as goal
+use Rattle.plain_laws.proofs.Lists.{take_rest}
 
 pub returns-clause-reads : goal.returns-clause-reads
 returns-clause-reads c = λ before front s stands r.
@@ -16,7 +16,7 @@ returns-clause-reads c = λ before front s stands r.
     (take (length c.args.line.now - c.args.at) (drop c.args.at c.args.line.now))
     (take (c.args.at + c.first_token-sign.result.1 - c.args.at) (drop c.args.at c.args.line.now))
     before c.args.pass.now c.step.new.pass c.in_ok-next.next
-    (rest_to_end c.args.line.now c.args.at) (ap (λ n. take n (drop c.args.at c.args.line.now)) same) c.requires.within
+    (take_rest c.args.line.now c.args.at) (ap (λ n. take n (drop c.args.at c.args.line.now)) same) c.requires.within
     c.requires.black c.first_token-sign.ensures.some c.first_token-sign.ensures.token
     front s (c.in_ok-next.ensures.leads before s stands) r
 
@@ -30,6 +30,6 @@ returns-in_err-next-clause-reads c = λ before front s stands r.
     (take (length c.args.line.now - c.args.at) (drop c.args.at c.args.line.now))
     (take (c.args.at + c.first_token-sign.result.1 - c.args.at) (drop c.args.at c.args.line.now))
     before c.args.pass.now c.step.new.pass c.in_err-next.field-0.0
-    (rest_to_end c.args.line.now c.args.at) (ap (λ n. take n (drop c.args.at c.args.line.now)) same) c.requires.within
+    (take_rest c.args.line.now c.args.at) (ap (λ n. take n (drop c.args.at c.args.line.now)) same) c.requires.within
     c.requires.black c.first_token-sign.ensures.some c.first_token-sign.ensures.token
     front s (c.in_err-next.ensures.leads before s stands) r memory)

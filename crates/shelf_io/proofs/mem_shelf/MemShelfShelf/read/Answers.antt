@@ -6,8 +6,9 @@ use Rattle.std.proofs.lemmas.List.{length-take-le}
 use Rattle.shelf_io.specs.MemoryFile.{named_bytes}
 use Rattle.shelf_io.specs.MemoryShelf.{MemoryShelf, rest_at_hand, rest_from}
 use Rattle.shelf_io.specs.Shelf.{TakesFront}
-use Rattle.shelf_io.proofs.Named.{takes_there, take-rest, none_at_end}
+use Rattle.shelf_io.proofs.Named.{takes_there, none_at_end}
 use Rattle.shelf_io.proofs.mem_shelf.MemShelfShelf.read.Goals as goal
+use Rattle.plain_laws.proofs.Lists.{take_rest}
 
 pub returns-clause-bytes : goal.returns-clause-bytes
 returns-clause-bytes c =
@@ -22,10 +23,10 @@ returns-clause-bytes c =
     let within = rw c.in-Some.is at c.self.invariant.at_hand in
     let there : slice_get files number ≡ Some file = slice_get_read files _ number file refl within c.index.ensures in
     let same : copied ≡ take count (drop place bytes) =
-    rw (c.deref-2.ensures.value, take-rest bytes place) at c.copy_from_slice.ensures.after in
+    rw (c.deref-2.ensures.value, take_rest bytes place) at c.copy_from_slice.ensures.after in
     let size : length copied ≡ count = c.copy_from_slice.ensures.len
     ∙ length-take-le count c.args.buf.now (omega arith) in
-    let smallest = rw (c.min.ensures, c.deref-2.ensures.value, take-rest bytes place) at c.min-count.ensures in
+    let smallest = rw (c.min.ensures, c.deref-2.ensures.value, take_rest bytes place) at c.min-count.ensures in
     let given : (count ≡ 0) ↔ (drop place bytes ≡ []) =
     none_at_end bytes c.args.buf.now place c.self.inside.most count c.requires.room c.self.invariant.most
     smallest in
