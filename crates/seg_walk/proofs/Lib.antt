@@ -7,3 +7,4 @@ pub mod Going
 pub mod Passing
 pub mod Start
 pub mod Taking
+mod PointSlices

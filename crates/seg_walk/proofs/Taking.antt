@@ -1,27 +1,23 @@
 -- Steps as pieces.
-use Rattle.std.proofs.Common.{◌≡◌, ◌≢◌, ℕ, ◌<◌, ℤ, pos, ◌-ℤ◌, ◌≤ℤ◌, ◌<ℤ◌, unsigned_abs, List, [], ◌∷◌, ◌++◌, map}
+use Rattle.std.proofs.Common.{◌≡◌, ◌≢◌, ℕ, ◌<◌, ℤ, ◌-ℤ◌, ◌≤ℤ◌, ◌<ℤ◌, unsigned_abs, List, [], ◌∷◌, ◌++◌, map}
 use Rattle.std.proofs.Common.{length, Option, Some, None, sym, subst, refl, arith}
 use Rattle.std.proofs.lemmas.Int.{ints}
 use Rattle.std.proofs.lemmas.List.{map-append}
 use Rattle.integer_ring.proofs.Order.{not-<-to-≤}
-use lib.Signed.{lt_z_yes}
 use Rattle.plane_base.specs.Plane.{whole}
 use Rattle.plane_base.specs.Slices.{IsParam}
 use Rattle.plane_base.specs.declared.shapes.Pt.{Pt}
-use Rattle.plane_base.proofs.Mixes.{mix_moved}
 use Rattle.tin_base.specs.declared.frames.Frame.TheVariants.{Source}
-use Rattle.tin_base.specs.Triangulation.{Triangulation, numbers_of, places, IsInTriangle}
+use Rattle.tin_base.specs.Triangulation.{Triangulation, IsInTriangle}
 use Rattle.tin_base.specs.Images.{IsInSome}
 use Rattle.tin_base.specs.Limits.{IsWithinLimits}
 use Rattle.tin_base.specs.Soundness.{IsSound}
-use Rattle.tin_base.specs.Segments.{Spot, spot_at, at_a, Part, IsInside}
+use Rattle.tin_base.specs.Segments.{Spot, at_a, Part, IsInside}
 use Rattle.seg_walk.specs.declared.steps.Step.{Step}
 use Rattle.tin_base.specs.Slices.{spot_of, spot_by, IsSliceIn}
 use Rattle.seg_walk.specs.Steps.{part_of, point_of, HaveSlices, AreSteps}
-use Rattle.seg_walk.specs.Beginning.{IsPartFrom, IsStepFrom, MissesTriangle, GoesOn}
+use Rattle.seg_walk.specs.Beginning.{IsPartFrom, IsStepFrom, GoesOn}
 use Rattle.tin_base.proofs.SlicedParts.{HasParams, params}
-use Rattle.seg_walk.proofs.Beginning.{not_missed}
-use Rattle.tin_base.proofs.Further.{start_is}
 use Rattle.tin_base.proofs.Unused.{unused, less_left}
 use Rattle.tin_base.proofs.Walk.{IsWalked, Follows, start, more, not_again, all_walked, all_inside, stuck}
 
@@ -113,19 +109,6 @@ one_step tin p step h has least slice =
       of_segment = λ differ. absurd (differ refl);
       slices = (slice, tt);
     }
-
-one : pos 0 <ℤ pos 1
-one = lt_z_yes tt
-
-pub point_not_missed : (tin : Triangulation) (p : Pt) (t : ℕ) → IsWithinLimits tin → t < length tin.triangles
-    → IsInTriangle tin Source t (whole p) → MissesTriangle tin p p t → ⊥
-point_not_missed tin p t limits h has misses =
-    not_missed tin p p t at_a limits h misses
-    (record {
-      some = omega arith;
-      inside = mix_moved (whole p) (spot_at p p at_a)
-          (places tin Source (numbers_of tin t)) one (start_is p p at_a refl) has;
-    })
 
 -- ---- on the way: the steps so far are the pieces up to a spot before the end, and what comes next is known
 pub record IsOnWay (tin : Triangulation) (a b : Pt) (steps : List Step) (next : Option Step) : Type 0 where

@@ -2,3 +2,4 @@
 pub mod Steps
 pub mod Beginning
 pub mod Leaving
+pub mod PointWays

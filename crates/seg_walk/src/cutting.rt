@@ -9,19 +9,31 @@ ghost use Rattle.tin_base.specs.Segments.{IsInside};
 ghost use Rattle.tin_base.specs.Triangulation.{IsInTriangle};
 ghost use Rattle.tin_index.specs.Boxes.{IsNearCorners};
 ghost use Rattle.seg_walk.specs.declared.faults.WalkFault.TheVariants.{Outside};
+ghost use Rattle.seg_walk.specs.PointWays.{IsFromZeroToOne};
 ghost use Rattle.seg_walk.specs.Steps.{AreSteps};
 
-use crate::slicing::slice_in;
 use crate::walking::{first_step, step_after};
 use crate::{Step, Steps, WalkFault};
 use frac128::Frac;
-use plane_base::Pt;
+use plane_base::{End, Pt, Stretch};
 use smallvec::SmallVec;
 use std::alloc::Global;
 use tin_base::SoundTin;
 use tin_index::TinIndex;
 
-/// The one piece of a segment from a point to itself.
+/// The whole way from a point to itself.
+fn point_way() -> Stretch
+    ensures { IsFromZeroToOne result }
+{
+    Stretch {
+        lo: Frac { num: 0, den: 1 },
+        hi: Frac { num: 1, den: 1 },
+        enter: End::Vertex,
+        leave: End::Vertex,
+    }
+}
+
+/// The one piece of a segment from a point to itself: the triangle has the whole way.
 fn cut_point(alloc: Global, tin: &SoundTin, triangle: u32, p: Pt) -> Result<Steps, WalkFault>
     requires limits { IsWithinLimits tin.now }
     requires in_range { triangle < length tin.now.triangles }
@@ -31,14 +43,11 @@ fn cut_point(alloc: Global, tin: &SoundTin, triangle: u32, p: Pt) -> Result<Step
     ensures outside { ¬ IsErrOf result Outside }
 {
     let mut steps = SmallVec::new(alloc);
-    if let Some(slice) = slice_in(tin, triangle, p, p) {
-        steps.push(Step {
-            tri: triangle,
-            slice,
-        })?;
-        return Ok(steps);
-    }
-    Err(WalkFault::Outside)
+    steps.push(Step {
+        tri: triangle,
+        slice: point_way(),
+    })?;
+    Ok(steps)
 }
 
 fn is_same(a: Pt, b: Pt) -> bool
