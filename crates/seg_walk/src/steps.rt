@@ -27,5 +27,5 @@ impl Default for Step {
     }
 }
 
-/// The pieces of one segment. Up to eight need no allocation.
-pub type Steps = SmallVec<Step, 8>;
+/// The pieces of one segment. One or two, as most segments have, need no allocation.
+pub type Steps = SmallVec<Step, 2>;
