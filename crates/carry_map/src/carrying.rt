@@ -41,6 +41,8 @@ fn carry_paths(
         points: Vec::with_capacity(alloc, points.len().saturating_add(points.len() / 2))?,
         run: Vec::with_capacity(alloc, points.len())?,
     };
+    // (about as many pieces as points)
+    pieces.reserve(points.len().min(most as usize - pieces.len()))?;
     for (number, row) in sheet.paths().iter().enumerate() {
         let track = Track {
             row: *row,
