@@ -57,6 +57,35 @@ flat_source tin t within positive flat = record {
     go (inl h) = absurd (omega arith)
     go (inr h) = absurd (omega arith)
 
+-- where the source's turn is not 0
+pub flat_target : (tin : Triangulation) (t : ℕ) → t < length tin.triangles → ArePositive tin t
+    → (turn_in tin Source t ≡ pos 0 → ⊥) → turn_in tin Target t ≡ pos 0 → IsFirstFault tin (Flat t Target)
+flat_target tin t within positive source flat = record {
+  is_one = (within, flat);
+  none_before =
+      λ other before fault. go (earlier tin t 1 other positive before fault);
+}
+  where
+    go : HasEarlier tin t 1 → ⊥
+    go (inl (Source, zero, h)) = source zero
+    go (inl (Target, zero, h)) = absurd (omega arith)
+    go (inr h) = absurd (omega arith)
+
+-- where no turn is 0
+pub turned_over : (tin : Triangulation) (t : ℕ) → t < length tin.triangles → ArePositive tin t
+    → (turn_in tin Source t ≡ pos 0 → ⊥) → (turn_in tin Target t ≡ pos 0 → ⊥)
+    → (turn_in tin Source t <ℤ pos 0) ⊎ (turn_in tin Target t <ℤ pos 0) → IsFirstFault tin (TurnsOver t)
+turned_over tin t within positive source target negative = record {
+  is_one = (within, negative);
+  none_before =
+      λ other before fault. go (earlier tin t 2 other positive before fault);
+}
+  where
+    go : HasEarlier tin t 2 → ⊥
+    go (inl (Source, zero, h)) = source zero
+    go (inl (Target, zero, h)) = target zero
+    go (inr h) = absurd (omega arith)
+
 pub one_more_positive : (tin : Triangulation) (t : ℕ) → ArePositive tin t → pos 0 <ℤ turn_in tin Source t
     → pos 0 <ℤ turn_in tin Target t → ArePositive tin (t + 1)
 one_more_positive tin t positive source target frame u h = go (last_or_not u t h)

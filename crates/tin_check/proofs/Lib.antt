@@ -18,3 +18,5 @@ pub mod BySides
 pub mod ByCorner
 pub mod ByNumbers
 pub mod Partners
+mod FitOrNot
+mod Outcomes

@@ -55,3 +55,7 @@ FirstFaultIsOne = (tin : Triangulation) (fault other : CheckFault) → IsFirstFa
 -- and it has one only where it is not sound
 abbrev pub FaultsAreUnsound : Type 0
 FaultsAreUnsound = (tin : Triangulation) (fault : CheckFault) → IsFault tin fault → IsSound tin → ⊥
+
+-- each triangulation is sound or has a first fault
+abbrev pub OutcomeExists : Type 0
+OutcomeExists = (tin : Triangulation) → IsSound tin ⊎ ((fault : CheckFault) × IsFirstFault tin fault)

@@ -15,5 +15,5 @@ mod searching;
 pub use checking::check_tin;
 pub use faults::CheckFault;
 pub use fitting::fits;
-pub use laws::{faults_are_unsound, first_fault_is_one};
+pub use laws::{faults_are_unsound, first_fault_is_one, outcome_exists};
 pub use marked_corners::Common;
