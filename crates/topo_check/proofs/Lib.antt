@@ -14,3 +14,5 @@ pub mod WholeParts
 pub mod Sorts
 pub mod Spans
 pub mod Tight
+mod SegmentRelations
+mod SomeChanges

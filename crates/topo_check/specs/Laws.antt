@@ -1,5 +1,5 @@
 -- The laws of changes.
-use Rattle.std.specs.Prelude.{◌≡◌, ◌↔◌, ℕ, ◌<◌, List, length}
+use Rattle.std.specs.Prelude.{◌≡◌, ◌⊎◌, ◌↔◌, ℕ, ◌<◌, ◌≤◌, List, length}
 use Rattle.plane_base.specs.Plane.{Point}
 use Rattle.tin_base.specs.declared.pieces.Piece.{Piece}
 use Rattle.tin_base.specs.declared.pieces.Change.{Change}
@@ -16,6 +16,12 @@ use Rattle.topo_check.specs.Changes.{AreAllInside, pairs, AreChangesBy, AreChang
 abbrev pub ChangesAreOne : Type 0
 ChangesAreOne = (tin : Triangulation) (pieces : List Piece) → AreAllInside tin pieces → (first second : List Change)
     → AreChanges tin pieces first → AreChanges tin pieces second → first ≡ second
+
+-- and they have one, which is no longer than `most` or shows that more pairs than that have changed
+abbrev pub ChangesExist : Type 0
+ChangesExist = (tin : Triangulation) (pieces : List Piece) (most : ℕ) → AreAllInside tin pieces
+    → (changes : List Change) × AreChanges tin pieces changes
+    × ((length changes ≤ most) ⊎ HasMoreThan tin pieces most)
 
 -- where more pairs than `most` have changed, the list of all changes is longer than `most`
 abbrev pub MoreStayMore : Type 0

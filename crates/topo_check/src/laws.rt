@@ -2,11 +2,18 @@
 
 ghost use Rattle.std.specs.Prelude.{◌≡◌, ◌^◌};
 ghost use Rattle.topo_check.specs.declared.limits.TheConstants.{MOST_COMPARED};
-ghost use Rattle.topo_check.specs.Laws.{ChangesAreOne, MoreStayMore, ChangesAreByRounding};
+ghost use Rattle.topo_check.specs.Laws.{ChangesAreOne, ChangesExist, MoreStayMore, ChangesAreByRounding};
 
 /// A law: pieces have one list of changes.
 pub fn changes_are_one()
     ensures { ChangesAreOne }
+{}
+
+/// A law: pieces have a list of changes, whatever `changes` has memory for. Where it is longer than what may be listed,
+/// more pairs than that have changed. So with the law above and the one below each number of changes that may be listed
+/// has one answer.
+pub fn changes_exist()
+    ensures { ChangesExist }
 {}
 
 /// A law: where `changes` finds too many, the one list of all changes is longer than what may be listed. So it finds a

@@ -21,6 +21,8 @@ mod parts;
 mod shares;
 
 pub use faults::ChangesFault;
-pub use laws::{changes_are_by_rounding, changes_are_one, limits_are_stated, more_stay_more};
+pub use laws::{
+    changes_are_by_rounding, changes_are_one, changes_exist, limits_are_stated, more_stay_more,
+};
 pub use limits::MOST_COMPARED;
 pub use listing::changes;
