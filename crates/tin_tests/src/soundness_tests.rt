@@ -1,7 +1,7 @@
 //! Tests of the check of a triangulation: sound ones, and the first fault of others.
 
-use crate::made_tins::{corner, same, square_corners, tin_of};
-use std::alloc::Global;
+use crate::made_tins::{corner, square_corners, tin_of};
+use std::alloc::{AllocError, Global};
 use std::test::Fail;
 use tin_base::{Corner, Frame, SoundTin};
 use tin_check::{CheckFault, check_tin};
@@ -21,16 +21,35 @@ fn found(
     }
 }
 
-fn meets(first: u32, second: u32, frame: Frame) -> Option<CheckFault> {
-    Some(CheckFault::Meets {
-        first,
-        second,
-        frame,
-    })
+/// A corner's source place and target place, in millimetres.
+type Moved = ((i64, i64), (i64, i64));
+
+/// What is wrong with a triangulation, its corners and triangles, and its first fault.
+type Row = (
+    &'static str,
+    &'static [Moved],
+    &'static [[u32; 3]],
+    CheckFault,
+);
+
+/// Corners of these places.
+fn corners_of(alloc: Global, places: &[Moved]) -> Result<Vec<Corner>, AllocError> {
+    let mut corners = Vec::new(alloc);
+    for &(source, target) in places {
+        corners.push(corner(source, target))?;
+    }
+    Ok(corners)
 }
 
-fn flat(triangle: u32, frame: Frame) -> Option<CheckFault> {
-    Some(CheckFault::Flat { triangle, frame })
+/// What is wrong with the first row that has another first fault, or none.
+fn first_other(alloc: Global, rows: &[Row]) -> Result<Option<&'static str>, AllocError> {
+    for &(name, places, triangles, fault) in rows {
+        let corners = corners_of(alloc, places)?;
+        if found(alloc, &corners, triangles).err() != Some(fault) {
+            return Ok(Some(name));
+        }
+    }
+    Ok(None)
 }
 
 #[test]
@@ -45,81 +64,148 @@ fn gives_back_what_is_sound(rt: HostRuntime) -> Result<(), Fail> {
     Ok(())
 }
 
-#[test]
-fn names_a_triangle(rt: HostRuntime) {
-    for (b, c, want) in [
-        ((10_000, 0), (20_000, 0), flat(0, Frame::Target)),
-        (
-            (0, 10_000),
-            (10_000, 0),
-            Some(CheckFault::TurnsOver { triangle: 0 }),
-        ),
-    ] {
-        let corners = [same(0, 0), corner((10_000, 0), b), corner((0, 10_000), c)];
-        let got = found(rt.alloc(), &corners, &[[0, 1, 2]]);
-        assert_eq!(rt; got.err(), want, "at {b:?}");
-    }
-    let clockwise = found(rt.alloc(), &square_corners(), &[[0, 1, 2], [0, 3, 2]]);
-    assert_eq!(rt;
-        clockwise.err(),
-        Some(CheckFault::TurnsOver { triangle: 1 })
-    );
-    let line = [same(0, 0), same(1, 1), same(2, 2)];
-    let flat_in_both = found(rt.alloc(), &line, &[[0, 1, 2]]);
-    assert_eq!(rt; flat_in_both.err(), flat(0, Frame::Source));
-}
+/// The square of `square_corners`.
+const SQUARE: &[Moved] = &[
+    ((0, 0), (100_000, 100_000)),
+    ((10_000, 0), (110_000, 100_000)),
+    ((10_000, 10_000), (110_003, 110_003)),
+    ((0, 10_000), (100_000, 110_000)),
+];
+
+/// Faults of one triangle.
+const OF_A_TRIANGLE: &[Row] = &[
+    (
+        "flat in the target",
+        &[
+            ((0, 0), (0, 0)),
+            ((10_000, 0), (10_000, 0)),
+            ((0, 10_000), (20_000, 0)),
+        ],
+        &[[0, 1, 2]],
+        CheckFault::Flat {
+            triangle: 0,
+            frame: Frame::Target,
+        },
+    ),
+    (
+        "turned over in the target",
+        &[
+            ((0, 0), (0, 0)),
+            ((10_000, 0), (0, 10_000)),
+            ((0, 10_000), (10_000, 0)),
+        ],
+        &[[0, 1, 2]],
+        CheckFault::TurnsOver { triangle: 0 },
+    ),
+    (
+        "clockwise in both",
+        SQUARE,
+        &[[0, 1, 2], [0, 3, 2]],
+        CheckFault::TurnsOver { triangle: 1 },
+    ),
+    (
+        "flat in both",
+        &[((0, 0), (0, 0)), ((1, 1), (1, 1)), ((2, 2), (2, 2))],
+        &[[0, 1, 2]],
+        CheckFault::Flat {
+            triangle: 0,
+            frame: Frame::Source,
+        },
+    ),
+];
 
 #[test]
-fn names_a_pair(rt: HostRuntime) {
-    let thrice = found(
-        rt.alloc(),
-        &square_corners(),
+fn names_a_triangle(rt: HostRuntime) -> Result<(), Fail> {
+    assert_eq!(rt; first_other(rt.alloc(), OF_A_TRIANGLE)?, None);
+    Ok(())
+}
+
+/// Two triangles that are one on the other, with common corners and without.
+const OF_A_PAIR: &[Row] = &[
+    (
+        "a triangle twice",
+        SQUARE,
         &[[0, 1, 2], [0, 2, 3], [2, 0, 1]],
-    );
-    assert_eq!(rt; thrice.err(), meets(0, 2, Frame::Source));
-
-    let apart_in_source = [
-        same(0, 0),
-        same(10_000, 0),
-        same(0, 10_000),
-        corner((20_000, 0), (10_000, 0)),
-        corner((30_000, 0), (20_000, 0)),
-        corner((20_000, 10_000), (10_000, 10_000)),
-    ];
-    let got = found(rt.alloc(), &apart_in_source, &[[0, 1, 2], [3, 4, 5]]);
-    assert_eq!(rt; got.err(), meets(0, 1, Frame::Target));
-}
+        CheckFault::Meets {
+            first: 0,
+            second: 2,
+            frame: Frame::Source,
+        },
+    ),
+    (
+        "apart in the source alone",
+        &[
+            ((0, 0), (0, 0)),
+            ((10_000, 0), (10_000, 0)),
+            ((0, 10_000), (0, 10_000)),
+            ((20_000, 0), (10_000, 0)),
+            ((30_000, 0), (20_000, 0)),
+            ((20_000, 10_000), (10_000, 10_000)),
+        ],
+        &[[0, 1, 2], [3, 4, 5]],
+        CheckFault::Meets {
+            first: 0,
+            second: 1,
+            frame: Frame::Target,
+        },
+    ),
+    (
+        "a corner on a side",
+        &[
+            ((0, 0), (0, 0)),
+            ((10_000, 0), (10_000, 0)),
+            ((5_000, 8_000), (5_000, 8_000)),
+            ((5_000, 0), (5_000, 0)),
+            ((2_000, -8_000), (2_000, -8_000)),
+            ((8_000, -8_000), (8_000, -8_000)),
+        ],
+        &[[0, 1, 2], [3, 4, 5]],
+        CheckFault::Meets {
+            first: 0,
+            second: 1,
+            frame: Frame::Source,
+        },
+    ),
+    (
+        "one in the other",
+        &[
+            ((0, 0), (0, 0)),
+            ((90, 0), (90, 0)),
+            ((0, 90), (0, 90)),
+            ((20, 20), (20, 20)),
+            ((40, 20), (40, 20)),
+            ((20, 40), (20, 40)),
+        ],
+        &[[0, 1, 2], [3, 4, 5]],
+        CheckFault::Meets {
+            first: 0,
+            second: 1,
+            frame: Frame::Source,
+        },
+    ),
+    (
+        "sides cross and no corner is inside",
+        &[
+            ((0, 0), (0, 0)),
+            ((60, 0), (60, 0)),
+            ((30, 60), (30, 60)),
+            ((30, -20), (30, -20)),
+            ((60, 40), (60, 40)),
+            ((0, 40), (0, 40)),
+        ],
+        &[[0, 1, 2], [3, 4, 5]],
+        CheckFault::Meets {
+            first: 0,
+            second: 1,
+            frame: Frame::Source,
+        },
+    ),
+];
 
 #[test]
-fn names_a_pair_without_common_corners(rt: HostRuntime) {
-    for (name, t, u) in [
-        (
-            "a corner on a side",
-            [(0, 0), (10_000, 0), (5_000, 8_000)],
-            [(5_000, 0), (2_000, -8_000), (8_000, -8_000)],
-        ),
-        (
-            "one in the other",
-            [(0, 0), (90, 0), (0, 90)],
-            [(20, 20), (40, 20), (20, 40)],
-        ),
-        (
-            "sides cross and no corner is inside",
-            [(0, 0), (60, 0), (30, 60)],
-            [(30, -20), (60, 40), (0, 40)],
-        ),
-    ] {
-        let corners = [
-            same(t[0].0, t[0].1),
-            same(t[1].0, t[1].1),
-            same(t[2].0, t[2].1),
-            same(u[0].0, u[0].1),
-            same(u[1].0, u[1].1),
-            same(u[2].0, u[2].1),
-        ];
-        let got = found(rt.alloc(), &corners, &[[0, 1, 2], [3, 4, 5]]);
-        assert_eq!(rt; got.err(), meets(0, 1, Frame::Source), "{name}");
-    }
+fn names_a_pair(rt: HostRuntime) -> Result<(), Fail> {
+    assert_eq!(rt; first_other(rt.alloc(), OF_A_PAIR)?, None);
+    Ok(())
 }
 
 // Many triangles over one another: the first pair is named as soon as it is met.
@@ -130,31 +216,57 @@ fn names_the_first_of_many_pairs(rt: HostRuntime) -> Result<(), Fail> {
         triangles.push([0, 1, 2])?;
     }
     let got = found(rt.alloc(), &square_corners(), &triangles);
-    assert_eq!(rt; got.err(), meets(0, 1, Frame::Source));
+    let want = CheckFault::Meets {
+        first: 0,
+        second: 1,
+        frame: Frame::Source,
+    };
+    assert_eq!(rt; got.err(), Some(want));
     Ok(())
 }
 
-// Two triangles that meet in the target stand before two others that meet in the source.
+/// Two triangles that meet in the target alone, and two others that meet in the source.
+const TWO_PAIRS: &[Moved] = &[
+    ((0, 0), (0, 0)),
+    ((10_000, 0), (10_000, 0)),
+    ((0, 10_000), (0, 10_000)),
+    ((20_000, 0), (1_000, 0)),
+    ((30_000, 0), (11_000, 0)),
+    ((20_000, 10_000), (1_000, 10_000)),
+    ((50_000, 0), (50_000, 0)),
+    ((60_000, 0), (60_000, 0)),
+    ((50_000, 10_000), (50_000, 10_000)),
+    ((51_000, 0), (71_000, 0)),
+    ((61_000, 0), (81_000, 0)),
+    ((51_000, 10_000), (71_000, 10_000)),
+];
+
+/// The pair with the earlier triangle is named, in whichever frame it meets.
+const OF_TWO_PAIRS: &[Row] = &[
+    (
+        "an earlier pair of the target",
+        TWO_PAIRS,
+        &[[0, 1, 2], [6, 7, 8], [9, 10, 11], [3, 4, 5]],
+        CheckFault::Meets {
+            first: 0,
+            second: 3,
+            frame: Frame::Target,
+        },
+    ),
+    (
+        "an earlier pair of the source",
+        TWO_PAIRS,
+        &[[6, 7, 8], [9, 10, 11], [0, 1, 2], [3, 4, 5]],
+        CheckFault::Meets {
+            first: 0,
+            second: 1,
+            frame: Frame::Source,
+        },
+    ),
+];
+
 #[test]
-fn names_an_earlier_pair_of_the_target(rt: HostRuntime) {
-    let corners = [
-        same(0, 0),
-        same(10_000, 0),
-        same(0, 10_000),
-        corner((20_000, 0), (1_000, 0)),
-        corner((30_000, 0), (11_000, 0)),
-        corner((20_000, 10_000), (1_000, 10_000)),
-        same(50_000, 0),
-        same(60_000, 0),
-        same(50_000, 10_000),
-        corner((51_000, 0), (71_000, 0)),
-        corner((61_000, 0), (81_000, 0)),
-        corner((51_000, 10_000), (71_000, 10_000)),
-    ];
-    let rows = [[0, 1, 2], [6, 7, 8], [9, 10, 11], [3, 4, 5]];
-    let got = found(rt.alloc(), &corners, &rows);
-    assert_eq!(rt; got.err(), meets(0, 3, Frame::Target));
-    let later = [[6, 7, 8], [9, 10, 11], [0, 1, 2], [3, 4, 5]];
-    let got = found(rt.alloc(), &corners, &later);
-    assert_eq!(rt; got.err(), meets(0, 1, Frame::Source));
+fn names_an_earlier_pair(rt: HostRuntime) -> Result<(), Fail> {
+    assert_eq!(rt; first_other(rt.alloc(), OF_TWO_PAIRS)?, None);
+    Ok(())
 }
