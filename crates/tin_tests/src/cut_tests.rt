@@ -1,37 +1,48 @@
 //! Tests of the pieces of a segment: across sides, through corners, and outside.
 
-use crate::made_tins::{at, bow, notched, six, square};
+use crate::made_tins::{Shape, at, shaped};
 use frac128::{Frac, order};
 use plane_base::End;
-use seg_walk::{WalkFault, cut};
+use seg_walk::{Step, WalkFault, cut};
 use std::alloc::Global;
 use std::cmp::Ordering;
-use std::test::Fail;
-use tin_index::TinIndex;
 
-const START: Frac = Frac { num: 0, den: 1 };
-
-const HALF: Frac = Frac { num: 1, den: 2 };
-
-const END: Frac = Frac { num: 1, den: 1 };
+/// A place on a segment: its first end, its middle, or its last end.
+#[derive(Clone, Copy)]
+enum Spot {
+    Start,
+    Half,
+    End,
+}
 
 /// A triangle, where its part of the segment begins and ends, and what those places are.
-type Want = (u32, Frac, Frac, End, End);
+type Want = (u32, Spot, Spot, End, End);
 
-fn is_at(f: Frac, want: Frac) -> bool {
-    order(f, want) == Ordering::Equal
+/// The part of the segment at a place.
+fn frac_of(spot: Spot) -> Frac {
+    match spot {
+        Spot::Start => Frac { num: 0, den: 1 },
+        Spot::Half => Frac { num: 1, den: 2 },
+        Spot::End => Frac { num: 1, den: 1 },
+    }
 }
 
-/// The piece of a segment that has all of it.
-fn whole(triangle: u32) -> Want {
-    (triangle, START, END, End::Vertex, End::Vertex)
+fn is_at(f: Frac, spot: Spot) -> bool {
+    order(f, frac_of(spot)) == Ordering::Equal
 }
 
-/// Whether these are the pieces of the segment, in millimetres.
-fn is_cut(alloc: Global, index: &TinIndex, a: (i32, i32), b: (i32, i32), want: &[Want]) -> bool {
-    let Ok(steps) = cut(alloc, index, at(a), at(b)) else {
-        return false;
-    };
+/// The piece of a segment that has all of it, in each of three triangles.
+const FIRST: Want = (0, Spot::Start, Spot::End, End::Vertex, End::Vertex);
+
+const SECOND: Want = (1, Spot::Start, Spot::End, End::Vertex, End::Vertex);
+
+const THIRD: Want = (2, Spot::Start, Spot::End, End::Vertex, End::Vertex);
+
+/// A triangulation, the ends of a segment in millimetres, and its pieces, or none where it is not wholly inside.
+type Row = (Shape, (i32, i32), (i32, i32), Option<&'static [Want]>);
+
+/// Whether these are the pieces.
+fn are_steps(steps: &[Step], want: &[Want]) -> bool {
     steps.len() == want.len()
         && steps.iter().zip(want).all(|(step, want)| {
             step.tri == want.0
@@ -42,68 +53,120 @@ fn is_cut(alloc: Global, index: &TinIndex, a: (i32, i32), b: (i32, i32), want: &
         })
 }
 
-fn is_outside(alloc: Global, index: &TinIndex, a: (i32, i32), b: (i32, i32)) -> bool {
-    matches!(cut(alloc, index, at(a), at(b)), Err(WalkFault::Outside))
+/// Whether the segment is cut so.
+fn is_cut(alloc: Global, (over, a, b, want): Row) -> bool {
+    let Some(index) = shaped(alloc, over) else {
+        return false;
+    };
+    match (cut(alloc, &index, at(a), at(b)), want) {
+        (Ok(steps), Some(want)) => are_steps(&steps, want),
+        (Err(WalkFault::Outside), None) => true,
+        _ => false,
+    }
 }
 
-#[test]
-fn cuts_segments(rt: HostRuntime) -> Result<(), Fail> {
-    let alloc = rt.alloc();
-    let square = square(alloc).expect(&rt, "sound");
-    let half = [
-        (0, START, HALF, End::Vertex, End::Side(2)),
-        (1, HALF, END, End::Side(0), End::Vertex),
-    ];
-    assert!(rt; is_cut(alloc, &square, (10_000, 0), (0, 10_000), &half));
-    let one = [whole(0)];
+/// The number of the first row that is cut otherwise, or none.
+fn first_other(alloc: Global, rows: &[Row]) -> Option<usize> {
+    for (number, row) in rows.iter().enumerate() {
+        if !is_cut(alloc, *row) {
+            return Some(number);
+        }
+    }
+    None
+}
+
+const OVER_THE_SQUARE: &[Row] = &[
+    (
+        Shape::Square,
+        (10_000, 0),
+        (0, 10_000),
+        Some(&[
+            (0, Spot::Start, Spot::Half, End::Vertex, End::Side(2)),
+            (1, Spot::Half, Spot::End, End::Side(0), End::Vertex),
+        ]),
+    ),
     // The diagonal is a side of both triangles.
-    assert!(rt; is_cut(alloc, &square, (0, 0), (10_000, 10_000), &one));
-    assert!(rt; is_cut(alloc, &square, (1_000, 1_000), (1_000, 1_000), &one));
-    assert!(rt; is_cut(alloc, &square, (1_000, 1_000), (2_000, 1_000), &one));
-    assert!(rt; is_outside(alloc, &square, (0, 0), (10_000, 10_001)));
-    assert!(rt; is_outside(alloc, &square, (10_001, 0), (10_001, 0)));
-    Ok(())
-}
+    (Shape::Square, (0, 0), (10_000, 10_000), Some(&[FIRST])),
+    (
+        Shape::Square,
+        (1_000, 1_000),
+        (1_000, 1_000),
+        Some(&[FIRST]),
+    ),
+    (
+        Shape::Square,
+        (1_000, 1_000),
+        (2_000, 1_000),
+        Some(&[FIRST]),
+    ),
+    (Shape::Square, (0, 0), (10_000, 10_001), None),
+    (Shape::Square, (10_001, 0), (10_001, 0), None),
+];
 
 #[test]
-fn cuts_through_a_corner(rt: HostRuntime) -> Result<(), Fail> {
-    let alloc = rt.alloc();
-    let six = six(alloc).expect(&rt, "sound");
-    let through = [
-        (3, START, HALF, End::Vertex, End::Side(0)),
-        (0, HALF, END, End::Side(0), End::Vertex),
-    ];
-    assert!(rt; is_cut(alloc, &six, (-4_000, -2_000), (4_000, 2_000), &through));
+fn cuts_segments(rt: HostRuntime) {
+    assert_eq!(rt; first_other(rt.alloc(), OVER_THE_SQUARE), None);
+}
+
+const OVER_SIX: &[Row] = &[
+    (
+        Shape::Six,
+        (-4_000, -2_000),
+        (4_000, 2_000),
+        Some(&[
+            (3, Spot::Start, Spot::Half, End::Vertex, End::Side(0)),
+            (0, Spot::Half, Spot::End, End::Side(0), End::Vertex),
+        ]),
+    ),
     // On the outer edge it is inside.
-    let outer = [whole(2)];
-    assert!(rt; is_cut(alloc, &six, (0, 5_000), (-5_000, 5_000), &outer));
-    assert!(rt; is_outside(alloc, &six, (0, 5_000), (-5_000, 5_001)));
-    Ok(())
-}
+    (Shape::Six, (0, 5_000), (-5_000, 5_000), Some(&[THIRD])),
+    (Shape::Six, (0, 5_000), (-5_000, 5_001), None),
+];
 
 #[test]
-fn goes_on_where_two_triangles_meet_in_a_corner_alone(rt: HostRuntime) -> Result<(), Fail> {
-    let alloc = rt.alloc();
-    let bow = bow(alloc).expect(&rt, "sound");
-    let through = [
-        (1, START, HALF, End::Vertex, End::Side(0)),
-        (0, HALF, END, End::Side(0), End::Vertex),
-    ];
-    assert!(rt; is_cut(alloc, &bow, (-8_000, -4_000), (8_000, 4_000), &through));
+fn cuts_through_a_corner(rt: HostRuntime) {
+    assert_eq!(rt; first_other(rt.alloc(), OVER_SIX), None);
+}
+
+const OVER_THE_BOW: &[Row] = &[
+    (
+        Shape::Bow,
+        (-8_000, -4_000),
+        (8_000, 4_000),
+        Some(&[
+            (1, Spot::Start, Spot::Half, End::Vertex, End::Side(0)),
+            (0, Spot::Half, Spot::End, End::Side(0), End::Vertex),
+        ]),
+    ),
     // From the corner itself, into each of the two.
-    assert!(rt; is_cut(alloc, &bow, (0, 0), (8_000, 4_000), &[whole(0)]));
-    assert!(rt; is_cut(alloc, &bow, (0, 0), (-8_000, -4_000), &[whole(1)]));
-    assert!(rt; is_outside(alloc, &bow, (0, 0), (4_000, 8_000)));
-    assert!(rt; is_outside(alloc, &bow, (-8_000, -4_000), (4_000, 8_000)));
-    Ok(())
+    (Shape::Bow, (0, 0), (8_000, 4_000), Some(&[FIRST])),
+    (Shape::Bow, (0, 0), (-8_000, -4_000), Some(&[SECOND])),
+    (Shape::Bow, (0, 0), (4_000, 8_000), None),
+    (Shape::Bow, (-8_000, -4_000), (4_000, 8_000), None),
+];
+
+#[test]
+fn goes_on_where_two_triangles_meet_in_a_corner_alone(rt: HostRuntime) {
+    assert_eq!(rt; first_other(rt.alloc(), OVER_THE_BOW), None);
+}
+
+/// Whether the segment is wholly inside.
+fn is_inside(alloc: Global, over: Shape, a: (i32, i32), b: (i32, i32)) -> bool {
+    match shaped(alloc, over) {
+        Some(index) => cut(alloc, &index, at(a), at(b)).is_ok(),
+        None => false,
+    }
 }
 
 #[test]
-fn refuses_a_gap_between_two_ends_inside(rt: HostRuntime) -> Result<(), Fail> {
+fn refuses_a_gap_between_two_ends_inside(rt: HostRuntime) {
     let alloc = rt.alloc();
-    let notched = notched(alloc).expect(&rt, "sound");
-    assert!(rt; is_outside(alloc, &notched, (18_000, 9_000), (9_000, 18_000)));
+    assert!(rt;
+        is_cut(
+            alloc,
+            (Shape::Notched, (18_000, 9_000), (9_000, 18_000), None)
+        )
+    );
     // It touches the corner of the notch.
-    assert!(rt; cut(alloc, &notched, at((20_000, 0)), at((0, 20_000))).is_ok());
-    Ok(())
+    assert!(rt; is_inside(alloc, Shape::Notched, (20_000, 0), (0, 20_000)));
 }

@@ -1,18 +1,15 @@
 //! Tests of the rounded images of points and of points of sides.
 
-ghost use Rattle.std.specs.Prelude.{◌<◌, length};
+ghost use Rattle.std.specs.Prelude.{◌≡◌, ◌<◌, length, IfSome};
 
 use crate::made_tins::{corner, sound_of, tin_of};
 use crate::nearness::is_near;
 use affine_image::{image_cut, image_of};
 use frac128::Frac;
 use plane_base::{Pt, holds};
+use std::alloc::Global;
 use std::test::Fail;
 use tin_base::{Frame, SoundTin};
-
-fn at(x: i64, y: i64) -> Pt {
-    Pt { x, y }
-}
 
 // The image by triangle 0, or none where that does not hold the point.
 fn image(tin: &SoundTin, p: Pt) -> Option<Pt>
@@ -28,78 +25,107 @@ fn image(tin: &SoundTin, p: Pt) -> Option<Pt>
     Some(image_of(tin, 0, p))
 }
 
-#[test]
-fn gives_images(rt: HostRuntime) -> Result<(), Fail> {
-    let alloc = rt.alloc();
-    let corners = vec![in alloc;
-        corner((0, 0), (100_000, 100_000)),
-        corner((10_000, 0), (110_002, 100_000)),
-        corner((0, 10_000), (100_000, 110_000)),
-    ]?;
-    let tin = tin_of(corners, vec![in alloc; [0, 1, 2]]?, 0).expect(&rt, "within the limits");
-    let sound = sound_of(tin).expect(&rt, "positive turns");
-    for (x, y, want) in [
-        (5_000, 0, Some(at(105_001, 100_000))),
-        (2_500, 2_500, Some(at(102_501, 102_500))),
-        (7_501, 2_499, Some(at(107_503, 102_499))),
-        (10_000, 0, Some(at(110_002, 100_000))),
-        (0, 10_000, Some(at(100_000, 110_000))),
-        (5_001, 5_000, None),
-    ] {
-        assert_eq!(rt; image(&sound, Pt { x, y }), want, "at {x} {y}");
+/// A corner's source place and target place.
+type Moved = ((i64, i64), (i64, i64));
+
+/// The triangle of these corners, if it is neither flat nor turned over.
+fn triangle_of(alloc: Global, places: [Moved; 3]) -> Option<SoundTin>
+    ensures { IfSome result (λ tin. length tin.triangles ≡ 1) }
+{
+    let [a, b, c] = places;
+    let corners = [corner(a.0, a.1), corner(b.0, b.1), corner(c.0, c.1)];
+    let corners = Vec::from_slice(alloc, &corners).ok()?;
+    let triangles = vec![in alloc; [0, 1, 2]].ok()?;
+    match tin_of(corners, triangles, 0) {
+        Some(tin) => sound_of(tin),
+        None => None,
     }
-    Ok(())
 }
 
-#[test]
-fn rounds_half_up_below_zero(rt: HostRuntime) -> Result<(), Fail> {
-    let alloc = rt.alloc();
-    let corners = vec![in alloc;
-        corner((0, 0), (-110_000, 0)),
-        corner((10_000, 0), (-99_998, 0)),
-        corner((0, 10_000), (-110_000, 10_000)),
-    ]?;
-    let tin = tin_of(corners, vec![in alloc; [0, 1, 2]]?, 0).expect(&rt, "within the limits");
-    let sound = sound_of(tin).expect(&rt, "positive turns");
-    let want = at(-107_499, 2_500);
-    assert_eq!(rt; image(&sound, Pt { x: 2_500, y: 2_500 }), Some(want));
-    Ok(())
+/// A point, and its image, or none where the triangle does not have it.
+type Row = ((i64, i64), Option<(i64, i64)>);
+
+/// The first of the points that has another image by the triangle, or none.
+fn first_other(alloc: Global, corners: [Moved; 3], rows: &[Row]) -> Option<(i64, i64)> {
+    let Some(tin) = triangle_of(alloc, corners) else {
+        return Some((0, 0));
+    };
+    for &((x, y), want) in rows {
+        let got = match image(&tin, Pt { x, y }) {
+            Some(p) => Some((p.x, p.y)),
+            None => None,
+        };
+        if got != want {
+            return Some((x, y));
+        }
+    }
+    None
 }
 
+/// A triangle whose first side is two millimetres longer in the target.
+const STRETCHED: [Moved; 3] = [
+    ((0, 0), (100_000, 100_000)),
+    ((10_000, 0), (110_002, 100_000)),
+    ((0, 10_000), (100_000, 110_000)),
+];
+
+const OF_STRETCHED: &[Row] = &[
+    ((5_000, 0), Some((105_001, 100_000))),
+    ((2_500, 2_500), Some((102_501, 102_500))),
+    ((7_501, 2_499), Some((107_503, 102_499))),
+    ((10_000, 0), Some((110_002, 100_000))),
+    ((0, 10_000), Some((100_000, 110_000))),
+    ((5_001, 5_000), None),
+];
+
 #[test]
-fn reaches_the_largest(rt: HostRuntime) -> Result<(), Fail> {
-    let alloc = rt.alloc();
-    let corners = vec![in alloc;
-        corner(
-            (999_998_926_258_177, -1_000_000_000_000_000),
-            (-999_999_999_999_999, 999_998_926_258_177)
-        ),
-        corner(
-            (1_000_000_000_000_000, -1_000_000_000_000_000),
-            (-999_998_926_258_177, 999_998_926_258_178)
-        ),
-        corner(
-            (999_998_926_258_178, -999_998_926_258_177),
-            (-1_000_000_000_000_000, 1_000_000_000_000_000)
-        ),
-    ]?;
-    let tin = tin_of(corners, vec![in alloc; [0, 1, 2]]?, 0).expect(&rt, "within the limits");
-    let sound = sound_of(tin).expect(&rt, "positive turns");
-    for (x, y, want) in [
-        (
-            999_999_284_172_118,
-            -999_999_642_086_059,
-            Some(at(-999_999_642_086_059, 999_999_284_172_118)),
-        ),
-        (
-            999_998_926_258_178,
-            -999_998_926_258_177,
-            Some(at(-1_000_000_000_000_000, 1_000_000_000_000_000)),
-        ),
-    ] {
-        assert_eq!(rt; image(&sound, Pt { x, y }), want, "at {x} {y}");
-    }
-    Ok(())
+fn gives_images(rt: HostRuntime) {
+    assert_eq!(rt; first_other(rt.alloc(), STRETCHED, OF_STRETCHED), None);
+}
+
+/// The same with its target left of 0.
+const BELOW_ZERO: [Moved; 3] = [
+    ((0, 0), (-110_000, 0)),
+    ((10_000, 0), (-99_998, 0)),
+    ((0, 10_000), (-110_000, 10_000)),
+];
+
+#[test]
+fn rounds_half_up_below_zero(rt: HostRuntime) {
+    let rows = [((2_500, 2_500), Some((-107_499, 2_500)))];
+    assert_eq!(rt; first_other(rt.alloc(), BELOW_ZERO, &rows), None);
+}
+
+/// As far out and as large as a triangle may be.
+const LARGEST: [Moved; 3] = [
+    (
+        (999_998_926_258_177, -1_000_000_000_000_000),
+        (-999_999_999_999_999, 999_998_926_258_177),
+    ),
+    (
+        (1_000_000_000_000_000, -1_000_000_000_000_000),
+        (-999_998_926_258_177, 999_998_926_258_178),
+    ),
+    (
+        (999_998_926_258_178, -999_998_926_258_177),
+        (-1_000_000_000_000_000, 1_000_000_000_000_000),
+    ),
+];
+
+const OF_LARGEST: &[Row] = &[
+    (
+        (999_999_284_172_118, -999_999_642_086_059),
+        Some((-999_999_642_086_059, 999_999_284_172_118)),
+    ),
+    (
+        (999_998_926_258_178, -999_998_926_258_177),
+        Some((-1_000_000_000_000_000, 1_000_000_000_000_000)),
+    ),
+];
+
+#[test]
+fn reaches_the_largest(rt: HostRuntime) {
+    assert_eq!(rt; first_other(rt.alloc(), LARGEST, OF_LARGEST), None);
 }
 
 #[test]

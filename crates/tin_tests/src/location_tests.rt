@@ -1,7 +1,8 @@
 //! Tests of the triangle that has a point, of neighbours across sides, and of the triangles round a corner.
 
-use crate::made_tins::{bow, same, six, sound_of, square, tin_of};
+use crate::made_tins::{Shape, same, shaped, sound_of, tin_of};
 use plane_base::Pt;
+use std::alloc::Global;
 use std::test::Fail;
 use tin_index::TinIndex;
 
@@ -27,41 +28,77 @@ fn locates_points(rt: HostRuntime) -> Result<(), Fail> {
     Ok(())
 }
 
+/// A triangulation, a triangle, and those across its sides.
+type Neighbours = (Shape, u32, (Option<u32>, Option<u32>, Option<u32>));
+
 /// Whether these are the triangles across the sides of the triangle.
-fn are_across(index: &TinIndex, triangle: u32, want: &[Option<u32>; 3]) -> bool {
+fn are_across(alloc: Global, (shape, triangle, want): Neighbours) -> bool {
+    let Some(index) = shaped(alloc, shape) else {
+        return false;
+    };
     if triangle >= index.tin().triangle_count() {
         return false;
     }
-    index.across(triangle, 0) == want[0]
-        && index.across(triangle, 1) == want[1]
-        && index.across(triangle, 2) == want[2]
+    let sides = (
+        index.across(triangle, 0),
+        index.across(triangle, 1),
+        index.across(triangle, 2),
+    );
+    sides == want
+}
+
+/// The number of the first row of a triangle whose sides have other triangles across, or none.
+fn first_other_across(alloc: Global, rows: &[Neighbours]) -> Option<usize> {
+    for (number, row) in rows.iter().enumerate() {
+        if !are_across(alloc, *row) {
+            return Some(number);
+        }
+    }
+    None
 }
 
 /// Whether these are the triangles round the corner.
-fn are_around(index: &TinIndex, corner: u32, want: &[u32]) -> bool {
+fn are_around(alloc: Global, shape: Shape, corner: u32, want: &[u32]) -> bool {
+    let Some(index) = shaped(alloc, shape) else {
+        return false;
+    };
     if corner as usize >= index.tin().corners().len() {
         return false;
     }
     index.around(corner) == want
 }
 
+/// The number of the first row of a corner with other triangles round it, or none.
+fn first_other_around(alloc: Global, rows: &[(Shape, u32, &[u32])]) -> Option<usize> {
+    for (number, (shape, corner, want)) in rows.iter().enumerate() {
+        if !are_around(alloc, *shape, *corner, want) {
+            return Some(number);
+        }
+    }
+    None
+}
+
+/// Triangles, and those across their sides. The two of the bow have a corner in common and no side.
+const ACROSS: &[Neighbours] = &[
+    (Shape::Square, 0, (None, None, Some(1))),
+    (Shape::Square, 1, (Some(0), None, None)),
+    (Shape::Six, 0, (Some(5), None, Some(1))),
+    (Shape::Six, 5, (Some(4), None, Some(0))),
+    (Shape::Bow, 0, (None, None, None)),
+    (Shape::Bow, 1, (None, None, None)),
+];
+
+/// Corners, and the triangles round them.
+const AROUND: &[(Shape, u32, &[u32])] = &[
+    (Shape::Square, 0, &[0, 1]),
+    (Shape::Square, 1, &[0]),
+    (Shape::Six, 0, &[0, 1, 2, 3, 4, 5]),
+    (Shape::Six, 6, &[4, 5]),
+    (Shape::Bow, 0, &[0, 1]),
+];
+
 #[test]
-fn finds_neighbours(rt: HostRuntime) -> Result<(), Fail> {
-    let alloc = rt.alloc();
-    let square = square(alloc).expect(&rt, "sound");
-    assert!(rt; are_across(&square, 0, &[None, None, Some(1)]));
-    assert!(rt; are_across(&square, 1, &[Some(0), None, None]));
-    assert!(rt; are_around(&square, 0, &[0, 1]));
-    assert!(rt; are_around(&square, 1, &[0]));
-    let six = six(alloc).expect(&rt, "sound");
-    assert!(rt; are_across(&six, 0, &[Some(5), None, Some(1)]));
-    assert!(rt; are_across(&six, 5, &[Some(4), None, Some(0)]));
-    assert!(rt; are_around(&six, 0, &[0, 1, 2, 3, 4, 5]));
-    assert!(rt; are_around(&six, 6, &[4, 5]));
-    // Two triangles that have a corner in common and no side.
-    let bow = bow(alloc).expect(&rt, "sound");
-    assert!(rt; are_across(&bow, 0, &[None, None, None]));
-    assert!(rt; are_across(&bow, 1, &[None, None, None]));
-    assert!(rt; are_around(&bow, 0, &[0, 1]));
-    Ok(())
+fn finds_neighbours(rt: HostRuntime) {
+    assert_eq!(rt; first_other_across(rt.alloc(), ACROSS), None);
+    assert_eq!(rt; first_other_around(rt.alloc(), AROUND), None);
 }

@@ -142,3 +142,22 @@ pub fn notched(alloc: Global) -> Option<TinIndex> {
     ];
     index_of(alloc, &corners, &triangles)
 }
+
+/// Which triangulation.
+#[derive(Clone, Copy, Debug)]
+pub enum Shape {
+    Square,
+    Six,
+    Bow,
+    Notched,
+}
+
+/// The triangulation of this shape.
+pub fn shaped(alloc: Global, shape: Shape) -> Option<TinIndex> {
+    match shape {
+        Shape::Square => square(alloc),
+        Shape::Six => six(alloc),
+        Shape::Bow => bow(alloc),
+        Shape::Notched => notched(alloc),
+    }
+}
