@@ -1,8 +1,9 @@
 #!/usr/bin/env bash
 # Whether the documents fit the repository: README lists each crate of crates.txt and no other; each
 # crate has a README; links and files that are named exist; names in the code spans of README and
-# docs/ are somewhere in the sources; prose breaks at 100 columns (wrap_docs.py breaks it). No part of
-# the gate. The last line is 'the documents fit'; the status is 1 where they do not.
+# docs/ are somewhere in the sources; prose breaks at 100 columns (wrap_docs.py breaks it); the line of
+# cert_check in crates.txt names no grid, index or walk, as its README says. No part of the gate. The
+# last line is 'the documents fit'; the status is 1 where they do not.
 set -eu
 cd -- "$(dirname -- "$0")/.."
 python3 - <<'END'
@@ -18,6 +19,12 @@ listed = re.findall(r"^- \[(\w+)\]\(crates/\w+\)", readme, re.M)
 bad += [f"README.md does not list {it}" for it in crates if it not in listed]
 bad += [f"README.md lists {it}, which is no crate" for it in listed if it not in crates]
 bad += [f"crates/{it} has no README.md" for it in crates if not os.path.exists(f"crates/{it}/README.md")]
+
+# a receiver checks a certificate without a search: cert_check stands on no grid, index or walk
+for line in open("crates.txt", encoding="utf-8"):
+    name, _, below = line.partition(":")
+    if name.strip() == "cert_check":
+        bad += [f"crates.txt: cert_check stands on {it}" for it in ("cell_grid", "tin_index", "seg_walk") if it in below.split()]
 
 sources = "\n".join(
     open(it, encoding="utf-8", errors="replace").read()

@@ -11,7 +11,7 @@ plain() { tr -s ' \n' ' ' | sed 's/^ //; s/ $//'; }
 
 # The launcher prints the text of the source; so does the program.
 if [ -n "$program" ]; then
-    for words in --help -h help --version -V 'migrate --help' 'check -h' 'make --help'; do
+    for words in --help -h help --version -V 'migrate --help' 'check -h' 'make --help' 'verify -h'; do
         read -ra list <<<"$words"
         cmp -s <("$top/tinmove" "${list[@]}") <("$program" "${list[@]}") || differ "the launcher's text of '$words'"
     done
@@ -26,7 +26,7 @@ in_man=$(grep -o -- '--[a-z-]*[a-z]' <<<"$man" | sort -u)
 in_completion=$(grep -o -- '--[a-z][a-z-]*' "$top/recipes/tinmove.bash" | sort -u)
 [ "$in_help" = "$in_man" ] || differ "the options of the man page"
 [ "$in_help" = "$in_completion" ] || differ "the options of the completion"
-for mode in migrate check make; do
+for mode in migrate check make verify; do
     grep -q -- "tinmove $mode" <<<"$man" || differ "the mode $mode of the man page"
     of_mode=$("$top/tinmove" $mode --help | grep -o -- '--[a-z-]*' | sort -u | plain)
     of_completion=$(sed -n "s/^ *$mode) options='\(.*\)' ;;/\1/p" "$top/recipes/tinmove.bash" | tr ' ' '\n' | sort -u | plain)
@@ -36,8 +36,8 @@ done
 # The version, and each exit status, which begin in the same way.
 version=$("$top/tinmove" --version)
 grep -q "\"$version\"" "$top/recipes/tinmove.1" || differ "the version of the man page"
-for status in 0 1 2 3 4 5 6 7 8 9; do
-    said=$(sed -n "s/^  $status  //p" <<<"$help" | cut -d, -f1 | cut -d';' -f1)
+for status in 0 1 2 3 4 5 6 7 8 9 10; do
+    said=$(sed -n "s/^  $status  *//p" <<<"$help" | cut -d, -f1 | cut -d';' -f1)
     grep -qi -- "$said" <<<"$man" || differ "status $status of the man page: $said"
 done
 [ "$bad" -eq 0 ] && echo 'the help is the same everywhere'

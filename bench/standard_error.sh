@@ -45,8 +45,8 @@ echo 'POINT (600001 200001)' >a.wkt
 mkdir -p x && echo 'POINT (600002 200002)' >x/a.wkt
 
 # words
-says 2 -- 'a mode is missing: the first word is to be migrate, check or make' 'usage: tinmove migrate|check|make'
-says 2 chek -- "'chek' is no mode: the first word is to be migrate, check or make" 'usage: tinmove migrate|check|make'
+says 2 -- 'a mode is missing: the first word is to be migrate, check, make or verify' 'usage: tinmove migrate|check|make'
+says 2 chek -- "'chek' is no mode: the first word is to be migrate, check, make or verify" 'usage: tinmove migrate|check|make'
 says 2 migrate --tni t.json --out o a.wkt -- "'--tni' is no option of this mode" 'usage: tinmove migrate --tin FILE'
 says 2 migrate --tin t.json a.wkt -- "'--out FOLDER' is missing" 'nothing was written' '[--drop-other] LAYER...'
 says 2 migrate --tin t.json --out o -- "'LAYER' is missing"

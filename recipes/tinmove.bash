@@ -3,14 +3,15 @@ _tinmove() {
     local word=${COMP_WORDS[COMP_CWORD]} before=${COMP_WORDS[COMP_CWORD - 1]} mode=${COMP_WORDS[1]} options
     COMPREPLY=()
     if [ "$COMP_CWORD" -eq 1 ]; then
-        mapfile -t COMPREPLY < <(compgen -W 'migrate check make help --help --version' -- "$word")
+        mapfile -t COMPREPLY < <(compgen -W 'migrate check make verify help --help --version' -- "$word")
         return
     fi
     compopt -o filenames 2>/dev/null
     case $mode in
-        migrate) options='--tin --out --inverse --exact --inside-only --drop-other --help' ;;
+        migrate) options='--tin --out --inverse --exact --inside-only --drop-other --cert --help' ;;
         check) options='--tin --exact --inside-only --help' ;;
         make) options='--help' ;;
+        verify) options='--tin --source --written --cert --inverse --exact --inside-only --drop-other --help' ;;
         *) return ;;
     esac
     case $before in
@@ -23,6 +24,14 @@ _tinmove() {
             return
             ;;
     esac
+    if [ "$mode" = verify ]; then
+        case $before in
+            --source | --written | --cert)
+                mapfile -t COMPREPLY < <(compgen -f -- "$word")
+                return
+                ;;
+        esac
+    fi
     case $word in
         -*) mapfile -t COMPREPLY < <(compgen -W "$options" -- "$word") ;;
         *)

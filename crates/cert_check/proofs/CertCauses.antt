@@ -12,7 +12,7 @@ use Rattle.affine_image.specs.SheetSegments.{Segment, sheet_segments}
 use Rattle.affine_image.specs.SheetPieces.{AreInside}
 use Rattle.affine_image.specs.SheetImages.{AreImagesOf}
 use Rattle.cert_check.specs.RightLists.{AreRightLists}
-use Rattle.cert_check.specs.Checks.{IsFirstDifference, IsMigrated, IsCertCause}
+use Rattle.cert_check.specs.Checks.{IsFirstDifference, IsMigrated, IsCertified, IsCertCause}
 use Rattle.cert_check.specs.declared.faults.CertFault.{CertFault}
 use Rattle.cert_check.specs.declared.faults.CertFault.TheVariants.{Layer, Form, Count, Segment as WrongSegment, Differs}
 use Rattle.cert_check.specs.declared.faults.CertFault.TheVariants.{NoMemory}
@@ -61,6 +61,23 @@ same_text tin source written items out reads text cert sheet images (Ok v) sound
       written_is = sym same ∙ e ∙ is;
     }
 same_text tin source written items out reads text cert sheet images (Err f) sound read right are is e same = tt
+
+pub certified_text : (tin : Triangulation) (source written items out : List ℕ) (reads : Contents → Type 0)
+    (text : Contents → Runs → Edit → List ℕ) (cert : List ℕ) (sheet : Contents) (images : Runs)
+    (answer : Result (Unit {0}) CertFault)
+    → IsSound tin → reads sheet → HasRightLists tin (sheet_segments sheet) cert → AreImagesOf tin sheet images
+    → items ≡ spliced source (text sheet images) sheet.edits → out ≡ items → OnOk answer (out ≡ written)
+    → OnOk answer (IsCertified tin source written reads text cert)
+unfolding same_text
+certified_text tin source written items out reads text cert sheet images (Ok v) sound read right are is e same =
+    record {
+      migrated = same_text tin source written items out reads text cert sheet images (Ok v) sound read right are is e
+          same;
+      lists = right.0;
+      certificate = right.1;
+      are_right = right.2;
+    }
+certified_text tin source written items out reads text cert sheet images (Err f) sound read right are is e same = tt
 
 pub other_text : (tin : Triangulation) (source written items out : List ℕ) (reads : Contents → Type 0)
     (refuses : LayerFault → Type 0) (text : Contents → Runs → Edit → List ℕ) (cert : List ℕ) (sheet : Contents)

@@ -14,3 +14,5 @@ pub mod TextLaws
 pub mod CertCauses
 pub mod OneImage
 pub mod Accepting
+pub mod FewNumbers
+mod OneEnd

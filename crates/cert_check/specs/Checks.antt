@@ -53,6 +53,18 @@ pub record IsMigrated (tin : Triangulation) (source written : List ℕ) (reads :
   pub are_images : AreImagesOf tin sheet images
   pub written_is : written ≡ spliced source (text sheet images) sheet.edits
 
+-- It is so, and the certificate is one of lists that are right for the segments of the same sheet, one for each.
+pub record IsCertified (tin : Triangulation) (source written : List ℕ) (reads : Contents → Type 0)
+    (text : Contents → Runs → Edit → List ℕ) (cert : List ℕ) : Type 0 where
+  pub migrated : IsMigrated tin source written reads text
+  pub lists : List (List ℕ)
+  pub certificate : IsCertificate cert lists
+  pub are_right : (let layer = migrated in AreRightLists tin (sheet_segments layer.sheet) lists)
+
+-- the source is read as a sheet, and this line of the certificate is the first that is not of the form
+abbrev pub IsMalformed : (Contents → Type 0) → List ℕ → ℕ → Type 0
+IsMalformed reads cert line = (sheet : Contents) × reads sheet × IsBadLine cert line
+
 -- the certificate has another number of lists than the sheet has segments
 pub record IsCounted (reads : Contents → Type 0) (cert : List ℕ) (segments lines : ℕ) : Type 0 where
   pub sheet : Contents
@@ -88,7 +100,7 @@ pub record IsDifferent (tin : Triangulation) (source written : List ℕ) (reads 
 abbrev pub IsCertCause : Triangulation → List ℕ → List ℕ → (Contents → Type 0) → (LayerFault → Type 0)
     → (Contents → Runs → Edit → List ℕ) → List ℕ → CertFault → Type 0
 IsCertCause tin source written reads refuses text cert (Layer fault) = (fault ≢ OutOfMemory) × refuses fault
-IsCertCause tin source written reads refuses text cert (Form line) = IsBadLine cert line
+IsCertCause tin source written reads refuses text cert (Form line) = IsMalformed reads cert line
 IsCertCause tin source written reads refuses text cert (Count segments lines) = IsCounted reads cert segments lines
 IsCertCause tin source written reads refuses text cert (Segment path number) = IsNotRight tin reads cert path number
 IsCertCause tin source written reads refuses text cert (Differs place) =

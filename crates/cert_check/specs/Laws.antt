@@ -1,10 +1,12 @@
 -- Laws of certificates.
-use Rattle.std.specs.Prelude.{◌≡◌, ℕ, List, map}
+use Rattle.std.specs.Prelude.{◌≡◌, ◌≢◌, ℕ, List, map, Result, Ok, Err}
 use Rattle.plane_base.specs.declared.shapes.Pt.{Pt}
 use Rattle.sheet_base.specs.declared.edits.Edit.{Edit}
 use Rattle.sheet_base.specs.Sheets.{Contents}
 use Rattle.sheet_base.specs.Fitting.{Runs}
 use Rattle.sheet_base.specs.Splices.{spliced}
+use Rattle.sheet_base.specs.declared.flags.How.{How}
+use Rattle.sheet_base.specs.declared.faults.LayerFault.{LayerFault}
 use Rattle.tin_base.specs.declared.pieces.Piece.{Piece}
 use Rattle.tin_base.specs.Triangulation.{Triangulation}
 use Rattle.tin_base.specs.Limits.{IsWithinLimits}
@@ -13,7 +15,9 @@ use Rattle.tin_base.specs.Segments.{Part, IsInside, ArePiecesOf}
 use Rattle.affine_image.specs.SheetSegments.{sheet_segments}
 use Rattle.affine_image.specs.SheetPieces.{ArePiecesOfSheet, IsSheetInside}
 use Rattle.affine_image.specs.SheetImages.{AreImagesOf}
-use Rattle.cert_check.specs.Checks.{IsCounted, IsNotRight, IsDifferent}
+use Rattle.cert_check.specs.declared.faults.CertFault.{CertFault}
+use Rattle.cert_check.specs.declared.faults.CertFault.TheVariants.{NoMemory}
+use Rattle.cert_check.specs.Checks.{IsCertified, IsCertCause, IsCounted, IsNotRight, IsDifferent}
 use Rattle.cert_check.specs.Certificates.{certificate_of, IsCertificate}
 use Rattle.cert_check.specs.Lines.{IsBadLine}
 use Rattle.cert_check.specs.RightLists.{IsRightList, AreRightLists}
@@ -70,3 +74,20 @@ PiecesAreAccepted =
     → AreImagesOf tin sheet images
     → ArePiecesOfSheet tin layer sheet pieces
     → IsAccepted tin source text sheet images (certificate_of (lists_of pieces))
+
+-- how the check of a certificate ends where memory does not run out: it is certified, or this is its first fault
+abbrev pub IsCertEnd : Triangulation → List ℕ → List ℕ → (Contents → Type 0) → (LayerFault → Type 0)
+    → (Contents → Runs → Edit → List ℕ) → List ℕ → Result (Unit {0}) CertFault → Type 0
+IsCertEnd tin source written reads refuses text cert (Ok done) = IsCertified tin source written reads text cert
+IsCertEnd tin source written reads refuses text cert (Err fault) =
+    IsCertCause tin source written reads refuses text cert fault × (fault ≢ NoMemory)
+
+-- Of each sound triangulation, where a format reads and refuses texts so and writes these: the check of a certificate
+-- ends in one way
+abbrev pub CertificatesEndOnce : (How → List ℕ → Contents → Type 0) → (How → List ℕ → LayerFault → Type 0)
+    → (List ℕ → How → Contents → Runs → Edit → List ℕ) → Type 0
+CertificatesEndOnce reads refuses text =
+    (how : How) (tin : Triangulation) (source written cert : List ℕ) → IsSound tin
+    → (end other : Result (Unit {0}) CertFault)
+    → IsCertEnd tin source written (reads how source) (refuses how source) (text source how) cert end
+    → IsCertEnd tin source written (reads how source) (refuses how source) (text source how) cert other → end ≡ other

@@ -25,6 +25,10 @@ pub record HasLines (text : List ℕ) (count : ℕ) : Type 0 where
   pub spelled : text ≡ lines_text lists
   pub enough : count ≤ length lists
 
+-- the text begins with no line of at most so many numbers
+abbrev pub HasNoLineWithin : List ℕ → ℕ → Type 0
+HasNoLineWithin text most = (numbers rest : List ℕ) → length numbers ≤ most → IsLine text numbers rest → ⊥
+
 -- some part of the triangle
 abbrev pub HasPart : Triangulation → Pt → Pt → ℕ → Type 0
 HasPart tin a b t = (first : Spot) × (last : Spot) × IsPart tin a b t first last

@@ -5,7 +5,7 @@ ghost use Rattle.sheet_base.specs.Fitting.{DoFit};
 ghost use Rattle.sheet_base.specs.Sheets.{IsSheet};
 ghost use Rattle.affine_image.specs.SheetSegments.{sheet_vertices, sheet_segments};
 ghost use Rattle.affine_image.specs.SheetImages.{AreImagesOf};
-ghost use Rattle.cert_check.specs.Checks.{IsFirstDifference, IsMigrated, IsCertCause};
+ghost use Rattle.cert_check.specs.Checks.{IsFirstDifference, IsMigrated, IsCertified, IsCertCause};
 ghost use Rattle.cert_check.specs.Lines.{HasCount};
 ghost use Rattle.cert_check.specs.SheetLists.{HasLines, HasRightLists, AreImaged, IsStopCause, IsImageCause};
 
@@ -119,6 +119,7 @@ pub fn check_cert<L: Layer>(
     requires small { length source.now ≤ 2 ^ 26 }
     requires few { length cert.now < 2 ^ 32 }
     ensures migrated { OnOk result (IsMigrated tin.now source.now written.now (L.reads how source.now) (L.text source.now how)) }
+    ensures certified { OnOk result (IsCertified tin.now source.now written.now (L.reads how source.now) (L.text source.now how) cert.now) }
     ensures cause { IfErr result (λ fault. IsCertCause tin.now source.now written.now (L.reads how source.now) (L.refuses how source.now) (L.text source.now how) cert.now fault) }
 {
     tin.known();

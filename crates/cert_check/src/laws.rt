@@ -2,6 +2,9 @@
 
 ghost use Rattle.cert_check.specs.Laws.{CertificatesAreOne, CertificatesHaveNoBadLine, PieceTrianglesAreRight};
 ghost use Rattle.cert_check.specs.Laws.{PiecesAreAccepted, PiecesAreRightlyCertified, RightListsAreInside};
+ghost use Rattle.cert_check.specs.Laws.{CertificatesEndOnce};
+
+use sheet_base::Layer;
 
 /// A law: bytes are the certificate of one list of lists at most.
 pub fn certificates_are_one()
@@ -35,3 +38,10 @@ pub fn pieces_are_rightly_certified()
 pub fn pieces_are_accepted()
     ensures { PiecesAreAccepted }
 {}
+
+/// A law: the check of a certificate ends in one way: the layer is certified, or there is one first fault.
+pub fn certificates_end_once<L: Layer>()
+    ensures { CertificatesEndOnce L.reads L.refuses L.text }
+{
+    L::outcome_is_one();
+}

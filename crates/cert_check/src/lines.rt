@@ -4,6 +4,7 @@ ghost use Rattle.std.specs.Prelude.{◌≡◌, ℕ, ◌+◌, ◌<◌, ◌^◌, L
 ghost use Rattle.std.specs.List.{AllByRecursion};
 ghost use Rattle.cert_check.specs.Certificates.{head_text, lines_text, IsList, IsCertificate};
 ghost use Rattle.cert_check.specs.Lines.{IsLine, BeginsWithLine, HasNoLine, AreLines, IsBadBehind, IsBadLine, HasCount};
+ghost use Rattle.cert_check.specs.SheetLists.{HasNoLineWithin};
 
 use crate::numbers::ended_number;
 use std::alloc::AllocError;
@@ -69,18 +70,22 @@ pub fn list_count(bytes: &[u8]) -> Result<u32, u64>
     }
 }
 
-/// Reads the numbers of the line of a list at the front of a text, and answers what is behind the line; none where no
-/// such line begins the text.
+/// Reads the numbers of the line of a list at the front of a text, at most `most` of them, and answers what is behind
+/// the line; none where no such line begins the text.
 pub(crate) fn read_line<'a>(
     text: &'a [u8],
+    most: usize,
     numbers: &mut Vec<u32>,
 ) -> Result<Option<&'a [u8]>, AllocError>
     ensures some { IfOk result (λ answer. IfSome answer (λ rest. IsLine text.now numbers.new.items rest.now)) }
-    ensures none { IfOk result (λ answer. IfNone answer (HasNoLine text.now)) }
+    ensures none { IfOk result (λ answer. IfNone answer (HasNoLineWithin text.now most)) }
 {
     numbers.clear();
     let mut rest = text;
     while let Some(ended) = ended_number(rest) {
+        if numbers.len() >= most {
+            return Ok(None);
+        }
         numbers.push(ended.number)?;
         if ended.last {
             return Ok(Some(ended.rest));

@@ -48,7 +48,9 @@ fn pass_segment(
         path: way.path,
         segment: way.number,
     };
-    let Some(rest) = read_line(gathered.rest, numbers)? else {
+    // a right list has no triangle twice
+    let most = tin.triangle_count() as usize;
+    let Some(rest) = read_line(gathered.rest, most, numbers)? else {
         return Err(wrong);
     };
     if !is_right(tin, way.a, way.b, numbers) {

@@ -12,8 +12,8 @@ use Rattle.job_words.specs.declared.jobs.Job.{Job}
 use Rattle.job_words.specs.declared.jobs.Job.TheVariants as job
 use Rattle.job_words.specs.declared.limits.TheConstants.{MOST_LAYERS, MOST_SIZE}
 use Rattle.job_words.specs.declared.modes.Mode.{Mode}
-use Rattle.job_words.specs.declared.modes.Mode.TheVariants.{Migrate, Check, Make}
-use Rattle.job_words.specs.declared.faults.Which.TheVariants.{Tin, Out}
+use Rattle.job_words.specs.declared.modes.Mode.TheVariants.{Migrate, Check, Make, Verify}
+use Rattle.job_words.specs.declared.faults.Which.TheVariants.{Tin, Out, Source, Written, Certificate}
 use Rattle.job_words.specs.declared.faults.WordsFault.{WordsFault}
 use Rattle.job_words.specs.declared.faults.WordsFault.TheVariants.{Many, Name, Size}
 use Rattle.job_words.specs.Readings.{text_in, texts_in}
@@ -21,9 +21,9 @@ use Rattle.job_words.specs.Names.{is_name, last_part}
 use Rattle.job_words.specs.Formats.{format_of}
 use Rattle.job_words.specs.Sizes.{is_plain, is_size, size_of}
 use Rattle.job_words.specs.Faults.{IsAnswer, first_fault}
-use Rattle.job_words.specs.Jobs.{how_in, job_in, layer_fault, many_fault, migration_fault, migration_in, out_fault}
-use Rattle.job_words.specs.Jobs.{same_fault, suffix_fault, tin_fault, unless}
-use Rattle.job_words.specs.Kept.{HasFormat, IsKept, IsMigration, IsName}
+use Rattle.job_words.specs.Jobs.{how_in, job_in, layer_fault, many_fault, migration_fault, migration_in, name_fault}
+use Rattle.job_words.specs.Jobs.{same_fault, suffix_fault, unless, verification_fault, verification_in}
+use Rattle.job_words.specs.Kept.{HasFormat, IsKept, IsMigration, IsName, IsVerification}
 use Rattle.job_words.proofs.Distinct.{distinct-texts, nothing-made}
 use Rattle.job_words.proofs.Deciding.{no-more}
 use Rattle.std.specs.Str.Parse.{digits_value}
@@ -69,12 +69,17 @@ each-passes {X} test P is (x ∷ xs) none =
     go true e = (refl, e)
     go false e = absurd (cc)
 
+have-format : (layers : List Text) → suffix_fault layers ≡ None → AllByRecursion HasFormat layers
+have-format layers none =
+    each-passes (λ layer. is_some (format_of layer)) HasFormat (λ layer has. has) layers
+    (find-none (λ layer. not (is_some (format_of layer))) layers (nothing-made _ _ none))
+
 kept-migration : (tin out : Text) (layers : List Text) → migration_fault tin out layers ≡ None
     → IsMigration tin out layers
 kept-migration tin out layers none =
     let few = none-first (
-    many_fault layers ∷ tin_fault tin ∷ out_fault out ∷ layer_fault layers ∷ suffix_fault layers ∷ same_fault layers
-    ∷ []) none in
+    many_fault layers ∷ name_fault Tin tin ∷ name_fault Out out ∷ layer_fault layers ∷ suffix_fault layers
+    ∷ same_fault layers ∷ []) none in
     let taken_tin = few.1 in
     let taken_out = taken_tin.1 in
     let taken_layers = taken_out.1 in
@@ -86,9 +91,26 @@ kept-migration tin out layers none =
       few = ltb-false MOST_LAYERS (length layers) (no-fault-then (nat_lt MOST_LAYERS (length layers)) Many few.0);
       layers_named = each-passes is_name IsName named layers
           (find-none (λ layer. not (is_name layer)) layers (nothing-made _ _ taken_layers.0));
-      formats = each-passes (λ layer. is_some (format_of layer)) HasFormat (λ layer has. has) layers
-          (find-none (λ layer. not (is_some (format_of layer))) layers (nothing-made _ _ have_formats.0));
+      formats = have-format layers have_formats.0;
       distinct = distinct-texts (map last_part layers) (nothing-made _ _ differ.0);
+    }
+
+kept-verification : (tin source written cert : Text) → verification_fault tin source written cert ≡ None
+    → IsVerification tin source written cert
+kept-verification tin source written cert none =
+    let taken_tin = none-first (
+    name_fault Tin tin ∷ name_fault Source source ∷ name_fault Written written ∷ name_fault Certificate cert
+    ∷ suffix_fault (source ∷ []) ∷ []) none in
+    let taken_source = taken_tin.1 in
+    let taken_written = taken_source.1 in
+    let taken_cert = taken_written.1 in
+    let has_format = taken_cert.1 in
+    record {
+      tin_named = named tin (no-fault-else (is_name tin) (Name Tin) taken_tin.0);
+      source_named = named source (no-fault-else (is_name source) (Name Source) taken_source.0);
+      written_named = named written (no-fault-else (is_name written) (Name Written) taken_written.0);
+      cert_named = named cert (no-fault-else (is_name cert) (Name Certificate) taken_cert.0);
+      format = (have-format (source ∷ []) has_format.0).0;
     }
 
 kept-unless : (fault : Option WordsFault) (wanted : Job) → (fault ≡ None → IsKept wanted)
@@ -114,8 +136,15 @@ kept-in Migrate rows =
     (kept-migration (text_in (codes "tin") rows) (text_in (codes "out") rows) (texts_in (codes "layer") rows))
 kept-in Check rows =
     let tin = text_in (codes "tin") rows in
-    kept-unless (tin_fault tin) (job.Check tin (how_in rows))
+    kept-unless (name_fault Tin tin) (job.Check tin (how_in rows))
     (λ none. named tin (no-fault-else (is_name tin) (Name Tin) none))
+kept-in Verify rows =
+    let tin = text_in (codes "tin") rows in
+    let source = text_in (codes "source") rows in
+    let written = text_in (codes "written") rows in
+    let cert = text_in (codes "cert") rows in
+    kept-unless (verification_fault tin source written cert) (verification_in rows)
+    (kept-verification tin source written cert)
 kept-in Make rows = kept-make (text_in (codes "n") rows)
 
 -- a job that is answered keeps what its mode's jobs keep

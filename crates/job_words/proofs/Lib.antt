@@ -9,6 +9,7 @@ pub mod OneAnswer
 pub mod SizesRead
 pub mod SimpleCommands
 pub mod Migrations
+pub mod Verifications
 pub mod Distinct
 pub mod Keeping
 pub mod WorkedRows

@@ -7,7 +7,7 @@ use Rattle.std.specs.Option.{option_map_or}
 use Rattle.clap.specs.Walk.{Row, Text}
 use Rattle.job_words.specs.declared.jobs.Job.{Job}
 use Rattle.job_words.specs.declared.modes.Mode.{Mode}
-use Rattle.job_words.specs.declared.modes.Mode.TheVariants.{Migrate, Check, Make}
+use Rattle.job_words.specs.declared.modes.Mode.TheVariants.{Migrate, Check, Make, Verify}
 use Rattle.job_words.specs.declared.faults.WordsFault.{WordsFault}
 use Rattle.job_words.specs.declared.faults.WordsFault.TheVariants.{NoMemory, NoMode, Parse, Size, Many, Name, Suffix}
 use Rattle.job_words.specs.declared.faults.WordsFault.TheVariants.{SameName}
@@ -16,12 +16,13 @@ use Rattle.job_words.specs.Readings.{reading_of, text_in, texts_in}
 use Rattle.job_words.specs.Faults.{first_fault}
 use Rattle.job_words.specs.Sizes.{size_of}
 use Rattle.job_words.specs.declared.jobs.Job.TheVariants as job
-use Rattle.job_words.specs.declared.faults.Which.TheVariants.{Tin, Out, Layer}
+use Rattle.job_words.specs.declared.faults.Which.{Which}
+use Rattle.job_words.specs.declared.faults.Which.TheVariants.{Tin, Out, Layer, Source, Written, Certificate}
 use Rattle.job_words.specs.declared.limits.TheConstants.{MOST_LAYERS}
 use Rattle.job_words.specs.Names.{first_again, is_name, last_part}
 use Rattle.job_words.specs.Formats.{format_of}
 use Rattle.job_words.specs.Jobs.{IsJobOf, IsWordsFault, answer_in, answer_of, job_in, layer_fault, many_fault}
-use Rattle.job_words.specs.Jobs.{migration_fault, out_fault, same_fault, suffix_fault, tin_fault, unless}
+use Rattle.job_words.specs.Jobs.{migration_fault, name_fault, same_fault, suffix_fault, unless, verification_fault}
 use Rattle.job_words.specs.Laws.{HasOneAnswer}
 
 -- a fault of the words themselves, if any
@@ -48,25 +49,42 @@ own-at : (number : Option ℕ) (make : ℕ → WordsFault) → ((n : ℕ) → Is
 own-at None make own = λ e. cc
 own-at (Some n) make own = own n
 
-own-tin : (tin : Text) → IsOwn (tin_fault tin)
-own-tin tin = own-else (is_name tin) (Name Tin) (λ e. cc)
+own-name : (which : Which) (name : Text) → IsOwn (name_fault which name)
+own-name which name = own-else (is_name name) (Name which) (λ e. cc)
+
+own-suffixes : (layers : List Text) → IsOwn (suffix_fault layers)
+own-suffixes layers = own-at (position (λ layer. not (is_some (format_of layer))) layers) Suffix (λ n e. cc)
 
 own-migration : (tin out : Text) (layers : List Text) → IsOwn (migration_fault tin out layers)
 own-migration tin out layers = own-first (
-    many_fault layers ∷ tin_fault tin ∷ out_fault out ∷ layer_fault layers ∷ suffix_fault layers ∷ same_fault layers
-    ∷ []) (
+    many_fault layers ∷ name_fault Tin tin ∷ name_fault Out out ∷ layer_fault layers ∷ suffix_fault layers
+    ∷ same_fault layers ∷ []) (
       own-then (nat_lt MOST_LAYERS (length layers)) Many (λ e. cc),
       (
-        own-tin tin,
+        own-name Tin tin,
         (
-          own-else (is_name out) (Name Out) (λ e. cc),
+          own-name Out out,
           (
             own-at (position (λ layer. not (is_name layer)) layers) (λ layer. Name (Layer layer)) (λ n e. cc),
             (
-              own-at (position (λ layer. not (is_some (format_of layer))) layers) Suffix (λ n e. cc),
+              own-suffixes layers,
               (own-at (first_again (map last_part layers)) SameName (λ n e. cc), tt),
             ),
           ),
+        ),
+      ),
+    )
+
+own-verification : (tin source written cert : Text) → IsOwn (verification_fault tin source written cert)
+own-verification tin source written cert = own-first (
+    name_fault Tin tin ∷ name_fault Source source ∷ name_fault Written written ∷ name_fault Certificate cert
+    ∷ suffix_fault (source ∷ []) ∷ []) (
+      own-name Tin tin,
+      (
+        own-name Source source,
+        (
+          own-name Written written,
+          (own-name Certificate cert, (own-suffixes (source ∷ []), tt)),
         ),
       ),
     )
@@ -82,7 +100,9 @@ own-unless (Some fault) wanted own = λ e. own (same fault e)
 own-job : (mode : Mode) (rows : List Row) → job_in mode rows ≢ Err NoMemory
 own-job Migrate rows = own-unless _ _ (own-migration (text_in (codes "tin") rows) (text_in (codes "out") rows)
     (texts_in (codes "layer") rows))
-own-job Check rows = own-unless _ _ (own-tin (text_in (codes "tin") rows))
+own-job Check rows = own-unless _ _ (own-name Tin (text_in (codes "tin") rows))
+own-job Verify rows = own-unless _ _ (own-verification (text_in (codes "tin") rows) (text_in (codes "source") rows)
+    (text_in (codes "written") rows) (text_in (codes "cert") rows))
 own-job Make rows = go (size_of (text_in (codes "n") rows))
   where
     go : (size : Option ℕ) → option_map_or (λ n. Ok (job.Make n)) size (Err Size) ≢ Err NoMemory

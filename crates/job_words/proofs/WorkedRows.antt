@@ -36,7 +36,7 @@ a-check = refl
 
 options-between : IsJobOf (codes "migrate" ∷ codes "--tin=t.json" ∷ codes "a.WKT" ∷ codes "--exact" ∷ codes "b.json"
     ∷ codes "--out" ∷ codes "o" ∷ [])
-    (Migrate (codes "t.json") (codes "o") (record { exact = true; drop_other = false; inside_only = false }) false
+    (Migrate (codes "t.json") (codes "o") (record { exact = true; drop_other = false; inside_only = false }) false false
     (codes "a.WKT" ∷ codes "b.json" ∷ []))
 unfolding clap_on_literals
 options-between = refl

@@ -8,8 +8,9 @@ use Rattle.job_words.specs.declared.limits.TheConstants.{MOST_LAYERS}
 use Rattle.job_words.specs.declared.jobs.Job.{Job}
 use Rattle.job_words.specs.declared.jobs.Job.TheVariants as job
 use Rattle.job_words.specs.declared.modes.Mode.{Mode}
-use Rattle.job_words.specs.declared.modes.Mode.TheVariants.{Migrate, Check, Make}
-use Rattle.job_words.specs.declared.faults.Which.TheVariants.{Tin, Out, Layer}
+use Rattle.job_words.specs.declared.modes.Mode.TheVariants.{Migrate, Check, Make, Verify}
+use Rattle.job_words.specs.declared.faults.Which.{Which}
+use Rattle.job_words.specs.declared.faults.Which.TheVariants.{Tin, Out, Layer, Source, Written, Certificate}
 use Rattle.job_words.specs.declared.faults.WordsFault.{WordsFault}
 use Rattle.job_words.specs.declared.faults.WordsFault.TheVariants.{NoMode, Parse, Size, Many, Name, Suffix, SameName}
 use Rattle.job_words.specs.Modes.{mode_of}
@@ -23,13 +24,9 @@ use Rattle.job_words.specs.Faults.{first_fault}
 abbrev pub many_fault : List Text → Option WordsFault
 many_fault layers = if nat_lt MOST_LAYERS (length layers) then Some Many else None
 
--- the triangulation's name may not be taken
-abbrev pub tin_fault : Text → Option WordsFault
-tin_fault tin = if is_name tin then None else Some (Name Tin)
-
--- the folder's name may not be taken
-abbrev pub out_fault : Text → Option WordsFault
-out_fault out = if is_name out then None else Some (Name Out)
+-- this name may not be taken
+abbrev pub name_fault : Which → Text → Option WordsFault
+name_fault which name = if is_name name then None else Some (Name which)
 
 -- the first layer's name that may not be taken
 abbrev pub layer_fault : List Text → Option WordsFault
@@ -46,8 +43,8 @@ same_fault layers = option_map SameName (first_again (map last_part layers))
 -- the first fault of the names of a migration
 abbrev pub migration_fault : Text → Text → List Text → Option WordsFault
 migration_fault tin out layers = first_fault (
-    many_fault layers ∷ tin_fault tin ∷ out_fault out ∷ layer_fault layers ∷ suffix_fault layers ∷ same_fault layers
-    ∷ [])
+    many_fault layers ∷ name_fault Tin tin ∷ name_fault Out out ∷ layer_fault layers ∷ suffix_fault layers
+    ∷ same_fault layers ∷ [])
 
 -- a job that has this fault, if any
 abbrev pub unless : Option WordsFault → Job → Result Job WordsFault
@@ -65,16 +62,32 @@ how_in rows = record {
 -- the names of a migration, and how it is done
 abbrev pub migration_in : List Row → Job
 migration_in rows = job.Migrate (text_in (codes "tin") rows) (text_in (codes "out") rows) (how_in rows)
-    (is_set (codes "inverse") rows) (texts_in (codes "layer") rows)
+    (is_set (codes "inverse") rows) (is_set (codes "cert") rows) (texts_in (codes "layer") rows)
+
+-- the first fault of the names of a verification; its source is layer 0
+abbrev pub verification_fault : Text → Text → Text → Text → Option WordsFault
+verification_fault tin source written cert = first_fault (
+    name_fault Tin tin ∷ name_fault Source source ∷ name_fault Written written ∷ name_fault Certificate cert
+    ∷ suffix_fault (source ∷ []) ∷ [])
+
+-- the names of a verification, and how it is done
+abbrev pub verification_in : List Row → Job
+verification_in rows = job.Verify (text_in (codes "tin") rows) (text_in (codes "source") rows)
+    (text_in (codes "written") rows)
+    (text_in (codes "cert") rows) (how_in rows) (is_set (codes "inverse") rows)
 
 -- what a mode's matches ask for
 abbrev pub job_in : Mode → List Row → Result Job WordsFault
 job_in Migrate rows =
     unless (migration_fault (text_in (codes "tin") rows) (text_in (codes "out") rows) (texts_in (codes "layer") rows))
     (migration_in rows)
-job_in Check rows = unless (tin_fault (text_in (codes "tin") rows))
+job_in Check rows = unless (name_fault Tin (text_in (codes "tin") rows))
     (job.Check (text_in (codes "tin") rows) (how_in rows))
 job_in Make rows = option_map_or (λ size. Ok (job.Make size)) (size_of (text_in (codes "n") rows)) (Err Size)
+job_in Verify rows =
+    unless (verification_fault (text_in (codes "tin") rows) (text_in (codes "source") rows)
+    (text_in (codes "written") rows) (text_in (codes "cert") rows))
+    (verification_in rows)
 
 -- what words of a mode ask for, the mode standing in the place of a program's name
 abbrev pub answer_in : List Text → Mode → Result Job WordsFault

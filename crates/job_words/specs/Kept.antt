@@ -4,7 +4,7 @@ use Rattle.std.specs.List.{AllByRecursion}
 use Rattle.clap.specs.Walk.{Text}
 use Rattle.job_words.specs.declared.limits.TheConstants.{MOST_LAYERS, MOST_SIZE}
 use Rattle.job_words.specs.declared.jobs.Job.{Job}
-use Rattle.job_words.specs.declared.jobs.Job.TheVariants.{Migrate, Check, Make}
+use Rattle.job_words.specs.declared.jobs.Job.TheVariants.{Migrate, Check, Make, Verify}
 use Rattle.job_words.specs.Names.{last_part}
 use Rattle.job_words.specs.Formats.{format_of}
 
@@ -31,8 +31,17 @@ pub record IsMigration (tin out : Text) (layers : List Text) : Type 0 where
   pub formats : AllByRecursion HasFormat layers
   pub distinct : AreDistinct (map last_part layers)
 
+-- the names of a verification may be taken, and the source has a format
+pub record IsVerification (tin source written cert : Text) : Type 0 where
+  pub tin_named : IsName tin
+  pub source_named : IsName source
+  pub written_named : IsName written
+  pub cert_named : IsName cert
+  pub format : HasFormat source
+
 -- what a job keeps, whatever words it comes from
 abbrev pub IsKept : Job → Type 0
-IsKept (Migrate tin out how inverse layers) = IsMigration tin out layers
+IsKept (Migrate tin out how inverse cert layers) = IsMigration tin out layers
 IsKept (Check tin how) = IsName tin
 IsKept (Make n) = (1 ≤ n) × (n ≤ MOST_SIZE)
+IsKept (Verify tin source written cert how inverse) = IsVerification tin source written cert

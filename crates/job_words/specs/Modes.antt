@@ -2,14 +2,15 @@
 use Rattle.std.specs.Prelude.{ℕ, List, [], ◌∷◌, Option, codes, find}
 use Rattle.std.specs.Str.{bytes_eq}
 use Rattle.job_words.specs.declared.modes.Mode.{Mode}
-use Rattle.job_words.specs.declared.modes.Mode.TheVariants.{Migrate, Check, Make}
+use Rattle.job_words.specs.declared.modes.Mode.TheVariants.{Migrate, Check, Make, Verify}
 
 -- the word of a mode
 abbrev pub spelling : Mode → List ℕ
 spelling Migrate = codes "migrate"
 spelling Check = codes "check"
 spelling Make = codes "make"
+spelling Verify = codes "verify"
 
 -- the mode that a word spells
 abbrev pub mode_of : List ℕ → Option Mode
-mode_of word = find (λ mode. bytes_eq (spelling mode) word) (Migrate ∷ Check ∷ Make ∷ [])
+mode_of word = find (λ mode. bytes_eq (spelling mode) word) (Migrate ∷ Check ∷ Make ∷ Verify ∷ [])

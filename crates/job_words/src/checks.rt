@@ -5,8 +5,8 @@ ghost use Rattle.job_words.specs.declared.limits.TheConstants.{MOST_LAYERS as mo
 ghost use Rattle.job_words.specs.Faults.{Checks};
 ghost use Rattle.job_words.specs.Names.{is_name};
 ghost use Rattle.job_words.specs.Formats.{format_of as format_by_name};
-ghost use Rattle.job_words.specs.Jobs.{layer_fault, many_fault, migration_fault, out_fault, same_fault, suffix_fault};
-ghost use Rattle.job_words.specs.Jobs.{tin_fault};
+ghost use Rattle.job_words.specs.Jobs.{layer_fault, many_fault, migration_fault, name_fault, same_fault, suffix_fault};
+ghost use Rattle.job_words.specs.Jobs.{verification_fault};
 
 use crate::faults::{Which, WordsFault};
 use crate::formats::format_of;
@@ -26,25 +26,14 @@ fn check_count(layers: &[&str]) -> Result<(), WordsFault>
     Ok(())
 }
 
-/// Refuses the triangulation's name, where it may not be taken.
-pub fn check_tin(tin: &str) -> Result<(), WordsFault>
-    ensures { Checks (tin_fault tin.now) result }
+/// Refuses a name that may not be taken.
+pub fn check_name(which: Which, name: &str) -> Result<(), WordsFault>
+    ensures { Checks (name_fault which name.now) result }
 {
-    if is_name(tin) {
+    if is_name(name) {
         Ok(())
     } else {
-        Err(WordsFault::Name { which: Which::Tin })
-    }
-}
-
-/// Refuses the folder's name, where it may not be taken.
-fn check_out(out: &str) -> Result<(), WordsFault>
-    ensures { Checks (out_fault out.now) result }
-{
-    if is_name(out) {
-        Ok(())
-    } else {
-        Err(WordsFault::Name { which: Which::Out })
+        Err(WordsFault::Name { which })
     }
 }
 
@@ -118,10 +107,27 @@ pub fn check_migration(
     ensures { Checks (migration_fault tin.now out.now (map (λ layer. layer.now) layers.now)) result }
 {
     check_count(layers)?;
-    check_tin(tin)?;
-    check_out(out)?;
+    check_name(Which::Tin, tin)?;
+    check_name(Which::Out, out)?;
     check_layers(layers)?;
     check_suffixes(layers)?;
     check_last_parts(alloc, layers)?;
+    Ok(())
+}
+
+/// Refuses the first fault of the names of a verification.
+pub fn check_verification(
+    tin: &str,
+    source: &str,
+    written: &str,
+    cert: &str,
+) -> Result<(), WordsFault>
+    ensures { Checks (verification_fault tin.now source.now written.now cert.now) result }
+{
+    check_name(Which::Tin, tin)?;
+    check_name(Which::Source, source)?;
+    check_name(Which::Written, written)?;
+    check_name(Which::Certificate, cert)?;
+    check_suffixes(&[source])?;
     Ok(())
 }

@@ -3,7 +3,7 @@
 ghost use Rattle.std.specs.Prelude.{◌≡◌, false, IfOk};
 ghost use Rattle.clap.specs.Walk.{rule_of};
 ghost use Rattle.clap.specs.Simple.{app_of};
-ghost use Rattle.job_words.specs.declared.modes.Mode.TheVariants.{Migrate, Check, Make};
+ghost use Rattle.job_words.specs.declared.modes.Mode.TheVariants.{Migrate, Check, Make, Verify};
 ghost use Rattle.job_words.specs.Commands.{command_for, flag_rule, option_rule, word_rule, words_rule};
 
 use crate::modes::Mode;
@@ -48,7 +48,7 @@ fn words<'a>(alloc: Global, id: &'a str) -> Arg<'a>
         .required(true)
 }
 
-/// `migrate --tin FILE --out FOLDER [--inverse] [--exact] [--inside-only] [--drop-other] LAYER...`
+/// `migrate --tin FILE --out FOLDER [--inverse] [--exact] [--inside-only] [--drop-other] [--cert] LAYER...`
 fn migrate_command<'a>(alloc: Global) -> Result<Command<'a>, AllocError>
     ensures { IfOk result (λ command. app_of command ≡ command_for Migrate) }
 {
@@ -60,6 +60,7 @@ fn migrate_command<'a>(alloc: Global) -> Result<Command<'a>, AllocError>
         .arg(flag(alloc, "exact"))?
         .arg(flag(alloc, "inside-only"))?
         .arg(flag(alloc, "drop-other"))?
+        .arg(flag(alloc, "cert"))?
         .arg(words(alloc, "layer"))?;
     Ok(command)
 }
@@ -86,6 +87,23 @@ fn make_command<'a>(alloc: Global) -> Result<Command<'a>, AllocError>
     Ok(command)
 }
 
+/// `verify --tin FILE --source LAYER --written FILE --cert FILE [--inverse] [--exact] [--inside-only] [--drop-other]`
+fn verify_command<'a>(alloc: Global) -> Result<Command<'a>, AllocError>
+    ensures { IfOk result (λ command. app_of command ≡ command_for Verify) }
+{
+    let command = Command::new(alloc, "verify")
+        .disable_help_flag(true)
+        .arg(option(alloc, "tin"))?
+        .arg(option(alloc, "source"))?
+        .arg(option(alloc, "written"))?
+        .arg(option(alloc, "cert"))?
+        .arg(flag(alloc, "inverse"))?
+        .arg(flag(alloc, "exact"))?
+        .arg(flag(alloc, "inside-only"))?
+        .arg(flag(alloc, "drop-other"))?;
+    Ok(command)
+}
+
 /// The command of a mode.
 pub fn command_of<'a>(alloc: Global, mode: Mode) -> Result<Command<'a>, AllocError>
     ensures { IfOk result (λ command. app_of command ≡ command_for mode) }
@@ -94,5 +112,6 @@ pub fn command_of<'a>(alloc: Global, mode: Mode) -> Result<Command<'a>, AllocErr
         Mode::Migrate => migrate_command(alloc),
         Mode::Check => check_command(alloc),
         Mode::Make => make_command(alloc),
+        Mode::Verify => verify_command(alloc),
     }
 }

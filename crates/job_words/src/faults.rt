@@ -19,6 +19,12 @@ pub enum Which {
     Out,
     /// That of the layer of this number, counted from 0.
     Layer(u32),
+    /// That of the layer that was carried.
+    Source,
+    /// That of the layer as it was written.
+    Written,
+    /// That of the certificate's file.
+    Certificate,
 }
 
 /// Why the words of a command are refused. Layers are counted from 0.

@@ -16,6 +16,8 @@ pub enum Job {
         how: How,
         /// The triangulation's frames are exchanged before layers are carried.
         inverse: bool,
+        /// Each layer's file is followed by that of its certificate.
+        cert: bool,
         /// The names of the layers, at most `MOST_LAYERS`, in the order of the words. No two have the
         /// same last part.
         layers: Listed<Name>,
@@ -31,5 +33,20 @@ pub enum Job {
     Make {
         /// The number of cells along one side, from 1 to `MOST_SIZE`.
         n: u32,
+    },
+    /// To verify a written layer by its certificate.
+    Verify {
+        /// The name of the triangulation's file.
+        tin: Name,
+        /// The name of the layer that was carried; its end says the format.
+        source: Name,
+        /// The name of the layer as it was written.
+        written: Name,
+        /// The name of the certificate's file.
+        cert: Name,
+        /// How the triangulation and the source are read.
+        how: How,
+        /// The triangulation's frames are exchanged first.
+        inverse: bool,
     },
 }

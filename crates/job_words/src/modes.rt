@@ -12,6 +12,8 @@ pub enum Mode {
     Check,
     /// To make a triangulation and a layer, and to migrate the layer.
     Make,
+    /// To verify a written layer by its certificate.
+    Verify,
 }
 
 impl Mode {
@@ -23,6 +25,7 @@ impl Mode {
             "migrate" => Some(Mode::Migrate),
             "check" => Some(Mode::Check),
             "make" => Some(Mode::Make),
+            "verify" => Some(Mode::Verify),
             _ => None,
         }
     }

@@ -5,13 +5,13 @@ ghost use Rattle.clap.specs.Matches.{found_of};
 ghost use Rattle.clap.specs.Walk.{rows_of};
 ghost use Rattle.job_words.specs.declared.faults.WordsFault.{WordsFault as Fault};
 ghost use Rattle.job_words.specs.declared.faults.WordsFault.TheVariants.{NoMemory};
-ghost use Rattle.job_words.specs.declared.modes.Mode.TheVariants.{Migrate, Check, Make};
+ghost use Rattle.job_words.specs.declared.modes.Mode.TheVariants.{Migrate, Check, Make, Verify};
 ghost use Rattle.job_words.specs.Faults.{IsAnswer};
 ghost use Rattle.job_words.specs.Kept.{IsKept};
 ghost use Rattle.job_words.specs.Jobs.{IsJobOf, IsWordsFault, how_in, job_in};
 
-use crate::checks::{check_migration, check_tin};
-use crate::faults::WordsFault;
+use crate::checks::{check_migration, check_name, check_verification};
+use crate::faults::{Which, WordsFault};
 use crate::jobs::Job;
 use crate::matching::{is_set, read_matches, text_in};
 use crate::modes::Mode;
@@ -56,6 +56,7 @@ fn migration_in(alloc: Global, matches: &ArgMatches<'_>) -> Result<Job, WordsFau
         out: Name::of(alloc, out)?,
         how: how_in(matches),
         inverse: is_set("inverse", matches),
+        cert: is_set("cert", matches),
         layers: names_of(alloc, layers)?,
     })
 }
@@ -65,7 +66,7 @@ fn check_in(alloc: Global, matches: &ArgMatches<'_>) -> Result<Job, WordsFault>
     ensures { IsAnswer (job_in Check (rows_of (found_of matches.now))) result }
 {
     let tin = text_in("tin", matches);
-    check_tin(tin)?;
+    check_name(Which::Tin, tin)?;
     Ok(Job::Check {
         tin: Name::of(alloc, tin)?,
         how: how_in(matches),
@@ -80,6 +81,25 @@ fn make_in(matches: &ArgMatches<'_>) -> Result<Job, WordsFault>
         Some(n) => Ok(Job::Make { n }),
         None => Err(WordsFault::Size),
     }
+}
+
+/// The verification that its matches ask for.
+fn verification_in(alloc: Global, matches: &ArgMatches<'_>) -> Result<Job, WordsFault>
+    ensures { IsAnswer (job_in Verify (rows_of (found_of matches.now))) result }
+{
+    let tin = text_in("tin", matches);
+    let source = text_in("source", matches);
+    let written = text_in("written", matches);
+    let cert = text_in("cert", matches);
+    check_verification(tin, source, written, cert)?;
+    Ok(Job::Verify {
+        tin: Name::of(alloc, tin)?,
+        source: Name::of(alloc, source)?,
+        written: Name::of(alloc, written)?,
+        cert: Name::of(alloc, cert)?,
+        how: how_in(matches),
+        inverse: is_set("inverse", matches),
+    })
 }
 
 /// The job of the words of the command line, without the program's name.
@@ -104,5 +124,6 @@ pub fn read_words(alloc: Global, words: &[String]) -> Result<Job, WordsFault>
         Mode::Migrate => migration_in(alloc, &matches),
         Mode::Check => check_in(alloc, &matches),
         Mode::Make => make_in(&matches),
+        Mode::Verify => verification_in(alloc, &matches),
     }
 }

@@ -316,3 +316,51 @@ fn names_the_first_other_byte(rt: HostRuntime) -> Result<(), Fail> {
     }
     Ok(())
 }
+
+/// A first line, and so many times this behind it.
+fn repeated(alloc: Global, part: &[u8], count: u32) -> Result<Vec<u8>, AllocError> {
+    let mut text = Vec::from_slice(alloc, b"tinmove certificate 1\n")?;
+    for _ in 0..count {
+        text.extend_from_slice(part)?;
+    }
+    Ok(text)
+}
+
+#[test]
+fn refuses_lines_that_do_not_end(rt: HostRuntime) -> Result<(), Fail> {
+    let alloc = rt.alloc();
+    for (part, found) in [
+        (b"9".as_slice(), Err(2)),
+        (b"0 ", Err(2)),
+        (b"4294967295\n", Ok(100_000)),
+        (b"4294967296\n", Err(2)),
+    ] {
+        let text = repeated(alloc, part, 100_000)?;
+        if text.len() < 10_000_000 {
+            assert_eq!(rt; list_count(&text), found);
+        }
+    }
+    Ok(())
+}
+
+#[test]
+fn refuses_lists_that_are_longer_than_the_triangulation(rt: HostRuntime) -> Result<(), Fail> {
+    let alloc = rt.alloc();
+    let Some(tin) = square(alloc) else {
+        assert!(rt; false);
+        return Ok(());
+    };
+    let wrong = CertFault::Segment {
+        path: 0,
+        segment: 0,
+    };
+    for part in [b"0 ".as_slice(), b"0 1 ", b"1 0 "] {
+        let mut cert = repeated(alloc, part, 100_000)?;
+        cert.extend_from_slice(b"1\n")?;
+        if cert.len() < 10_000_000 {
+            let found = check_cert::<Wkt>(alloc, &tin, ACROSS, ACROSS_MOVED, PLAIN, &cert);
+            assert_eq!(rt; found, Err(wrong));
+        }
+    }
+    Ok(())
+}

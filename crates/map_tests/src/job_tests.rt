@@ -9,6 +9,7 @@ use runs::Output;
 use shelf_io::MemShelf;
 use std::alloc::{AllocError, Global};
 use std::test::Fail;
+use verify_mode::{Verification, prepare_verification};
 
 /// What these words ask to be written.
 fn output_of(alloc: Global, texts: &[&str], shelf: &mut MemShelf) -> Option<Output> {
@@ -23,6 +24,7 @@ fn output_of(alloc: Global, texts: &[&str], shelf: &mut MemShelf) -> Option<Outp
             out,
             how,
             inverse,
+            cert,
             layers,
         } => {
             let migration = Migration {
@@ -30,12 +32,31 @@ fn output_of(alloc: Global, texts: &[&str], shelf: &mut MemShelf) -> Option<Outp
                 out,
                 how,
                 inverse,
+                cert,
                 layers,
             };
             prepare_migration(alloc, shelf, &migration).ok()
         }
         Job::Check { tin, how } => prepare_check(alloc, shelf, &tin, how).ok(),
         Job::Make { n } => prepare_making(alloc, n).ok(),
+        Job::Verify {
+            tin,
+            source,
+            written,
+            cert,
+            how,
+            inverse,
+        } => {
+            let verification = Verification {
+                tin,
+                source,
+                written,
+                cert,
+                how,
+                inverse,
+            };
+            prepare_verification(alloc, shelf, &verification).ok()
+        }
     }
 }
 

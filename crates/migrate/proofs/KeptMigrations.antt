@@ -1,6 +1,6 @@
 -- What the end of a migration says of the pieces of its layers.
-use Rattle.std.proofs.Common.{◌≡◌, ℕ, ◌+◌, List, [], ◌∷◌, ◌++◌, map, codes, length, drop, Option, None, Some, IfSome}
-use Rattle.std.proofs.Common.{refl, sym, ◌∙◌, ap, subst, append_assoc, arith}
+use Rattle.std.proofs.Common.{◌≡◌, ℕ, ◌+◌, Bool, List, [], ◌∷◌, ◌++◌, map, codes, length, drop, Option, None, Some}
+use Rattle.std.proofs.Common.{IfSome, refl, sym, ◌∙◌, ap, subst, append_assoc, arith}
 use Rattle.std.proofs.lemmas.List.{append-nil}
 use Rattle.std.proofs.lemmas.List.Elements.{Contains-append_left, Contains-append_right}
 use Rattle.std.proofs.Math.Seq.{drop-append_seam}
@@ -21,17 +21,20 @@ use Rattle.runs.specs.declared.status.Status.{Status}
 use Rattle.runs.specs.declared.refusal.Refusal.{Refusal}
 use Rattle.runs.specs.declared.refusal.Refusal.TheVariants.{Words, TinUnread, TinLong, Tin, Check, LayerUnread}
 use Rattle.runs.specs.declared.refusal.Refusal.TheVariants.{LayersLong, Layer, Outside, TooManyPieces, TooManyChanges}
-use Rattle.runs.specs.declared.refusal.Refusal.TheVariants.{NoMemory}
-use Rattle.runs.specs.Refusals.{status_of, status_of_words, Refuses}
+use Rattle.runs.specs.declared.refusal.Refusal.TheVariants.{NoMemory, WrittenUnread, WrittenLong, CertUnread, CertLong}
+use Rattle.runs.specs.declared.refusal.Refusal.TheVariants.{Certificate}
+use Rattle.cert_check.specs.declared.faults.CertFault.{CertFault}
+use Rattle.cert_check.specs.declared.faults.CertFault.TheVariants as certs
+use Rattle.runs.specs.Refusals.{status_of, status_of_words, status_of_cert, Refuses}
 use Rattle.runs.proofs.Faults.{IsOfTin, refused as refused_tin, limited, wanted, of_text, of_check, IsOfLayer, unread}
 use Rattle.runs.proofs.Faults.{without_room, of_layer}
 use Rattle.migrate.specs.declared.migrations.Migration.{Migration}
 use Rattle.migrate.specs.Names.{name_in}
-use Rattle.migrate.specs.LayerOutcomes.{IsLayerText}
-use Rattle.migrate.specs.LayerTexts.{reads_back_of}
+use Rattle.layer_formats.specs.LayerOutcomes.{IsLayerText}
+use Rattle.layer_formats.specs.LayerTexts.{reads_back_of}
 use Rattle.migrate.specs.LayerRuns.{Setting, setting_of, Done, IsNextCarried, AreCarried}
 use Rattle.migrate.specs.RunChanges.{end_with}
-use Rattle.migrate.specs.Migrations.{IsMigrated, IsMigrationDone, file_in, row_of, report_of}
+use Rattle.migrate.specs.Migrations.{IsMigrated, IsMigrationDone, file_in, files_in, all_files_in, row_of, report_of}
 use Rattle.migrate.specs.Maker.{IsMakingDone, made_files, made_migration}
 use Rattle.migrate.specs.KeptRelations.{HasWritten, IsKeptLayer, AreKeptLayers, GivesPieces, AreAllAndOnly}
 use Rattle.migrate.specs.KeptRelations.{KeepsRelationsIn, KeepsRelations, KeepsMadeRelations}
@@ -61,6 +64,15 @@ of_unread : (files : Files) (migration : Migration) (status : Status) (layers ma
 of_unread files migration status layers made (unread is) = rw is tt
 of_unread files migration status layers made (without_room is) = rw is tt
 
+of_cert : (files : Files) (migration : Migration) (fault : CertFault) (layers made : Option Files)
+    → KeepsRelationsIn files migration (status_of_cert fault) layers made
+of_cert files migration (certs.Layer fault) layers made = of_unread files migration _ layers made (of_layer fault)
+of_cert files migration (certs.Form line) layers made = tt
+of_cert files migration (certs.Count segments lines) layers made = tt
+of_cert files migration (certs.Segment path segment) layers made = tt
+of_cert files migration (certs.Differs at) layers made = tt
+of_cert files migration certs.NoMemory layers made = tt
+
 of_refusal : (files : Files) (migration : Migration) (refusal : Refusal) (layers made : Option Files)
     → KeepsRelationsIn files migration (status_of refusal) layers made
 of_refusal files migration (Words fault) layers made = of_words files migration fault layers made
@@ -74,6 +86,11 @@ of_refusal files migration (Layer layer fault) layers made = of_unread files mig
 of_refusal files migration (Outside layer path segment) layers made = tt
 of_refusal files migration TooManyPieces layers made = tt
 of_refusal files migration TooManyChanges layers made = tt
+of_refusal files migration WrittenUnread layers made = tt
+of_refusal files migration WrittenLong layers made = tt
+of_refusal files migration CertUnread layers made = tt
+of_refusal files migration CertLong layers made = tt
+of_refusal files migration (Certificate fault) layers made = of_cert files migration fault layers made
 of_refusal files migration NoMemory layers made = tt
 
 pub refused_so : (files : Files) (migration : Migration) (refusal : Refusal) (status : Status) (whole : Files)
@@ -87,17 +104,17 @@ refused_so files migration refusal status whole layers made is =
 abbrev AreAmong : Files → Option Files → Type 0
 AreAmong layers made = IfSome made (λ files. (file : List ℕ × List ℕ) → Contains layers file → Contains files file)
 
-among_later : (first : List ℕ × List ℕ) (layers : Files) (made : Option Files) → AreAmong (first ∷ layers) made
-    → AreAmong layers made
+among_later : (first layers : Files) (made : Option Files) → AreAmong (first ++ layers) made → AreAmong layers made
 among_later first layers None among = tt
-among_later first layers (Some made) among = λ file has. among file (Contains-append_right (first ∷ []) layers file has)
+among_later first layers (Some made) among = λ file has. among file (Contains-append_right first layers file has)
 
-written_in : (how : How) (tin : Triangulation) (folder name bytes : List ℕ) (own : List Piece) (first : Done)
-    (layers : Files) (made : Option Files) → first.name ≡ name → AreAmong (file_in folder first ∷ layers) made
+written_in : (how : How) (tin : Triangulation) (cert : Bool) (folder name bytes : List ℕ) (own : List Piece)
+    (first : Done) (layers : Files) (made : Option Files) → first.name ≡ name
+    → AreAmong (files_in cert folder first ++ layers) made
     → IsBackAsPieces tin bytes (IsLayerText how first.format) (reads_back_of first.format how bytes) first.carried.text
     own → IfSome made (HasWritten how first.format tin folder name bytes own)
-written_in how tin folder name bytes own first layers None named among back = tt
-written_in how tin folder name bytes own first layers (Some made) named among back = (
+written_in how tin cert folder name bytes own first layers None named among back = tt
+written_in how tin cert folder name bytes own first layers (Some made) named among back = (
   first.carried.text,
   subst (λ (n : List ℕ). Contains made (name_in folder n, first.carried.text)) named
       (among (file_in folder first) (0, omega arith, refl)),
@@ -107,11 +124,12 @@ written_in how tin folder name bytes own first layers (Some made) named among ba
 seam : (before own after : List Piece) → after ≡ before ++ own → drop (length before) after ≡ own
 seam before own after is = ap (λ (ps : List Piece). drop (length before) ps) is ∙ drop-append_seam before own
 
-kept_next : (setting : Setting) (folder : List ℕ) (made : Option Files) (number used : ℕ) (before : List Piece)
-    (name bytes : List ℕ) (after : List Piece) (first : Done) (layers : Files)
-    → IsNextCarried setting number used before name bytes after first → AreAmong (file_in folder first ∷ layers) made
+kept_next : (setting : Setting) (cert : Bool) (folder : List ℕ) (made : Option Files) (number used : ℕ)
+    (before : List Piece) (name bytes : List ℕ) (after : List Piece) (first : Done) (layers : Files)
+    → IsNextCarried setting number used before name bytes after first
+    → AreAmong (files_in cert folder first ++ layers) made
     → (own : List Piece) × (after ≡ before ++ own) × IsKeptLayer setting folder made number used name bytes own
-kept_next setting folder made number used before name bytes after first layers is among =
+kept_next setting cert folder made number used before name bytes after first layers is among =
     let carried = is.carried in
     let layer = carried.layer in (
       layer.own,
@@ -124,28 +142,28 @@ kept_next setting folder made number used before name bytes after first layers i
         inside = layer.inside;
         are_pieces = layer.are_pieces;
         written =
-            written_in setting.how setting.tin folder name bytes layer.own first layers made is.named among
+            written_in setting.how setting.tin cert folder name bytes layer.own first layers made is.named among
             (subst (λ (ps : List Piece). IsBackAsPieces setting.tin bytes (IsLayerText setting.how first.format)
             (reads_back_of first.format setting.how bytes) first.carried.text ps)
             (seam before layer.own after layer.stand) carried.back);
       },
     )
 
-kept_all : (setting : Setting) (folder : List ℕ) (made : Option Files) (number used : ℕ) (before : List Piece)
-    (names : List (List ℕ)) (after : List Piece) (ds : List Done) (total : ℕ)
-    → AreCarried setting number used before names after ds total → AreAmong (map (file_in folder) ds) made
+kept_all : (setting : Setting) (cert : Bool) (folder : List ℕ) (made : Option Files) (number used : ℕ)
+    (before : List Piece) (names : List (List ℕ)) (after : List Piece) (ds : List Done) (total : ℕ)
+    → AreCarried setting number used before names after ds total → AreAmong (all_files_in cert folder ds) made
     → (rest : List Piece) × (after ≡ before ++ rest) × AreKeptLayers setting folder made number used names rest
-kept_all setting folder made number used before [] after ds total (same, none, sum) among =
+kept_all setting cert folder made number used before [] after ds total (same, none, sum) among =
     ([], same ∙ sym (append-nil before), refl)
-kept_all setting folder made number used before (name ∷ names) after ds total
+kept_all setting cert folder made number used before (name ∷ names) after ds total
     (bytes, pieces, first, others, next, are, more) among =
-    let among_here : AreAmong (file_in folder first ∷ map (file_in folder) others) made =
-    subst (λ (es : List Done). AreAmong (map (file_in folder) es) made) are among in
-    let (own, stand, kept) = kept_next setting folder made number used before name bytes pieces first
-    (map (file_in folder) others) next among_here in
+    let among_here : AreAmong (files_in cert folder first ++ all_files_in cert folder others) made =
+    subst (λ (es : List Done). AreAmong (all_files_in cert folder es) made) are among in
+    let (own, stand, kept) = kept_next setting cert folder made number used before name bytes pieces first
+    (all_files_in cert folder others) next among_here in
     let (rest, behind, later) =
-    kept_all setting folder made (number + 1) (used + length bytes) pieces names after others total more
-    (among_later (file_in folder first) (map (file_in folder) others) made among_here) in (
+    kept_all setting cert folder made (number + 1) (used + length bytes) pieces names after others total more
+    (among_later (files_in cert folder first) (all_files_in cert folder others) made among_here) in (
       own ++ rest,
       behind ∙ (ap (λ (ps : List Piece). ps ++ rest) stand ∙ append_assoc before own rest),
       (bytes, own, rest, kept, refl, later),
@@ -195,8 +213,8 @@ migrated_in files migration status changes written said layers made all ends amo
     let listed = all.listed in
     let report = report_of migration.tin all.tin (map row_of all.done) changes in
     let (rest, stand, kept) =
-    kept_all (setting_of (Some files) migration.how all.tin) migration.out layers 0 0 [] migration.layers all.pieces
-    all.done all.used all.carried (subst (λ (fs : Files). AreAmong fs layers) all.layers_are among) in
+    kept_all (setting_of (Some files) migration.how all.tin) migration.cert migration.out layers 0 0 [] migration.layers
+    all.pieces all.done all.used all.carried (subst (λ (fs : Files). AreAmong fs layers) all.layers_are among) in
     let gives : GivesPieces files migration layers all.tin all.pieces = record {
       way = all.way;
       layers = subst (λ (ps : List Piece). AreKeptLayers (setting_of (Some files) migration.how all.tin) migration.out

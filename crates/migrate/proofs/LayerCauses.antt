@@ -9,7 +9,8 @@ use Rattle.runs.specs.declared.status.Status.TheVariants.{Read as ReadStatus, Wo
 use Rattle.runs.specs.declared.refusal.Refusal.{Refusal}
 use Rattle.runs.specs.declared.refusal.Refusal.TheVariants.{Words, TinUnread, TinLong, Tin, Check, LayerUnread}
 use Rattle.runs.specs.declared.refusal.Refusal.TheVariants.{LayersLong, Layer, Outside, TooManyPieces, TooManyChanges}
-use Rattle.runs.specs.declared.refusal.Refusal.TheVariants.{NoMemory}
+use Rattle.runs.specs.declared.refusal.Refusal.TheVariants.{WrittenUnread, WrittenLong, CertUnread, CertLong}
+use Rattle.runs.specs.declared.refusal.Refusal.TheVariants.{Certificate, NoMemory}
 use Rattle.runs.specs.Refusals.{status_of, status_of_layer}
 use Rattle.migrate.specs.Migrations.{LacksSome, LacksWanted}
 use Rattle.runs.specs.Causes.{HasCauses}
@@ -33,6 +34,11 @@ understood (Layer layer fault) of = layer_understood (status_of_layer fault) (of
 understood (Outside layer path segment) of = λ e. cc
 understood TooManyPieces of = λ e. cc
 understood TooManyChanges of = λ e. cc
+understood WrittenUnread of = absurd of
+understood WrittenLong of = absurd of
+understood CertUnread of = absurd of
+understood CertLong of = absurd of
+understood (Certificate fault) of = absurd of
 understood NoMemory of = λ e. cc
 
 -- a file that the layers lack is one that the job wants
@@ -49,6 +55,8 @@ layers_causes migration told rose passed refusal of read long = record {
   read = λ e. wanted rose (LacksName told migration.tin) (LacksSome migration.layers told) (read e);
   tin_long = λ e. absurd (subst IsOfLayers e of);
   layers_long = long;
+  written_long = λ e. absurd (subst IsOfLayers e of);
+  cert_long = λ e. absurd (subst IsOfLayers e of);
   may_end = tt;
 }
 

@@ -1,17 +1,19 @@
 -- The layers of a run, one after the other.
-use Rattle.std.proofs.Common.{◌≡◌, ◌≢◌, ℕ, ◌+◌, List, [], ◌∷◌, ◌++◌, length, map, codes, lit<, refl, sym, ◌∙◌, ap}
-use Rattle.std.proofs.Common.{subst, arith}
+use Rattle.std.proofs.Common.{◌≡◌, ◌≢◌, ℕ, ◌+◌, Bool, true, false, List, [], ◌∷◌, ◌++◌, length, map, flat_map, codes}
+use Rattle.std.proofs.Common.{lit<, refl, sym, ◌∙◌, ap, ap₂, subst, append_assoc, arith}
+use Rattle.std.proofs.lemmas.List.{map-append, append_cancel_right}
 use Rattle.std.proofs.lemmas.List.Elements.{Contains-append_left, Contains-append_right}
 use Rattle.std.specs.List.{AllByRecursion}
 use Rattle.report_text.specs.Reports.{IsPrintable}
 use Rattle.report_text.specs.declared.rows.LayerRow.{LayerRow}
 use Rattle.tin_base.specs.declared.pieces.Piece.{Piece}
 use Rattle.job_words.specs.Names.{last_part}
-use Rattle.job_words.specs.Kept.{IsName, AreDistinct}
-use Rattle.migrate.specs.Names.{name_in}
+use Rattle.job_words.specs.Kept.{IsName, AreDistinct, HasFormat}
+use Rattle.migrate.specs.Names.{name_in, cert_end, cert_name_in, names_in}
 use Rattle.runs.specs.Output.{HasSlash, AreWritable}
+use Rattle.migrate.proofs.CertNames.{not_cert}
 use Rattle.migrate.specs.LayerRuns.{Setting, Done, IsNextCarried, AreCarried}
-use Rattle.migrate.specs.Migrations.{row_of, file_in}
+use Rattle.migrate.specs.Migrations.{row_of, files_in, all_files_in}
 
 -- ---- one more layer
 module _ (setting : Setting) where
@@ -71,11 +73,18 @@ pub row-names : (done : List Done) → map (λ (row : LayerRow). row.name) (map 
 row-names [] = refl
 row-names (first ∷ done) = ap (λ (ns : List (List ℕ)). first.name ∷ ns) (row-names done)
 
-pub file-names : (folder : List ℕ) (done : List Done)
-    → map (λ (file : List ℕ × List ℕ). file.0) (map (file_in folder) done)
-    ≡ map (name_in folder) (map (λ (d : Done). d.name) done)
-file-names folder [] = refl
-file-names folder (first ∷ done) = ap (λ (ns : List (List ℕ)). name_in folder first.name ∷ ns) (file-names folder done)
+names-here : (cert : Bool) (folder : List ℕ) (first : Done)
+    → map (λ (file : List ℕ × List ℕ). file.0) (files_in cert folder first) ≡ names_in cert folder first.name
+names-here false folder first = refl
+names-here true folder first = refl
+
+pub file-names : (cert : Bool) (folder : List ℕ) (done : List Done)
+    → map (λ (file : List ℕ × List ℕ). file.0) (all_files_in cert folder done)
+    ≡ flat_map (names_in cert folder) (map (λ (d : Done). d.name) done)
+file-names cert folder [] = refl
+file-names cert folder (first ∷ done) =
+    map-append (λ (file : List ℕ × List ℕ). file.0) (files_in cert folder first) (all_files_in cert folder done)
+    ∙ ap₂ (λ (xs ys : List (List ℕ)). xs ++ ys) (names-here cert folder first) (file-names cert folder done)
 
 -- the rows of layers whose names may be taken
 printable_in : (done : List Done) → AllByRecursion IsName (map (λ (d : Done). d.name) done)
@@ -98,24 +107,82 @@ same_behind [] x y same = cc
 same_behind (byte ∷ folder) x y same = let rest : folder ++ codes "/" ++ x ≡ folder ++ codes "/" ++ y =
     cc in same_behind folder x y rest
 
-others_differ : (folder name : List ℕ) (done : List Done)
+cert_behind : (folder layer x : List ℕ) → cert_name_in folder layer ≡ folder ++ codes "/" ++ x
+    → last_part layer ++ cert_end ≡ x
+cert_behind folder layer x same = same_behind folder (last_part layer ++ cert_end) x
+    (sym (append_assoc (folder ++ codes "/") (last_part layer) cert_end) ∙ same)
+
+-- no two files have the same name
+others_differ : (cert : Bool) (folder name : List ℕ) (done : List Done) → HasFormat name
+    → AllByRecursion HasFormat (map (λ (d : Done). d.name) done)
     → AllByRecursion (λ other. other ≢ last_part name) (map last_part (map (λ (d : Done). d.name) done))
-    → AllByRecursion (λ other. other.0 ≢ name_in folder name) (map (file_in folder) done)
-others_differ folder name [] differ = tt
-others_differ folder name (first ∷ done) differ = (
+    → AllByRecursion (λ other. other.0 ≢ name_in folder name) (all_files_in cert folder done)
+others_differ cert folder name [] has formats differ = tt
+others_differ false folder name (first ∷ done) has formats differ = (
   λ same. differ.0 (same_behind folder (last_part first.name) (last_part name) same),
-  others_differ folder name done
-      differ.1,
+  others_differ false folder name
+      done has formats.1 differ.1,
+)
+others_differ true folder name (first ∷ done) has formats differ = (
+  λ same. differ.0 (same_behind folder (last_part first.name) (last_part name) same),
+  (
+    λ same. not_cert name first.name has (sym (cert_behind folder first.name (last_part name) same)),
+    others_differ true
+        folder name done has formats.1 differ.1,
+  ),
 )
 
-writable_in : (folder : List ℕ) (done : List Done) → AreDistinct (map last_part (map (λ (d : Done). d.name) done))
-    → AreWritable (map (file_in folder) done)
-writable_in folder [] distinct = tt
-writable_in folder (first ∷ done) distinct =
-    (slash_in folder first.name, others_differ folder first.name done distinct.0, writable_in folder done distinct.1)
+-- nor is a certificate's file that of another layer, or of its certificate
+certs_differ : (folder name : List ℕ) (done : List Done) → AllByRecursion HasFormat (map (λ (d : Done). d.name) done)
+    → AllByRecursion (λ other. other ≢ last_part name) (map last_part (map (λ (d : Done). d.name) done))
+    → AllByRecursion (λ other. other.0 ≢ cert_name_in folder name) (all_files_in true folder done)
+certs_differ folder name [] formats differ = tt
+certs_differ folder name (first ∷ done) formats differ = (
+  λ same. not_cert first.name name formats.0 (sym (cert_behind folder name (last_part first.name) (sym same))),
+  (
+    λ same. differ.0 (append_cancel_right (last_part first.name) (last_part name) cert_end
+        (cert_behind folder first.name (last_part name ++ cert_end)
+        (same ∙ append_assoc (folder ++ codes "/") (last_part name) cert_end))),
+    certs_differ folder name done formats.1 differ.1,
+  ),
+)
 
-pub files_writable : (folder : List ℕ) (done : List Done) (names : List (List ℕ))
-    → map (λ (d : Done). d.name) done ≡ names → AreDistinct (map last_part names)
-    → AreWritable (map (file_in folder) done)
-files_writable folder done names are distinct =
-    writable_in folder done (subst (λ (ns : List (List ℕ)). AreDistinct (map last_part ns)) (sym are) distinct)
+-- a certificate's file is not its own layer's
+own_cert : (folder name : List ℕ) → cert_name_in folder name ≢ name_in folder name
+own_cert folder name same = let e : last_part name ++ cert_end ≡ last_part name =
+    cert_behind folder name (last_part name) same in longer (last_part name) e
+  where
+    longer : (xs : List ℕ) → xs ++ cert_end ≡ xs → ⊥
+    longer [] e = cc
+    longer (x ∷ xs) e = longer xs cc
+
+cert_slash : (folder layer : List ℕ) → HasSlash (cert_name_in folder layer)
+cert_slash folder layer = Contains-append_left (name_in folder layer) cert_end 47 (slash_in folder layer)
+
+writable_in : (cert : Bool) (folder : List ℕ) (done : List Done)
+    → AllByRecursion HasFormat (map (λ (d : Done). d.name) done)
+    → AreDistinct (map last_part (map (λ (d : Done). d.name) done)) → AreWritable (all_files_in cert folder done)
+writable_in cert folder [] formats distinct = tt
+writable_in false folder (first ∷ done) formats distinct = (
+  slash_in folder first.name,
+  others_differ false folder first.name done formats.0 formats.1 distinct.0,
+  writable_in
+      false folder done formats.1 distinct.1,
+)
+writable_in true folder (first ∷ done) formats distinct = (
+  slash_in folder first.name,
+  (own_cert folder first.name, others_differ true folder first.name done formats.0 formats.1 distinct.0),
+  (
+    cert_slash folder first.name,
+    certs_differ folder first.name done formats.1 distinct.0,
+    writable_in true folder done
+        formats.1 distinct.1,
+  ),
+)
+
+pub files_writable : (cert : Bool) (folder : List ℕ) (done : List Done) (names : List (List ℕ))
+    → map (λ (d : Done). d.name) done ≡ names → AreDistinct (map last_part names) → AllByRecursion HasFormat names
+    → AreWritable (all_files_in cert folder done)
+files_writable cert folder done names are distinct formats =
+    writable_in cert folder done (subst (λ (ns : List (List ℕ)). AllByRecursion HasFormat ns) (sym are) formats)
+    (subst (λ (ns : List (List ℕ)). AreDistinct (map last_part ns)) (sym are) distinct)

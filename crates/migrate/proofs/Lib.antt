@@ -3,10 +3,10 @@ mod OnePieces
 mod PairChanges
 mod MakerRows
 mod MakerExamples
-mod LayerTextLaws
 mod OneOutcome
 mod LayerRefusals
 pub mod ComparablePieces
+mod CertNames
 mod LayerLists
 mod OneLayers
 mod OneMigration

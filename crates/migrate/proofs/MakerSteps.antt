@@ -1,6 +1,6 @@
 -- What is made, from the steps of making it.
 use Rattle.std.proofs.Common.{◌≡◌, ◌≢◌, ◌≤◌, ◌+◌, ℕ, List, [], map, codes, length, Some, IfSome, refl, sym, ◌∙◌, ap}
-use Rattle.std.proofs.Common.{arith}
+use Rattle.std.proofs.Common.{false, arith}
 use Rattle.shelf_io.specs.Load.{Loads}
 use Rattle.tin_base.specs.Triangulation.{Triangulation}
 use Rattle.tin_base.specs.Limits.{IsWithinLimits}
@@ -14,7 +14,8 @@ use Rattle.runs.specs.Refusals.{status_of}
 use Rattle.runs.proofs.Faults.{of_text, of_check, of_layer, not_read, layer_not_read}
 use Rattle.migrate.specs.MakerTexts.{layer_text}
 use Rattle.runs.specs.Status.{end_of}
-use Rattle.migrate.specs.Migrations.{HasTurned, file_in}
+use Rattle.runs.specs.Triangulations.{HasDirected}
+use Rattle.migrate.specs.Migrations.{all_files_in}
 use Rattle.migrate.specs.Maker.{made_files, made_migration, IsMakingDone, IsMakingWritten, IsOfMaking, MayNotBeMade}
 use Rattle.runs.specs.Output.{file_of, files_of, HasForm}
 use Rattle.migrate.specs.RunContents.{HasCarried, AreUncarried, IsUnlisted, AddsLayer, AddsNone, IsReported}
@@ -39,7 +40,7 @@ pub record IsEmpty (run : Run) : Type 0 where
   pub used : run.used ≡ 0
 
 has_none : (n : ℕ) (tin : Triangulation) (run : Run) → IsEmpty run
-    → HasCarried (setting_of (Some (made_files n)) made_migration.how tin) [] [] run
+    → HasCarried (setting_of (Some (made_files n)) made_migration.how tin) false [] [] run
 has_none n tin run is = record {
   done = [];
   carried = (is.pieces, refl, is.used);
@@ -51,11 +52,11 @@ room_for used n is few = omega arith
 
 pub made_carried : (n : ℕ) (text : List ℕ) (tin : Triangulation) (before now : Run) → text ≡ layer_text n
     → length text ≤ MOST_BYTES → IsEmpty before
-    → AddsLayer made_migration.how tin [] 0 (codes "made.wkt") text before now
-    → HasCarried (setting_of (Some (made_files n)) made_migration.how tin) [] made_migration.layers now
+    → AddsLayer made_migration.how tin false [] 0 (codes "made.wkt") text before now
+    → HasCarried (setting_of (Some (made_files n)) made_migration.how tin) false [] made_migration.layers now
 made_carried n text tin before now is few empty adds =
-    carried_at (setting_of (Some (made_files n)) made_migration.how tin) made_migration.layers 0 (codes "made.wkt") []
-    text before now (omega arith) refl (has_none n tin before empty) (made_found n text is)
+    carried_at (setting_of (Some (made_files n)) made_migration.how tin) made_migration.layers 0 (codes "made.wkt")
+    false [] text before now (omega arith) refl (has_none n tin before empty) (made_found n text is)
     (room_for before.used (length text) empty.used few) adds
 
 pub made_uncarried : (n : ℕ) (text : List ℕ) (tin : Triangulation) (before : Run) (refusal : Refusal)
@@ -63,49 +64,49 @@ pub made_uncarried : (n : ℕ) (text : List ℕ) (tin : Triangulation) (before :
     → AddsNone made_migration.how tin 0 (codes "made.wkt") text (length before.pieces.items) refusal
     → AreUncarried (setting_of (Some (made_files n)) made_migration.how tin) made_migration.layers ⊥ refusal
 made_uncarried n text tin before refusal is few empty why =
-    uncarried_at (setting_of (Some (made_files n)) made_migration.how tin) made_migration.layers 0 (codes "made.wkt") []
-    text before ⊥ refusal (omega arith) refl (has_none n tin before empty) (made_found n text is)
+    uncarried_at (setting_of (Some (made_files n)) made_migration.how tin) made_migration.layers 0 (codes "made.wkt")
+    false [] text before ⊥ refusal (omega arith) refl (has_none n tin before empty) (made_found n text is)
     (room_for before.used (length text) empty.used few) why
 
 -- ---- the whole
 pub made_run_refused : (n : ℕ) (tin : Triangulation) (refusal : Refusal)
-    → HasTurned (made_files n) made_migration.how made_migration.tin made_migration.inverse tin
+    → HasDirected (made_files n) made_migration.how made_migration.tin made_migration.inverse tin
     → AreUncarried (setting_of (Some (made_files n)) made_migration.how tin) made_migration.layers ⊥ refusal
     → MayNotBeMade n refusal
 made_run_refused n tin refusal ready why =
     layers_refused (Some (made_files n)) made_migration tin ⊥ ⊥ refusal ready (λ rose. rose) why
 
 pub made_changes_refused : (n : ℕ) (tin : Triangulation) (run : Run) (refusal : Refusal)
-    → HasTurned (made_files n) made_migration.how made_migration.tin made_migration.inverse tin
-    → HasCarried (setting_of (Some (made_files n)) made_migration.how tin) [] made_migration.layers run
+    → HasDirected (made_files n) made_migration.how made_migration.tin made_migration.inverse tin
+    → HasCarried (setting_of (Some (made_files n)) made_migration.how tin) false [] made_migration.layers run
     → IsUnlisted tin run.pieces.items refusal → MayNotBeMade n refusal
 made_changes_refused n tin run refusal ready has why =
     changes_refused (Some (made_files n)) made_migration tin run ⊥ refusal ready has why
 
 pub made_comparable : (n : ℕ) (tin : Triangulation) (run : Run) → IsWithinLimits tin
-    → HasCarried (setting_of (Some (made_files n)) made_migration.how tin) [] made_migration.layers run
+    → HasCarried (setting_of (Some (made_files n)) made_migration.how tin) false [] made_migration.layers run
     → AreAllComparable tin run.pieces.items
 made_comparable n tin run limits has = run_comparable (Some (made_files n)) made_migration tin run limits has
 
 pub made_done : (n : ℕ) (tin : Triangulation) (run : Run) (written final : Output)
-    → HasTurned (made_files n) made_migration.how made_migration.tin made_migration.inverse tin
-    → HasCarried (setting_of (Some (made_files n)) made_migration.how tin) [] made_migration.layers run
+    → HasDirected (made_files n) made_migration.how made_migration.tin made_migration.inverse tin
+    → HasCarried (setting_of (Some (made_files n)) made_migration.how tin) false [] made_migration.layers run
     → IsReported (codes "made.json") tin run written → final.layers.items ≡ [] → final.said ≡ written.said
     → final.changed ≡ written.changed
     → IsMakingDone n (end_of final.changed) (files_of final)
 made_done n tin run written final ready has is none said changed =
     record {
       changes = is.changes;
-      layers = map (file_in []) has.done;
+      layers = all_files_in false [] has.done;
       said = written.said;
-      migrated = run_migrated (made_files n) made_migration tin run written (map (file_in []) has.done) ready has is
-          refl;
+      migrated = run_migrated (made_files n) made_migration tin run written (all_files_in false [] has.done) ready has
+          is refl;
       status_is = ap end_of (changed ∙ is.changed);
       made_is = rw (none, said) refl;
     }
 
 pub made_form : (n : ℕ) (tin : Triangulation) (run : Run) (written final : Output)
-    → HasCarried (setting_of (Some (made_files n)) made_migration.how tin) [] made_migration.layers run
+    → HasCarried (setting_of (Some (made_files n)) made_migration.how tin) false [] made_migration.layers run
     → IsReported (codes "made.json") tin run written
     → final.layers.items ≡ [] → final.said ≡ written.said → final.changed ≡ written.changed
     → HasForm IsMakingWritten final

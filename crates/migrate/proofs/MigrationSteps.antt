@@ -1,7 +1,8 @@
 -- What is so of a job after each of its steps.
-use Rattle.std.proofs.Common.{◌≡◌, ◌⊎◌, ◌≤◌, ◌<◌, ◌+◌, ◌-◌, inl, inr, ℕ, List, [], ◌∷◌, ◌++◌, map, length, take, drop}
-use Rattle.std.proofs.Common.{get_or, Option, None, Some, IfSome, refl, sym, ◌∙◌, ap, subst, arith}
-use Rattle.std.proofs.lemmas.List.{take-append-drop, drop_more, take_more, map-append, length-take}
+use Rattle.std.proofs.Common.{◌≡◌, ◌⊎◌, ◌≤◌, ◌<◌, ◌+◌, ◌-◌, inl, inr, ℕ, Bool, List, [], ◌∷◌, ◌++◌, map, flat_map}
+use Rattle.std.proofs.Common.{length, take, drop, get_or, Option, None, Some, IfSome, refl, sym, ◌∙◌, ap, subst}
+use Rattle.std.proofs.Common.{append_assoc, arith}
+use Rattle.std.proofs.lemmas.List.{take-append-drop, drop_more, take_more, map-append, append-nil, length-take}
 use Rattle.std.specs.List.{AllByRecursion}
 use Rattle.shelf_io.specs.Count.{counted}
 use Rattle.shelf_io.specs.Files.{Files}
@@ -23,16 +24,17 @@ use Rattle.runs.specs.declared.output.LayerFile.{LayerFile}
 use Rattle.migrate.specs.declared.layer_runs.Run.{Run}
 use Rattle.runs.specs.declared.output.Output.{Output}
 use Rattle.migrate.specs.declared.migrations.Migration.{Migration}
-use Rattle.migrate.specs.Migrations.{MayBeTaken, HasTurned, by_tin, by_layers, row_of, report_of, file_in, IsReportOn}
-use Rattle.migrate.specs.Migrations.{LacksSome, IsMigrated}
-use Rattle.migrate.specs.LayerOutcomes.{IsLayerText, LacksLayerText}
+use Rattle.runs.specs.Triangulations.{HasDirected}
+use Rattle.migrate.specs.Migrations.{MayBeTaken, by_tin, by_layers, row_of, report_of, files_in, all_files_in}
+use Rattle.migrate.specs.Migrations.{IsReportOn, LacksSome, IsMigrated}
+use Rattle.layer_formats.specs.LayerOutcomes.{IsLayerText, LacksLayerText}
 use Rattle.runs.specs.Status.{end_of}
 use Rattle.runs.specs.Refusals.{status_of}
 use Rattle.migrate.specs.LayerRuns.{Setting, setting_of, Done, IsLayerFile, IsLongLayer, IsNextCarried, AreCarried}
 use Rattle.migrate.specs.LayerRuns.{IsNextRefused, IsReachedLayer, AreRefused, at_layer, at_changes}
 use Rattle.migrate.specs.Migrations.{MayRefuseMigration, IsMigrationDone, IsMigrationWritten}
 use Rattle.runs.proofs.TinRefusals.{without_file, without_read, without_room, unready}
-use Rattle.migrate.specs.Names.{name_in}
+use Rattle.migrate.specs.Names.{names_in}
 use Rattle.runs.specs.Causes.{by_the_files, unread, no_room}
 use Rattle.runs.specs.Output.{file_of, files_of, AreWritable, HasForm}
 use Rattle.runs.specs.Loads.{IsUnloaded, missing, read_failed, too_long, no_memory, IsTinUnready}
@@ -54,6 +56,14 @@ pub given_more : (start used given count bytes after now : ℕ) → counted star
 given_more start used given count bytes after now before next same is = omega arith
 
 -- ---- the layers
+-- the files of one more layer stand behind those of the others
+one_more_in : (cert : Bool) (folder : List ℕ) (done : List Done) (first : Done)
+    → all_files_in cert folder done ++ files_in cert folder first ≡ all_files_in cert folder (done ++ first ∷ [])
+one_more_in cert folder [] first = sym (append-nil (files_in cert folder first))
+one_more_in cert folder (other ∷ done) first =
+    append_assoc (files_in cert folder other) (all_files_in cert folder done) (files_in cert folder first)
+    ∙ ap (λ (fs : Files). files_in cert folder other ++ fs) (one_more_in cert folder done first)
+
 module _ (setting : Setting) (names : List (List ℕ)) where
   stands_at : (i : ℕ) (name : List ℕ) → i < length names → name ≡ get_or names i name
       → names ≡ take i names ++ name ∷ drop (i + 1) names
@@ -64,9 +74,10 @@ module _ (setting : Setting) (names : List (List ℕ)) where
   fronts : (i : ℕ) → i < length names → i ≡ length (take i names)
   fronts i within = rw length-take (omega (arith, within))
 
-  reached_at : (i : ℕ) (name : List ℕ) (folder : List ℕ) (run : Run) → i < length names → name ≡ get_or names i name
-      → HasCarried setting folder (take i names) run → IsReachedLayer setting names i name
-  reached_at i name folder run within is has = record {
+  reached_at : (i : ℕ) (name : List ℕ) (cert : Bool) (folder : List ℕ) (run : Run) → i < length names
+      → name ≡ get_or names i name → HasCarried setting cert folder (take i names) run
+      → IsReachedLayer setting names i name
+  reached_at i name cert folder run within is has = record {
     front = take i names;
     back = drop (i + 1) names;
     stands = stands_at i name within is;
@@ -77,12 +88,18 @@ module _ (setting : Setting) (names : List (List ℕ)) where
     carried = has.carried;
   }
 
-  refused_at : (i : ℕ) (name folder : List ℕ) (run : Run) (refusal : Refusal) → i < length names
-      → name ≡ get_or names i name → HasCarried setting folder (take i names) run
+  refused_at : (i : ℕ) (name : List ℕ) (cert : Bool) (folder : List ℕ) (run : Run) (refusal : Refusal)
+      → i < length names → name ≡ get_or names i name → HasCarried setting cert folder (take i names) run
       → IsNextRefused setting i run.used (length run.pieces.items) name refusal → AreRefused setting names refusal
   unfolding reached_at
-  refused_at i name folder run refusal within is has why =
-      at_layer (record { number = i; name = name; reached = reached_at i name folder run within is has; refused = why })
+  refused_at i name cert folder run refusal within is has why =
+      at_layer (record {
+        number = i;
+        name = name;
+        reached = reached_at i name cert folder run within is has;
+        refused =
+            why;
+      })
 
   more_than : (most used n : ℕ) → used ≤ most → most - used < n → most < used + n
   more_than most used n few many = omega arith
@@ -94,21 +111,23 @@ module _ (setting : Setting) (names : List (List ℕ)) where
       (bytes, found, more_than MOST_BYTES used (length bytes) few many)
 
   -- the layer's file is not loaded
-  pub unloaded_at : (i : ℕ) (name folder : List ℕ) (run : Run) (rose_here rose passed : Type 0) (refusal : Refusal)
-      → i < length names → name ≡ get_or names i name → HasCarried setting folder (take i names) run
+  pub unloaded_at : (i : ℕ) (name : List ℕ) (cert : Bool) (folder : List ℕ) (run : Run) (rose_here rose passed : Type 0)
+      (refusal : Refusal) → i < length names → name ≡ get_or names i name
+      → HasCarried setting cert folder (take i names) run
       → run.used ≤ MOST_BYTES → (rose_here → rose)
       → IsUnloaded setting.told name (MOST_BYTES - run.used) (LayerUnread i) LayersLong rose_here passed refusal
       → AreUncarried setting names rose refusal
-  unloaded_at i name folder run rose_here rose passed refusal within is has few rises (missing so lacks) =
+  unloaded_at i name cert folder run rose_here rose passed refusal within is has few rises (missing so lacks) =
       subst (λ (r : Refusal). AreUncarried setting names rose r) (sym so)
-      (by_the_layers (refused_at i name folder run (LayerUnread i) within is has (refl, lacks)))
-  unloaded_at i name folder run rose_here rose passed refusal within is has few rises (read_failed so rose_now) =
-      by_fault (rises rose_now) i name (reached_at i name folder run within is has) so
-  unloaded_at i name folder run rose_here rose passed refusal within is has few rises (too_long so long given) =
+      (by_the_layers (refused_at i name cert folder run (LayerUnread i) within is has (refl, lacks)))
+  unloaded_at i name cert folder run rose_here rose passed refusal within is has few rises (read_failed so rose_now) =
+      by_fault (rises rose_now) i name (reached_at i name cert folder run within is has) so
+  unloaded_at i name cert folder run rose_here rose passed refusal within is has few rises (too_long so long given) =
       subst (λ (r : Refusal). AreUncarried setting names rose r) (sym so)
-      (by_the_layers (refused_at i name folder run LayersLong within is has
+      (by_the_layers (refused_at i name cert folder run LayersLong within is has
       (long_layer setting.told name run.used few long)))
-  unloaded_at i name folder run rose_here rose passed refusal within is has few rises (no_memory so) = out_of_memory so
+  unloaded_at i name cert folder run rose_here rose passed refusal within is has few rises (no_memory so) =
+      out_of_memory so
 
   -- a file is missing, or the count of faults rose
   pub lacks_at : (i : ℕ) (name : List ℕ) (most : ℕ) (rose_here rose passed : Type 0) (refusal : Refusal)
@@ -129,38 +148,42 @@ module _ (setting : Setting) (names : List (List ℕ)) where
       → IsLayerFile setting.told name used format bytes
   file_at i name bytes used format suffix found within = record { suffix = suffix; found = found; within = within }
 
-  uncarried_rows : (i : ℕ) (name folder bytes : List ℕ) (run : Run) (rose : Type 0) (format : Format)
-      (refusal : Refusal) → i < length names → name ≡ get_or names i name → HasCarried setting folder (take i names) run
+  uncarried_rows : (i : ℕ) (name : List ℕ) (cert : Bool) (folder bytes : List ℕ) (run : Run) (rose : Type 0)
+      (format : Format) (refusal : Refusal) → i < length names → name ≡ get_or names i name
+      → HasCarried setting cert folder (take i names) run
       → IsLayerFile setting.told name run.used format bytes
       → IsUncarriedAs (IsLayerText setting.how format) (LacksLayerText setting.how format) setting.tin bytes i
       (length run.pieces.items) refusal → AreUncarried setting names rose refusal
-  uncarried_rows i name folder bytes run rose format (Layer layer why) within is has file (same, lacks) =
-      by_the_layers (refused_at i name folder run (Layer layer why) within is has (same, format, bytes, file, lacks))
-  uncarried_rows i name folder bytes run rose format (Outside layer path segment) within is has file (same, outside) =
-      by_the_layers (refused_at i name folder run (Outside layer path segment) within is has
+  uncarried_rows i name cert folder bytes run rose format (Layer layer why) within is has file (same, lacks) =
+      by_the_layers (refused_at i name cert folder run (Layer layer why) within is has
+      (same, format, bytes, file, lacks))
+  uncarried_rows i name cert folder bytes run rose format (Outside layer path segment) within is has file
+      (same, outside) =
+      by_the_layers (refused_at i name cert folder run (Outside layer path segment) within is has
       (same, format, bytes, file, outside))
-  uncarried_rows i name folder bytes run rose format TooManyPieces within is has file many =
-      by_the_layers (refused_at i name folder run TooManyPieces within is has (format, bytes, file, many))
-  uncarried_rows i name folder bytes run rose format NoMemory within is has file why = out_of_memory refl
-  uncarried_rows i name folder bytes run rose format refusal within is has file why = absurd why
+  uncarried_rows i name cert folder bytes run rose format TooManyPieces within is has file many =
+      by_the_layers (refused_at i name cert folder run TooManyPieces within is has (format, bytes, file, many))
+  uncarried_rows i name cert folder bytes run rose format NoMemory within is has file why = out_of_memory refl
+  uncarried_rows i name cert folder bytes run rose format refusal within is has file why = absurd why
 
   -- the layer's text is not carried
-  pub uncarried_at : (i : ℕ) (name folder bytes : List ℕ) (run : Run) (rose : Type 0) (refusal : Refusal)
-      → i < length names → name ≡ get_or names i name → HasCarried setting folder (take i names) run
+  pub uncarried_at : (i : ℕ) (name : List ℕ) (cert : Bool) (folder bytes : List ℕ) (run : Run) (rose : Type 0)
+      (refusal : Refusal) → i < length names → name ≡ get_or names i name
+      → HasCarried setting cert folder (take i names) run
       → IfSome setting.told (Loads name bytes) → run.used + length bytes ≤ MOST_BYTES
       → AddsNone setting.how setting.tin i name bytes (length run.pieces.items) refusal
       → AreUncarried setting names rose refusal
-  uncarried_at i name folder bytes run rose refusal within is has found few none =
-      uncarried_rows i name folder bytes run rose none.format refusal within is has
+  uncarried_at i name cert folder bytes run rose refusal within is has found few none =
+      uncarried_rows i name cert folder bytes run rose none.format refusal within is has
       (file_at i name bytes run.used none.format none.suffix found few) none.why
 
   -- it is carried
-  pub carried_at : (i : ℕ) (name folder bytes : List ℕ) (before now : Run) → i < length names
-      → name ≡ get_or names i name → HasCarried setting folder (take i names) before
+  pub carried_at : (i : ℕ) (name : List ℕ) (cert : Bool) (folder bytes : List ℕ) (before now : Run) → i < length names
+      → name ≡ get_or names i name → HasCarried setting cert folder (take i names) before
       → IfSome setting.told (Loads name bytes) → before.used + length bytes ≤ MOST_BYTES
-      → AddsLayer setting.how setting.tin folder i name bytes before now
-      → HasCarried setting folder (take (i + 1) names) now
-  carried_at i name folder bytes before now within is has found few adds =
+      → AddsLayer setting.how setting.tin cert folder i name bytes before now
+      → HasCarried setting cert folder (take (i + 1) names) now
+  carried_at i name cert folder bytes before now within is has found few adds =
       let holds = has.holds in
       let done = adds.done in
       let next : IsNextCarried setting i before.used before.pieces.items name bytes now.pieces.items done =
@@ -169,6 +192,7 @@ module _ (setting : Setting) (names : List (List ℕ)) where
         file = file_at i name bytes before.used done.format adds.suffix found few;
         carried =
             adds.carried;
+        own = adds.own;
       } in
       let all : AreCarried setting 0 0 [] (take i names ++ name ∷ []) now.pieces.items (has.done ++ done ∷ [])
       now.used =
@@ -179,8 +203,8 @@ module _ (setting : Setting) (names : List (List ℕ)) where
         carried = subst (λ (ns : List (List ℕ)). AreCarried setting 0 0 [] ns now.pieces.items (has.done ++ done ∷ [])
             now.used) (sym (take_more names i name within ∙ ap (λ (n : List ℕ). take i names ++ n ∷ []) (sym is))) all;
         holds = record {
-          files = adds.files ∙ (ap (λ (fs : Files). fs ++ file_in folder done ∷ []) holds.files
-              ∙ sym (map-append (file_in folder) has.done (done ∷ [])));
+          files = adds.files ∙ (ap (λ (fs : Files). fs ++ files_in cert folder done) holds.files
+              ∙ one_more_in cert folder has.done done);
           rows = adds.rows ∙ (ap (λ (rs : List LayerRow). rs ++ row_of done ∷ []) holds.rows
               ∙ sym (map-append row_of has.done (done ∷ [])));
         };
@@ -204,7 +228,7 @@ tin_refused (Some files) migration rose passed refusal why =
 
 -- or as its layers are
 pub layers_refused : (told : Option Files) (migration : Migration) (tin : Triangulation) (rose_here rose : Type 0)
-    (refusal : Refusal) → IfSome told (λ files. HasTurned files migration.how migration.tin migration.inverse tin)
+    (refusal : Refusal) → IfSome told (λ files. HasDirected files migration.how migration.tin migration.inverse tin)
     → (rose_here → rose) → AreUncarried (setting_of told migration.how tin) migration.layers rose_here refusal
     → IfSome told (λ files. MayRefuseMigration files migration rose refusal)
 layers_refused None migration tin rose_here rose refusal ready rises why = tt
@@ -218,8 +242,8 @@ layers_refused (Some files) migration tin rose_here rose refusal ready rises (ou
 
 -- or as their changes are
 pub changes_refused : (told : Option Files) (migration : Migration) (tin : Triangulation) (run : Run) (rose : Type 0)
-    (refusal : Refusal) → IfSome told (λ files. HasTurned files migration.how migration.tin migration.inverse tin)
-    → HasCarried (setting_of told migration.how tin) migration.out migration.layers run
+    (refusal : Refusal) → IfSome told (λ files. HasDirected files migration.how migration.tin migration.inverse tin)
+    → HasCarried (setting_of told migration.how tin) migration.cert migration.out migration.layers run
     → IsUnlisted tin run.pieces.items refusal → IfSome told (λ files. MayRefuseMigration files migration rose refusal)
 changes_refused None migration tin run rose refusal ready has why = tt
 changes_refused (Some files) migration tin run rose TooManyChanges ready has why =
@@ -238,7 +262,7 @@ changes_refused (Some files) migration tin run rose refusal ready has why = absu
 
 -- what the report asks of the layers
 pub rows_named : (told : Option Files) (migration : Migration) (tin : Triangulation) (run : Run) → MayBeTaken migration
-    → HasCarried (setting_of told migration.how tin) migration.out migration.layers run
+    → HasCarried (setting_of told migration.how tin) migration.cert migration.out migration.layers run
     → AllByRecursion (λ row. IsPrintable row.name) run.rows.items
 rows_named told migration tin run taken has =
     let holds = has.holds in
@@ -248,22 +272,23 @@ rows_named told migration tin run taken has =
     has.carried) taken.layers_named)
 
 pub run_comparable : (told : Option Files) (migration : Migration) (tin : Triangulation) (run : Run)
-    → IsWithinLimits tin → HasCarried (setting_of told migration.how tin) migration.out migration.layers run
-    → AreAllComparable tin run.pieces.items
+    → IsWithinLimits tin → HasCarried (setting_of told migration.how tin) migration.cert migration.out migration.layers
+    run → AreAllComparable tin run.pieces.items
 run_comparable told migration tin run limits has =
     run_compared (setting_of told migration.how tin) migration.layers run.pieces.items has.done run.used limits
     has.carried
 
 -- the layers' files
-files_are : (run : Run) (written : Output) (folder : List ℕ) (done : List Done) → written.layers.items ≡ run.files.items
-    → Holds folder done run → map file_of written.layers.items ≡ map (file_in folder) done
-files_are run written folder done same holds = ap (λ (fs : List LayerFile). map file_of fs) same ∙ holds.files
+files_are : (run : Run) (written : Output) (cert : Bool) (folder : List ℕ) (done : List Done)
+    → written.layers.items ≡ run.files.items → Holds cert folder done run
+    → map file_of written.layers.items ≡ all_files_in cert folder done
+files_are run written cert folder done same holds = ap (λ (fs : List LayerFile). map file_of fs) same ∙ holds.files
 
 -- the run is the migration of its files, where its layers are written into these files
 pub run_migrated : (files : Files) (migration : Migration) (tin : Triangulation) (run : Run) (written : Output)
-    (layers : Files) → HasTurned files migration.how migration.tin migration.inverse tin
-    → (has : HasCarried (setting_of (Some files) migration.how tin) migration.out migration.layers run)
-    → (is : IsReported migration.tin tin run written) → layers ≡ map (file_in migration.out) has.done
+    (layers : Files) → HasDirected files migration.how migration.tin migration.inverse tin
+    → (has : HasCarried (setting_of (Some files) migration.how tin) migration.cert migration.out migration.layers run)
+    → (is : IsReported migration.tin tin run written) → layers ≡ all_files_in migration.cert migration.out has.done
     → IsMigrated files migration is.changes layers written.said
 run_migrated files migration tin run written layers ready has is layers_are =
     let holds = has.holds in
@@ -281,8 +306,8 @@ run_migrated files migration tin run written layers ready has is layers_are =
     }
 
 pub migration_done : (told : Option Files) (migration : Migration) (tin : Triangulation) (run : Run) (written : Output)
-    → IfSome told (λ files. HasTurned files migration.how migration.tin migration.inverse tin)
-    → HasCarried (setting_of told migration.how tin) migration.out migration.layers run
+    → IfSome told (λ files. HasDirected files migration.how migration.tin migration.inverse tin)
+    → HasCarried (setting_of told migration.how tin) migration.cert migration.out migration.layers run
     → IsReported migration.tin tin run written
     → IfSome told (λ files. IsMigrationDone files migration (end_of written.changed) (files_of written))
 migration_done None migration tin run written ready has is = tt
@@ -293,7 +318,7 @@ migration_done (Some files) migration tin run written ready has is =
       layers = map file_of written.layers.items;
       said = written.said;
       migrated = run_migrated files migration tin run written (map file_of written.layers.items) ready has is
-          (files_are run written migration.out has.done is.layers holds);
+          (files_are run written migration.cert migration.out has.done is.layers holds);
       status_is = ap end_of is.changed;
       made_is = refl;
     }
@@ -311,19 +336,21 @@ reports_on name names tin run written done rows are is = record {
 }
 
 pub migration_form : (told : Option Files) (migration : Migration) (tin : Triangulation) (run : Run) (written : Output)
-    → MayBeTaken migration → HasCarried (setting_of told migration.how tin) migration.out migration.layers run
+    → MayBeTaken migration → HasCarried (setting_of told migration.how tin) migration.cert migration.out
+    migration.layers run
     → IsReported migration.tin tin run written → HasForm (IsMigrationWritten migration) written
 migration_form told migration tin run written taken has is =
     let holds = has.holds in
     let are = names_done (setting_of told migration.how tin) 0 0 [] migration.layers run.pieces.items has.done run.used
     has.carried in
-    let files = files_are run written migration.out has.done is.layers holds in
+    let files = files_are run written migration.cert migration.out has.done is.layers holds in
     record {
       writable = subst (λ (fs : Files). AreWritable fs) (sym files)
-          (files_writable migration.out has.done migration.layers are taken.distinct);
+          (files_writable migration.cert migration.out has.done migration.layers are taken.distinct taken.formats);
       is_of = (
         ap (λ (fs : Files). map (λ (file : List ℕ × List ℕ). file.0) fs) files
-            ∙ (file-names migration.out has.done ∙ ap (λ (ns : List (List ℕ)). map (name_in migration.out) ns) are),
+            ∙ (file-names migration.cert migration.out has.done
+            ∙ ap (λ (ns : List (List ℕ)). flat_map (names_in migration.cert migration.out) ns) are),
         reports_on migration.tin migration.layers tin run written has.done holds.rows are is,
       );
     }

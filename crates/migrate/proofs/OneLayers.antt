@@ -1,6 +1,6 @@
 -- The layers of a run are carried in one way, or one of them is the first that is refused, for one reason.
-use Rattle.std.proofs.Common.{◌≡◌, ◌⊎◌, inl, inr, ℕ, ◌+◌, ◌<◌, ◌≤◌, List, [], ◌∷◌, ◌++◌, length, None, Some, refl, sym}
-use Rattle.std.proofs.Common.{◌∙◌, ap, ap₂, subst, arith}
+use Rattle.std.proofs.Common.{◌≡◌, ◌⊎◌, inl, inr, ℕ, ◌+◌, ◌<◌, ◌≤◌, List, [], ◌∷◌, ◌++◌, length, drop, None, Some, refl}
+use Rattle.std.proofs.Common.{sym, ◌∙◌, ap, ap₂, subst, arith}
 use Rattle.std.proofs.lemmas.Option.{none-some, same_Some}
 use Rattle.shelf_io.specs.Files.{Files, bytes_of}
 use Rattle.carry_map.specs.declared.layers.Carried.{Carried}
@@ -14,7 +14,8 @@ use Rattle.job_words.specs.Formats.{format_of}
 use Rattle.runs.specs.declared.loads.TheConstants.{MOST_BYTES}
 use Rattle.runs.specs.declared.refusal.Refusal.{Refusal}
 use Rattle.runs.specs.declared.refusal.Refusal.TheVariants.{LayerUnread, LayersLong, Layer, Outside, TooManyPieces}
-use Rattle.migrate.specs.LayerOutcomes.{LayerTextsAreOne, LacksLayerText, IsCarried, IsOutside, HasTooMany}
+use Rattle.layer_formats.specs.LayerOutcomes.{LayerTextsAreOne, LacksLayerText}
+use Rattle.migrate.specs.LayerOutcomes.{IsCarried, IsOutside, HasTooMany}
 use Rattle.migrate.specs.LayerRuns.{setting_of, Done, IsLayerFile, IsLongLayer, IsNextCarried, AreCarried}
 use Rattle.migrate.specs.LayerRuns.{IsNextRefused, IsRefusedLayer}
 use Rattle.migrate.proofs.OneOutcome.{lacks_outside, lacks_many, lacks_carried, outside_one, outside_many}
@@ -147,14 +148,15 @@ module _ (texts : LayerTextsAreOne) (files : Files) (how : How) (tin : Triangula
     pieces : ps ≡ qs
     done : d ≡ e
 
-  abbrev done_of : List ℕ → Format → Carried → Done
-  done_of name format carried = record { name = name; format = format; carried = carried }
+  abbrev done_of : List ℕ → Format → Carried → List Piece → Done
+  done_of name format carried pieces = record { name = name; format = format; carried = carried; pieces = pieces }
 
-  same_done : (d e : Done) → d.name ≡ e.name → d.format ≡ e.format → d.carried ≡ e.carried → d ≡ e
-  same_done d e name format carried =
-      ap (λ n. done_of n d.format d.carried) name
-      ∙ (ap (λ (f : Format). done_of e.name f d.carried) format
-      ∙ ap (λ (c : Carried). done_of e.name e.format c) carried)
+  same_done : (d e : Done) → d.name ≡ e.name → d.format ≡ e.format → d.carried ≡ e.carried → d.pieces ≡ e.pieces → d ≡ e
+  same_done d e name format carried pieces =
+      ap (λ n. done_of n d.format d.carried d.pieces) name
+      ∙ (ap (λ (f : Format). done_of e.name f d.carried d.pieces) format
+      ∙ (ap (λ (c : Carried). done_of e.name e.format c d.pieces) carried
+      ∙ ap (λ (ps : List Piece). done_of e.name e.format e.carried ps) pieces))
 
   next_one : (number used : ℕ) (before : List Piece) (name a b : List ℕ) (ps qs : List Piece) (d e : Done)
       → IsNextCarried (setting_of (Some files) how tin) number used before name a ps d
@@ -164,12 +166,15 @@ module _ (texts : LayerTextsAreOne) (files : Files) (how : How) (tin : Triangula
       let of_x : IsCarried how tin e.format b number before ps d.carried =
       subst (λ (t : List ℕ). IsCarried how tin e.format t number before ps d.carried) same.1
       (subst (λ (f : Format). IsCarried how tin f a number before ps d.carried) same.0 x.carried) in
+      let pieces = carried_pieces_one texts how tin e.format b number before ps qs d.carried e.carried sound of_x
+      y.carried in
       record {
         bytes = same.1;
-        pieces = carried_pieces_one texts how tin e.format b number before ps qs d.carried e.carried sound of_x
-            y.carried;
-        done = same_done d e (x.named ∙ sym y.named) same.0
-            (carried_one texts how tin e.format b number before ps qs d.carried e.carried sound of_x y.carried);
+        pieces = pieces;
+        done =
+            same_done d e (x.named ∙ sym y.named) same.0
+            (carried_one texts how tin e.format b number before ps qs d.carried e.carried sound of_x y.carried)
+            (x.own ∙ (ap (λ (rs : List Piece). drop (length before) rs) pieces ∙ sym y.own));
       }
 
   -- ---- all layers

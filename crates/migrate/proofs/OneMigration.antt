@@ -1,11 +1,9 @@
 -- A migration, and what is made, end in one way.
-use Rattle.std.proofs.Common.{◌≡◌, ℕ, ◌<◌, ◌≤◌, Bool, true, false, List, [], ◌∷◌, ◌++◌, map, Some, Ok, Err, length}
+use Rattle.std.proofs.Common.{◌≡◌, ℕ, ◌<◌, ◌≤◌, List, [], ◌∷◌, ◌++◌, map, Some, Ok, Err, length}
 use Rattle.std.proofs.Common.{codes, refl, sym, ◌∙◌, ap, ap₂, subst, arith}
 use Rattle.shelf_io.specs.Files.{Files}
-use Rattle.sheet_base.specs.declared.flags.How.{How}
 use Rattle.tin_base.specs.Triangulation.{Triangulation}
 use Rattle.tin_base.specs.Soundness.{IsSound}
-use Rattle.tin_base.proofs.Converse.{turned_sound}
 use Rattle.tin_base.specs.declared.pieces.Change.{Change}
 use Rattle.tin_base.specs.declared.pieces.Piece.{Piece}
 use Rattle.topo_check.specs.Changes.{AreAllInside, HasMoreThan}
@@ -14,15 +12,15 @@ use Rattle.report_text.specs.ReportText.{report_text}
 use Rattle.runs.specs.declared.status.Status.{Status}
 use Rattle.runs.specs.declared.refusal.Refusal.{Refusal}
 use Rattle.runs.specs.declared.refusal.Refusal.TheVariants.{TooManyChanges}
-use Rattle.runs.specs.Triangulations.{HasTin}
 use Rattle.runs.specs.Laws.{IsTinEnd}
-use Rattle.runs.proofs.OneTin.{tin_end_is_one}
+use Rattle.runs.proofs.OneTin.{tin_end_is_one, sound_of, sound_way}
 use Rattle.migrate.specs.declared.change_lists.TheConstants.{MOST_CHANGES}
 use Rattle.migrate.specs.declared.migrations.Migration.{Migration}
 use Rattle.migrate.specs.RunChanges.{AreListed, end_with}
-use Rattle.migrate.specs.LayerOutcomes.{LayerTextsAreOne}
+use Rattle.layer_formats.specs.LayerOutcomes.{LayerTextsAreOne}
 use Rattle.migrate.specs.LayerRuns.{setting_of, Done, AreCarried, IsRefusedLayer, AreRefused, at_layer, at_changes}
-use Rattle.migrate.specs.Migrations.{directed, IsMigrationRefused, by_tin, by_layers, row_of, report_of, file_in}
+use Rattle.runs.specs.Triangulations.{directed}
+use Rattle.migrate.specs.Migrations.{IsMigrationRefused, by_tin, by_layers, row_of, report_of, all_files_in}
 use Rattle.migrate.specs.Migrations.{IsMigrationDone}
 use Rattle.migrate.specs.Maker.{made_files, made_migration, IsMakingDone}
 use Rattle.migrate.specs.Laws.{End, IsMigrationEnd, IsMakingEnd, MigrationIsOne, MakingIsOne}
@@ -34,7 +32,7 @@ use Rattle.migrate.proofs.ComparablePieces.{run_inside}
 abbrev made_of : Migration → Triangulation → List Done → List Change → Status × Files
 made_of migration tin ds changes = (
   end_with changes,
-  map (file_in migration.out) ds
+  all_files_in migration.cert migration.out ds
       ++ (codes "-", report_text (report_of migration.tin tin (map row_of ds) changes)) ∷ [],
 )
 
@@ -115,13 +113,6 @@ data IsMigrationPath (files : Files) (migration : Migration) (end : End) : Type 
   way_end : (stood tin : Triangulation) → IsTinEnd files migration.how migration.tin (Ok stood)
       → tin ≡ directed migration.inverse stood → IsLayersEnd files migration tin end
       → IsMigrationPath files migration end
-
-sound_of : (files : Files) (how : How) (name : List ℕ) (tin : Triangulation) → HasTin files how name tin → IsSound tin
-sound_of files how name tin (text, file, is) = is.sound
-
-sound_way : (inverse : Bool) (tin : Triangulation) → IsSound tin → IsSound (directed inverse tin)
-sound_way false tin sound = sound
-sound_way true tin sound = turned_sound tin sound
 
 layers_refused : (files : Files) (migration : Migration) (tin : Triangulation) (refusal : Refusal)
     → AreRefused (setting_of (Some files) migration.how tin) migration.layers refusal

@@ -22,8 +22,9 @@ use Rattle.carry_map.specs.declared.layers.Carried.{Carried}
 use Rattle.carry_map.specs.declared.limits.TheConstants.{MOST_PIECES}
 use Rattle.sheet_base.specs.declared.flags.How.{How}
 use Rattle.job_words.specs.declared.formats.Format.{Format}
-use Rattle.migrate.specs.LayerTexts.{text_of}
-use Rattle.migrate.specs.LayerOutcomes.{LayerTextsAreOne, LacksLayerText, IsCarried, IsOutside, HasTooMany}
+use Rattle.layer_formats.specs.LayerTexts.{text_of}
+use Rattle.layer_formats.specs.LayerOutcomes.{LayerTextsAreOne, LacksLayerText}
+use Rattle.migrate.specs.LayerOutcomes.{IsCarried, IsOutside, HasTooMany}
 use Rattle.migrate.proofs.OnePieces.{pieces_one}
 use Rattle.affine_image.proofs.OneCut.{cut_alike, alike_length, ends_one}
 

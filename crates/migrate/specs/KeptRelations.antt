@@ -17,8 +17,8 @@ use Rattle.runs.specs.declared.status.Status.TheVariants.{Same, Changed}
 use Rattle.carry_map.specs.Layers.{IsBackAsPieces}
 use Rattle.migrate.specs.Names.{name_in}
 use Rattle.migrate.specs.declared.migrations.Migration.{Migration}
-use Rattle.migrate.specs.LayerOutcomes.{IsLayerText}
-use Rattle.migrate.specs.LayerTexts.{reads_back_of}
+use Rattle.layer_formats.specs.LayerOutcomes.{IsLayerText}
+use Rattle.layer_formats.specs.LayerTexts.{reads_back_of}
 use Rattle.migrate.specs.LayerRuns.{Setting, setting_of, IsLayerFile}
 use Rattle.migrate.specs.Migrations.{HasWay}
 use Rattle.migrate.specs.Maker.{made_files, made_migration}

@@ -2,36 +2,17 @@
 -- that is not is outside or passes the limit.
 use Rattle.std.specs.Prelude.{ℕ, ◌≤◌, List, length, drop}
 use Rattle.sheet_base.specs.declared.edits.Edit.{Edit}
-use Rattle.sheet_base.specs.declared.faults.LayerFault.{LayerFault}
 use Rattle.sheet_base.specs.declared.flags.How.{How}
 use Rattle.sheet_base.specs.Fitting.{Runs}
 use Rattle.sheet_base.specs.Sheets.{Contents}
-use Rattle.sheet_base.specs.Outcomes.{HasOneOutcome, HasOutcome}
 use Rattle.tin_base.specs.declared.pieces.Piece.{Piece}
 use Rattle.tin_base.specs.Triangulation.{Triangulation}
 use Rattle.carry_map.specs.Layers.{IsLayerCarried, IsLayerOutside, IsLayerTooMany, IsBackAsPieces}
 use Rattle.carry_map.specs.declared.layers.Carried.{Carried}
 use Rattle.carry_map.specs.declared.limits.TheConstants.{MOST_PIECES}
 use Rattle.job_words.specs.declared.formats.Format.{Format}
-use Rattle.migrate.specs.LayerTexts.{reads_of, refuses_of, text_of, reads_back_of}
-
--- the text is read as a layer of this sheet
-abbrev pub IsLayerText : How → Format → List ℕ → Contents → Type 0
-IsLayerText how format text sheet = reads_of format how text sheet
-
--- the text is no layer, and this is its first fault
-abbrev pub LacksLayerText : How → Format → List ℕ → LayerFault → Type 0
-LacksLayerText how format text fault = refuses_of format how text fault
-
--- a law: in each format a text is a layer of one sheet, or has one first fault, and not both
-abbrev pub LayerTextsAreOne : Type 0
-LayerTextsAreOne = (how : How) (format : Format) (text : List ℕ)
-    → HasOneOutcome (IsLayerText how format text) (LacksLayerText how format text)
-
--- a law: in each format any text is a layer of some sheet, or has a first fault
-abbrev pub LayerOutcomesExist : Type 0
-LayerOutcomesExist = (how : How) (format : Format) (text : List ℕ)
-    → HasOutcome (IsLayerText how format text) (LacksLayerText how format text)
+use Rattle.layer_formats.specs.LayerTexts.{text_of, reads_back_of}
+use Rattle.layer_formats.specs.LayerOutcomes.{IsLayerText}
 
 -- The layer of this number is carried; its pieces stand behind those of the layers before it, and they are not too
 -- many. A format says which texts it reads as which sheets, what it writes in the place of an edit, and of which

@@ -1,5 +1,5 @@
 -- What becomes of the layers of a run, one after the other.
-use Rattle.std.specs.Prelude.{◌≡◌, ℕ, ◌+◌, ◌<◌, ◌≤◌, List, [], ◌∷◌, ◌++◌, length, Option, Some, IfSome}
+use Rattle.std.specs.Prelude.{◌≡◌, ℕ, ◌+◌, ◌<◌, ◌≤◌, List, [], ◌∷◌, ◌++◌, length, Option, Some, IfSome, drop}
 use Rattle.shelf_io.specs.Files.{Files, bytes_of}
 use Rattle.shelf_io.specs.Load.{LacksName}
 use Rattle.carry_map.specs.declared.layers.Carried.{Carried}
@@ -14,7 +14,8 @@ use Rattle.migrate.specs.declared.change_lists.TheConstants.{MOST_CHANGES}
 use Rattle.runs.specs.declared.refusal.Refusal.{Refusal}
 use Rattle.runs.specs.declared.refusal.Refusal.TheVariants.{LayerUnread, LayersLong, Layer, Outside, TooManyPieces}
 use Rattle.runs.specs.declared.refusal.Refusal.TheVariants.{TooManyChanges}
-use Rattle.migrate.specs.LayerOutcomes.{LacksLayerText, IsCarried, IsOutside, HasTooMany}
+use Rattle.layer_formats.specs.LayerOutcomes.{LacksLayerText}
+use Rattle.migrate.specs.LayerOutcomes.{IsCarried, IsOutside, HasTooMany}
 
 -- how layers are carried: the files of the shelf, where it gives them, how files are read, and the triangulation
 pub record Setting : Type 0 where
@@ -25,11 +26,12 @@ pub record Setting : Type 0 where
 abbrev pub setting_of : Option Files → How → Triangulation → Setting
 setting_of told how tin = record { told = told; how = how; tin = tin }
 
--- a layer that was carried: its name among the words, its format, and what was made of it
+-- a layer that was carried: its name among the words, its format, what was made of it, and its own pieces
 pub record Done : Type 0 where
   pub name : List ℕ
   pub format : Format
   pub carried : Carried
+  pub pieces : List Piece
 
 -- the layer of this name has this format and, where the shelf tells its files, these bytes; with those of the layers
 -- before it they are not too many
@@ -50,6 +52,7 @@ pub record IsNextCarried (setting : Setting) (number used : ℕ) (before : List 
   pub named : done.name ≡ name
   pub file : IsLayerFile setting.told name used done.format bytes
   pub carried : IsCarried setting.how setting.tin done.format bytes number before after done.carried
+  pub own : done.pieces ≡ drop (length before) after
 
 -- The layers of these names are carried one after the other, the first of them under this number and behind `used`
 -- bytes and the pieces before it.

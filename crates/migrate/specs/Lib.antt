@@ -1,6 +1,5 @@
 -- The files of definitions of migrate.
 pub mod Names
-pub mod LayerTexts
 pub mod LayerOutcomes
 pub mod LayerRuns
 pub mod RunChanges

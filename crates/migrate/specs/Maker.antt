@@ -21,6 +21,7 @@ made_migration = record {
   out = [];
   how = record { exact = false; drop_other = false; inside_only = false };
   inverse = false;
+  cert = false;
   layers = codes "made.wkt" ∷ [];
 }
 

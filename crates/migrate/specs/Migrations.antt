@@ -1,13 +1,13 @@
 -- A migration: the triangulation through which layers are carried, what refuses it, and what it makes.
-use Rattle.std.specs.Prelude.{◌≡◌, ◌⊎◌, ℕ, List, [], ◌∷◌, ◌++◌, map, codes, Bool, true, false, Contains, Option, length}
-use Rattle.std.specs.Prelude.{Some}
+use Rattle.std.specs.Prelude.{◌≡◌, ◌⊎◌, ℕ, List, [], ◌∷◌, ◌++◌, map, flat_map, codes, Bool, true, false, Contains}
+use Rattle.std.specs.Prelude.{Option, length, Some}
 use Rattle.shelf_io.specs.Files.{Files}
 use Rattle.shelf_io.specs.Load.{LacksName}
-use Rattle.sheet_base.specs.declared.flags.How.{How}
 use Rattle.tin_base.specs.declared.pieces.Change.{Change}
 use Rattle.tin_base.specs.declared.pieces.Piece.{Piece}
 use Rattle.tin_base.specs.Triangulation.{Triangulation}
-use Rattle.tin_base.specs.Turned.{turned_of}
+use Rattle.cert_check.specs.Certificates.{certificate_of}
+use Rattle.cert_check.specs.PieceLists.{lists_of}
 use Rattle.job_words.specs.Kept.{IsMigration as AreNames}
 use Rattle.report_text.specs.Reports.{Contents as Report}
 use Rattle.report_text.specs.declared.rows.LayerRow.{LayerRow}
@@ -15,11 +15,11 @@ use Rattle.report_text.specs.ReportText.{report_text}
 use Rattle.runs.specs.declared.status.Status.{Status}
 use Rattle.runs.specs.declared.refusal.Refusal.{Refusal}
 use Rattle.runs.specs.declared.refusal.Refusal.TheVariants.{TinUnread, LayerUnread}
-use Rattle.runs.specs.Triangulations.{HasTin, IsTinRefused}
+use Rattle.runs.specs.Triangulations.{HasDirected, IsTinRefused}
 use Rattle.runs.specs.Causes.{MayRefuse}
 use Rattle.migrate.specs.declared.migrations.Migration.{Migration}
-use Rattle.migrate.specs.Names.{name_in}
-use Rattle.migrate.specs.LayerTexts.{is_drawing}
+use Rattle.migrate.specs.Names.{name_in, cert_name_in, names_in}
+use Rattle.layer_formats.specs.LayerTexts.{is_drawing}
 use Rattle.migrate.specs.LayerRuns.{setting_of, Done, AreCarried, IsReachedLayer, AreRefused}
 use Rattle.migrate.specs.RunChanges.{AreListed, end_with}
 
@@ -28,19 +28,9 @@ abbrev pub MayBeTaken : Migration → Type 0
 MayBeTaken migration = AreNames migration.tin migration.out migration.layers
 
 -- ---- the triangulation
--- the triangulation through which layers are carried: as it stands, or with its frames exchanged
-abbrev pub directed : Bool → Triangulation → Triangulation
-directed false tin = tin
-directed true tin = turned_of tin
-
--- the layers are carried through this one: it is read and sound as it stands, and only then its frames are exchanged,
--- where that is asked for
-abbrev pub HasTurned : Files → How → List ℕ → Bool → Triangulation → Type 0
-HasTurned files how name inverse tin = (stood : Triangulation) × HasTin files how name stood
-    × (tin ≡ directed inverse stood)
-
+-- the layers are carried through this one
 abbrev pub HasWay : Files → Migration → Triangulation → Type 0
-HasWay files migration tin = HasTurned files migration.how migration.tin migration.inverse tin
+HasWay files migration tin = HasDirected files migration.how migration.tin migration.inverse tin
 
 -- ---- what refuses it
 -- the files refuse it: the triangulation, or else a layer or the changes
@@ -104,8 +94,21 @@ report_of name tin rows changes = record {
 abbrev pub file_in : List ℕ → Done → List ℕ × List ℕ
 file_in folder done = (name_in folder done.name, done.carried.text)
 
--- all layers are carried: a file for each, in their order, and a report, which lists the changes of the pieces of all
--- of them
+-- the files of certificates of a layer of this name and of these pieces: one, or none where none is wanted
+abbrev pub certs_of : Bool → List ℕ → List ℕ → List Piece → Files
+certs_of false folder name pieces = []
+certs_of true folder name pieces = (cert_name_in folder name, certificate_of (lists_of pieces)) ∷ []
+
+-- the layer's files: that of the layer and, where it is wanted, that of its certificate
+abbrev pub files_in : Bool → List ℕ → Done → Files
+files_in cert folder done = file_in folder done ∷ certs_of cert folder done.name done.pieces
+
+-- those of all layers, in their order
+abbrev pub all_files_in : Bool → List ℕ → List Done → Files
+all_files_in cert folder done = flat_map (files_in cert folder) done
+
+-- all layers are carried: a file for each, in their order, where it is wanted each followed by its certificate, and a
+-- report, which lists the changes of the pieces of all of them
 pub record IsMigrated (files : Files) (migration : Migration) (changes : List Change) (layers : Files)
     (said : List ℕ) : Type 0 where
   pub tin : Triangulation
@@ -115,7 +118,7 @@ pub record IsMigrated (files : Files) (migration : Migration) (changes : List Ch
   pub used : ℕ
   pub carried : AreCarried (setting_of (Some files) migration.how tin) 0 0 [] migration.layers pieces done used
   pub listed : AreListed tin pieces changes
-  pub layers_are : layers ≡ map (file_in migration.out) done
+  pub layers_are : layers ≡ all_files_in migration.cert migration.out done
   pub said_is : said ≡ report_text (report_of migration.tin tin (map row_of done) changes)
 
 -- a migration makes the layers' files and then the report; the status says whether this lists a change
@@ -136,8 +139,10 @@ pub record IsReportOn (tin : List ℕ) (layers : List (List ℕ)) (said : List �
   pub status_is : status ≡ end_with report.changes
 
 -- What is written of a migration that is done, whatever files hold, and the status: a file for each layer, in their
--- order and under their last parts in the folder, and a report on them.
+-- order and under their last parts in the folder, where it is wanted each followed by its certificate, and a report on
+-- them.
 abbrev pub IsMigrationWritten : Migration → Files → List ℕ → Status → Type 0
 IsMigrationWritten migration layers said status =
-    (map (λ (file : List ℕ × List ℕ). file.0) layers ≡ map (name_in migration.out) migration.layers)
+    (map (λ (file : List ℕ × List ℕ). file.0) layers
+    ≡ flat_map (names_in migration.cert migration.out) migration.layers)
     × IsReportOn migration.tin migration.layers said status

@@ -1,5 +1,5 @@
 -- What a run has of the layers that it carried, and why one is not carried.
-use Rattle.std.specs.Prelude.{◌≡◌, ℕ, ◌+◌, List, [], ◌∷◌, ◌++◌, map, length, Some}
+use Rattle.std.specs.Prelude.{◌≡◌, ℕ, ◌+◌, Bool, List, [], ◌∷◌, ◌++◌, map, length, drop, Some}
 use Rattle.carry_map.specs.Layers.{IsLayerOutside, IsLayerTooMany}
 use Rattle.carry_map.specs.declared.faults.CarryFault.{CarryFault}
 use Rattle.carry_map.specs.declared.faults.CarryFault.TheVariants.{Layer as Unread, Outside as CarryOutside, TooMany}
@@ -27,10 +27,11 @@ use Rattle.runs.specs.declared.output.Output.{Output}
 use Rattle.runs.specs.Output.{file_of}
 use Rattle.migrate.specs.declared.layer_runs.Run.{Run}
 use Rattle.migrate.specs.declared.change_lists.TheConstants.{MOST_CHANGES}
-use Rattle.migrate.specs.LayerOutcomes.{IsLayerText, LacksLayerText, IsCarried}
+use Rattle.layer_formats.specs.LayerOutcomes.{IsLayerText, LacksLayerText}
+use Rattle.migrate.specs.LayerOutcomes.{IsCarried}
 use Rattle.migrate.specs.LayerRuns.{Setting, Done, AreCarried, IsReachedLayer, AreRefused}
 use Rattle.migrate.specs.RunChanges.{AreListed, is_some_change}
-use Rattle.migrate.specs.Migrations.{row_of, file_in, report_of}
+use Rattle.migrate.specs.Migrations.{row_of, files_in, all_files_in, report_of}
 
 -- ---- one layer
 -- the refusal of the layer of this number, which is not carried
@@ -62,13 +63,14 @@ IsUncarried how tin format text number before refusal =
     IsUncarriedAs (IsLayerText how format) (LacksLayerText how format) tin text number before refusal
 
 -- the layer of this number, name and bytes is carried behind what the run had, and is the last that it has now
-pub record AddsLayer (how : How) (tin : Triangulation) (folder : List ℕ) (number : ℕ) (name bytes : List ℕ)
-    (before now : Run) : Type 0 where
+pub record AddsLayer (how : How) (tin : Triangulation) (cert : Bool) (folder : List ℕ) (number : ℕ)
+    (name bytes : List ℕ) (before now : Run) : Type 0 where
   pub done : Done
   pub named : done.name ≡ name
   pub suffix : format_of name ≡ Some done.format
   pub carried : IsCarried how tin done.format bytes number before.pieces.items now.pieces.items done.carried
-  pub files : map file_of now.files.items ≡ map file_of before.files.items ++ file_in folder done ∷ []
+  pub own : done.pieces ≡ drop (length before.pieces.items) now.pieces.items
+  pub files : map file_of now.files.items ≡ map file_of before.files.items ++ files_in cert folder done
   pub rows : now.rows.items ≡ before.rows.items ++ row_of done ∷ []
   pub used : now.used ≡ before.used + length bytes
 
@@ -81,19 +83,20 @@ pub record AddsNone (how : How) (tin : Triangulation) (number : ℕ) (name bytes
 
 -- the row of a layer of this name and format
 abbrev pub row_with : List ℕ → Format → Carried → LayerRow
-row_with name format carried = row_of (record { name = name; format = format; carried = carried })
+row_with name format carried = row_of (record { name = name; format = format; carried = carried; pieces = [] })
 
 -- ---- all layers
 -- what a run has of the layers that were carried
-pub record Holds (folder : List ℕ) (done : List Done) (run : Run) : Type 0 where
-  pub files : map file_of run.files.items ≡ map (file_in folder) done
+pub record Holds (cert : Bool) (folder : List ℕ) (done : List Done) (run : Run) : Type 0 where
+  pub files : map file_of run.files.items ≡ all_files_in cert folder done
   pub rows : run.rows.items ≡ map row_of done
 
 -- the layers of these names are carried, and this is what the run has of them
-pub record HasCarried (setting : Setting) (folder : List ℕ) (names : List (List ℕ)) (run : Run) : Type 0 where
-  pub done : List Done
-  pub carried : AreCarried setting 0 0 [] names run.pieces.items done run.used
-  pub holds : Holds folder done run
+pub record HasCarried (setting : Setting) (cert : Bool) (folder : List ℕ) (names : List (List ℕ)) (run : Run) : Type 0
+  where
+    pub done : List Done
+    pub carried : AreCarried setting 0 0 [] names run.pieces.items done run.used
+    pub holds : Holds cert folder done run
 
 -- why the layers are not all carried, or their changes not listed: by the files, after a read fault, or because
 -- memory ran out

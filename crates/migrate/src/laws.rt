@@ -3,31 +3,9 @@
 ghost use Rattle.std.specs.Prelude.{◌≡◌, ◌^◌};
 ghost use Rattle.migrate.specs.declared.change_lists.TheConstants.{MOST_CHANGES};
 ghost use Rattle.migrate.specs.declared.maker_texts.TheConstants.{COMMA};
-ghost use Rattle.migrate.specs.LayerOutcomes.{LayerTextsAreOne, LayerOutcomesExist};
 ghost use Rattle.migrate.specs.Laws.{MigrationIsOne, MakingIsOne, MigrationKeepsRelations, MakingKeepsRelations};
 
-use dxf_layer::Dxf;
-use gj_layer::GeoJson;
-use sheet_base::Layer;
-use wkt_layer::Wkt;
-
-/// A law: in each format a text is a layer of one sheet, or has one first fault, and not both.
-pub fn layer_texts_are_one()
-    ensures { LayerTextsAreOne }
-{
-    Wkt::outcome_is_one();
-    GeoJson::outcome_is_one();
-    Dxf::outcome_is_one();
-}
-
-/// A law: in each format any text is a layer of some sheet, or has a first fault.
-pub fn layer_outcomes_exist()
-    ensures { LayerOutcomesExist }
-{
-    Wkt::outcome_exists();
-    GeoJson::outcome_exists();
-    Dxf::outcome_exists();
-}
+use layer_formats::layer_texts_are_one;
 
 /// A law: a migration of the same files ends in one way.
 pub fn migration_is_one()

@@ -1,16 +1,17 @@
 //! The layers of a run, carried one after the other.
 
-ghost use Rattle.std.specs.Prelude.{◌≡◌, ◌≢◌, ◌⊎◌, ◌+◌, ◌≤◌, [], ◌∷◌, ◌++◌, Some, IfOk, IfErr, OnOk, length, vec_len};
-ghost use Rattle.std.specs.Prelude.{string_bytes};
+ghost use Rattle.std.specs.Prelude.{◌≡◌, ◌≢◌, ◌⊎◌, ◌+◌, ◌≤◌, [], ◌∷◌, ◌++◌, IfOk, IfErr, OnOk, map, drop, length};
+ghost use Rattle.std.specs.Prelude.{vec_len, string_bytes};
 ghost use Rattle.shelf_io.specs.Count.{Rose, counted};
 ghost use Rattle.carry_map.specs.declared.limits.TheConstants.{MOST_PIECES};
-ghost use Rattle.job_words.specs.Formats.{format_of as format_by_name};
 ghost use Rattle.job_words.specs.Kept.{HasFormat};
 ghost use Rattle.runs.specs.declared.loads.TheConstants.{MOST_BYTES};
 ghost use Rattle.runs.specs.declared.status.Status.TheVariants.{Read as ReadStatus};
 ghost use Rattle.runs.specs.declared.refusal.Refusal.TheVariants.{LayersLong};
-ghost use Rattle.migrate.specs.Names.{name_in};
-ghost use Rattle.migrate.specs.Migrations.{MayBeTaken, LacksSome};
+ghost use Rattle.cert_check.specs.Certificates.{certificate_of};
+ghost use Rattle.cert_check.specs.PieceLists.{lists_of};
+ghost use Rattle.migrate.specs.Names.{name_in, cert_name_in};
+ghost use Rattle.migrate.specs.Migrations.{MayBeTaken, LacksSome, certs_of};
 ghost use Rattle.runs.specs.Counts.{LeavesFaults};
 ghost use Rattle.runs.specs.Refusals.{status_of};
 ghost use Rattle.migrate.specs.LayerOutcomes.{IsCarriedAs, IsCarried};
@@ -23,9 +24,11 @@ use crate::migrations::Migration;
 use crate::refusals::uncarried;
 use crate::report::layer_row;
 use carry_map::{Carried, MOST_PIECES, carry_layer};
+use cert_check::write_cert;
 use dxf_layer::Dxf;
 use gj_layer::GeoJson;
-use job_words::{Format, format_of, last_part};
+use job_words::{Format, last_part};
+use layer_formats::known_format;
 use report_text::LayerRow;
 use runs::{LayerFile, MOST_BYTES, Refusal, load_file};
 use sheet_base::{How, Layer, Listed};
@@ -117,17 +120,6 @@ fn carry_by_format(
     }
 }
 
-/// The format of a layer of the words.
-fn known_format(name: &str) -> Format
-    requires { HasFormat name.now }
-    ensures { format_by_name name.now ≡ Some result }
-{
-    match format_of(name) {
-        Some(format) => format,
-        None => unreachable!(),
-    }
-}
-
 /// The file into which a layer is written that was carried.
 fn layer_file(
     alloc: Global,
@@ -143,6 +135,54 @@ fn layer_file(
     })
 }
 
+/// The name of the file into which the certificate of a layer is written: that of the layer's file, and `.cert`.
+pub fn cert_name(alloc: Global, out: &str, layer: &str) -> Result<String, AllocError>
+    ensures { IfOk result (λ name. string_bytes name ≡ cert_name_in out.now layer.now) }
+{
+    let name = output_name(alloc, out, layer)?;
+    let whole = format!(in alloc; "{name}.cert")?;
+    Ok(whole)
+}
+
+/// The file into which the certificate of a layer is written that has these pieces.
+fn cert_file(
+    alloc: Global,
+    out: &Name,
+    name: &Name,
+    pieces: &[Piece],
+) -> Result<LayerFile, AllocError>
+    ensures { IfOk result (λ file. file_of file ≡ (cert_name_in out.now name.now, certificate_of (lists_of pieces.now))) }
+{
+    Ok(LayerFile {
+        name: cert_name(alloc, out.text(), name.text())?,
+        text: Listed::of(write_cert(alloc, pieces)?),
+    })
+}
+
+/// Puts the file of a layer's certificate behind those that the run has, where it is wanted. The layer's pieces are
+/// those behind `before`.
+fn add_cert(
+    alloc: Global,
+    cert: bool,
+    folder: &Name,
+    name: &Name,
+    before: usize,
+    run: &mut Run,
+) -> Result<(), AllocError>
+    requires within { before ≤ length run.old.pieces.items }
+    ensures files { OnOk result (map file_of run.new.files.items ≡ map file_of run.old.files.items ++ certs_of cert folder.now name.now (drop before run.old.pieces.items)) }
+    ensures rows { run.new.rows ≡ run.old.rows }
+    ensures pieces { run.new.pieces ≡ run.old.pieces }
+    ensures used { run.new.used ≡ run.old.used }
+{
+    if !cert {
+        return Ok(());
+    }
+    let file = cert_file(alloc, folder, name, &run.pieces[before..])?;
+    run.files.push(file)?;
+    Ok(())
+}
+
 /// Puts a layer's file and its row behind those that the run has.
 fn add_layer(run: &mut Run, file: LayerFile, row: LayerRow) -> Result<(), AllocError>
     ensures files { OnOk result (run.new.files.items ≡ run.old.files.items ++ file ∷ []) }
@@ -155,10 +195,12 @@ fn add_layer(run: &mut Run, file: LayerFile, row: LayerRow) -> Result<(), AllocE
     Ok(())
 }
 
-/// Carries the layer of this number, name and bytes behind those that the run has.
+/// Carries the layer of this number, name and bytes behind those that the run has, where `cert` is set with its
+/// certificate.
 pub fn carry_next(
     alloc: Global,
     folder: &Name,
+    cert: bool,
     how: How,
     index: &TinIndex,
     number: u32,
@@ -169,15 +211,17 @@ pub fn carry_next(
     requires suffix { HasFormat name.now }
     requires within { run.old.used + length bytes.now ≤ MOST_BYTES }
     requires room { vec_len run.old.pieces ≤ MOST_PIECES }
-    ensures ok { OnOk result (AddsLayer how index.now folder.now number name.now bytes.now run.old run.new) }
+    ensures ok { OnOk result (AddsLayer how index.now cert folder.now number name.now bytes.now run.old run.new) }
     ensures room { vec_len run.new.pieces ≤ MOST_PIECES }
     ensures refused { IfErr result (λ refusal. AddsNone how index.now number name.now bytes.now (length run.old.pieces.items) refusal) }
 {
     let format = known_format(name.text());
+    let before = run.pieces.len();
     let carried = carry_by_format(alloc, format, index, bytes, how, number, &mut run.pieces)?;
     let row = layer_row(alloc, name, format, &carried)?;
     let file = layer_file(alloc, folder, name, carried.text)?;
     add_layer(run, file, row)?;
+    add_cert(alloc, cert, folder, name, before, run)?;
     run.used += bytes.len() as u64;
     Ok(())
 }
@@ -190,7 +234,7 @@ pub fn carry_layers<S: Shelf>(
     index: &TinIndex,
 ) -> Result<Run, Refusal>
     requires { MayBeTaken migration.now }
-    ensures ok { IfOk result (λ run. HasCarried (setting_of (S.files shelf.old) migration.now.how index.now) migration.now.out migration.now.layers run) }
+    ensures ok { IfOk result (λ run. HasCarried (setting_of (S.files shelf.old) migration.now.how index.now) migration.now.cert migration.now.out migration.now.layers run) }
     ensures room { IfOk result (λ run. vec_len run.pieces ≤ MOST_PIECES) }
     ensures refused { IfErr result (λ refusal. AreUncarried (setting_of (S.files shelf.old) migration.now.how index.now) migration.now.layers (Rose (S.faults shelf.old) (S.faults shelf.new)) refusal) }
     ensures of_layers { IfErr result IsOfLayers }
@@ -212,6 +256,7 @@ pub fn carry_layers<S: Shelf>(
         carry_next(
             alloc,
             &migration.out,
+            migration.cert,
             migration.how,
             index,
             layer,

@@ -13,10 +13,10 @@ mod report;
 
 pub use change_lists::MOST_CHANGES;
 pub use laws::{
-    layer_outcomes_exist, layer_texts_are_one, limits_are_stated, making_is_one,
-    making_keeps_relations, migration_is_one, migration_keeps_relations,
+    limits_are_stated, making_is_one, making_keeps_relations, migration_is_one,
+    migration_keeps_relations,
 };
-pub use layer_runs::output_name;
+pub use layer_runs::{cert_name, output_name};
 pub use maker::prepare_making;
 pub use maker_texts::{make_layer, make_tin};
 pub use migration_output::prepare_migration;

@@ -1,11 +1,11 @@
 //! What is written of a triangulation and a layer that are made.
 
-ghost use Rattle.std.specs.Prelude.{◌≡◌, ◌≤◌, [], Some, IfOk, IfErr, vec_len};
+ghost use Rattle.std.specs.Prelude.{◌≡◌, ◌≤◌, [], Some, IfOk, IfErr, vec_len, false};
 ghost use Rattle.carry_map.specs.declared.limits.TheConstants.{MOST_PIECES};
 ghost use Rattle.job_words.specs.declared.limits.TheConstants.{MOST_SIZE};
 ghost use Rattle.runs.specs.Status.{end_of};
 ghost use Rattle.runs.specs.Output.{files_of, HasForm};
-ghost use Rattle.migrate.specs.Migrations.{HasTurned};
+ghost use Rattle.runs.specs.Triangulations.{HasDirected};
 ghost use Rattle.migrate.specs.Maker.{made_files, made_migration, IsMakingDone, IsMakingWritten, MayNotBeMade};
 ghost use Rattle.migrate.specs.Maker.{IsOfMaking};
 ghost use Rattle.migrate.specs.RunContents.{HasCarried, AreUncarried};
@@ -35,7 +35,7 @@ fn plainly() -> How
 fn build_made_index(alloc: Global, n: u32) -> Result<TinIndex, Refusal>
     requires some { 1 ≤ n }
     requires most { n ≤ MOST_SIZE }
-    ensures ok { IfOk result (λ tin. HasTurned (made_files n) made_migration.how made_migration.tin made_migration.inverse tin) }
+    ensures ok { IfOk result (λ tin. HasDirected (made_files n) made_migration.how made_migration.tin made_migration.inverse tin) }
     ensures refused { IfErr result (λ refusal. MayNotBeMade n refusal) }
     ensures of_making { IfErr result IsOfMaking }
 {
@@ -49,7 +49,7 @@ fn build_made_index(alloc: Global, n: u32) -> Result<TinIndex, Refusal>
 fn carry_made_layer(alloc: Global, n: u32, index: &TinIndex) -> Result<Run, Refusal>
     requires some { 1 ≤ n }
     requires most { n ≤ MOST_SIZE }
-    ensures ok { IfOk result (λ run. HasCarried (setting_of (Some (made_files n)) made_migration.how index.now) [] made_migration.layers run) }
+    ensures ok { IfOk result (λ run. HasCarried (setting_of (Some (made_files n)) made_migration.how index.now) false [] made_migration.layers run) }
     ensures room { IfOk result (λ run. vec_len run.pieces ≤ MOST_PIECES) }
     ensures refused { IfErr result (λ refusal. AreUncarried (setting_of (Some (made_files n)) made_migration.how index.now) made_migration.layers ⊥ refusal) }
     ensures of_making { IfErr result IsOfMaking }
@@ -58,7 +58,17 @@ fn carry_made_layer(alloc: Global, n: u32, index: &TinIndex) -> Result<Run, Refu
     let name = Name::of(alloc, "made.wkt")?;
     let folder = Name::of(alloc, "")?;
     let mut run = Run::new(alloc);
-    carry_next(alloc, &folder, plainly(), index, 0, &name, &text, &mut run)?;
+    carry_next(
+        alloc,
+        &folder,
+        false,
+        plainly(),
+        index,
+        0,
+        &name,
+        &text,
+        &mut run,
+    )?;
     Ok(run)
 }
 

@@ -5,13 +5,12 @@ ghost use Rattle.shelf_io.specs.Count.{Rose, counted};
 ghost use Rattle.runs.specs.declared.loads.TheConstants.{MOST_BYTES};
 ghost use Rattle.runs.specs.Counts.{LeavesFaults};
 ghost use Rattle.runs.specs.Loads.{IsTinUnready};
-ghost use Rattle.migrate.specs.Migrations.{directed, HasTurned};
+ghost use Rattle.runs.specs.Triangulations.{HasDirected};
 
-use runs::{Refusal, load_tin};
+use runs::{Refusal, load_directed};
 use sheet_base::{How, Listed};
 use shelf_io::{Name, Shelf};
 use std::alloc::Global;
-use tin_base::{SoundTin, turned};
 use tin_index::TinIndex;
 
 /// What a migration is to do.
@@ -25,15 +24,10 @@ pub struct Migration {
     pub how: How,
     /// Whether the triangulation's frames are exchanged before layers are carried.
     pub inverse: bool,
+    /// Whether each layer's file is followed by that of its certificate.
+    pub cert: bool,
     /// The names of the layers' files, in order.
     pub layers: Listed<Name>,
-}
-
-/// The triangulation through which layers are carried: as it stands, or with its frames exchanged.
-fn direct(tin: SoundTin, inverse: bool) -> SoundTin
-    ensures { result ≡ directed inverse tin }
-{
-    if inverse { turned(tin) } else { tin }
 }
 
 /// The sound triangulation of the file of this name, in which points are found; its frames are exchanged where
@@ -46,12 +40,12 @@ pub fn load_index<S: Shelf>(
     inverse: bool,
 ) -> Result<TinIndex, Refusal>
     ensures files { S.files shelf.new ≡ S.files shelf.old }
-    ensures ok { IfOk result (λ tin. IfSome (S.files shelf.old) (λ files. HasTurned files how name.now inverse tin)) }
+    ensures ok { IfOk result (λ tin. IfSome (S.files shelf.old) (λ files. HasDirected files how name.now inverse tin)) }
     ensures refused { IfErr result (λ refusal. IsTinUnready (S.files shelf.old) how name.now (Rose (S.faults shelf.old) (S.faults shelf.new)) (counted (S.given shelf.old) (MOST_BYTES + 1) ≤ S.given shelf.new) refusal) }
     ensures given { S.given shelf.old ≤ S.given shelf.new }
     ensures faults { LeavesFaults (S.faults shelf.old) (S.faults shelf.new) result }
 {
-    let tin = load_tin(alloc, shelf, name, how)?;
-    let index = TinIndex::build(alloc, direct(tin, inverse))?;
+    let tin = load_directed(alloc, shelf, name, how, inverse)?;
+    let index = TinIndex::build(alloc, tin)?;
     Ok(index)
 }

@@ -4,7 +4,7 @@ ghost use Rattle.std.specs.Prelude.{◌≡◌, IfOk};
 ghost use Rattle.std.specs.List.{AllByRecursion};
 ghost use Rattle.report_text.specs.Reports.{IsPrintable, IsChanged};
 ghost use Rattle.report_text.specs.ReportText.{report_text};
-ghost use Rattle.migrate.specs.LayerTexts.{is_drawing};
+ghost use Rattle.layer_formats.specs.LayerTexts.{is_drawing};
 ghost use Rattle.migrate.specs.Migrations.{report_of};
 ghost use Rattle.migrate.specs.RunContents.{row_with};
 

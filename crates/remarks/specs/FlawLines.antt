@@ -8,14 +8,14 @@ use Rattle.remarks.specs.declared.flaw_lines.WordFlaw.TheVariants.{TooMany, Refu
 
 -- what stands in front of the word
 abbrev pub before_word : WordFlaw → List ℕ
-before_word NoMode = codes "a mode is missing: the first word is to be migrate, check or make"
+before_word NoMode = codes "a mode is missing: the first word is to be migrate, check, make or verify"
 before_word NoValue = codes "the value is missing behind '"
 before_word flaw = codes "'"
 
 -- what stands behind it
 abbrev pub behind_word : WordFlaw → List ℕ
 behind_word NoMode = []
-behind_word Mode = codes "' is no mode: the first word is to be migrate, check or make"
+behind_word Mode = codes "' is no mode: the first word is to be migrate, check, make or verify"
 behind_word Unknown = codes "' is no option of this mode"
 behind_word Twice = codes "' is there twice"
 behind_word NoValue = codes "'"

@@ -3,6 +3,8 @@ use Rattle.std.specs.Prelude.{ℕ, eqb, if◌then◌else◌, List, [], ◌++◌,
 use Rattle.job_words.specs.declared.faults.Which.TheVariants.{Layer as WhichLayer}
 use Rattle.job_words.specs.declared.faults.WordsFault.{WordsFault}
 use Rattle.job_words.specs.declared.faults.WordsFault.TheVariants as words
+use Rattle.cert_check.specs.declared.faults.CertFault.{CertFault}
+use Rattle.cert_check.specs.declared.faults.CertFault.TheVariants as certs
 use Rattle.sheet_base.specs.declared.faults.LayerFault.{LayerFault}
 use Rattle.sheet_base.specs.declared.faults.LayerFault.TheVariants as layers
 use Rattle.tin_check.specs.declared.faults.CheckFault.{CheckFault}
@@ -14,7 +16,8 @@ use Rattle.tin_file.specs.declared.faults.TinFault.TheVariants as tins
 use Rattle.runs.specs.declared.refusal.Refusal.{Refusal}
 use Rattle.runs.specs.declared.refusal.Refusal.TheVariants.{Words, TinUnread, TinLong, Tin, Check, LayerUnread}
 use Rattle.runs.specs.declared.refusal.Refusal.TheVariants.{LayersLong, Layer, Outside, TooManyPieces, TooManyChanges}
-use Rattle.runs.specs.declared.refusal.Refusal.TheVariants.{NoMemory}
+use Rattle.runs.specs.declared.refusal.Refusal.TheVariants.{WrittenUnread, WrittenLong, CertUnread, CertLong}
+use Rattle.runs.specs.declared.refusal.Refusal.TheVariants.{Certificate, NoMemory}
 use Rattle.remarks.specs.LineColumns.{line_at, column_at}
 use Rattle.remarks.specs.Excerpts.{excerpt_of}
 use Rattle.remarks.specs.declared.spots.Spot.{Spot}
@@ -68,6 +71,14 @@ layer_spot (layers.Attribs line) = Line line
 layer_spot (layers.Seed line) = Line line
 layer_spot layers.NoMemory = File
 
+abbrev pub cert_spot : CertFault → Spot
+cert_spot (certs.Layer fault) = layer_spot fault
+cert_spot (certs.Form line) = Line line
+cert_spot (certs.Count segments lines) = File
+cert_spot (certs.Segment path segment) = Segment path segment
+cert_spot (certs.Differs at) = Byte at
+cert_spot certs.NoMemory = File
+
 abbrev pub spot_of : Refusal → Spot
 spot_of (Words fault) = words_spot fault
 spot_of TinUnread = File
@@ -80,6 +91,11 @@ spot_of (Layer layer fault) = layer_spot fault
 spot_of (Outside layer path segment) = Segment path segment
 spot_of TooManyPieces = Run
 spot_of TooManyChanges = Run
+spot_of WrittenUnread = File
+spot_of WrittenLong = File
+spot_of CertUnread = File
+spot_of CertLong = File
+spot_of (Certificate fault) = cert_spot fault
 spot_of NoMemory = Run
 
 -- ---- in words

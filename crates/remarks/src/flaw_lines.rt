@@ -35,7 +35,8 @@ fn before_word(flaw: WordFlaw) -> &'static str
     ensures { result.now ≡ before_word_of flaw }
 {
     match flaw {
-        WordFlaw::NoMode => "a mode is missing: the first word is to be migrate, check or make",
+        WordFlaw::NoMode =>
+            "a mode is missing: the first word is to be migrate, check, make or verify",
         WordFlaw::NoValue => "the value is missing behind '",
         WordFlaw::Mode
         | WordFlaw::Unknown
@@ -53,7 +54,7 @@ fn put_behind(text: &mut String, flaw: WordFlaw) -> Result<(), AllocError>
     match flaw {
         WordFlaw::NoMode => {}
         WordFlaw::Mode => text.push_str(
-            "' is no mode: the first word is to be migrate, check or make",
+            "' is no mode: the first word is to be migrate, check, make or verify",
         )?,
         WordFlaw::Unknown => text.push_str("' is no option of this mode")?,
         WordFlaw::Twice => text.push_str("' is there twice")?,

@@ -2,8 +2,10 @@
 
 ghost use Rattle.std.specs.Prelude.{◌≡◌};
 ghost use Rattle.remarks.specs.Spots.{words_spot as spot_of_words, tin_spot as spot_of_tin};
-ghost use Rattle.remarks.specs.Spots.{check_spot as spot_of_check, layer_spot as spot_of_layer, spot_of};
+ghost use Rattle.remarks.specs.Spots.{check_spot as spot_of_check, layer_spot as spot_of_layer};
+ghost use Rattle.remarks.specs.Spots.{cert_spot as spot_of_cert, spot_of};
 
+use cert_check::CertFault;
 use job_words::{Which, WordsFault};
 use runs::Refusal;
 use sheet_base::LayerFault;
@@ -103,6 +105,19 @@ fn layer_spot(fault: LayerFault) -> Spot
     }
 }
 
+/// Where a written layer is not verified.
+fn cert_spot(fault: CertFault) -> Spot
+    ensures { result ≡ spot_of_cert fault }
+{
+    match fault {
+        CertFault::Layer(fault) => layer_spot(fault),
+        CertFault::Form { line } => Spot::Line(line),
+        CertFault::Segment { path, segment } => Spot::Segment(path, segment),
+        CertFault::Differs { at } => Spot::Byte(at),
+        CertFault::Count { .. } | CertFault::NoMemory => Spot::File,
+    }
+}
+
 /// Where a refusal comes from.
 pub(crate) fn spot_for(refusal: Refusal) -> Spot
     ensures { result ≡ spot_of refusal }
@@ -113,7 +128,14 @@ pub(crate) fn spot_for(refusal: Refusal) -> Spot
         Refusal::Check(fault) => check_spot(fault),
         Refusal::Layer { fault, .. } => layer_spot(fault),
         Refusal::Outside { path, segment, .. } => Spot::Segment(path, segment),
-        Refusal::TinUnread | Refusal::TinLong | Refusal::LayerUnread { .. } => Spot::File,
+        Refusal::Certificate(fault) => cert_spot(fault),
+        Refusal::TinUnread
+        | Refusal::TinLong
+        | Refusal::LayerUnread { .. }
+        | Refusal::WrittenUnread
+        | Refusal::WrittenLong
+        | Refusal::CertUnread
+        | Refusal::CertLong => Spot::File,
         Refusal::LayersLong
         | Refusal::TooManyPieces
         | Refusal::TooManyChanges

@@ -15,14 +15,20 @@ use Rattle.tin_file.specs.declared.faults.TinFault.TheVariants.{Json, Deep, Key,
 use Rattle.tin_file.specs.declared.faults.TinFault.TheVariants.{TooMany, Row, Number, Inexact, Index, Span}
 use Rattle.tin_file.specs.declared.faults.TinFault.TheVariants.{NoMemory as TinMemory}
 use Rattle.job_words.specs.declared.faults.Which.TheVariants.{Tin as WhichTin, Out as WhichOut, Layer as WhichLayer}
+use Rattle.job_words.specs.declared.faults.Which.TheVariants.{Source as WhichSource, Written as WhichWritten}
+use Rattle.job_words.specs.declared.faults.Which.TheVariants.{Certificate as WhichCertificate}
+use Rattle.cert_check.specs.declared.faults.CertFault.{CertFault}
+use Rattle.cert_check.specs.declared.faults.CertFault.TheVariants as certs
 use Rattle.job_words.specs.declared.faults.WordsFault.{WordsFault}
 use Rattle.job_words.specs.declared.faults.WordsFault.TheVariants.{NoMode, Parse, Size, Many, Name, Suffix, SameName}
 use Rattle.job_words.specs.declared.faults.WordsFault.TheVariants.{NoMemory as WordsMemory}
 use Rattle.runs.specs.declared.refusal.Refusal.{Refusal}
 use Rattle.runs.specs.declared.refusal.Refusal.TheVariants.{Words, TinUnread, TinLong, Tin, Check, LayerUnread}
 use Rattle.runs.specs.declared.refusal.Refusal.TheVariants.{LayersLong, Layer, Outside, TooManyPieces, TooManyChanges}
+use Rattle.runs.specs.declared.refusal.Refusal.TheVariants.{WrittenUnread, WrittenLong, CertUnread, CertLong}
+use Rattle.runs.specs.declared.refusal.Refusal.TheVariants.{Certificate}
 use Rattle.runs.specs.declared.refusal.Refusal.TheVariants.{NoMemory}
-use Rattle.runs.specs.Lines.{words_line, tin_line, check_line, number_line, layer_line, layer_number_line}
+use Rattle.runs.specs.Lines.{words_line, tin_line, check_line, number_line, layer_line, layer_number_line, cert_line}
 use Rattle.runs.specs.Refusals.{line_of, limit_front}
 
 byte_of_take : (line : List ℕ) (count k : ℕ)
@@ -149,6 +155,18 @@ layer-none layer (layers.Attribs line) = a-line _ refl
 layer-none layer (layers.Seed line) = a-line _ refl
 layer-none layer layers.NoMemory = at-first _ 110 refl (λ e. omega (arith, e))
 
+-- the lines of a certificate begin with a c
+c-line : (line : List ℕ) → get_or line 0 0 ≡ 99 → TellsNone line
+c-line line is = at-first line 99 is (λ e. omega (arith, e))
+
+cert-none : (fault : CertFault) → TellsNone (cert_line fault)
+cert-none (certs.Layer fault) = layer-none 0 fault
+cert-none (certs.Form line) = c-line _ refl
+cert-none (certs.Count segments lines) = c-line _ refl
+cert-none (certs.Segment path segment) = c-line _ refl
+cert-none (certs.Differs at) = c-line _ refl
+cert-none certs.NoMemory = at-first _ 110 refl (λ e. omega (arith, e))
+
 -- the lines of words begin with a w
 w-line : (line : List ℕ) → get_or line 0 0 ≡ 119 → TellsNone line
 w-line line is = at-first line 119 is (λ e. omega (arith, e))
@@ -161,6 +179,9 @@ words-none Many = w-line _ refl
 words-none (Name WhichTin) = w-line _ refl
 words-none (Name WhichOut) = w-line _ refl
 words-none (Name (WhichLayer layer)) = w-line _ refl
+words-none (Name WhichSource) = w-line _ refl
+words-none (Name WhichWritten) = w-line _ refl
+words-none (Name WhichCertificate) = w-line _ refl
 words-none (Suffix layer) = w-line _ refl
 words-none (SameName layer) = w-line _ refl
 words-none WordsMemory = at-first _ 110 refl (λ e. omega (arith, e))
@@ -176,11 +197,15 @@ none-begins line rest count none same =
 pub data IsLimitLine (refusal : Refusal) : Type 0 where
   of_tin : refusal ≡ TinLong → IsLimitLine refusal
   of_layers : refusal ≡ LayersLong → IsLimitLine refusal
+  of_written : refusal ≡ WrittenLong → IsLimitLine refusal
+  of_cert : refusal ≡ CertLong → IsLimitLine refusal
   of_none : TellsNone (line_of refusal) → IsLimitLine refusal
 
 pub limit_line : (refusal : Refusal) → IsLimitLine refusal
 limit_line TinLong = of_tin refl
 limit_line LayersLong = of_layers refl
+limit_line WrittenLong = of_written refl
+limit_line CertLong = of_cert refl
 limit_line (Words fault) = of_none (words-none fault)
 limit_line TinUnread = of_none (at-first _ 114 refl (λ e. omega (arith, e)))
 limit_line (Tin fault) = of_none (text-none fault)
@@ -190,4 +215,7 @@ limit_line (Layer number fault) = of_none (layer-none number fault)
 limit_line (Outside number path segment) = of_none (at-first _ 111 refl (λ e. omega (arith, e)))
 limit_line TooManyChanges = of_none (at-eighth _ 99 refl (λ e. omega (arith, e)))
 limit_line TooManyPieces = of_none (at-eighth _ 112 refl (λ e. omega (arith, e)))
+limit_line WrittenUnread = of_none (at-first _ 114 refl (λ e. omega (arith, e)))
+limit_line CertUnread = of_none (at-first _ 114 refl (λ e. omega (arith, e)))
+limit_line (Certificate fault) = of_none (cert-none fault)
 limit_line NoMemory = of_none (at-first _ 110 refl (λ e. omega (arith, e)))

@@ -1,11 +1,13 @@
 -- The file of a name gives one sound triangulation, or one refusal.
-use Rattle.std.proofs.Common.{◌≡◌, ◌≢◌, ℕ, ◌<◌, ◌≤◌, List, None, Result, Ok, Err, length, refl, sym, ◌∙◌, ap, subst}
+use Rattle.std.proofs.Common.{◌≡◌, ◌≢◌, ℕ, ◌<◌, ◌≤◌, Bool, true, false, List, None, Result, Ok, Err, length, refl, sym}
+use Rattle.std.proofs.Common.{◌∙◌, ap, subst}
 use Rattle.std.proofs.Common.{arith}
 use Rattle.std.proofs.lemmas.Option.{none-some, same_Some}
 use Rattle.shelf_io.specs.Files.{Files, bytes_of}
 use Rattle.sheet_base.specs.declared.flags.How.{How}
 use Rattle.tin_base.specs.Triangulation.{Triangulation}
 use Rattle.tin_base.specs.Soundness.{IsSound}
+use Rattle.tin_base.proofs.Converse.{turned_sound}
 use Rattle.tin_check.specs.declared.faults.CheckFault.{CheckFault}
 use Rattle.tin_check.proofs.FirstFault.{unsound, one_first}
 use Rattle.tin_file.proofs.OneAnswer.{answer_is_one}
@@ -14,7 +16,7 @@ use Rattle.tin_file.specs.declared.faults.TinFault.TheVariants.{NoMemory as TinM
 use Rattle.runs.specs.declared.loads.TheConstants.{MOST_BYTES}
 use Rattle.runs.specs.declared.refusal.Refusal.{Refusal}
 use Rattle.runs.specs.declared.refusal.Refusal.TheVariants.{TinUnread, TinLong, Tin, Check}
-use Rattle.runs.specs.Triangulations.{IsTin, LacksTin, IsUnsound, HasFile, HasLongFile}
+use Rattle.runs.specs.Triangulations.{IsTin, LacksTin, IsUnsound, HasFile, HasLongFile, HasTin, directed}
 use Rattle.runs.specs.Laws.{IsTinEnd, TinEndIsOne}
 
 -- a file is missing, too long or read
@@ -128,3 +130,12 @@ tin_end_one files how name a b x y = file_end_one files how name a b (file_end f
 
 pub tin_end_is_one : TinEndIsOne
 tin_end_is_one files how name end other is too = tin_end_one files how name end other is too
+
+-- ---- the triangulation of a file is sound, and stays so where its frames are exchanged
+pub sound_of : (files : Files) (how : How) (name : List ℕ) (tin : Triangulation) → HasTin files how name tin
+    → IsSound tin
+sound_of files how name tin (text, file, is) = is.sound
+
+pub sound_way : (inverse : Bool) (tin : Triangulation) → IsSound tin → IsSound (directed inverse tin)
+sound_way false tin sound = sound
+sound_way true tin sound = turned_sound tin sound

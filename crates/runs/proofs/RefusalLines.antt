@@ -2,6 +2,8 @@
 use Rattle.std.proofs.Common.{◌≡◌, ◌≢◌, ℕ, refl}
 use Rattle.sheet_base.specs.declared.faults.LayerFault.{LayerFault}
 use Rattle.sheet_base.specs.declared.faults.LayerFault.TheVariants as layers
+use Rattle.cert_check.specs.declared.faults.CertFault.{CertFault}
+use Rattle.cert_check.specs.declared.faults.CertFault.TheVariants as certs
 use Rattle.tin_check.specs.declared.faults.CheckFault.{CheckFault}
 use Rattle.tin_check.specs.declared.faults.CheckFault.TheVariants.{Flat, TurnsOver, Meets, NoMemory as CheckMemory}
 use Rattle.tin_file.specs.declared.faults.TinFault.{TinFault}
@@ -15,9 +17,12 @@ use Rattle.runs.specs.declared.status.Status.TheVariants.{Write, Memory}
 use Rattle.runs.specs.declared.refusal.Refusal.{Refusal}
 use Rattle.runs.specs.declared.refusal.Refusal.TheVariants.{Words, TinUnread, TinLong, Tin, Check, LayerUnread}
 use Rattle.runs.specs.declared.refusal.Refusal.TheVariants.{LayersLong, Layer, Outside, TooManyPieces, TooManyChanges}
+use Rattle.runs.specs.declared.refusal.Refusal.TheVariants.{WrittenUnread, WrittenLong, CertUnread, CertLong}
+use Rattle.runs.specs.declared.refusal.Refusal.TheVariants.{Certificate}
 use Rattle.runs.specs.declared.refusal.Refusal.TheVariants.{NoMemory}
-use Rattle.runs.specs.Lines.{words_line, tin_line, check_line, layer_line}
+use Rattle.runs.specs.Lines.{words_line, tin_line, check_line, layer_line, cert_line}
 use Rattle.runs.specs.Refusals.{status_of, line_of, status_of_words, status_of_tin, status_of_check, status_of_layer}
+use Rattle.runs.specs.Refusals.{status_of_cert}
 use Rattle.runs.proofs.Faults.{of_text, of_check, of_layer, not_write, layer_not_write}
 
 words-never : (fault : WordsFault) → status_of_words fault ≢ Write
@@ -29,6 +34,14 @@ words-never (Name which) = λ e. cc
 words-never (Suffix layer) = λ e. cc
 words-never (SameName layer) = λ e. cc
 words-never WordsMemory = λ e. cc
+
+cert-never : (fault : CertFault) → status_of_cert fault ≢ Write
+cert-never (certs.Layer fault) = layer_not_write _ (of_layer fault)
+cert-never (certs.Form line) = λ e. cc
+cert-never (certs.Count segments lines) = λ e. cc
+cert-never (certs.Segment path segment) = λ e. cc
+cert-never (certs.Differs at) = λ e. cc
+cert-never certs.NoMemory = λ e. cc
 
 pub never-write : (refusal : Refusal) → status_of refusal ≢ Write
 never-write (Words fault) = words-never fault
@@ -42,6 +55,11 @@ never-write (Layer layer fault) = layer_not_write _ (of_layer fault)
 never-write (Outside layer path segment) = λ e. cc
 never-write TooManyPieces = λ e. cc
 never-write TooManyChanges = λ e. cc
+never-write WrittenUnread = λ e. cc
+never-write WrittenLong = λ e. cc
+never-write CertUnread = λ e. cc
+never-write CertLong = λ e. cc
+never-write (Certificate fault) = cert-never fault
 never-write NoMemory = λ e. cc
 
 text-memory : (fault : TinFault) → status_of_tin fault ≡ Memory → tin_line fault ≡ line_of NoMemory
@@ -91,6 +109,14 @@ layer-memory layer (layers.Attribs line) is = cc
 layer-memory layer (layers.Seed line) is = cc
 layer-memory layer layers.NoMemory is = refl
 
+cert-memory : (fault : CertFault) → status_of_cert fault ≡ Memory → cert_line fault ≡ line_of NoMemory
+cert-memory (certs.Layer fault) is = layer-memory 0 fault is
+cert-memory (certs.Form line) is = cc
+cert-memory (certs.Count segments lines) is = cc
+cert-memory (certs.Segment path segment) is = cc
+cert-memory (certs.Differs at) is = cc
+cert-memory certs.NoMemory is = refl
+
 words-memory : (fault : WordsFault) → status_of_words fault ≡ Memory → words_line fault ≡ line_of NoMemory
 words-memory NoMode is = cc
 words-memory Parse is = cc
@@ -114,4 +140,9 @@ memory-line (Layer layer fault) is = layer-memory layer fault is
 memory-line (Outside layer path segment) is = cc
 memory-line TooManyPieces is = cc
 memory-line TooManyChanges is = cc
+memory-line WrittenUnread is = cc
+memory-line WrittenLong is = cc
+memory-line CertUnread is = cc
+memory-line CertLong is = cc
+memory-line (Certificate fault) is = cert-memory fault is
 memory-line NoMemory is = refl

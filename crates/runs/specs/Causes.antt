@@ -3,7 +3,7 @@ use Rattle.std.specs.Prelude.{◌≡◌, ◌≢◌, ◌⊎◌}
 use Rattle.runs.specs.declared.status.Status.{Status}
 use Rattle.runs.specs.declared.status.Status.TheVariants.{Words, Read, Memory}
 use Rattle.runs.specs.declared.refusal.Refusal.{Refusal}
-use Rattle.runs.specs.declared.refusal.Refusal.TheVariants.{TinLong, LayersLong}
+use Rattle.runs.specs.declared.refusal.Refusal.TheVariants.{TinLong, LayersLong, WrittenLong, CertLong}
 use Rattle.runs.specs.Refusals.{status_of}
 
 -- by its files, by the read fault of a file that is reached, or because memory ran out
@@ -20,4 +20,6 @@ pub record HasCauses (lacks : Type 0) (may_be : Status → Type 0) (shelf_rose g
   pub read : status_of refusal ≡ Read → shelf_rose ⊎ lacks
   pub tin_long : refusal ≡ TinLong → given_passed
   pub layers_long : refusal ≡ LayersLong → given_passed
+  pub written_long : refusal ≡ WrittenLong → given_passed
+  pub cert_long : refusal ≡ CertLong → given_passed
   pub may_end : may_be (status_of refusal)

@@ -7,6 +7,8 @@ use Rattle.sheet_base.specs.declared.faults.LayerFault.{LayerFault}
 use Rattle.sheet_base.specs.declared.faults.LayerFault.TheVariants as layers
 use Rattle.job_words.specs.declared.faults.Which.{Which}
 use Rattle.job_words.specs.declared.faults.Which.TheVariants.{Tin as WhichTin, Out as WhichOut, Layer as WhichLayer}
+use Rattle.job_words.specs.declared.faults.Which.TheVariants.{Source as WhichSource, Written as WhichWritten}
+use Rattle.job_words.specs.declared.faults.Which.TheVariants.{Certificate as WhichCertificate}
 use Rattle.job_words.specs.declared.faults.WordsFault.{WordsFault}
 use Rattle.job_words.specs.declared.faults.WordsFault.TheVariants.{NoMode, Parse, Size, Many, Name, Suffix, SameName}
 use Rattle.job_words.specs.declared.faults.WordsFault.TheVariants.{NoMemory as WordsMemory}
@@ -14,6 +16,8 @@ use Rattle.tin_base.specs.declared.frames.Axis.{Axis}
 use Rattle.tin_base.specs.declared.frames.Axis.TheVariants.{X, Y}
 use Rattle.tin_base.specs.declared.frames.Frame.{Frame}
 use Rattle.tin_base.specs.declared.frames.Frame.TheVariants.{Source, Target}
+use Rattle.cert_check.specs.declared.faults.CertFault.{CertFault}
+use Rattle.cert_check.specs.declared.faults.CertFault.TheVariants as certs
 use Rattle.tin_check.specs.declared.faults.CheckFault.{CheckFault}
 use Rattle.tin_check.specs.declared.faults.CheckFault.TheVariants.{Flat, TurnsOver, Meets, NoMemory as CheckMemory}
 use Rattle.tin_file.specs.Keys.{key_of}
@@ -124,11 +128,24 @@ layer_line layer (layers.Attribs line) = at_line layer (codes "attribs") line
 layer_line layer (layers.Seed line) = at_line layer (codes "seed") line
 layer_line layer layers.NoMemory = codes "no memory\n"
 
+-- a certificate by which a written layer is not verified; its source is layer 0
+abbrev pub cert_line : CertFault → List ℕ
+cert_line (certs.Layer fault) = layer_line 0 fault
+cert_line (certs.Form line) = codes "certificate: form at line " ++ decimal line ++ codes "\n"
+cert_line (certs.Count segments lines) = codes "certificate: count\n"
+cert_line (certs.Segment path segment) = codes "certificate: segment " ++ decimal path ++ codes "/" ++ decimal segment
+    ++ codes "\n"
+cert_line (certs.Differs at) = codes "certificate: differs at " ++ decimal at ++ codes "\n"
+cert_line certs.NoMemory = codes "no memory\n"
+
 -- a name of a job
 abbrev pub which_line : Which → List ℕ
 which_line WhichTin = codes "words: name of triangulation\n"
 which_line WhichOut = codes "words: name of folder\n"
 which_line (WhichLayer layer) = codes "words: name of layer " ++ decimal layer ++ codes "\n"
+which_line WhichSource = codes "words: name of source\n"
+which_line WhichWritten = codes "words: name of written\n"
+which_line WhichCertificate = codes "words: name of certificate\n"
 
 -- words that are not understood
 abbrev pub words_line : WordsFault → List ℕ

@@ -3,6 +3,8 @@ use Rattle.std.specs.Prelude.{◌≡◌, ℕ, List, [], ◌∷◌, ◌++◌, cod
 use Rattle.shelf_io.specs.Files.{Files}
 use Rattle.job_words.specs.declared.faults.WordsFault.{WordsFault}
 use Rattle.job_words.specs.declared.faults.WordsFault.TheVariants.{NoMemory as WordsMemory}
+use Rattle.cert_check.specs.declared.faults.CertFault.{CertFault}
+use Rattle.cert_check.specs.declared.faults.CertFault.TheVariants.{Layer as CertLayer, NoMemory as CertMemory}
 use Rattle.sheet_base.specs.declared.faults.LayerFault.{LayerFault}
 use Rattle.sheet_base.specs.declared.faults.LayerFault.TheVariants.{NoMemory as LayerMemory}
 use Rattle.tin_check.specs.declared.faults.CheckFault.{CheckFault}
@@ -11,12 +13,14 @@ use Rattle.tin_file.specs.declared.faults.TinFault.{TinFault}
 use Rattle.tin_file.specs.declared.faults.TinFault.TheVariants.{TooMany as TooManyRows, NoMemory as TinMemory}
 use Rattle.runs.specs.declared.status.Status.{Status}
 use Rattle.runs.specs.declared.status.Status.TheVariants.{Words as WordsStatus, Tin as TinStatus, Layer as LayerStatus}
-use Rattle.runs.specs.declared.status.Status.TheVariants.{Outside as OutsideStatus, Read, Memory, Limit}
+use Rattle.runs.specs.declared.status.Status.TheVariants.{Outside as OutsideStatus, Read, Memory, Limit, Uncertified}
 use Rattle.runs.specs.declared.refusal.Refusal.{Refusal}
 use Rattle.runs.specs.declared.refusal.Refusal.TheVariants.{Words, TinUnread, TinLong, Tin, Check, LayerUnread}
 use Rattle.runs.specs.declared.refusal.Refusal.TheVariants.{LayersLong, Layer, Outside, TooManyPieces, TooManyChanges}
+use Rattle.runs.specs.declared.refusal.Refusal.TheVariants.{WrittenUnread, WrittenLong, CertUnread, CertLong}
+use Rattle.runs.specs.declared.refusal.Refusal.TheVariants.{Certificate}
 use Rattle.runs.specs.declared.refusal.Refusal.TheVariants.{NoMemory}
-use Rattle.runs.specs.Lines.{words_line, tin_line, check_line, layer_line}
+use Rattle.runs.specs.Lines.{words_line, tin_line, check_line, layer_line, cert_line}
 
 -- running out of memory says nothing of the words
 abbrev pub status_of_words : WordsFault → Status
@@ -39,6 +43,12 @@ abbrev pub status_of_layer : LayerFault → Status
 status_of_layer LayerMemory = Memory
 status_of_layer fault = LayerStatus
 
+-- a source that is not read has its own status; running out of memory says nothing of the certificate
+abbrev pub status_of_cert : CertFault → Status
+status_of_cert (CertLayer fault) = status_of_layer fault
+status_of_cert CertMemory = Memory
+status_of_cert fault = Uncertified
+
 abbrev pub status_of : Refusal → Status
 status_of (Words fault) = status_of_words fault
 status_of TinUnread = Read
@@ -51,6 +61,11 @@ status_of (Layer layer fault) = status_of_layer fault
 status_of (Outside layer path segment) = OutsideStatus
 status_of TooManyPieces = Limit
 status_of TooManyChanges = Limit
+status_of WrittenUnread = Read
+status_of WrittenLong = Limit
+status_of CertUnread = Read
+status_of CertLong = Limit
+status_of (Certificate fault) = status_of_cert fault
 status_of NoMemory = Memory
 
 abbrev pub line_of : Refusal → List ℕ
@@ -66,6 +81,11 @@ line_of (Outside layer path segment) = codes "outside: layer " ++ decimal layer 
     ++ codes " segment " ++ decimal segment ++ codes "\n"
 line_of TooManyPieces = codes "limit: pieces\n"
 line_of TooManyChanges = codes "limit: changes\n"
+line_of WrittenUnread = codes "read fault: written\n"
+line_of WrittenLong = codes "limit: bytes of written\n"
+line_of CertUnread = codes "read fault: certificate\n"
+line_of CertLong = codes "limit: bytes of certificate\n"
+line_of (Certificate fault) = cert_line fault
 line_of NoMemory = codes "no memory\n"
 
 -- a refusal makes one file, standard output, with its line

@@ -2,7 +2,7 @@
 use Rattle.std.specs.Prelude.{ℕ, Bool, true, false}
 use Rattle.runs.specs.declared.status.Status.{Status}
 use Rattle.runs.specs.declared.status.Status.TheVariants.{Same, Changed, Words, Tin, Layer, Outside, Read, Write}
-use Rattle.runs.specs.declared.status.Status.TheVariants.{Memory, Limit}
+use Rattle.runs.specs.declared.status.Status.TheVariants.{Memory, Limit, Uncertified}
 
 abbrev pub code_of : Status → ℕ
 code_of Same = 0
@@ -15,6 +15,7 @@ code_of Read = 6
 code_of Write = 7
 code_of Memory = 8
 code_of Limit = 9
+code_of Uncertified = 10
 
 -- how a run ends that has written all: by whether it lists a change
 abbrev pub end_of : Bool → Status

@@ -1,9 +1,10 @@
 -- The triangulation of a text or of a file, and why there is none.
-use Rattle.std.specs.Prelude.{◌≡◌, ◌≢◌, ℕ, ◌<◌, ◌≤◌, List, length, None, Some, Ok, Err}
+use Rattle.std.specs.Prelude.{◌≡◌, ◌≢◌, ℕ, ◌<◌, ◌≤◌, Bool, true, false, List, length, None, Some, Ok, Err}
 use Rattle.shelf_io.specs.Files.{Files, bytes_of}
 use Rattle.sheet_base.specs.declared.flags.How.{How}
 use Rattle.tin_base.specs.Triangulation.{Triangulation}
 use Rattle.tin_base.specs.Soundness.{IsSound}
+use Rattle.tin_base.specs.Turned.{turned_of}
 use Rattle.tin_check.specs.Faults.{IsCause, IsFirstFault}
 use Rattle.tin_check.specs.declared.faults.CheckFault.{CheckFault}
 use Rattle.tin_file.specs.Reading.{IsReading, Answers}
@@ -55,6 +56,19 @@ HasLongFile files name = (bytes : List ℕ) × (bytes_of files name ≡ Some byt
 abbrev pub HasTin : Files → How → List ℕ → Triangulation → Type 0
 HasTin files how name tin = (text : List ℕ) × HasFile files name text × IsTin how text tin
 
+-- ---- in one of two directions
+-- the triangulation as it is, or with its frames exchanged
+abbrev pub directed : Bool → Triangulation → Triangulation
+directed false tin = tin
+directed true tin = turned_of tin
+
+-- the triangulation of the file of this name is read and sound as it is there, and only then its frames are exchanged,
+-- where that is asked for
+abbrev pub HasDirected : Files → How → List ℕ → Bool → Triangulation → Type 0
+HasDirected files how name inverse tin = (stood : Triangulation) × HasTin files how name stood
+    × (tin ≡ directed inverse stood)
+
+-- ---- none
 -- The file of this name gives no sound triangulation: one row for each refusal, in the order in which they are tried.
 abbrev pub IsTinRefused : Files → How → List ℕ → Refusal → Type 0
 IsTinRefused files how name TinUnread = bytes_of files name ≡ None

@@ -1,12 +1,13 @@
-//! The lines that say why a layer is refused, built without taking memory.
+//! The lines that say why a layer or a certificate is refused, built without taking memory.
 
 ghost use Rattle.std.specs.Prelude.{◌≡◌, ◌≤◌, length};
 ghost use Rattle.runs.specs.Lines.{layer_line as layer_line_of, layer_number_line as layer_number_line_of, at_place};
-ghost use Rattle.runs.specs.Lines.{at_line};
+ghost use Rattle.runs.specs.Lines.{at_line, cert_line as cert_line_of};
 ghost use Rattle.runs.specs.Refusals.{line_of};
 ghost use Rattle.runs.specs.declared.refusal.Refusal.TheVariants.{Outside};
 
 use crate::lines::{Line, line_with_number, line_with_numbers, said_three, text_line};
+use cert_check::CertFault;
 use itoa::Buffer;
 use mm_decimal::NumFault;
 use sheet_base::LayerFault;
@@ -95,6 +96,26 @@ pub fn layer_line(layer: u32, fault: LayerFault) -> Line
         LayerFault::Attribs { line } => drawing_line(layer, "attribs", line),
         LayerFault::Seed { line } => drawing_line(layer, "seed", line),
         LayerFault::NoMemory => text_line("no memory\n"),
+    }
+}
+
+/// The line of a certificate by which a written layer is not verified.
+pub fn cert_line(fault: CertFault) -> Line
+    ensures { result.bytes ≡ cert_line_of fault }
+{
+    match fault {
+        CertFault::Layer(fault) => layer_line(0, fault),
+        CertFault::Form { line } => line_with_number("certificate: form at line ", line, "\n"),
+        CertFault::Count { .. } => text_line("certificate: count\n"),
+        CertFault::Segment { path, segment } => line_with_numbers(
+            "certificate: segment ",
+            u64::from(path),
+            "/",
+            u64::from(segment),
+            "\n",
+        ),
+        CertFault::Differs { at } => line_with_number("certificate: differs at ", at, "\n"),
+        CertFault::NoMemory => text_line("no memory\n"),
     }
 }
 

@@ -13,7 +13,7 @@ mod triangulations;
 
 pub use laws::{limits_are_stated, tin_end_is_one};
 pub use lines::{LINE_ROOM, Line};
-pub use loads::{MOST_BYTES, load_file, load_tin};
+pub use loads::{MOST_BYTES, MOST_VERIFIED, load_directed, load_file, load_tin};
 pub use output::{LayerFile, Output};
 pub use refusal::Refusal;
 pub use status::Status;

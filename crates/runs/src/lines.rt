@@ -230,6 +230,9 @@ fn which_line(which: Which) -> Line
         Which::Tin => text_line("words: name of triangulation\n"),
         Which::Out => text_line("words: name of folder\n"),
         Which::Layer(layer) => line_with_number("words: name of layer ", u64::from(layer), "\n"),
+        Which::Source => text_line("words: name of source\n"),
+        Which::Written => text_line("words: name of written\n"),
+        Which::Certificate => text_line("words: name of certificate\n"),
     }
 }
 

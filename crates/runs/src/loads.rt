@@ -7,17 +7,20 @@ ghost use Rattle.runs.specs.declared.status.Status.TheVariants.{Read as ReadStat
 ghost use Rattle.runs.specs.Refusals.{status_of};
 ghost use Rattle.runs.specs.Counts.{LeavesFaults};
 ghost use Rattle.runs.specs.Loads.{IsUnloaded, IsTinUnready};
-ghost use Rattle.runs.specs.Triangulations.{HasTin};
+ghost use Rattle.runs.specs.Triangulations.{HasTin, HasDirected, directed};
 
 use crate::refusal::Refusal;
 use crate::triangulations::sound_tin;
 use sheet_base::How;
 use shelf_io::{LoadFault, Shelf, load};
 use std::alloc::Global;
-use tin_base::SoundTin;
+use tin_base::{SoundTin, turned};
 
 /// The most bytes of a triangulation's file, and of all layers' files together.
 pub const MOST_BYTES: u64 = tin_file::MOST_BYTES as u64;
+
+/// The most bytes of a written layer's file, and of a certificate's.
+pub const MOST_VERIFIED: u64 = 1 << 28;
 
 /// The bytes of a file, at most `most` of them. The error is `unread` where the file is missing or a read failed,
 /// `long` where it has more bytes, and `NoMemory`. The shelf's files stay as they are.
@@ -29,7 +32,7 @@ pub fn load_file<S: Shelf>(
     unread: Refusal,
     long: Refusal,
 ) -> Result<Vec<u8>, Refusal>
-    requires most { most ≤ MOST_BYTES }
+    requires most { most ≤ MOST_VERIFIED }
     requires unread { status_of unread ≡ ReadStatus }
     requires long { status_of long ≡ LimitStatus }
     ensures files { S.files shelf.new ≡ S.files shelf.old }
@@ -72,4 +75,30 @@ pub fn load_tin<S: Shelf>(
         Refusal::TinLong,
     )?;
     sound_tin(alloc, &text, how)
+}
+
+/// The triangulation as it is, or with its frames exchanged.
+fn direct(tin: SoundTin, inverse: bool) -> SoundTin
+    ensures { result ≡ directed inverse tin }
+{
+    if inverse { turned(tin) } else { tin }
+}
+
+/// The sound triangulation of the file of this name, as it is there, or with its frames exchanged where `inverse` is
+/// set. The errors are those of `load_tin`.
+pub fn load_directed<S: Shelf>(
+    alloc: Global,
+    shelf: &mut S,
+    name: &str,
+    how: How,
+    inverse: bool,
+) -> Result<SoundTin, Refusal>
+    ensures files { S.files shelf.new ≡ S.files shelf.old }
+    ensures ok { IfOk result (λ tin. IfSome (S.files shelf.old) (λ files. HasDirected files how name.now inverse tin)) }
+    ensures refused { IfErr result (λ refusal. IsTinUnready (S.files shelf.old) how name.now (Rose (S.faults shelf.old) (S.faults shelf.new)) (counted (S.given shelf.old) (MOST_BYTES + 1) ≤ S.given shelf.new) refusal) }
+    ensures given { S.given shelf.old ≤ S.given shelf.new }
+    ensures faults { LeavesFaults (S.faults shelf.old) (S.faults shelf.new) result }
+{
+    let tin = load_tin(alloc, shelf, name, how)?;
+    Ok(direct(tin, inverse))
 }

@@ -2,19 +2,20 @@
 
 ghost use Rattle.std.specs.Prelude.{◌≡◌};
 ghost use Rattle.runs.specs.Refusals.{line_of, status_of, status_of_words, status_of_tin, status_of_check};
-ghost use Rattle.runs.specs.Refusals.{status_of_layer};
+ghost use Rattle.runs.specs.Refusals.{status_of_layer, status_of_cert};
 ghost use Rattle.runs.specs.declared.refusal.Refusal.TheVariants.{Tin, Check, NoMemory};
 
-use crate::layer_lines::{layer_line, outside_line};
+use crate::layer_lines::{cert_line, layer_line, outside_line};
 use crate::lines::{Line, check_line, line_with_number, text_line, tin_line, words_line};
 use crate::status::Status;
+use cert_check::CertFault;
 use job_words::WordsFault;
 use sheet_base::LayerFault;
 use std::alloc::AllocError;
 use tin_check::CheckFault;
 use tin_file::TinFault;
 
-/// Why nothing was carried. Layers are counted from 0.
+/// Why nothing was carried, or why a written layer is not verified. Layers are counted from 0.
 #[derive(Clone, Copy, Debug, PartialEq, Eq)]
 pub enum Refusal {
     /// The words are not understood.
@@ -40,6 +41,16 @@ pub enum Refusal {
     TooManyPieces,
     /// The pieces have too many changes.
     TooManyChanges,
+    /// The written layer's file is missing or could not be read.
+    WrittenUnread,
+    /// The written layer's file has too many bytes.
+    WrittenLong,
+    /// The certificate's file is missing or could not be read.
+    CertUnread,
+    /// The certificate's file has too many bytes.
+    CertLong,
+    /// The written layer is not verified by its certificate.
+    Certificate(CertFault),
     /// Memory ran out.
     NoMemory,
 }
@@ -109,6 +120,17 @@ fn layer_status(fault: LayerFault) -> Status
     }
 }
 
+/// The status of a written layer that is not verified.
+fn cert_status(fault: CertFault) -> Status
+    ensures { result ≡ status_of_cert fault }
+{
+    match fault {
+        CertFault::Layer(fault) => layer_status(fault),
+        CertFault::NoMemory => Status::Memory,
+        _ => Status::Uncertified,
+    }
+}
+
 impl Refusal {
     /// The status with which the run ends.
     pub fn status(self) -> Status
@@ -116,15 +138,21 @@ impl Refusal {
     {
         match self {
             Refusal::Words(fault) => words_status(fault),
-            Refusal::TinUnread | Refusal::LayerUnread { .. } => Status::Read,
+            Refusal::TinUnread
+            | Refusal::LayerUnread { .. }
+            | Refusal::WrittenUnread
+            | Refusal::CertUnread => Status::Read,
             Refusal::TinLong
             | Refusal::LayersLong
             | Refusal::TooManyPieces
-            | Refusal::TooManyChanges => Status::Limit,
+            | Refusal::TooManyChanges
+            | Refusal::WrittenLong
+            | Refusal::CertLong => Status::Limit,
             Refusal::Tin(fault) => tin_status(fault),
             Refusal::Check(fault) => check_status(fault),
             Refusal::Layer { fault, .. } => layer_status(fault),
             Refusal::Outside { .. } => Status::Outside,
+            Refusal::Certificate(fault) => cert_status(fault),
             Refusal::NoMemory => Status::Memory,
         }
     }
@@ -151,6 +179,11 @@ impl Refusal {
             } => outside_line(layer, path, segment),
             Refusal::TooManyPieces => text_line("limit: pieces\n"),
             Refusal::TooManyChanges => text_line("limit: changes\n"),
+            Refusal::WrittenUnread => text_line("read fault: written\n"),
+            Refusal::WrittenLong => text_line("limit: bytes of written\n"),
+            Refusal::CertUnread => text_line("read fault: certificate\n"),
+            Refusal::CertLong => text_line("limit: bytes of certificate\n"),
+            Refusal::Certificate(fault) => cert_line(fault),
             Refusal::NoMemory => text_line("no memory\n"),
         }
     }

@@ -23,6 +23,8 @@ pub enum Status {
     Memory,
     /// A count passes its limit.
     Limit,
+    /// A written layer is not as its certificate says, or the certificate is none of its source.
+    Uncertified,
 }
 
 impl Status {
@@ -44,6 +46,7 @@ impl Status {
             Status::Write => 7,
             Status::Memory => 8,
             Status::Limit => 9,
+            Status::Uncertified => 10,
         }
     }
 }

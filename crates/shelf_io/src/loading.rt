@@ -43,7 +43,7 @@ pub fn load<S: Shelf>(
     name: &str,
     limit: u64,
 ) -> Result<Vec<u8>, LoadFault>
-    requires { limit ≤ 2 ^ 26 }
+    requires { limit ≤ 2 ^ 28 }
 
     ensures files { S.files shelf.new ≡ S.files shelf.old }
     ensures ok { IfOk result (λ bytes. IfSome (S.files shelf.old) (Loads name.now bytes.items)) }
@@ -70,7 +70,7 @@ pub fn load<S: Shelf>(
 
 /// What is left of the file at hand, of which there are at most `limit` bytes.
 fn read_rest<S: Shelf>(alloc: Global, shelf: &mut S, limit: u64) -> Result<Vec<u8>, LoadFault>
-    requires limit { limit ≤ 2 ^ 26 }
+    requires limit { limit ≤ 2 ^ 28 }
     requires at_hand { IsTrue (S.at_hand shelf.old) }
 
     ensures files { S.files shelf.new ≡ S.files shelf.old }

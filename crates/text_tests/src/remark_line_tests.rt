@@ -14,14 +14,14 @@ const WORDS: &[(WordFlaw, &str, &str)] = &[
     (
         WordFlaw::NoMode,
         "",
-        "tinmove: a mode is missing: the first word is to be migrate, check or make
+        "tinmove: a mode is missing: the first word is to be migrate, check, make or verify
 tinmove: nothing was written
 ",
     ),
     (
         WordFlaw::Mode,
         "chek",
-        "tinmove: 'chek' is no mode: the first word is to be migrate, check or make
+        "tinmove: 'chek' is no mode: the first word is to be migrate, check, make or verify
 tinmove: nothing was written
 ",
     ),

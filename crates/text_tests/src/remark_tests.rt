@@ -224,7 +224,7 @@ tinmove: nothing was written; convert it by ogr2ogr, or rename it
     (
         Refusal::Words(WordsFault::NoMode),
         "",
-        "tinmove: no mode: the first word is to be migrate, check or make
+        "tinmove: no mode: the first word is to be migrate, check, make or verify
 tinmove: nothing was written; 'tinmove --help' explains the words
 ",
     ),

@@ -4,19 +4,20 @@ use Rattle.std.proofs.Common.{IfSome, refl, sym, ◌∙◌, ap, subst, arith}
 use Rattle.std.proofs.Math.Seq.{take-length}
 use Rattle.shelf_io.specs.Files.{Files}
 use Rattle.job_words.specs.declared.jobs.Job.{Job}
-use Rattle.job_words.specs.declared.jobs.Job.TheVariants.{Migrate, Check as CheckJob, Make}
+use Rattle.job_words.specs.declared.jobs.Job.TheVariants.{Migrate, Check as CheckJob, Make, Verify}
 use Rattle.report_text.specs.Reports.{Contents as Report}
 use Rattle.report_text.specs.ReportText.{report_text, title}
 use Rattle.runs.specs.declared.output.Output.{Output}
 use Rattle.runs.specs.declared.status.Status.{Status}
 use Rattle.runs.specs.declared.status.Status.TheVariants.{Write}
 use Rattle.runs.specs.declared.refusal.Refusal.{Refusal}
-use Rattle.runs.specs.declared.refusal.Refusal.TheVariants.{TinLong, LayersLong}
+use Rattle.runs.specs.declared.refusal.Refusal.TheVariants.{TinLong, LayersLong, WrittenLong, CertLong}
 use Rattle.runs.specs.Status.{end_of}
 use Rattle.runs.specs.Refusals.{status_of, line_of, line_file}
 use Rattle.runs.specs.Output.{file_of, files_of, HasSlash, AreWritable, HasForm}
 use Rattle.runs.proofs.RefusalLines.{never-write}
-use Rattle.runs.proofs.LimitLines.{TellsNone, at-first, t-line, none-begins, of_tin, of_layers, of_none, limit_line}
+use Rattle.runs.proofs.LimitLines.{TellsNone, at-first, t-line, none-begins, of_tin, of_layers, of_written, of_cert}
+use Rattle.runs.proofs.LimitLines.{of_none, limit_line}
 use Rattle.tinmove.specs.Ends.{IsFrontOf, IsWrittenOf, TellsBytes}
 use Rattle.tinmove.proofs.Fronts.{whole-front, slash-dash}
 use Rattle.tinmove.proofs.RunEnds.{HasPrinted, never-write-end}
@@ -29,11 +30,14 @@ front-none line made none front (rest, is) =
 
 -- a line that tells of bytes is that of a file with too many
 tells_long : (refusal : Refusal) (passed : Type 0) (made : Files) → IsFrontOf made (line_file refusal) → TellsBytes made
-    → (refusal ≡ TinLong → passed) → (refusal ≡ LayersLong → passed) → passed
-tells_long refusal passed made front tells tin layer =
+    → (refusal ≡ TinLong → passed) → (refusal ≡ LayersLong → passed) → (refusal ≡ WrittenLong → passed)
+    → (refusal ≡ CertLong → passed) → passed
+tells_long refusal passed made front tells tin layer written cert =
     elim (limit_line refusal) [
       | of_tin is ↦ tin is
       | of_layers is ↦ layer is
+      | of_written is ↦ written is
+      | of_cert is ↦ cert is
       | of_none none ↦ absurd (front-none (line_of refusal) made none front tells)
     ]
 
@@ -50,11 +54,12 @@ front-of line wanted result made press_rose other printed =
 
 pub limit_told : (refusal : Refusal) (result : Status) (made : Option Files) (press_rose passed : Type 0)
     → HasPrinted (line_file refusal) (status_of refusal) result made press_rose
-    → (refusal ≡ TinLong → passed) → (refusal ≡ LayersLong → passed) → IfSome made (λ files. TellsBytes files → passed)
-limit_told refusal result None press_rose passed printed tin layer = tt
-limit_told refusal result (Some made) press_rose passed printed tin layer = λ tells.
+    → (refusal ≡ TinLong → passed) → (refusal ≡ LayersLong → passed) → (refusal ≡ WrittenLong → passed)
+    → (refusal ≡ CertLong → passed) → IfSome made (λ files. TellsBytes files → passed)
+limit_told refusal result None press_rose passed printed tin layer written cert = tt
+limit_told refusal result (Some made) press_rose passed printed tin layer written cert = λ tells.
     tells_long refusal passed made (front-of (line_of refusal) (status_of refusal) result made press_rose
-    (never-write refusal) printed) tells tin layer
+    (never-write refusal) printed) tells tin layer written cert
 
 named-file : (name bytes : List ℕ) (rest made : Files) → HasSlash name → IsFrontOf made ((name, bytes) ∷ rest)
     → TellsBytes made → ⊥
@@ -75,10 +80,13 @@ none-told (file ∷ layers) said made writable none front tells =
 
 said-none : (job : Job) (layers : Files) (said : List ℕ) (status : Status) → IsWrittenOf job layers said status
     → TellsNone said
-said-none (Migrate tin out how inverse names) layers said status (named, on) = rw on.said_is (report-none on.report)
+said-none (Migrate tin out how inverse cert names) layers said status (named, on) =
+    rw on.said_is (report-none on.report)
 said-none (CheckJob tin how) layers said status (none, same, line) =
     rw line.said_is (at-first _ 115 refl (λ e. omega (arith, e)))
 said-none (Make n) layers said status (none, on) = rw on.said_is (report-none on.report)
+said-none (Verify tin source written cert how inverse) layers said status (none, same, line) =
+    rw line (at-first _ 99 refl (λ e. omega (arith, e)))
 
 front-done : (whole : Files) (changed : Bool) (result : Status) (made : Files) (press_rose : Type 0)
     → HasPrinted whole (end_of changed) result (Some made) press_rose → IsFrontOf made whole

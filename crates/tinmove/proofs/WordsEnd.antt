@@ -4,11 +4,13 @@ use Rattle.job_words.specs.declared.faults.WordsFault.{WordsFault}
 use Rattle.job_words.specs.declared.faults.WordsFault.TheVariants.{NoMode, Parse, Size, Many, Name, Suffix, SameName}
 use Rattle.job_words.specs.declared.faults.WordsFault.TheVariants.{NoMemory as WordsMemory}
 use Rattle.job_words.specs.declared.jobs.Job.{Job}
-use Rattle.job_words.specs.declared.jobs.Job.TheVariants.{Migrate, Check as CheckJob, Make}
+use Rattle.job_words.specs.declared.jobs.Job.TheVariants.{Migrate, Check as CheckJob, Make, Verify}
 use Rattle.job_words.specs.Jobs.{IsJobOf, IsWordsFault}
 use Rattle.runs.specs.declared.status.Status.{Status}
 use Rattle.runs.specs.declared.status.Status.TheVariants.{Same, Changed, Words as WordsStatus, Read, Write, Memory}
-use Rattle.tinmove.specs.Jobs.{LacksJob, AsksCheck, WantNoFile}
+use Rattle.verify_mode.specs.declared.verifications.Verification.{Verification}
+use Rattle.verify_mode.specs.Verifications.{IsEndOfVerification}
+use Rattle.tinmove.specs.Jobs.{LacksJob, AsksCheck, AsksVerification, WantNoFile}
 use Rattle.runs.specs.Status.{end_of}
 use Rattle.runs.specs.Refusals.{status_of_words}
 use Rattle.tinmove.specs.Ends.{MayEnd, IsWithoutFile}
@@ -20,10 +22,25 @@ use Rattle.tinmove.proofs.RunEnds.{lacks_job}
 pub check_job : (words : List (List ℕ)) (job : Job) (name : List ℕ) (status : Status) → IsJobOf words job
     → AsksCheck words name → MayEnd job status → IsEndOfCheck status
 check_job words (CheckJob other read) name status given check may = may
-check_job words (Migrate tin out way inverse layers) name status given (how, asks) may = let same =
-    job_one words (Migrate tin out way inverse layers) (CheckJob name how) given asks in cc
+check_job words (Migrate tin out way inverse cert layers) name status given (how, asks) may = let same =
+    job_one words (Migrate tin out way inverse cert layers) (CheckJob name how) given asks in cc
 check_job words (Make n) name status given (how, asks) may = let same =
     job_one words (Make n) (CheckJob name how) given asks in cc
+check_job words (Verify tin source written cert read inverse) name status given (how, asks) may = let same =
+    job_one words (Verify tin source written cert read inverse) (CheckJob name how) given asks in cc
+
+-- nor do those of a verification
+pub verify_job : (words : List (List ℕ)) (job : Job) (verification : Verification) (status : Status) → IsJobOf words job
+    → AsksVerification words verification → MayEnd job status → IsEndOfVerification status
+verify_job words job verification status given asks may =
+    subst (λ (j : Job). MayEnd j status)
+    (job_one words job (Verify verification.tin verification.source verification.written verification.cert
+    verification.how verification.inverse) given asks) may
+
+pub verified_as : (status result : Status) → (result ≡ status) ⊎ (result ≡ Write) → IsEndOfVerification status
+    → IsEndOfVerification result
+verified_as status result (inl is) may = rw is may
+verified_as status result (inr is) may = rw is tt
 
 pub end_as : (status result : Status) → (result ≡ status) ⊎ (result ≡ Write) → IsEndOfCheck status → IsEndOfCheck result
 end_as status result (inl is) may = rw is may

@@ -1,8 +1,8 @@
 -- Which words ask the program what it does, and what is printed then.
 use Rattle.std.specs.Prelude.{◌≡◌, List, ℕ, [], ◌∷◌, ◌⊎◌, codes}
-use Rattle.tinmove.specs.declared.help.TheConstants.{WHOLE, MIGRATE, CHECK, MAKE, VERSION}
+use Rattle.tinmove.specs.declared.help.TheConstants.{WHOLE, MIGRATE, CHECK, MAKE, VERIFY, VERSION}
 use Rattle.tinmove.specs.declared.help.Help.{Help}
-use Rattle.tinmove.specs.declared.help.Help.TheVariants.{Whole, Migrate, Check, Make, Version}
+use Rattle.tinmove.specs.declared.help.Help.TheVariants.{Whole, Migrate, Check, Make, Verify, Version}
 
 -- the words are a mode and an option for help
 abbrev pub IsHelpOf : List ℕ → List (List ℕ) → Type 0
@@ -15,6 +15,7 @@ Asks words Version = (words ≡ codes "--version" ∷ []) ⊎ (words ≡ codes "
 Asks words Migrate = IsHelpOf (codes "migrate") words
 Asks words Check = IsHelpOf (codes "check") words
 Asks words Make = IsHelpOf (codes "make") words
+Asks words Verify = IsHelpOf (codes "verify") words
 
 -- what is printed
 abbrev pub text_of : Help → List ℕ
@@ -22,4 +23,5 @@ text_of Whole = WHOLE.now
 text_of Migrate = MIGRATE.now
 text_of Check = CHECK.now
 text_of Make = MAKE.now
+text_of Verify = VERIFY.now
 text_of Version = VERSION.now

@@ -1,20 +1,32 @@
 -- What the words of the command line ask for.
 use Rattle.std.specs.Prelude.{◌⊎◌, ℕ, Bool, List}
 use Rattle.sheet_base.specs.declared.flags.How.{How}
-use Rattle.job_words.specs.declared.jobs.Job.TheVariants.{Migrate, Check, Make}
+use Rattle.job_words.specs.declared.jobs.Job.TheVariants.{Migrate, Check, Make, Verify}
 use Rattle.job_words.specs.declared.faults.WordsFault.{WordsFault}
 use Rattle.job_words.specs.Jobs.{IsJobOf, IsWordsFault}
 use Rattle.migrate.specs.declared.migrations.Migration.{Migration}
+use Rattle.verify_mode.specs.declared.verifications.Verification.{Verification}
 
 -- the migration that the words of a job ask for
-abbrev pub migration_with : List ℕ → List ℕ → How → Bool → List (List ℕ) → Migration
-migration_with tin out how inverse layers =
-    record { tin = tin; out = out; how = how; inverse = inverse; layers = layers }
+abbrev pub migration_with : List ℕ → List ℕ → How → Bool → Bool → List (List ℕ) → Migration
+migration_with tin out how inverse cert layers =
+    record { tin = tin; out = out; how = how; inverse = inverse; cert = cert; layers = layers }
+
+-- the verification that the words of a job ask for
+abbrev pub verification_with : List ℕ → List ℕ → List ℕ → List ℕ → How → Bool → Verification
+verification_with tin source written cert how inverse =
+    record { tin = tin; source = source; written = written; cert = cert; how = how; inverse = inverse }
+
+-- the words ask for this verification
+abbrev pub AsksVerification : List (List ℕ) → Verification → Type 0
+AsksVerification words verification =
+    IsJobOf words (Verify verification.tin verification.source verification.written verification.cert verification.how
+    verification.inverse)
 
 -- the words ask for this migration
 abbrev pub AsksMigration : List (List ℕ) → Migration → Type 0
 AsksMigration words migration = IsJobOf words
-    (Migrate migration.tin migration.out migration.how migration.inverse migration.layers)
+    (Migrate migration.tin migration.out migration.how migration.inverse migration.cert migration.layers)
 
 -- the words ask for a check of this name
 abbrev pub AsksCheck : List (List ℕ) → List ℕ → Type 0

@@ -6,7 +6,7 @@ ghost use Rattle.tinmove.specs.declared.help.Help.{Help};
 
 /// One line for standard error, without its line feed, where the words name no mode.
 pub const USAGE: &str =
-    "usage: tinmove migrate|check|make ARGUMENT... ('tinmove --help' explains them)";
+    "usage: tinmove migrate|check|make|verify ARGUMENT... ('tinmove --help' explains them)";
 
 /// How the words of the mode are used, which the first of the words names; without its last line feed.
 pub fn usage_of(words: &[String]) -> &'static str {
@@ -16,6 +16,7 @@ pub fn usage_of(words: &[String]) -> &'static str {
             "migrate" => MIGRATE,
             "check" => CHECK,
             "make" => MAKE,
+            "verify" => VERIFY,
             _ => USAGE,
         },
     };
@@ -30,9 +31,11 @@ pub const WHOLE: &str = "\
 tinmove 0.1.0: carries map layers through a triangulation known in two plane frames
 
 usage: tinmove migrate --tin FILE --out FOLDER [--inverse] [--exact] [--inside-only]
-                       [--drop-other] LAYER...
+                       [--drop-other] [--cert] LAYER...
        tinmove check --tin FILE [--exact] [--inside-only]
        tinmove make N
+       tinmove verify --tin FILE --source LAYER --written FILE --cert FILE [--inverse]
+                      [--exact] [--inside-only] [--drop-other]
        tinmove help
        tinmove --version
 
@@ -40,6 +43,7 @@ modes:
   migrate  carry layers from the source frame to the target frame
   check    read a triangulation, and say whether it is sound
   make     carry a made layer through a made triangulation of N by N cells
+  verify   say whether a written layer is that of its source, by its certificate
 
 options:
   --tin FILE     the triangulation, a tinshift file of format 1.0 or 1.1
@@ -48,13 +52,17 @@ options:
   --exact        refuse a number that would lose digits past the millimetre
   --inside-only  take a file with a fallback, and do not apply that
   --drop-other   leave out entities of a drawing of kinds that cannot be carried
+  --cert         write a certificate beside each carried layer
+  --source LAYER, --written FILE, --cert FILE
+                 the layer that was carried, as it was written, and its certificate
   -h, --help     this text; behind a mode, the text of that mode
   -V, --version  the version
 
 LAYER ends in .wkt, .geojson, .json or .dxf. The report goes to standard output.
 
 exit status:
-  0  all is written and nothing changed; or the triangulation is sound
+  0  all is written and nothing changed; or the triangulation is sound;
+     or the written layer is certified
   1  all is written, and the report lists at least one changed pair of pieces
   2  the words are not understood
   3  the triangulation is refused
@@ -64,6 +72,7 @@ exit status:
   7  a file could not be written
   8  memory ran out
   9  a limit is passed
+  10 the written layer is not certified
 
 example:
   tinmove migrate --tin fineltra.json --out lv95 parcels.geojson roads.wkt
@@ -72,7 +81,7 @@ example:
 /// The text of the help of `migrate`.
 pub const MIGRATE: &str = "\
 usage: tinmove migrate --tin FILE --out FOLDER [--inverse] [--exact] [--inside-only]
-                       [--drop-other] LAYER...
+                       [--drop-other] [--cert] LAYER...
 
 Carries each layer from the source frame to the target frame of a triangulation,
 writes it to FOLDER under its own name, and prints a report. Segments are split
@@ -87,6 +96,8 @@ options:
   --exact        refuse a number that would lose digits past the millimetre
   --inside-only  take a file with a fallback, and do not apply that
   --drop-other   leave out entities of a drawing of kinds that cannot be carried
+  --cert         write a certificate beside each layer, under its name and .cert;
+                 'tinmove verify' reads it
   -h, --help     this text
 
 LAYER ends in .wkt, .geojson, .json or .dxf.
@@ -126,6 +137,30 @@ example:
   tinmove make 64
 ";
 
+/// The text of the help of `verify`.
+pub const VERIFY: &str = "\
+usage: tinmove verify --tin FILE --source LAYER --written FILE --cert FILE [--inverse]
+                      [--exact] [--inside-only] [--drop-other]
+
+Reads a layer, the same layer as 'tinmove migrate --cert' wrote it, and the
+certificate beside that. Prints one line: that each segment of the source is inside
+the triangulation and the written layer is the carried one, byte for byte; or why
+not. It looks for no triangle: the certificate names those of each segment.
+
+options:
+  --tin FILE      the triangulation, a tinshift file of format 1.0 or 1.1
+  --source LAYER  the layer that was carried; its end says the format
+  --written FILE  the layer as it was written
+  --cert FILE     the certificate
+  --inverse, --exact, --inside-only, --drop-other
+                  as the layer was carried
+  -h, --help      this text
+
+example:
+  tinmove verify --tin fineltra.json --source roads.wkt --written lv95/roads.wkt
+                 --cert lv95/roads.wkt.cert
+";
+
 /// The line of the version.
 pub const VERSION: &str = "tinmove 0.1.0\n";
 
@@ -140,6 +175,8 @@ pub enum Help {
     Check,
     /// How the made example is run.
     Make,
+    /// How a written layer is verified.
+    Verify,
     /// The version.
     Version,
 }
@@ -154,6 +191,7 @@ impl Help {
             Help::Migrate => MIGRATE,
             Help::Check => CHECK,
             Help::Make => MAKE,
+            Help::Verify => VERIFY,
             Help::Version => VERSION,
         }
     }
@@ -186,6 +224,7 @@ fn help_of_mode(mode: &str) -> Option<Help>
         "migrate" => Some(Help::Migrate),
         "check" => Some(Help::Check),
         "make" => Some(Help::Make),
+        "verify" => Some(Help::Verify),
         _ => None,
     }
 }

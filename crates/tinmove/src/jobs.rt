@@ -20,6 +20,7 @@ use migrate::{Migration, prepare_making, prepare_migration};
 use runs::{Output, Refusal};
 use shelf_io::Shelf;
 use std::alloc::Global;
+use verify_mode::{Verification, prepare_verification};
 
 /// What the job asks to be written.
 pub fn prepare<S: Shelf>(alloc: Global, shelf: &mut S, job: Job) -> Result<Output, Refusal>
@@ -43,6 +44,7 @@ pub fn prepare<S: Shelf>(alloc: Global, shelf: &mut S, job: Job) -> Result<Outpu
             out,
             how,
             inverse,
+            cert,
             layers,
         } => {
             let migration = Migration {
@@ -50,11 +52,30 @@ pub fn prepare<S: Shelf>(alloc: Global, shelf: &mut S, job: Job) -> Result<Outpu
                 out,
                 how,
                 inverse,
+                cert,
                 layers,
             };
             prepare_migration(alloc, shelf, &migration)
         }
         Job::Check { tin, how } => prepare_check(alloc, shelf, &tin, how),
         Job::Make { n } => prepare_making(alloc, n),
+        Job::Verify {
+            tin,
+            source,
+            written,
+            cert,
+            how,
+            inverse,
+        } => {
+            let verification = Verification {
+                tin,
+                source,
+                written,
+                cert,
+                how,
+                inverse,
+            };
+            prepare_verification(alloc, shelf, &verification)
+        }
     }
 }

@@ -8,6 +8,7 @@ pub fn outcome_is_one()
 {
     migrate::migration_is_one();
     migrate::making_is_one();
+    verify_mode::verification_is_one();
 }
 
 /// A law: however a run ends that is asked for a migration, the segments that it wrote have the relations of their

@@ -132,7 +132,9 @@ fn say_before(
 /// Says of the job's triangulation what its numbers look like.
 fn say_numbers(rt: &HostRuntime, job: Option<&Job>) {
     match job {
-        Some(Job::Migrate { tin, how, .. } | Job::Check { tin, how }) => {
+        Some(
+            Job::Migrate { tin, how, .. } | Job::Check { tin, how } | Job::Verify { tin, how, .. },
+        ) => {
             say_degrees(rt, tin.text(), *how);
         }
         _ => {}

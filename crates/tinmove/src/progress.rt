@@ -174,7 +174,7 @@ pub struct ToldPress<P: Drop, W: Drop> {
     pub to: Option<W>,
     /// How many layers there are.
     layers: usize,
-    /// How many files were begun.
+    /// How many layers' files were begun; a certificate is written in the same step as its layer.
     begun: usize,
     /// How many bytes of the file at hand were written, where that is no standard output.
     written: Option<u64>,
@@ -214,7 +214,9 @@ impl<P: Drop, W: Write + Drop> ToldPress<P, W> {
             self.written = None;
             return;
         }
-        self.begun = self.begun.saturating_add(1);
+        if !name.ends_with(".cert") {
+            self.begun = self.begun.saturating_add(1);
+        }
         self.written = Some(0);
         let before = self.layers.saturating_mul(2).saturating_add(2);
         let step = before.saturating_add(self.begun);

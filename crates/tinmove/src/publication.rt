@@ -1,6 +1,6 @@
 //! Writing what a run makes. It takes no memory.
 
-ghost use Rattle.std.specs.Prelude.{◌≡◌, ◌≢◌, ◌⊎◌, [], ◌∷◌, map, IfSome, OnOk, OnErr, false, codes};
+ghost use Rattle.std.specs.Prelude.{◌≡◌, ◌≢◌, ◌⊎◌, ◌+◌, ◌≤◌, [], ◌∷◌, map, IfSome, OnOk, OnErr, false, true, codes};
 ghost use Rattle.shelf_io.specs.Count.{Rose, HasCause};
 ghost use Rattle.runs.specs.Status.{end_of};
 ghost use Rattle.runs.specs.Refusals.{line_of, status_of};
@@ -20,6 +20,8 @@ fn say<P: Press>(press: &mut P, said: &[u8], status: Status) -> Status
     ensures front { result ≡ Status.Write → IfSome (P.made press.new) (λ made. IsFrontOf made ((codes "-", said.now) ∷ [])) }
     ensures rose { result ≡ Status.Write → Rose (P.faults press.old) (P.faults press.new) }
     ensures same { result ≢ Status.Write → P.faults press.new ≡ P.faults press.old }
+    ensures once { P.faults press.new ≤ P.faults press.old + 1 }
+    ensures last { result ≡ Status.Write → P.broken press.new ≡ true }
     ensures at_hand { result ≢ Status.Write → P.at_hand press.new ≡ false }
 {
     match print(press, "-", said) {
@@ -48,6 +50,7 @@ fn publish_layers<P: Press>(press: &mut P, layers: &[LayerFile]) -> Result<(), P
     ensures free { OnOk result (P.at_hand press.new ≡ false) }
     ensures front { OnErr result (IfSome (P.made press.new) (λ made. IsFrontOf made (map file_of layers.now))) }
     ensures cause { HasCause (P.faults press.old) (P.faults press.new) result }
+    ensures last { OnErr result (P.broken press.new ≡ true) }
 {
     for file in layers {
         print(press, file.name.as_str(), file.text.items())?;
@@ -65,6 +68,8 @@ pub fn publish<P: Press>(press: &mut P, written: &Output) -> Status
     ensures front { result ≡ Status.Write → IfSome (P.made press.new) (λ made. IsFrontOf made (files_of written.now)) }
     ensures rose { result ≡ Status.Write → Rose (P.faults press.old) (P.faults press.new) }
     ensures same { result ≢ Status.Write → P.faults press.new ≡ P.faults press.old }
+    ensures once { P.faults press.new ≤ P.faults press.old + 1 }
+    ensures last { result ≡ Status.Write → P.broken press.new ≡ true }
     ensures at_hand { result ≢ Status.Write → P.at_hand press.new ≡ false }
 {
     match publish_layers(press, &written.layers) {
@@ -85,6 +90,8 @@ pub fn refuse<P: Press>(press: &mut P, refusal: Refusal) -> Status
     ensures front { result ≡ Status.Write → IfSome (P.made press.new) (λ made. IsFrontOf made ((codes "-", line_of refusal) ∷ [])) }
     ensures rose { result ≡ Status.Write → Rose (P.faults press.old) (P.faults press.new) }
     ensures same { result ≢ Status.Write → P.faults press.new ≡ P.faults press.old }
+    ensures once { P.faults press.new ≤ P.faults press.old + 1 }
+    ensures last { result ≡ Status.Write → P.broken press.new ≡ true }
     ensures at_hand { result ≢ Status.Write → P.at_hand press.new ≡ false }
 {
     let line = refusal.line();

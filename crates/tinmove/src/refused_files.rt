@@ -7,6 +7,7 @@ ghost use Rattle.runs.specs.declared.loads.TheConstants.{MOST_BYTES};
 use crate::help::usage_of;
 use crate::strays::{sheet_of, stray_of};
 use crate::word_flaws::flaw_of;
+use cert_check::CertFault;
 use job_words::{Job, WordsFault};
 use remarks::{Stray, WordFlaw, outside_lines, refusal_remarks, unread_line, word_lines};
 use runs::{MOST_BYTES, Refusal};
@@ -27,7 +28,7 @@ fn refused_layer(refusal: Refusal) -> Option<u32> {
     }
 }
 
-/// The name of the file that a refusal of the job is of: that of a layer, or of the triangulation.
+/// The name of the file that a refusal of the job is of: that of a layer, of a certificate, or of the triangulation.
 fn refused_name(job: &Job, refusal: Refusal) -> &str {
     match job {
         Job::Migrate { tin, layers, .. } => match refused_layer(refusal) {
@@ -39,6 +40,21 @@ fn refused_name(job: &Job, refusal: Refusal) -> &str {
         },
         Job::Check { tin, .. } => tin.text(),
         Job::Make { .. } => "",
+        Job::Verify {
+            tin,
+            source,
+            written,
+            cert,
+            ..
+        } => match refusal {
+            Refusal::LayerUnread { .. } | Refusal::LayersLong | Refusal::Layer { .. } =>
+                source.text(),
+            Refusal::WrittenUnread
+            | Refusal::WrittenLong
+            | Refusal::Certificate(CertFault::Differs { .. }) => written.text(),
+            Refusal::CertUnread | Refusal::CertLong | Refusal::Certificate(_) => cert.text(),
+            _ => tin.text(),
+        },
     }
 }
 
@@ -58,7 +74,8 @@ pub fn bytes_again(rt: &HostRuntime, name: &str) -> Option<Vec<u8>>
 /// The bytes of the refused file, where the refusal is of what stands in it.
 fn refused_bytes(rt: &HostRuntime, name: &str, refusal: Refusal) -> Option<Vec<u8>> {
     match refusal {
-        Refusal::Tin(_) | Refusal::Layer { .. } => bytes_again(rt, name),
+        Refusal::Tin(_) | Refusal::Layer { .. } | Refusal::Certificate(CertFault::Differs { .. }) =>
+            bytes_again(rt, name),
         _ => None,
     }
 }
@@ -165,7 +182,10 @@ fn say_file(rt: &HostRuntime, job: Option<&Job>, refusal: Refusal) {
         let _ = rt.eprint(text.as_str());
     }
     match refusal {
-        Refusal::TinUnread | Refusal::LayerUnread { .. } => say_read_error(rt, name),
+        Refusal::TinUnread
+        | Refusal::LayerUnread { .. }
+        | Refusal::WrittenUnread
+        | Refusal::CertUnread => say_read_error(rt, name),
         Refusal::Outside { .. } => {
             if let Some(job) = job {
                 say_stray(rt, job, refusal);

@@ -1,7 +1,7 @@
 //! The whole program over what it is handed.
 
-ghost use Rattle.std.specs.Prelude.{◌≡◌, ◌≢◌, ◌⊎◌, ◌+◌, ◌≤◌, ℕ, List, [], ◌∷◌, codes, IfSome, IfNone, false, map};
-ghost use Rattle.std.specs.Prelude.{string_bytes};
+ghost use Rattle.std.specs.Prelude.{◌≡◌, ◌≢◌, ◌⊎◌, ◌+◌, ◌≤◌, ℕ, List, [], ◌∷◌, codes, IfSome, IfNone, false, true};
+ghost use Rattle.std.specs.Prelude.{map, string_bytes};
 ghost use Rattle.shelf_io.specs.Count.{Rose, counted};
 ghost use Rattle.shelf_io.specs.Files.{Files};
 ghost use Rattle.sheet_base.specs.declared.flags.How.{How};
@@ -10,7 +10,9 @@ ghost use Rattle.job_words.specs.Jobs.{IsJobOf};
 ghost use Rattle.runs.specs.declared.loads.TheConstants.{MOST_BYTES};
 ghost use Rattle.migrate.specs.declared.migrations.Migration.{Migration};
 ghost use Rattle.runs.specs.Refusals.{line_of, status_of};
-ghost use Rattle.tinmove.specs.Jobs.{LacksJob, AsksMigration, AsksCheck, AsksMaking, WantNoFile};
+ghost use Rattle.tinmove.specs.Jobs.{LacksJob, AsksMigration, AsksCheck, AsksMaking, AsksVerification, WantNoFile};
+ghost use Rattle.verify_mode.specs.declared.verifications.Verification.{Verification};
+ghost use Rattle.verify_mode.specs.Verifications.{IsVerified, IsEndOfVerification};
 ghost use Rattle.migrate.specs.KeptRelations.{KeepsRelations, KeepsMadeRelations};
 ghost use Rattle.tinmove.specs.Ends.{EndsTold, Stands, LacksWantedOf, TellsBytes};
 ghost use Rattle.check_mode.specs.Checks.{IsChecked, IsEndOfCheck};
@@ -51,6 +53,10 @@ pub fn run_to_end<S: Shelf, P: Press>(
     // Where a check ends with `Same`, what is made is the line of the triangulation of its file, which is sound.
     ensures sound { IfSome (S.files shelf.old) (λ files. (name : List ℕ) (how : How) → IsJobOf (map string_bytes words.now) (Check name how) → result.status ≡ Status.Same → IfSome (P.made press.new) (IsChecked files how name result.status)) }
 
+    // Where a verification ends with `Same`, the written layer is the source's through the triangulation, and what is
+    // made is the line that says so.
+    ensures verified { IfSome (S.files shelf.old) (λ files. (verification : Verification) → AsksVerification (map string_bytes words.now) verification → result.status ≡ Status.Same → IfSome (P.made press.new) (IsVerified files verification result.status)) }
+
     // Told or not, where the words are not understood or ask for what is made, a run ends so over any files, and never
     // by a read fault; and what is said of a migration holds of what is made, whose layer is not written.
     ensures untold { WantNoFile (map string_bytes words.now) → (files : Files) → EndsTold (map string_bytes words.now) files ⊥ (Rose (P.faults press.old) (P.faults press.new)) result.status (P.made press.new) }
@@ -67,10 +73,17 @@ pub fn run_to_end<S: Shelf, P: Press>(
     ensures write { result.status ≡ Status.Write → Rose (P.faults press.old) (P.faults press.new) }
     ensures limit { IfSome (P.made press.new) (λ made. TellsBytes made → counted (S.given shelf.old) (MOST_BYTES + 1) ≤ S.given shelf.new) }
     ensures check { (name : List ℕ) → AsksCheck (map string_bytes words.now) name → IsEndOfCheck result.status }
+    ensures verify { (verification : Verification) → AsksVerification (map string_bytes words.now) verification → IsEndOfVerification result.status }
 
     // Every other status leaves the counts of faults as they were.
     ensures press_stays { result.status ≢ Status.Write → P.faults press.new ≡ P.faults press.old }
     ensures shelf_stays { result.status ≢ Status.Write → result.status ≢ Status.Read → S.faults shelf.new ≡ S.faults shelf.old }
+
+    // The press and the shelf fail once at most, and after a call of the press that failed none is made: where a run
+    // ends with `Write`, the count rose by one, and the last call is the one that failed.
+    ensures once { P.faults press.new ≤ P.faults press.old + 1 }
+    ensures shelf_once { S.faults shelf.new ≤ S.faults shelf.old + 1 }
+    ensures last { result.status ≡ Status.Write → P.broken press.new ≡ true }
 
     // Every other status leaves no file at hand: each that was begun is ended, standard output, too.
     ensures at_hand { result.status ≢ Status.Write → P.at_hand press.new ≡ false }
@@ -123,6 +136,10 @@ pub fn run<S: Shelf, P: Press>(
     // Where a check ends with `Same`, what is made is the line of the triangulation of its file, which is sound.
     ensures sound { IfSome (S.files shelf.old) (λ files. (name : List ℕ) (how : How) → IsJobOf (map string_bytes words.now) (Check name how) → result ≡ Status.Same → IfSome (P.made press.new) (IsChecked files how name result)) }
 
+    // Where a verification ends with `Same`, the written layer is the source's through the triangulation, and what is
+    // made is the line that says so.
+    ensures verified { IfSome (S.files shelf.old) (λ files. (verification : Verification) → AsksVerification (map string_bytes words.now) verification → result ≡ Status.Same → IfSome (P.made press.new) (IsVerified files verification result)) }
+
     // Told or not, where the words are not understood or ask for what is made, a run ends so over any files, and never
     // by a read fault; and what is said of a migration holds of what is made, whose layer is not written.
     ensures untold { WantNoFile (map string_bytes words.now) → (files : Files) → EndsTold (map string_bytes words.now) files ⊥ (Rose (P.faults press.old) (P.faults press.new)) result (P.made press.new) }
@@ -139,10 +156,17 @@ pub fn run<S: Shelf, P: Press>(
     ensures write { result ≡ Status.Write → Rose (P.faults press.old) (P.faults press.new) }
     ensures limit { IfSome (P.made press.new) (λ made. TellsBytes made → counted (S.given shelf.old) (MOST_BYTES + 1) ≤ S.given shelf.new) }
     ensures check { (name : List ℕ) → AsksCheck (map string_bytes words.now) name → IsEndOfCheck result }
+    ensures verify { (verification : Verification) → AsksVerification (map string_bytes words.now) verification → IsEndOfVerification result }
 
     // Every other status leaves the counts of faults as they were.
     ensures press_stays { result ≢ Status.Write → P.faults press.new ≡ P.faults press.old }
     ensures shelf_stays { result ≢ Status.Write → result ≢ Status.Read → S.faults shelf.new ≡ S.faults shelf.old }
+
+    // The press and the shelf fail once at most, and after a call of the press that failed none is made: where a run
+    // ends with `Write`, the count rose by one, and the last call is the one that failed.
+    ensures once { P.faults press.new ≤ P.faults press.old + 1 }
+    ensures shelf_once { S.faults shelf.new ≤ S.faults shelf.old + 1 }
+    ensures last { result ≡ Status.Write → P.broken press.new ≡ true }
 
     // Every other status leaves no file at hand: each that was begun is ended, standard output, too.
     ensures at_hand { result ≢ Status.Write → P.at_hand press.new ≡ false }

@@ -1,5 +1,7 @@
 //! Tests of the whole program, over files in memory.
 
+mod altered_certificates;
+mod certificates;
 mod drawings;
 mod faults;
 mod geojson;

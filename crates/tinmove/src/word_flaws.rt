@@ -21,7 +21,13 @@ struct Form {
 const MIGRATE: Form = Form {
     valued: &["--tin", "--out"],
     wanted: &["--tin FILE", "--out FOLDER"],
-    flags: &["--inverse", "--exact", "--inside-only", "--drop-other"],
+    flags: &[
+        "--inverse",
+        "--exact",
+        "--inside-only",
+        "--drop-other",
+        "--cert",
+    ],
     word: Some("LAYER"),
     most_words: usize::MAX,
 };
@@ -44,12 +50,27 @@ const MAKE: Form = Form {
     most_words: 1,
 };
 
+/// What `verify` takes.
+const VERIFY: Form = Form {
+    valued: &["--tin", "--source", "--written", "--cert"],
+    wanted: &[
+        "--tin FILE",
+        "--source LAYER",
+        "--written FILE",
+        "--cert FILE",
+    ],
+    flags: &["--inverse", "--exact", "--inside-only", "--drop-other"],
+    word: None,
+    most_words: 0,
+};
+
 /// What the mode of this name takes.
 fn form_of(mode: &str) -> Option<Form> {
     match mode {
         "migrate" => Some(MIGRATE),
         "check" => Some(CHECK),
         "make" => Some(MAKE),
+        "verify" => Some(VERIFY),
         _ => None,
     }
 }
@@ -203,6 +224,9 @@ fn refused_word<'a>(parts: &Parts<'a>, fault: WordsFault) -> &'a str {
         WordsFault::Name { which } => match which {
             job_words::Which::Tin => return value_of(parts, "--tin"),
             job_words::Which::Out => return value_of(parts, "--out"),
+            job_words::Which::Source => return value_of(parts, "--source"),
+            job_words::Which::Written => return value_of(parts, "--written"),
+            job_words::Which::Certificate => return value_of(parts, "--cert"),
             job_words::Which::Layer(layer) => layer as usize,
         },
         WordsFault::Suffix { layer } => layer as usize,

@@ -18,6 +18,8 @@ fn words_that_ask_for_help_get_it(rt: HostRuntime) -> Result<(), Fail> {
         (&["check", "-h"], Help::Check),
         (&["make", "--help"], Help::Make),
         (&["make", "-h"], Help::Make),
+        (&["verify", "--help"], Help::Verify),
+        (&["verify", "-h"], Help::Verify),
     ] {
         let words = words_of(rt.alloc(), texts)?;
         assert_eq!(rt; help_of(&words), Some(help), "at {texts:?}");
@@ -59,13 +61,15 @@ fn the_texts_name_what_there_is(rt: HostRuntime) {
     assert_eq!(rt; Help::Version.text(), "tinmove 0.1.0\n");
     for part in [
         "tinmove migrate --tin FILE --out FOLDER [--inverse] [--exact] [--inside-only]\n",
-        "[--drop-other] LAYER...\n",
+        "[--drop-other] [--cert] LAYER...\n",
         "tinmove check --tin FILE [--exact] [--inside-only]\n",
         "tinmove make N\n",
+        "tinmove verify --tin FILE --source LAYER --written FILE --cert FILE [--inverse]\n",
         "  --inverse ",
         "  --exact ",
         "  --inside-only ",
         "  --drop-other ",
+        "  --cert ",
         "  0  ",
         "  1  ",
         "  2  ",
@@ -76,6 +80,7 @@ fn the_texts_name_what_there_is(rt: HostRuntime) {
         "  7  ",
         "  8  ",
         "  9  ",
+        "  10 ",
     ] {
         assert!(rt; Help::Whole.text().contains(part), "at {part}");
     }

@@ -1,6 +1,6 @@
 -- Answers to the goals of `check_cert` in src/checking.rt.
 use Rattle.cert_check.specs.Checks.{IsCertCause}
-use Rattle.cert_check.proofs.CertCauses.{image_cert, same_text, other_text}
+use Rattle.cert_check.proofs.CertCauses.{image_cert, same_text, certified_text, other_text}
 use Rattle.cert_check.proofs.PathLists.{exits}
 use Rattle.cert_check.proofs.checking.check_cert.Goals as goal
 
@@ -18,6 +18,14 @@ returns-in_err-images-clause-cause g c =
 pub returns-clause-migrated : goal.returns-clause-migrated
 returns-clause-migrated g c =
     same_text c.args.tin.now c.args.source.now c.args.written.now c.in_ok-text.text.items c.deref.result.now
+    (g.L.Layer.reads c.args.how c.args.source.now) (g.L.Layer.text c.args.source.now c.args.how) c.args.cert.now
+    c.in-Ok.sheet c.in_ok-images.images c.compare.result c.known.ensures.sound
+    c.in-Ok.ensures.sheet c.in_ok-images.ensures.right c.in_ok-images.ensures.images c.in_ok-text.ensures.spliced
+    c.deref.ensures.value c.compare.ensures.same
+
+pub returns-clause-certified : goal.returns-clause-certified
+returns-clause-certified g c =
+    certified_text c.args.tin.now c.args.source.now c.args.written.now c.in_ok-text.text.items c.deref.result.now
     (g.L.Layer.reads c.args.how c.args.source.now) (g.L.Layer.text c.args.source.now c.args.how) c.args.cert.now
     c.in-Ok.sheet c.in_ok-images.images c.compare.result c.known.ensures.sound
     c.in-Ok.ensures.sheet c.in_ok-images.ensures.right c.in_ok-images.ensures.images c.in_ok-text.ensures.spliced

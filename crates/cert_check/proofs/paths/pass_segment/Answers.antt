@@ -1,16 +1,23 @@
 -- Answers to the goals of `pass_segment` in src/paths.rt.
 use Rattle.std.proofs.Common.{List, ℕ, length, Bor, refl, ap, arith}
-use Rattle.cert_check.specs.Lines.{IsLine, HasNoLine}
+use Rattle.cert_check.specs.Lines.{IsLine}
 use Rattle.cert_check.specs.RightLists.{IsRightList}
+use Rattle.cert_check.specs.SheetLists.{HasNoLineWithin}
+use Rattle.cert_check.proofs.FewNumbers.{wrong_within}
 use Rattle.cert_check.proofs.LineNumbers.{line_long}
 use Rattle.cert_check.proofs.Passing.{refused}
 use Rattle.cert_check.proofs.PathLists.{some_told, none_told, wrong_line}
 use Rattle.cert_check.proofs.paths.pass_segment.Goals as goal
 
 pub returns-in_default-clause-cause : goal.returns-in_default-clause-cause
-returns-in_default-clause-cause c =
-    absurd ((none_told (HasNoLine c.args.gathered.now.rest.now) c.in_ok-rest.field-0 c.in_default.is
-    c.in_ok-rest.ensures.none) (c.requires.line).0 (c.requires.line).1)
+returns-in_default-clause-cause c = (
+  refl,
+  refl,
+  wrong_within c.args.tin.now c.args.way.a c.args.way.b c.args.gathered.now.rest.now c.triangle_count-most.result
+      (c.requires.line).0 (c.requires.line).1.0 c.triangle_count-most.ensures (c.requires.line).1.1
+      (none_told (HasNoLineWithin c.args.gathered.now.rest.now c.triangle_count-most.result) c.in_ok-rest.field-0
+      c.in_default.is c.in_ok-rest.ensures.none),
+)
 
 pub returns-then-not-is_right-clause-cause : goal.returns-then-not-is_right-clause-cause
 returns-then-not-is_right-clause-cause c = (

@@ -13,4 +13,5 @@ returns c =
     let exact = c.in_ok-arg-4.ensures.shape c.flag-2.ensures.local ∙ ap₂ with_rule inverse c.flag-2.ensures.rule in
     let inside = c.in_ok-arg-5.ensures.shape c.flag-3.ensures.local ∙ ap₂ with_rule exact c.flag-3.ensures.rule in
     let drop = c.in_ok-arg-6.ensures.shape c.flag-4.ensures.local ∙ ap₂ with_rule inside c.flag-4.ensures.rule in
-    c.in_ok-command.ensures.shape c.words.ensures.local ∙ ap₂ with_rule drop c.words.ensures.rule
+    let cert = c.in_ok-arg-7.ensures.shape c.flag-5.ensures.local ∙ ap₂ with_rule drop c.flag-5.ensures.rule in
+    c.in_ok-command.ensures.shape c.words.ensures.local ∙ ap₂ with_rule cert c.words.ensures.rule

@@ -13,8 +13,8 @@ returns-in_err-bytes-clause-refused g c =
     let here = c.loop-number.invariant in
     handed_on _ c.in_err-bytes.field-0.0 c.from_residual.result c.from_residual.ensures.1
     (unloaded_at (setting_of (shelf.files c.args.shelf.now) c.args.migration.now.how c.args.index.now)
-    c.args.migration.now.layers c.loop-number.number c.name-item.result c.args.migration.now.out c.loop-number.run _
-    _ _ c.in_err-bytes.field-0.0
+    c.args.migration.now.layers c.loop-number.number c.name-item.result c.args.migration.now.cert
+    c.args.migration.now.out c.loop-number.run _ _ _ c.in_err-bytes.field-0.0
     (rw c.items-name-items.ensures at c.loop-number-test.true) (rw c.items-name-items.ensures at c.name-item.is)
     here.carried here.used (λ rose. rose) (rw (here.files, here.faults, c.text.ensures) at
     c.in_err-bytes.ensures.refused))
@@ -37,8 +37,8 @@ returns-in_err-carry_next-clause-refused g c =
     handed_on _ c.in_err-carry_next.field-0.0 c.from_residual-in_err-carry_next.result
     c.from_residual-in_err-carry_next.ensures.1
     (uncarried_at (setting_of (shelf.files c.args.shelf.now) c.args.migration.now.how c.args.index.now)
-    c.args.migration.now.layers c.loop-number.number c.name-item.result c.args.migration.now.out
-    c.in_ok-bytes.bytes.items c.loop-number.run _
+    c.args.migration.now.layers c.loop-number.number c.name-item.result c.args.migration.now.cert
+    c.args.migration.now.out c.in_ok-bytes.bytes.items c.loop-number.run _
     c.in_err-carry_next.field-0.0 (rw c.items-name-items.ensures at c.loop-number-test.true)
     (rw c.items-name-items.ensures at c.name-item.is) here.carried
     (rw (here.files, c.text.ensures) at c.in_ok-bytes.ensures.ok)
@@ -66,8 +66,8 @@ loop-number-preserved g c =
       room = c.in_ok-carry_next.ensures.room;
       carried =
           carried_at (setting_of (shelf.files c.args.shelf.now) c.args.migration.now.how c.args.index.now)
-          c.args.migration.now.layers c.loop-number.number c.name-item.result c.args.migration.now.out
-          c.in_ok-bytes.bytes.items c.loop-number.run
+          c.args.migration.now.layers c.loop-number.number c.name-item.result c.args.migration.now.cert
+          c.args.migration.now.out c.in_ok-bytes.bytes.items c.loop-number.run
           c.carry_next.new.run (rw c.items-name-items.ensures at c.loop-number-test.true)
           (rw c.items-name-items.ensures at c.name-item.is) here.carried
           (rw (here.files, c.text.ensures) at c.in_ok-bytes.ensures.ok) few adds;

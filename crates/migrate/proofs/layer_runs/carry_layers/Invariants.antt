@@ -16,6 +16,6 @@ invariant-loop-number g l =
       given : counted (shelf.given l.initial.shelf) l.run.used ≤ shelf.given l.shelf;
       used : l.run.used ≤ MOST_BYTES;
       room : vec_len l.run.pieces ≤ MOST_PIECES;
-      carried : HasCarried (setting_of (shelf.files l.initial.shelf) l.migration.how l.index) l.migration.out
-          (take l.number l.migration.layers) l.run;
+      carried : HasCarried (setting_of (shelf.files l.initial.shelf) l.migration.how l.index) l.migration.cert
+          l.migration.out (take l.number l.migration.layers) l.run;
     }

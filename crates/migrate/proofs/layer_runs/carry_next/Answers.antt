@@ -1,11 +1,13 @@
 -- Answers to the goals of `carry_next` in src/layer_runs.rt.
-use Rattle.std.proofs.Common.{◌≡◌, ◌+◌, ℕ, List, [], ◌∷◌, ◌++◌, map, length, Some, refl, ◌∙◌, ap, subst}
+use Rattle.std.proofs.Common.{◌≡◌, ◌+◌, ℕ, List, [], ◌∷◌, ◌++◌, map, length, drop, Some, refl, ◌∙◌, ap, subst}
+use Rattle.std.proofs.Common.{append_assoc}
 use Rattle.std.proofs.lemmas.List.{map-append}
+use Rattle.shelf_io.specs.Files.{Files}
 use Rattle.report_text.specs.declared.rows.LayerRow.{LayerRow}
 use Rattle.job_words.specs.Formats.{format_of}
 use Rattle.runs.specs.declared.output.LayerFile.{LayerFile}
 use Rattle.migrate.specs.LayerRuns.{Done}
-use Rattle.migrate.specs.Migrations.{file_in}
+use Rattle.migrate.specs.Migrations.{file_in, certs_of}
 use Rattle.runs.specs.Output.{file_of}
 use Rattle.migrate.proofs.layer_runs.carry_next.Goals as goal
 
@@ -17,14 +19,23 @@ one_more_file before now file folder done is same =
     ap (λ (files : List LayerFile). map file_of files) is
     ∙ (map-append file_of before (file ∷ []) ∙ ap (λ f. map file_of before ++ f ∷ []) same)
 
+-- and its certificate, where it is wanted
+with_cert : (before now after certs : Files) (file : List ℕ × List ℕ) → now ≡ before ++ file ∷ [] → after ≡ now ++ certs
+    → after ≡ before ++ file ∷ certs
+with_cert before now after certs file is then = then
+    ∙ (ap (λ (fs : Files). fs ++ certs) is ∙ append_assoc before (file ∷ []) certs)
+
 pub returns-clause-ok : goal.returns-clause-ok
 returns-clause-ok c =
     let added = c.in_ok-add_layer.ensures in
+    let certified = c.in_ok-add_cert.ensures in
+    let place : c.len-before.result ≡ length c.args.run.now.pieces.items =
+    c.len-before.ensures ∙ c.args.run.now.pieces.ok.0 in
     let done : Done = record {
       name = c.args.name.now;
       format = c.known_format-format.result;
-      carried =
-          c.in_ok-carried.carried;
+      carried = c.in_ok-carried.carried;
+      pieces = drop (length c.args.run.now.pieces.items) c.add_cert.new.run.pieces.items;
     } in
     record {
       done = done;
@@ -32,9 +43,14 @@ returns-clause-ok c =
       suffix = subst (λ (name : List ℕ). format_of name ≡ Some c.known_format-format.result) c.text.ensures
           c.known_format-format.ensures;
       carried =
-          rw added.pieces c.in_ok-carried.ensures.ok;
-      files = one_more_file c.args.run.now.files.items c.add_layer.new.run.files.items c.in_ok-file.file
-          c.args.folder.now done added.files c.in_ok-file.ensures;
-      rows = added.rows ∙ ap (λ (row : LayerRow). c.args.run.now.rows.items ++ row ∷ []) c.in_ok-row.ensures;
-      used = ap (λ u. u + length c.args.bytes.now) added.used;
+          rw (certified.pieces, added.pieces) c.in_ok-carried.ensures.ok;
+      own = refl;
+      files = with_cert (map file_of c.args.run.now.files.items) (map file_of c.add_layer.new.run.files.items) _
+          (certs_of c.args.cert c.args.folder.now c.args.name.now done.pieces) (file_in c.args.folder.now done)
+          (one_more_file c.args.run.now.files.items c.add_layer.new.run.files.items c.in_ok-file.file
+          c.args.folder.now done added.files c.in_ok-file.ensures)
+          (rw (certified.pieces, ← place) certified.files);
+      rows = rw certified.rows
+          (added.rows ∙ ap (λ (row : LayerRow). c.args.run.now.rows.items ++ row ∷ []) c.in_ok-row.ensures);
+      used = ap (λ u. u + length c.args.bytes.now) (certified.used ∙ added.used);
     }

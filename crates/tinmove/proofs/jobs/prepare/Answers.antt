@@ -23,3 +23,6 @@ returns-in-Make-clause-unread g c = refused_more IsOfMaking _ c.prepare_making.r
 
 pub returns-in-Migrate-clause-refused : goal.returns-in-Migrate-clause-refused
 returns-in-Migrate-clause-refused g c = rw c.in-Migrate.is c.prepare_migration.ensures.refused
+
+pub returns-in-Verify-clause-refused : goal.returns-in-Verify-clause-refused
+returns-in-Verify-clause-refused g c = rw c.in-Verify.is c.prepare_verification.ensures.refused

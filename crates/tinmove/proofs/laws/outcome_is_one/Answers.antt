@@ -3,4 +3,4 @@ use Rattle.tinmove.proofs.OneOutcome.{outcome_is_one}
 use Rattle.tinmove.proofs.laws.outcome_is_one.Goals as goal
 
 pub returns : goal.returns
-returns c = outcome_is_one c.migration_is_one.ensures c.making_is_one.ensures
+returns c = outcome_is_one c.migration_is_one.ensures c.making_is_one.ensures c.verification_is_one.ensures

@@ -8,11 +8,11 @@ use Rattle.tinmove.proofs.RunEnds.{ends_so, never-write-end, makes_refusal, make
 use Rattle.tinmove.proofs.RunEnds.{told_always, stands_refused, stands_done}
 use Rattle.runs.proofs.RefusalLines.{never-write}
 use Rattle.tinmove.proofs.ReportLimits.{limit_told, limit_done}
-use Rattle.tinmove.proofs.WordsEnd.{check_job, end_as, no_job_end, words_end, wants_none, words_unread, end_unread}
-use Rattle.tinmove.proofs.WordsEnd.{unread_as, done_end}
+use Rattle.tinmove.proofs.WordsEnd.{check_job, verify_job, verified_as, end_as, no_job_end, words_end, wants_none}
+use Rattle.tinmove.proofs.WordsEnd.{words_unread, end_unread, unread_as, done_end}
 use Rattle.tinmove.proofs.OneOutcome.{job_or_fault}
 use Rattle.tinmove.proofs.KeptRuns.{run_keeps, made_keeps}
-use Rattle.tinmove.proofs.CheckEnds.{run_checks}
+use Rattle.tinmove.proofs.CheckEnds.{run_checks, run_verifies}
 use Rattle.tinmove.proofs.run.run_to_end.Goals as goal
 
 pub returns-in-Err-clause-ends : goal.returns-in-Err-clause-ends
@@ -34,6 +34,11 @@ returns-in-Err-clause-kept g c =
 pub returns-in-Err-clause-sound : goal.returns-in-Err-clause-sound
 returns-in-Err-clause-sound g c =
     run_checks (map string_bytes c.args.words.now) (g.S.Shelf.files c.args.shelf.now) _ _ c.refuse.result
+    (g.P.Press.made c.refuse.new.press) (returns-in-Err-clause-ends g c)
+
+pub returns-in-Err-clause-verified : goal.returns-in-Err-clause-verified
+returns-in-Err-clause-verified g c =
+    run_verifies (map string_bytes c.args.words.now) (g.S.Shelf.files c.args.shelf.now) _ _ c.refuse.result
     (g.P.Press.made c.refuse.new.press) (returns-in-Err-clause-ends g c)
 
 pub returns-in-Err-clause-untold : goal.returns-in-Err-clause-untold
@@ -78,7 +83,8 @@ pub returns-in-Err-clause-limit : goal.returns-in-Err-clause-limit
 returns-in-Err-clause-limit g c =
     let e = c.refuse.ensures in
     limit_told (Words c.in-Err.fault) c.refuse.result (g.P.Press.made c.refuse.new.press) _ _
-    (record { status = e.status; all = e.whole; front = e.front; rose = e.rose }) (λ no. cc) (λ no. cc)
+    (record { status = e.status; all = e.whole; front = e.front; rose = e.rose }) (λ no. cc) (λ no. cc) (λ no. cc)
+    (λ no. cc)
 
 pub publish-requires-clause-writable : goal.publish-requires-clause-writable
 publish-requires-clause-writable g c = let form = c.in-Ok-prepare.ensures.form in form.writable
@@ -215,9 +221,33 @@ returns-in-Err-prepare-clause-limit g c =
     (g.P.Press.made c.refuse-in-Err-prepare.new.press) _ _
     (record { status = e.status; all = e.whole; front = e.front; rose = e.rose })
     c.in-Err-prepare.ensures.causes.tin_long c.in-Err-prepare.ensures.causes.layers_long
+    c.in-Err-prepare.ensures.causes.written_long c.in-Err-prepare.ensures.causes.cert_long
 
 pub returns-in-Err-prepare-clause-check : goal.returns-in-Err-prepare-clause-check
 returns-in-Err-prepare-clause-check g c = λ name check.
     end_as _ c.refuse-in-Err-prepare.result c.refuse-in-Err-prepare.ensures.status
     (check_job (map string_bytes c.args.words.now) c.in-Ok.job name _ c.in-Ok.ensures.job check
+    c.in-Err-prepare.ensures.causes.may_end)
+
+pub returns-in-Ok-prepare-clause-verified : goal.returns-in-Ok-prepare-clause-verified
+returns-in-Ok-prepare-clause-verified g c =
+    run_verifies (map string_bytes c.args.words.now) (g.S.Shelf.files c.args.shelf.now) _ _ c.publish.result
+    (g.P.Press.made c.publish.new.press) (returns-in-Ok-prepare-clause-ends g c)
+
+pub returns-in-Err-prepare-clause-verified : goal.returns-in-Err-prepare-clause-verified
+returns-in-Err-prepare-clause-verified g c =
+    run_verifies (map string_bytes c.args.words.now) (g.S.Shelf.files c.args.shelf.now) _ _
+    c.refuse-in-Err-prepare.result (g.P.Press.made c.refuse-in-Err-prepare.new.press)
+    (returns-in-Err-prepare-clause-ends g c)
+
+pub returns-in-Ok-prepare-clause-verify : goal.returns-in-Ok-prepare-clause-verify
+returns-in-Ok-prepare-clause-verify g c = λ verification asks.
+    verified_as _ c.publish.result c.publish.ensures.status
+    (verify_job (map string_bytes c.args.words.now) c.in-Ok.job verification _ c.in-Ok.ensures.job asks
+    c.in-Ok-prepare.ensures.may_end)
+
+pub returns-in-Err-prepare-clause-verify : goal.returns-in-Err-prepare-clause-verify
+returns-in-Err-prepare-clause-verify g c = λ verification asks.
+    verified_as _ c.refuse-in-Err-prepare.result c.refuse-in-Err-prepare.ensures.status
+    (verify_job (map string_bytes c.args.words.now) c.in-Ok.job verification _ c.in-Ok.ensures.job asks
     c.in-Err-prepare.ensures.causes.may_end)

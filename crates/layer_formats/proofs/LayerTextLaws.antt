@@ -2,8 +2,8 @@
 use Rattle.sheet_base.specs.Outcomes.{OutcomeIsOne, OutcomeExists}
 use Rattle.job_words.specs.declared.formats.Format.{Format}
 use Rattle.job_words.specs.declared.formats.Format.TheVariants.{Wkt, GeoJson, Drawing}
-use Rattle.migrate.specs.LayerTexts.{reads_of, refuses_of}
-use Rattle.migrate.specs.LayerOutcomes.{LayerTextsAreOne, LayerOutcomesExist}
+use Rattle.layer_formats.specs.LayerTexts.{reads_of, refuses_of}
+use Rattle.layer_formats.specs.LayerOutcomes.{LayerTextsAreOne, LayerOutcomesExist}
 
 pub texts_are_one : OutcomeIsOne (reads_of Wkt) (refuses_of Wkt) → OutcomeIsOne (reads_of GeoJson) (refuses_of GeoJson)
     → OutcomeIsOne (reads_of Drawing) (refuses_of Drawing) → LayerTextsAreOne

@@ -1,0 +1,2 @@
+-- The files of lemmas of layer_formats.
+mod LayerTextLaws

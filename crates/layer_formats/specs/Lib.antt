@@ -1,0 +1,3 @@
+-- The files of definitions of layer_formats.
+pub mod LayerTexts
+pub mod LayerOutcomes

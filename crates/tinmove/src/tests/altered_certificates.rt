@@ -1,0 +1,186 @@
+//! Each certificate that a migration writes is accepted, and refused once one byte or number of it, or one byte of the
+//! written layer, is another.
+
+use crate::tests::memory_runs::{NEVER, SQUARE, TRIANGLE, holds, ran_over, shelf_of};
+use runs::Status;
+use shelf_io::{MemShelf, Shelf};
+use std::alloc::{AllocError, Global};
+use std::test::Fail;
+
+/// The bytes with one of them changed to one that is in no certificate.
+fn changed_at(alloc: Global, bytes: &[u8], at: usize) -> Result<Vec<u8>, AllocError> {
+    let mut all = Vec::with_capacity(alloc, bytes.len())?;
+    for (number, byte) in bytes.iter().enumerate() {
+        all.push(if number == at { byte ^ 64 } else { *byte })?;
+    }
+    Ok(all)
+}
+
+/// The bytes with a 9 in front of the number that begins at this place.
+fn greater_at(alloc: Global, bytes: &[u8], at: usize) -> Result<Vec<u8>, AllocError> {
+    let mut all = Vec::new(alloc);
+    for (number, byte) in bytes.iter().enumerate() {
+        if number == at {
+            all.push(b'9')?;
+        }
+        all.push(*byte)?;
+    }
+    Ok(all)
+}
+
+/// A layer and the triangulation through which it is carried.
+#[derive(Clone, Copy)]
+struct Way<'a> {
+    tin: &'a str,
+    name: &'a str,
+    layer: &'a str,
+    words: &'a [&'a str],
+}
+
+/// A shelf of the layer and its triangulation.
+fn way_shelf(alloc: Global, way: &Way<'_>) -> Result<MemShelf, AllocError> {
+    shelf_of(alloc, &[("t.json", way.tin), (way.name, way.layer)])
+}
+
+/// Whether a verification of these bytes ends so and says this.
+fn says(
+    alloc: Global,
+    way: &Way<'_>,
+    written: &[u8],
+    cert: &[u8],
+    status: Status,
+    line: &str,
+) -> Result<bool, AllocError> {
+    let mut shelf = way_shelf(alloc, way)?;
+    for (name, bytes) in [("w", written), ("c", cert)] {
+        if shelf.begin(name) == Ok(false) {
+            shelf.add(name, bytes)?;
+        }
+    }
+    let mut words = Vec::new(alloc);
+    words.extend_from_slice(&[
+        "verify",
+        "--tin",
+        "t.json",
+        "--source",
+        way.name,
+        "--written",
+        "w",
+        "--cert",
+        "c",
+    ])?;
+    words.extend_from_slice(way.words)?;
+    let (ended, press) = ran_over(alloc, &words, shelf, 4096, NEVER)?;
+    Ok(ended == status && holds(&press, &[("-", Some(line))]))
+}
+
+/// Whether each byte of the certificate, once it is another, makes a bad line, and each number a list that is not right
+/// or a bad line.
+fn each_change_is_refused(
+    alloc: Global,
+    way: &Way<'_>,
+    written: &[u8],
+    cert: &[u8],
+) -> Result<bool, AllocError> {
+    let mut line = 1u32;
+    let mut begins = false;
+    for (at, byte) in cert.iter().enumerate() {
+        let other = changed_at(alloc, cert, at)?;
+        let said = format!(in alloc; "certificate: form at line {line}\n")?;
+        if !says(alloc, way, written, &other, Status::Uncertified, &said)? {
+            return Ok(false);
+        }
+        if begins && byte.is_ascii_digit() {
+            let other = greater_at(alloc, cert, at)?;
+            if says(alloc, way, written, &other, Status::Same, "certified\n")? {
+                return Ok(false);
+            }
+        }
+        begins = !byte.is_ascii_digit();
+        if *byte == b'\n' {
+            line = line.saturating_add(1);
+        }
+    }
+    for at in 0..written.len() {
+        let other = changed_at(alloc, written, at)?;
+        let said = format!(in alloc; "certificate: differs at {at}\n")?;
+        if !says(alloc, way, &other, cert, Status::Uncertified, &said)? {
+            return Ok(false);
+        }
+    }
+    Ok(true)
+}
+
+/// Whether the layer is carried, its certificate is accepted, and each change is refused.
+fn is_certified(alloc: Global, way: &Way<'_>) -> Result<bool, AllocError> {
+    let mut words = Vec::new(alloc);
+    words.extend_from_slice(&[
+        "migrate", "--tin", "t.json", "--out", "o", "--cert", way.name,
+    ])?;
+    words.extend_from_slice(way.words)?;
+    let shelf = way_shelf(alloc, way)?;
+    let (status, press) = ran_over(alloc, &words, shelf, 4096, NEVER)?;
+    let file = format!(in alloc; "o/{name}", name = way.name)?;
+    let cert_file = format!(in alloc; "{file}.cert")?;
+    let (Some(written), Some(cert)) = (press.made_bytes(&file), press.made_bytes(&cert_file)) else {
+        return Ok(false);
+    };
+    if status != Status::Same && status != Status::Changed {
+        return Ok(false);
+    }
+    if !says(alloc, way, written, cert, Status::Same, "certified\n")? {
+        return Ok(false);
+    }
+    each_change_is_refused(alloc, way, written, cert)
+}
+
+/// A collection with a line across the diagonal, a polygon and a feature without a place.
+const COLLECTION: &str =
+    r#"{"type":"FeatureCollection","features":[{"type":"Feature","properties":{},"geometry":{"type":"LineString","coordinates":[[10,0],[0,10]]}},{"type":"Feature","properties":null,"geometry":{"type":"Polygon","coordinates":[[[1,1],[9,1],[9,9],[1,1]]]}},{"type":"Feature","properties":null,"geometry":null}]}"#;
+
+/// A drawing of one line across the diagonal.
+const DRAWING: &str =
+    "  0\nSECTION\n  2\nENTITIES\n  0\nLINE\n  8\nPARCEL\n 10\n10.0\n 20\n0.0\n 11\n0.0\n 21\n10.0\n  0\nENDSEC\n  0\nEOF\n";
+
+#[test]
+fn each_change_of_a_certificate_is_refused(rt: HostRuntime) -> Result<(), Fail> {
+    let alloc = rt.alloc();
+    let none: &[&str] = &[];
+    for (tin, name, layer, words) in [
+        (SQUARE, "l.wkt", "LINESTRING (10 0, 0 10)", none),
+        (SQUARE, "l.wkt", "LINESTRING (0 0, 10 10)", none),
+        (
+            SQUARE,
+            "l.wkt",
+            "LINESTRING (1 1, 1 1, 2 1)\nPOINT (6 4)\n",
+            none,
+        ),
+        (
+            SQUARE,
+            "l.wkt",
+            "POLYGON ((1 1, 9 1, 9 9, 1 9, 1 1), (4 3, 3 4, 6 6, 4 3))",
+            none,
+        ),
+        (SQUARE, "l.wkt", "POINT (5 5)", none),
+        (SQUARE, "l.wkt", "POINT EMPTY\n", none),
+        (TRIANGLE, "l.wkt", "MULTIPOINT (5 0, (0 0), EMPTY)", none),
+        (SQUARE, "l.geojson", COLLECTION, none),
+        (SQUARE, "l.dxf", DRAWING, none),
+        (SQUARE, "l.wkt", "POINT (100 110)", &["--inverse"]),
+        (
+            SQUARE,
+            "l.wkt",
+            "LINESTRING (110 100, 100 110)",
+            &["--inverse", "--exact"],
+        ),
+    ] {
+        let way = Way {
+            tin,
+            name,
+            layer,
+            words,
+        };
+        assert!(rt; is_certified(alloc, &way)?, "at {layer}");
+    }
+    Ok(())
+}

@@ -1,0 +1,3 @@
+-- The files of lemmas of verify_mode.
+mod VerificationSteps
+mod OneVerification

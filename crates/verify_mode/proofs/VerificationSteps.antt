@@ -1,0 +1,403 @@
+-- What is so of a verification after each of its steps.
+use Rattle.std.proofs.Common.{◌≡◌, ◌≢◌, ◌⊎◌, inl, inr, ℕ, ◌+◌, ◌≤◌, length, List, [], ◌∷◌, Result, Ok, Err, Option}
+use Rattle.std.proofs.Common.{None, Some, IfSome, refl, sym, ◌∙◌, ap, ap₂, subst, arith, map, ◌++◌}
+use Rattle.std.specs.Prelude.{IfErr, codes}
+use Rattle.shelf_io.specs.Count.{counted}
+use Rattle.shelf_io.specs.Files.{Files, bytes_of}
+use Rattle.shelf_io.specs.Load.{Loads, LacksName, IsLonger}
+use Rattle.sheet_base.specs.declared.edits.Edit.{Edit}
+use Rattle.sheet_base.specs.declared.faults.LayerFault.{LayerFault}
+use Rattle.sheet_base.specs.Sheets.{Contents}
+use Rattle.sheet_base.specs.Fitting.{Runs}
+use Rattle.tin_base.specs.Triangulation.{Triangulation}
+use Rattle.cert_check.specs.declared.faults.CertFault.{CertFault}
+use Rattle.cert_check.specs.declared.faults.CertFault.TheVariants as certs
+use Rattle.cert_check.specs.Checks.{IsCertCause}
+use Rattle.job_words.specs.declared.formats.Format.{Format}
+use Rattle.job_words.specs.Formats.{format_of}
+use Rattle.runs.specs.declared.loads.TheConstants.{MOST_BYTES, MOST_VERIFIED}
+use Rattle.runs.specs.declared.status.Status.{Status}
+use Rattle.runs.specs.declared.status.Status.TheVariants.{Same, Words as WordsStatus, Layer as LayerStatus}
+use Rattle.runs.specs.declared.status.Status.TheVariants.{Read as ReadStatus, Limit as LimitStatus, Memory, Uncertified}
+use Rattle.runs.specs.declared.refusal.Refusal.{Refusal}
+use Rattle.runs.specs.declared.refusal.Refusal.TheVariants.{Words, TinUnread, TinLong, Tin, Check, LayerUnread}
+use Rattle.runs.specs.declared.refusal.Refusal.TheVariants.{LayersLong, Layer, Outside, TooManyPieces, TooManyChanges}
+use Rattle.runs.specs.declared.refusal.Refusal.TheVariants.{WrittenUnread, WrittenLong, CertUnread, CertLong}
+use Rattle.runs.specs.declared.refusal.Refusal.TheVariants.{Certificate, NoMemory}
+use Rattle.runs.specs.declared.output.Output.{Output}
+use Rattle.runs.specs.Status.{end_of}
+use Rattle.runs.specs.Output.{file_of, files_of, HasForm}
+use Rattle.runs.specs.Refusals.{status_of}
+use Rattle.sheet_base.specs.declared.flags.How.{How}
+use Rattle.runs.specs.Triangulations.{IsTinRefused, IsTextRefused}
+use Rattle.runs.specs.Causes.{MayRefuse, by_the_files, unread, no_room, HasCauses}
+use Rattle.runs.specs.Loads.{IsUnloaded, missing, read_failed, too_long, no_memory, IsTinUnready, not_loaded, no_tin}
+use Rattle.runs.proofs.Faults.{unread as unread_layer, without_room as layer_without_room, of_layer}
+use Rattle.runs.proofs.Faults.{IsOfTin, refused as tin_refused_so, limited as tin_limited, wanted as tin_wanted}
+use Rattle.runs.proofs.Faults.{of_text, of_check, not_read}
+use Rattle.runs.proofs.TinRefusals.{without_file, without_read, without_room, unready}
+use Rattle.verify_mode.specs.declared.verifications.Verification.{Verification}
+use Rattle.verify_mode.specs.Files.{HasWay, IsFileWithin, HaveTexts, AreUnloaded, no_source, no_written, no_cert}
+use Rattle.verify_mode.specs.Files.{IsWrittenReached, IsCertReached, LacksWanted}
+use Rattle.verify_mode.specs.Certificates.{IsCertifiedAs, IsCauseIn, of_certificate, IsOfCertificate, IsUncertifiedAs}
+use Rattle.verify_mode.specs.Certificates.{IsUncertified}
+use Rattle.verify_mode.specs.Verifications.{IsStoppedBy, IsVerificationRefused, IsReachedBy, MayRefuseVerification}
+use Rattle.verify_mode.specs.Verifications.{certified_text, IsVerified, IsVerificationWritten, IsEndOfVerification}
+
+-- ---- the causes that are known of a refusal
+module _ (lacks rose passed : Type 0) (refusal : Refusal) where
+  read_causes : status_of refusal ≡ ReadStatus → rose ⊎ lacks → HasCauses lacks IsEndOfVerification rose passed refusal
+  read_causes is why = record {
+    understood = λ e. let f = sym is ∙ e in cc;
+    read = λ e. why;
+    tin_long = λ e. let f = sym is ∙ ap status_of e in cc;
+    layers_long = λ e. let f = sym is ∙ ap status_of e in cc;
+    written_long = λ e. let f = sym is ∙ ap status_of e in cc;
+    cert_long = λ e. let f = sym is ∙ ap status_of e in cc;
+    may_end = subst IsEndOfVerification (sym is) tt;
+  }
+
+  limit_causes : status_of refusal ≡ LimitStatus → passed → HasCauses lacks IsEndOfVerification rose passed refusal
+  limit_causes is many = record {
+    understood = λ e. let f = sym is ∙ e in cc;
+    read = λ e. let f = sym is ∙ e in cc;
+    tin_long = λ e. many;
+    layers_long = λ e. many;
+    written_long = λ e. many;
+    cert_long = λ e. many;
+    may_end = subst IsEndOfVerification (sym is) tt;
+  }
+
+  -- of the other statuses
+  pub other_causes : (status : Status) → status_of refusal ≡ status → status ≢ WordsStatus → status ≢ ReadStatus
+      → status ≢ LimitStatus → IsEndOfVerification status
+      → HasCauses lacks IsEndOfVerification rose passed refusal
+  other_causes status is words read limit may_end = record {
+    understood = λ e. words (sym is ∙ e);
+    read = λ e. absurd (read (sym is ∙ e));
+    tin_long = λ e. absurd (limit (sym is ∙ ap status_of e));
+    layers_long = λ e. absurd (limit (sym is ∙ ap status_of e));
+    written_long = λ e. absurd (limit (sym is ∙ ap status_of e));
+    cert_long = λ e. absurd (limit (sym is ∙ ap status_of e));
+    may_end = subst IsEndOfVerification (sym is) may_end;
+  }
+
+  memory_causes : status_of refusal ≡ Memory → HasCauses lacks IsEndOfVerification rose passed refusal
+  memory_causes is = other_causes Memory is (λ e. cc) (λ e. cc) (λ e. cc) tt
+
+  unloaded_causes : (told : Option Files) (name : List ℕ) (most : ℕ) (absent long : Refusal)
+      → status_of absent ≡ ReadStatus → status_of long ≡ LimitStatus → (LacksName told name → lacks)
+      → IsUnloaded told name most absent long rose passed refusal
+      → HasCauses lacks IsEndOfVerification rose passed refusal
+  unloaded_causes told name most absent long reads limits wants (missing is none) =
+      read_causes (ap status_of is ∙ reads) (inr (wants none))
+  unloaded_causes told name most absent long reads limits wants (read_failed is rises) =
+      read_causes (ap status_of is ∙ reads) (inl rises)
+  unloaded_causes told name most absent long reads limits wants (too_long is over many) =
+      limit_causes (ap status_of is ∙ limits) many
+  unloaded_causes told name most absent long reads limits wants (no_memory is) = memory_causes (ap status_of is)
+
+-- of the files
+pub files_causes : (told : Option Files) (verification : Verification) (rose passed : Type 0) (refusal : Refusal)
+    → AreUnloaded told verification rose passed refusal
+    → HasCauses (LacksWanted verification told) IsEndOfVerification rose passed refusal
+files_causes told verification rose passed refusal (no_source is) =
+    unloaded_causes (LacksWanted verification told) rose passed refusal told verification.source MOST_BYTES
+    (LayerUnread 0) LayersLong refl refl (λ none. inr (inl none)) is
+files_causes told verification rose passed refusal (no_written source has is) =
+    unloaded_causes (LacksWanted verification told) rose passed refusal told verification.written MOST_VERIFIED
+    WrittenUnread WrittenLong refl refl (λ none. inr (inr (inl none))) is
+files_causes told verification rose passed refusal (no_cert source has written also is) =
+    unloaded_causes (LacksWanted verification told) rose passed refusal told verification.cert MOST_VERIFIED CertUnread
+    CertLong refl refl (λ none. inr (inr (inr none))) is
+
+-- of the triangulation
+tin_understood : (status : Status) → IsOfTin status → status ≢ WordsStatus
+tin_understood status (tin_refused_so is) = rw is (λ e. cc)
+tin_understood status (tin_limited is) = rw is (λ e. cc)
+tin_understood status (tin_wanted is) = rw is (λ e. cc)
+
+tin_end : (status : Status) → IsOfTin status → IsEndOfVerification status
+tin_end status (tin_refused_so is) = rw is tt
+tin_end status (tin_limited is) = rw is tt
+tin_end status (tin_wanted is) = rw is tt
+
+text_causes : (lacks rose passed : Type 0) (how : How) (text : List ℕ) (refusal : Refusal)
+    → IsTextRefused how text refusal → HasCauses lacks IsEndOfVerification rose passed refusal
+text_causes lacks rose passed how text (Tin fault) why = record {
+  understood = tin_understood (status_of (Tin fault)) (of_text fault);
+  read = λ e. absurd (not_read (status_of (Tin fault)) (of_text fault) e);
+  tin_long = λ e. cc;
+  layers_long = λ e. cc;
+  written_long = λ e. cc;
+  cert_long = λ e. cc;
+  may_end = tin_end (status_of (Tin fault)) (of_text fault);
+}
+text_causes lacks rose passed how text (Check fault) why = record {
+  understood = tin_understood (status_of (Check fault)) (of_check fault);
+  read = λ e. absurd (not_read (status_of (Check fault)) (of_check fault) e);
+  tin_long = λ e. cc;
+  layers_long = λ e. cc;
+  written_long = λ e. cc;
+  cert_long = λ e. cc;
+  may_end = tin_end (status_of (Check fault)) (of_check fault);
+}
+text_causes lacks rose passed how text NoMemory why = memory_causes lacks rose passed NoMemory refl
+text_causes lacks rose passed how text refusal why = absurd why
+
+pub tin_causes : (told : Option Files) (verification : Verification) (rose passed : Type 0) (refusal : Refusal)
+    → IsTinUnready told verification.how verification.tin rose passed refusal
+    → HasCauses (LacksWanted verification told) IsEndOfVerification rose passed refusal
+tin_causes told verification rose passed refusal (not_loaded is) =
+    unloaded_causes (LacksWanted verification told) rose passed refusal told verification.tin MOST_BYTES TinUnread
+    TinLong refl refl (λ none. inl none) is
+tin_causes told verification rose passed refusal (no_tin text file why) =
+    text_causes (LacksWanted verification told) rose passed verification.how text refusal why
+
+-- of the source and the certificate
+layer_causes : (lacks rose passed : Type 0) (layer : ℕ) (fault : LayerFault)
+    → HasCauses lacks IsEndOfVerification rose passed (Layer layer fault)
+layer_causes lacks rose passed layer fault =
+    elim (of_layer fault) [
+      | unread_layer is ↦ other_causes lacks rose passed (Layer layer fault) LayerStatus is (λ e. cc) (λ e. cc)
+          (λ e. cc) tt
+      | layer_without_room is ↦ memory_causes lacks rose passed (Layer layer fault) is
+    ]
+
+uncertified : (lacks rose passed : Type 0) (refusal : Refusal) → status_of refusal ≡ Uncertified
+    → HasCauses lacks IsEndOfVerification rose passed refusal
+uncertified lacks rose passed refusal is =
+    other_causes lacks rose passed refusal Uncertified is (λ e. cc) (λ e. cc) (λ e. cc) tt
+
+cert_fault_causes : (lacks rose passed : Type 0) (fault : CertFault) → IsOfCertificate fault
+    → HasCauses lacks IsEndOfVerification rose passed (Certificate fault)
+cert_fault_causes lacks rose passed (certs.Layer fault) of = absurd of
+cert_fault_causes lacks rose passed (certs.Form line) of =
+    uncertified lacks rose passed (Certificate (certs.Form line)) refl
+cert_fault_causes lacks rose passed (certs.Count segments lines) of =
+    uncertified lacks rose passed (Certificate (certs.Count segments lines)) refl
+cert_fault_causes lacks rose passed (certs.Segment path segment) of =
+    uncertified lacks rose passed (Certificate (certs.Segment path segment)) refl
+cert_fault_causes lacks rose passed (certs.Differs at) of =
+    uncertified lacks rose passed (Certificate (certs.Differs at)) refl
+cert_fault_causes lacks rose passed certs.NoMemory of = absurd of
+
+module _ (tin : Triangulation) (source written : List ℕ) (reads : Contents → Type 0) (refuses : LayerFault → Type 0)
+    (text : Contents → Runs → Edit → List ℕ) (cert : List ℕ) where
+  pub uncertified_causes : (lacks rose passed : Type 0) (refusal : Refusal)
+      → IsUncertifiedAs tin source written reads refuses text cert refusal
+      → HasCauses lacks IsEndOfVerification rose passed refusal
+  uncertified_causes lacks rose passed (Layer layer fault) why = layer_causes lacks rose passed layer fault
+  uncertified_causes lacks rose passed (Certificate fault) why = cert_fault_causes lacks rose passed fault why.0
+  uncertified_causes lacks rose passed NoMemory why = memory_causes lacks rose passed NoMemory refl
+  uncertified_causes lacks rose passed refusal why = absurd why
+
+  -- the refusal of a fault
+  pub uncertified_as : (fault : CertFault) → IsCertCause tin source written reads refuses text cert fault
+      → IsUncertifiedAs tin source written reads refuses text cert (of_certificate fault)
+  uncertified_as (certs.Layer fault) why = (refl, why)
+  uncertified_as (certs.Form line) why = (tt, why)
+  uncertified_as (certs.Count segments lines) why = (tt, why)
+  uncertified_as (certs.Segment path segment) why = (tt, why)
+  uncertified_as (certs.Differs at) why = (tt, why)
+  uncertified_as certs.NoMemory why = tt
+
+-- the same, where a fault here is one and so many bytes here are enough
+rose_more : (rose_here rose lacks : Type 0) → (rose_here → rose) → rose_here ⊎ lacks → rose ⊎ lacks
+rose_more rose_here rose lacks rises (inl now) = inl (rises now)
+rose_more rose_here rose lacks rises (inr none) = inr none
+
+pub causes_more : (lacks rose_here rose passed_here passed : Type 0) (refusal : Refusal) → (rose_here → rose)
+    → (passed_here → passed) → HasCauses lacks IsEndOfVerification rose_here passed_here refusal
+    → HasCauses lacks IsEndOfVerification rose passed refusal
+causes_more lacks rose_here rose passed_here passed refusal rises more has = record {
+  understood = has.understood;
+  read = λ e. rose_more rose_here rose lacks rises (has.read e);
+  tin_long = λ e. more (has.tin_long e);
+  layers_long = λ e. more (has.layers_long e);
+  written_long = λ e. more (has.written_long e);
+  cert_long = λ e. more (has.cert_long e);
+  may_end = has.may_end;
+}
+
+-- ---- what refuses a verification
+-- its triangulation
+of_tin : (files : Files) (verification : Verification) (refusal : Refusal)
+    → IsTinRefused files verification.how verification.tin refusal → IsVerificationRefused files verification refusal
+of_tin files verification (Words fault) why = absurd why
+of_tin files verification TinUnread why = why
+of_tin files verification TinLong why = why
+of_tin files verification (Tin fault) why = why
+of_tin files verification (Check fault) why = why
+of_tin files verification (LayerUnread layer) why = absurd why
+of_tin files verification LayersLong why = absurd why
+of_tin files verification (Layer layer fault) why = absurd why
+of_tin files verification (Outside layer path segment) why = absurd why
+of_tin files verification TooManyPieces why = absurd why
+of_tin files verification TooManyChanges why = absurd why
+of_tin files verification WrittenUnread why = absurd why
+of_tin files verification WrittenLong why = absurd why
+of_tin files verification CertUnread why = absurd why
+of_tin files verification CertLong why = absurd why
+of_tin files verification (Certificate fault) why = absurd why
+of_tin files verification NoMemory why = absurd why
+
+pub tin_refused : (told : Option Files) (verification : Verification) (rose passed : Type 0) (refusal : Refusal)
+    → IsTinUnready told verification.how verification.tin rose passed refusal
+    → IfSome told (λ files. MayRefuseVerification files verification rose refusal)
+tin_refused None verification rose passed refusal why = tt
+tin_refused (Some files) verification rose passed refusal why =
+    elim (unready files verification.how verification.tin rose passed refusal why) [
+      | without_file is ↦ by_the_files (of_tin files verification refusal is)
+      | without_read rises is ↦ unread rises (rw is tt)
+      | without_room is ↦ no_room is
+    ]
+
+-- a file
+unloaded_refused : (files : Files) (verification : Verification) (rose_here rose passed : Type 0) (name : List ℕ)
+    (most : ℕ) (absent long refusal : Refusal) → (rose_here → rose)
+    → (bytes_of files name ≡ None → IsVerificationRefused files verification absent)
+    → (IsLonger name most files → IsVerificationRefused files verification long) → IsReachedBy files verification absent
+    → IsUnloaded (Some files) name most absent long rose_here passed refusal
+    → MayRefuseVerification files verification rose refusal
+unloaded_refused files verification rose_here rose passed name most absent long refusal rises none many reached
+    (missing is lacks) =
+    subst (λ (r : Refusal). MayRefuseVerification files verification rose r) (sym is) (by_the_files (none lacks))
+unloaded_refused files verification rose_here rose passed name most absent long refusal rises none many reached
+    (read_failed is now) = unread (rises now)
+    (subst (λ (r : Refusal). IsReachedBy files verification r) (sym is) reached)
+unloaded_refused files verification rose_here rose passed name most absent long refusal rises none many reached
+    (too_long is over given) =
+    subst (λ (r : Refusal). MayRefuseVerification files verification rose r) (sym is) (by_the_files (many over))
+unloaded_refused files verification rose_here rose passed name most absent long refusal rises none many reached
+    (no_memory is) = no_room (ap status_of is)
+
+pub files_refused : (told : Option Files) (verification : Verification) (tin : Triangulation)
+    (rose_here rose passed : Type 0) (refusal : Refusal) → IfSome told (λ files. HasWay files verification tin)
+    → (rose_here → rose)
+    → AreUnloaded told verification rose_here passed refusal
+    → IfSome told (λ files. MayRefuseVerification files verification rose refusal)
+files_refused None verification tin rose_here rose passed refusal way rises why = tt
+files_refused (Some files) verification tin rose_here rose passed refusal way rises (no_source is) =
+    unloaded_refused files verification rose_here rose passed verification.source MOST_BYTES (LayerUnread 0) LayersLong
+    refusal rises (λ lacks. (refl, (tin, way), lacks)) (λ long. ((tin, way), long)) (refl, (tin, way)) is
+files_refused (Some files) verification tin rose_here rose passed refusal way rises (no_written source has is) =
+    let reached : IsWrittenReached files verification =
+    record { reached = (tin, way); source = source; source_is = has } in
+    unloaded_refused files verification rose_here rose passed verification.written MOST_VERIFIED WrittenUnread
+    WrittenLong refusal rises (λ lacks. (reached, lacks)) (λ long. (reached, long)) reached is
+files_refused (Some files) verification tin rose_here rose passed refusal way rises
+    (no_cert source has written also is) =
+    let before : IsWrittenReached files verification =
+    record { reached = (tin, way); source = source; source_is = has } in
+    let reached : IsCertReached files verification =
+    record { reached = before; written = written; written_is = also } in
+    unloaded_refused files verification rose_here rose passed verification.cert MOST_VERIFIED CertUnread CertLong
+    refusal rises (λ lacks. (reached, lacks)) (λ long. (reached, long)) reached is
+
+-- the source, or the certificate
+stopped : (files : Files) (verification : Verification) (tin : Triangulation) (format : Format)
+    (source written cert : List ℕ) (fault : CertFault) → HasWay files verification tin
+    → format_of verification.source ≡ Some format
+    → HaveTexts files verification source written cert → IsCauseIn verification.how tin format source written cert fault
+    → IsStoppedBy files verification fault
+stopped files verification tin format source written cert fault way suffix texts cause =
+    record {
+      tin = tin;
+      format = format;
+      source = source;
+      written = written;
+      cert = cert;
+      at_hand =
+          record { way = way; suffix = suffix; texts = texts };
+      cause = cause;
+    }
+
+cert_rows : (files : Files) (verification : Verification) (tin : Triangulation) (format : Format)
+    (source written cert : List ℕ) (rose : Type 0) (refusal : Refusal) → HasWay files verification tin
+    → format_of verification.source ≡ Some format → HaveTexts files verification source written cert
+    → IsUncertified verification.how tin format source written cert refusal
+    → MayRefuseVerification files verification rose refusal
+cert_rows files verification tin format source written cert rose (Layer layer fault) way suffix texts (same, why) =
+    by_the_files (
+      same,
+      stopped files verification tin format source written cert (certs.Layer fault) way suffix texts
+          why,
+    )
+cert_rows files verification tin format source written cert rose (Certificate fault) way suffix texts (of, why) =
+    by_the_files (of, stopped files verification tin format source written cert fault way suffix texts why)
+cert_rows files verification tin format source written cert rose NoMemory way suffix texts why = no_room refl
+cert_rows files verification tin format source written cert rose refusal way suffix texts why = absurd why
+
+pub cert_refused : (told : Option Files) (verification : Verification) (tin : Triangulation) (format : Format)
+    (source written cert : List ℕ) (rose : Type 0) (refusal : Refusal)
+    → IfSome told (λ files. HasWay files verification tin)
+    → format_of verification.source ≡ Some format
+    → IfSome told (λ files. HaveTexts files verification source written cert)
+    → IsUncertified verification.how tin format source written cert refusal
+    → IfSome told (λ files. MayRefuseVerification files verification rose refusal)
+cert_refused None verification tin format source written cert rose refusal way suffix texts why = tt
+cert_refused (Some files) verification tin format source written cert rose refusal way suffix texts why =
+    cert_rows files verification tin format source written cert rose refusal way suffix texts why
+
+-- ---- what is written
+pub verified : (told : Option Files) (verification : Verification) (tin : Triangulation) (format : Format)
+    (source written cert : List ℕ) (status : Status) (made : Files)
+    → IfSome told (λ files. HasWay files verification tin)
+    → format_of verification.source ≡ Some format
+    → IfSome told (λ files. HaveTexts files verification source written cert)
+    → IsCertifiedAs verification.how tin format source written cert → status ≡ Same
+    → made ≡ (codes "-", certified_text) ∷ [] → IfSome told (λ files. IsVerified files verification status made)
+verified None verification tin format source written cert status made way suffix texts is same says = tt
+verified (Some files) verification tin format source written cert status made way suffix texts is same says =
+    record {
+      tin = tin;
+      format = format;
+      source = source;
+      written = written;
+      cert = cert;
+      at_hand = record { way = way; suffix = suffix; texts = texts };
+      certified = is;
+      status_is = same;
+      made_is = says;
+    }
+
+-- by an output of its form
+pub output_verified : (told : Option Files) (verification : Verification) (tin : Triangulation) (format : Format)
+    (source written cert : List ℕ) (output : Output)
+    → IfSome told (λ files. HasWay files verification tin)
+    → format_of verification.source ≡ Some format
+    → IfSome told (λ files. HaveTexts files verification source written cert)
+    → IsCertifiedAs verification.how tin format source written cert → HasForm IsVerificationWritten output
+    → IfSome told (λ files. IsVerified files verification (end_of output.changed) (files_of output))
+output_verified told verification tin format source written cert output way suffix texts certified form =
+    let is : (map file_of output.layers.items ≡ []) × (end_of output.changed ≡ Same)
+    × (output.said ≡ certified_text) = form.is_of in
+    verified told verification tin format source written cert (end_of output.changed) (files_of output) way suffix texts
+    certified is.1 (ap₂ (λ (layers : Files) (said : List ℕ). layers ++ (codes "-", said) ∷ []) is.0 is.2)
+
+-- ---- counts
+-- what was handed out before counts too, and more than the greater number is more than the smaller
+pub passed_more : (start given few many after : ℕ) → start ≤ given → few ≤ many → counted given (many + 1) ≤ after
+    → counted start (few + 1) ≤ after
+passed_more start given few many after before less past = omega (arith, before, less, past)
+
+-- the same cause, where a fault here is one and so many bytes here are enough
+pub unloaded_more : (told : Option Files) (name : List ℕ) (most : ℕ) (absent long refusal : Refusal)
+    (rose_here rose passed_here passed : Type 0) → (rose_here → rose) → (passed_here → passed)
+    → IsUnloaded told name most absent long rose_here passed_here refusal
+    → IsUnloaded told name most absent long rose passed refusal
+unloaded_more told name most absent long refusal rose_here rose passed_here passed rises more (missing is lacks) =
+    missing is lacks
+unloaded_more told name most absent long refusal rose_here rose passed_here passed rises more (read_failed is now) =
+    read_failed is (rises now)
+unloaded_more told name most absent long refusal rose_here rose passed_here passed rises more (too_long is over many) =
+    too_long is over (more many)
+unloaded_more told name most absent long refusal rose_here rose passed_here passed rises more (no_memory is) =
+    no_memory is
+
+pub file_within : (told : Option Files) (name bytes : List ℕ) (most count : ℕ) → IfSome told (Loads name bytes)
+    → count ≤ most → count ≡ length bytes → IfSome told (λ files. IsFileWithin files name most bytes)
+file_within None name bytes most count found within is = tt
+file_within (Some files) name bytes most count found within is =
+    record { found = found; within = subst (λ n. n ≤ most) is within }

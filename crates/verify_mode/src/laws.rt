@@ -1,0 +1,19 @@
+//! What is true of the definitions that the contracts cite.
+
+ghost use Rattle.verify_mode.specs.Laws.{VerificationIsOne};
+
+use cert_check::certificates_end_once;
+use dxf_layer::Dxf;
+use gj_layer::GeoJson;
+use runs::tin_end_is_one;
+use wkt_layer::Wkt;
+
+/// A law: a verification of the same files ends in one way.
+pub fn verification_is_one()
+    ensures { VerificationIsOne }
+{
+    tin_end_is_one();
+    certificates_end_once::<Wkt>();
+    certificates_end_once::<GeoJson>();
+    certificates_end_once::<Dxf>();
+}

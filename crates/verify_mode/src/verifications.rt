@@ -1,0 +1,89 @@
+//! What a verification is to do, and what it writes.
+
+ghost use Rattle.std.specs.Prelude.{◌≡◌, ◌+◌, ◌≤◌, IfOk, IfErr, IfSome, false};
+ghost use Rattle.shelf_io.specs.Count.{Rose, counted};
+ghost use Rattle.runs.specs.declared.loads.TheConstants.{MOST_BYTES};
+ghost use Rattle.runs.specs.Status.{end_of};
+ghost use Rattle.runs.specs.Counts.{LeavesFaults};
+ghost use Rattle.runs.specs.Output.{files_of, HasForm};
+ghost use Rattle.runs.specs.Causes.{HasCauses};
+ghost use Rattle.verify_mode.specs.Files.{MayBeTaken, LacksWanted};
+ghost use Rattle.verify_mode.specs.Verifications.{IsVerified, IsVerificationWritten, IsEndOfVerification};
+ghost use Rattle.verify_mode.specs.Verifications.{MayRefuseVerification, certified_text};
+
+use crate::certificates::verify_by_format;
+use crate::files::load_texts;
+use layer_formats::known_format;
+use runs::{Output, Refusal, load_directed};
+use sheet_base::{How, Listed};
+use shelf_io::{Name, Shelf};
+use std::alloc::{AllocError, Global};
+
+/// What a verification is to do.
+#[derive(Debug, Drop)]
+pub struct Verification {
+    /// The name of the triangulation's file.
+    pub tin: Name,
+    /// The name of the layer that was carried; its end says the format.
+    pub source: Name,
+    /// The name of the layer as it was written.
+    pub written: Name,
+    /// The name of the certificate's file.
+    pub cert: Name,
+    /// How the triangulation and the source are read.
+    pub how: How,
+    /// Whether the triangulation's frames are exchanged first.
+    pub inverse: bool,
+}
+
+/// What is written of a layer that is verified: one line, and no file.
+fn certified_output(alloc: Global) -> Result<Output, AllocError>
+    ensures unchanged { IfOk result (λ written. written.changed ≡ false) }
+    ensures said { IfOk result (λ written. written.said ≡ certified_text) }
+    ensures form { IfOk result (λ written. HasForm IsVerificationWritten written) }
+{
+    let line = String::from_str(alloc, "certified\n")?;
+    Ok(Output {
+        layers: Vec::new(alloc),
+        said: Listed::of(line.into_bytes()),
+        changed: false,
+    })
+}
+
+/// The output of a verification: one line, where the written layer is the source's through the triangulation and the
+/// certificate is one of the source. The error says why it is refused: by the triangulation, by the first of the three
+/// files that is not read, by the source, or by the certificate.
+pub fn prepare_verification<S: Shelf>(
+    alloc: Global,
+    shelf: &mut S,
+    verification: &Verification,
+) -> Result<Output, Refusal>
+    requires { MayBeTaken verification.now }
+    ensures ok { IfOk result (λ written. IfSome (S.files shelf.old) (λ files. IsVerified files verification.now (end_of written.changed) (files_of written))) }
+    ensures unchanged { IfOk result (λ written. written.changed ≡ false) }
+    ensures form { IfOk result (λ written. HasForm IsVerificationWritten written) }
+    ensures refused { IfErr result (λ refusal. IfSome (S.files shelf.old) (λ files. MayRefuseVerification files verification.now (Rose (S.faults shelf.old) (S.faults shelf.new)) refusal)) }
+    ensures causes { IfErr result (λ refusal. HasCauses (LacksWanted verification.now (S.files shelf.old)) IsEndOfVerification (Rose (S.faults shelf.old) (S.faults shelf.new)) (counted (S.given shelf.old) (MOST_BYTES + 1) ≤ S.given shelf.new) refusal) }
+    ensures faults { LeavesFaults (S.faults shelf.old) (S.faults shelf.new) result }
+{
+    let tin = load_directed(
+        alloc,
+        shelf,
+        verification.tin.text(),
+        verification.how,
+        verification.inverse,
+    )?;
+    let texts = load_texts(alloc, shelf, verification)?;
+    let format = known_format(verification.source.text());
+    verify_by_format(
+        alloc,
+        format,
+        &tin,
+        verification.how,
+        &texts.source,
+        &texts.written,
+        &texts.cert,
+    )?;
+    let written = certified_output(alloc)?;
+    Ok(written)
+}
