@@ -5,3 +5,5 @@ pub mod TinRefusals
 pub mod RefusalLines
 pub mod LimitLines
 pub mod OneTin
+mod TinEndExists
+mod ReadLimits

@@ -11,7 +11,7 @@ mod refusal;
 mod status;
 mod triangulations;
 
-pub use laws::{limits_are_stated, tin_end_is_one};
+pub use laws::{limits_are_stated, read_tins_are_within_limits, tin_end_exists, tin_end_is_one};
 pub use lines::{LINE_ROOM, Line};
 pub use loads::{MOST_BYTES, MOST_VERIFIED, load_directed, load_file, load_tin};
 pub use output::{LayerFile, Output};
