@@ -1,2 +1,3 @@
 -- The files of definitions of check_mode.
 pub mod Checks
+pub mod Laws

@@ -2,5 +2,7 @@
 #![tactic(auto)]
 
 mod checks;
+mod laws;
 
 pub use checks::prepare_check;
+pub use laws::check_end_exists;
