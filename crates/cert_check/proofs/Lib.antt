@@ -16,3 +16,4 @@ pub mod OneImage
 pub mod Accepting
 pub mod FewNumbers
 mod OneEnd
+mod SomeCertificate

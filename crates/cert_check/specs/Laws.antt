@@ -1,5 +1,5 @@
 -- Laws of certificates.
-use Rattle.std.specs.Prelude.{◌≡◌, ◌≢◌, ℕ, List, map, Result, Ok, Err}
+use Rattle.std.specs.Prelude.{◌≡◌, ◌≢◌, ◌⊎◌, ℕ, List, map, Result, Ok, Err}
 use Rattle.plane_base.specs.declared.shapes.Pt.{Pt}
 use Rattle.sheet_base.specs.declared.edits.Edit.{Edit}
 use Rattle.sheet_base.specs.Sheets.{Contents}
@@ -32,6 +32,11 @@ CertificatesAreOne = (bytes : List ℕ) (lists others : List (List ℕ)) → IsC
 abbrev pub CertificatesHaveNoBadLine : Type 0
 CertificatesHaveNoBadLine = (bytes : List ℕ) (lists : List (List ℕ)) (line : ℕ) → IsCertificate bytes lists
     → IsBadLine bytes line → ⊥
+
+-- and any bytes are the certificate of some lists, or have a line that is not of the form
+abbrev pub TextOutcomeExists : Type 0
+TextOutcomeExists = (bytes : List ℕ)
+    → ((lists : List (List ℕ)) × IsCertificate bytes lists) ⊎ ((line : ℕ) × IsBadLine bytes line)
 
 -- Of each sound triangulation: a segment with a right list is inside
 abbrev pub RightListsAreInside : Type 0

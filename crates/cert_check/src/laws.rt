@@ -2,7 +2,7 @@
 
 ghost use Rattle.cert_check.specs.Laws.{CertificatesAreOne, CertificatesHaveNoBadLine, PieceTrianglesAreRight};
 ghost use Rattle.cert_check.specs.Laws.{PiecesAreAccepted, PiecesAreRightlyCertified, RightListsAreInside};
-ghost use Rattle.cert_check.specs.Laws.{CertificatesEndOnce};
+ghost use Rattle.cert_check.specs.Laws.{CertificatesEndOnce, TextOutcomeExists};
 
 use sheet_base::Layer;
 
@@ -14,6 +14,11 @@ pub fn certificates_are_one()
 /// A law: a certificate has no line that is not of the form.
 pub fn certificates_have_no_bad_line()
     ensures { CertificatesHaveNoBadLine }
+{}
+
+/// A law: any bytes are the certificate of some lists, or have a line that is not of the form.
+pub fn text_outcome_exists()
+    ensures { TextOutcomeExists }
 {}
 
 /// A law: a segment that has a right list in a sound triangulation is inside.

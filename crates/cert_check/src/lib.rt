@@ -20,7 +20,7 @@ pub use faults::CertFault;
 pub use laws::{
     certificates_are_one, certificates_end_once, certificates_have_no_bad_line,
     piece_triangles_are_right, pieces_are_accepted, pieces_are_rightly_certified,
-    right_lists_are_inside,
+    right_lists_are_inside, text_outcome_exists,
 };
 pub use lines::list_count;
 pub use right_lists::is_right;
