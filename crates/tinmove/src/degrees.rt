@@ -4,10 +4,15 @@ use crate::refused_files::bytes_again;
 use crate::strays::are_degrees;
 use remarks::degrees_line;
 use sheet_base::How;
+use std::fs;
+use std::io::Read;
 use tin_file::read_tin;
 
 /// The member that has the corners, as most files write it.
 const CORNERS: &[u8] = b"\"vertices\"";
+
+/// So many bytes of a file are looked at first.
+const FRONT: usize = 1 << 22;
 
 /// How many digits the greatest number of degrees has before its point.
 const MOST_DIGITS: usize = 3;
@@ -42,9 +47,34 @@ fn have_short_numbers(rows: &[u8]) -> bool {
         .all(has_short_number)
 }
 
+/// The first bytes of a file that can be read once more.
+fn front_again(rt: &HostRuntime, name: &str) -> Option<Vec<u8>> {
+    if !fs::metadata(rt, name).ok()?.is_file() {
+        return None;
+    }
+    let mut front = vec![in rt.alloc(); 0_u8; FRONT].ok()?;
+    let count = fs::open(rt, name).ok()?.read(&mut front).ok()?;
+    front.truncate(count);
+    Some(front)
+}
+
+/// Whether a whole row of corners among the first bytes has no number that may be a number of degrees.
+fn has_long_row(front: &[u8]) -> bool {
+    let Some(end) = front.iter().rposition(|byte| *byte == b']') else {
+        return false;
+    };
+    match corner_rows(&front[..end]) {
+        Some(rows) => !have_short_numbers(rows),
+        None => false,
+    }
+}
+
 /// Whether all source corners of the file's triangulation are such as degrees are. Where a row has no short number the
-/// triangulation is not read once more.
+/// triangulation is not read once more, and where this row is among the first bytes the file is not either.
 fn is_in_degrees(rt: &HostRuntime, name: &str, how: How) -> Option<bool> {
+    if has_long_row(&front_again(rt, name)?) {
+        return None;
+    }
     let bytes = bytes_again(rt, name)?;
     if !have_short_numbers(corner_rows(&bytes)?) {
         return None;

@@ -5,6 +5,7 @@
 mod degrees;
 mod help;
 mod jobs;
+mod large_blocks;
 mod laws;
 mod layer_notes;
 mod press_notes;
@@ -23,6 +24,7 @@ mod word_flaws;
 use degrees::say_degrees;
 use help::{Help, help_of};
 use job_words::{Job, read_words};
+use large_blocks::keep_large_blocks;
 use layer_notes::{left_out_kinds, say_layers};
 use press_notes::PressNotes;
 use progress::{ToldPress, ToldShelf, say_making};
@@ -154,6 +156,7 @@ fn say_why(rt: &HostRuntime, words: &Words, job: Option<&Job>, refusal: Refusal)
 /// to be said of a refusal, of a file that could not be written and of what was carried goes to standard error; that it
 /// cannot be written changes nothing.
 fn run_on_files(rt: &HostRuntime, words: &Words) -> Status {
+    keep_large_blocks(rt.alloc());
     let Ok(shelf) = FileShelf::new(rt, rt.alloc()) else {
         return Status::Memory;
     };
