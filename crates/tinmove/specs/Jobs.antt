@@ -40,6 +40,6 @@ AsksMaking words n = IsJobOf words (Make n)
 abbrev pub LacksJob : List (List ℕ) → Type 0
 LacksJob words = (fault : WordsFault) × IsWordsFault words fault
 
--- the words want no file of the shelf: they give no job, or ask for what is made
+-- the words want no file of the shelf: they are not understood, or ask for what is made
 abbrev pub WantNoFile : List (List ℕ) → Type 0
 WantNoFile words = LacksJob words ⊎ ((n : ℕ) × AsksMaking words n)
