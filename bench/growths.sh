@@ -1,14 +1,18 @@
 #!/bin/sh
-# Whether a run ends well when memory is refused: of six small runs (a point, a line and a point, GeoJSON, a drawing, two layers,
-# and a made map) each call of the allocator is refused once, one a run. Prints a line for each run: how many growths it has, and
-# with how many of them refused it ended with want of memory (8), with a read fault (6) or a write fault (7) because a call of
-# the system found no memory, or as if nothing had been refused (what is only said on standard error). Ends with 1 where a run
-# ended otherwise, printed another line than its status has, made a layer that is neither missing nor whole, or left a file beside.
-# usage: bench/growths.sh [PROGRAM]
+# Whether a run ends well when memory is refused: of six small runs (a point, a line and a point,
+# GeoJSON, a drawing, two layers, and a made map), and with PLACES of a run of that program,
+# 'tinplaces', over three layers, each call of the allocator is refused once, one a run. Prints a line
+# for each run: how many growths it has, and with how many of them refused it ended with want of
+# memory (8), with a read fault (6) or a write fault (7) because a call of the system found no memory,
+# or as if nothing had been refused (what is only said on standard error). Ends with 1 where a run
+# ended otherwise, printed another line than its status has, made a layer that is neither missing nor
+# whole, or left a file beside.
+# usage: bench/growths.sh [PROGRAM [PLACES]]
 # No part of the gate. It takes a C compiler, and a program that calls malloc of the GNU C library.
 set -eu
 top=$(CDPATH='' cd -- "$(dirname -- "$0")/.." && pwd)
 program=${1:-}
+places=${2:-}
 if [ -z "$program" ]; then
     program=$top/crates/tinmove/out/tinmove
     "$top/tinmove" make 1 > /dev/null
@@ -62,10 +66,10 @@ int posix_memalign(void **out, size_t align, size_t size) {
 }
 END
 cc -O1 -shared -fPIC -o growths.so growths.c
-python3 - "$program" "$top/crates/tinmove/data" <<'END'
+python3 - "$program" "$top/crates/tinmove/data" "$places" <<'END'
 import os, shutil, struct, subprocess, sys
 
-program, data = os.path.abspath(sys.argv[1]), sys.argv[2]
+program, data, places = os.path.abspath(sys.argv[1]), sys.argv[2], sys.argv[3]
 here = os.getcwd()
 NAMES = {"POINT (5 0)": "a.wkt", "POINT (6 4)": "dot.wkt", "LINESTRING (10 0, 0 10)": "line.wkt",
     "LINESTRING (10 0, 0 10)\nPOINT (6 4)": "nine.wkt"}
@@ -83,6 +87,9 @@ def migrate(tin, *layers):
 RUNS = [("a point", migrate("u.json", "a.wkt")), ("a line and a point", migrate("s.json", "nine.wkt")),
     ("GeoJSON", migrate("s.json", "wells.geojson")), ("a drawing", migrate("s.json", "walls.dxf")),
     ("two layers", migrate("s.json", "line.wkt", "dot.wkt")), ("a made map", ["make", "1"])]
+RUNS = [(name, [program] + words) for name, words in RUNS]
+if places:
+    RUNS.append(("changes on the map", [os.path.abspath(places), "--tin", "s.json", "nine.wkt", "wells.geojson", "walls.dxf"]))
 
 
 # The status of a run of which this call of the allocator is refused (0: none), what it printed, what it made, and how many calls
@@ -91,7 +98,7 @@ def ran(words, refused):
     shutil.rmtree("o", ignore_errors=True)
     with open("calls", "wb") as file:
         file.write(bytes(8))
-    ended = subprocess.run([program] + words, stdout=subprocess.PIPE, stderr=subprocess.DEVNULL, timeout=60,
+    ended = subprocess.run(words, stdout=subprocess.PIPE, stderr=subprocess.DEVNULL, timeout=60,
         env={"LD_PRELOAD": here + "/growths.so", "GROWTHS_FILE": here + "/calls", "GROWTHS_REFUSED": str(refused)})
     made = {}
     for folder, _, names in os.walk("o"):

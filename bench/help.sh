@@ -1,5 +1,5 @@
 #!/usr/bin/env bash
-# Whether the man page, the completion and the launcher say what the program's help says.
+# Whether the man pages, the completion and the launcher say what the programs' help says.
 # usage: bench/help.sh [PROGRAM]     with PROGRAM its own texts are compared with the launcher's too
 # The last line is 'the help is the same everywhere'; the status is 1 where it is not.
 set -eu
@@ -8,6 +8,15 @@ program=${1:-}
 bad=0
 differ() { printf 'differs: %s\n' "$1"; bad=1; }
 plain() { tr -s ' \n' ' ' | sed 's/^ //; s/ $//'; }
+page() { MANWIDTH=500 man -l "$top/recipes/$1.1" 2>/dev/null | col -bx; }
+options() { grep -o -- '--[a-z-]*[a-z]' | sort -u; }
+statuses() { # the last exit status, a help and its man page: each status begins in the same way
+    local status said
+    for status in $(seq 0 "$1"); do
+        said=$(sed -n "s/^  $status  *//p" <<<"$2" | cut -d, -f1 | cut -d';' -f1)
+        grep -qi -- "$said" <<<"$3" || differ "status $status of the man page: $said"
+    done
+}
 
 # The launcher prints the text of the source; so does the program.
 if [ -n "$program" ]; then
@@ -18,11 +27,11 @@ if [ -n "$program" ]; then
 fi
 
 help=$("$top/tinmove" --help)
-man=$(MANWIDTH=500 man -l "$top/recipes/tinmove.1" 2>/dev/null | col -bx)
+man=$(page tinmove)
 
 # Each option and mode of the help is in the man page and in the completion, and no other.
-in_help=$(grep -o -- '--[a-z-]*' <<<"$help" | sort -u)
-in_man=$(grep -o -- '--[a-z-]*[a-z]' <<<"$man" | sort -u)
+in_help=$(options <<<"$help")
+in_man=$(options <<<"$man")
 in_completion=$(grep -o -- '--[a-z][a-z-]*' "$top/recipes/tinmove.bash" | sort -u)
 [ "$in_help" = "$in_man" ] || differ "the options of the man page"
 [ "$in_help" = "$in_completion" ] || differ "the options of the completion"
@@ -36,9 +45,13 @@ done
 # The version, and each exit status, which begin in the same way.
 version=$("$top/tinmove" --version)
 grep -q "\"$version\"" "$top/recipes/tinmove.1" || differ "the version of the man page"
-for status in 0 1 2 3 4 5 6 7 8 9 10; do
-    said=$(sed -n "s/^  $status  *//p" <<<"$help" | cut -d, -f1 | cut -d';' -f1)
-    grep -qi -- "$said" <<<"$man" || differ "status $status of the man page: $said"
-done
+statuses 10 "$help" "$man"
+
+# The same of tinplaces, which has no modes and no completion.
+help=$("$top/tinplaces" --help)
+man=$(page tinplaces)
+[ "$(options <<<"$help")" = "$(options <<<"$man")" ] || differ "the options of the man page of tinplaces"
+grep -q "\"$("$top/tinplaces" --version)\"" "$top/recipes/tinplaces.1" || differ "the version of the man page of tinplaces"
+statuses 9 "$help" "$man"
 [ "$bad" -eq 0 ] && echo 'the help is the same everywhere'
 exit $bad

@@ -1,6 +1,7 @@
 #!/usr/bin/env bash
-# Tries the launcher 'tinmove' on a small checkout with an 'rt' that only pretends to prove, in a
-# temporary folder whose name has blanks. It needs bash, and takes some twenty seconds.
+# Tries the launcher 'tinmove', also under the name 'tinplaces', on a small checkout with an 'rt' that
+# only pretends to prove, in a temporary folder whose name has blanks. It needs bash, and takes some
+# twenty seconds.
 # The last line is 'N passed, M failed'; the status is 1 where one failed.
 set -u
 top=$(cd -- "$(dirname -- "$0")/.." && pwd)
@@ -24,18 +25,22 @@ has() { grep -q -- "$2" "$1"; }
 lacks() { ! grep -q -- "$2" "$1"; }
 same() { [ "$1" = "$2" ]; }
 
-# A checkout of two libraries, a test crate that the program does not use, and the program.
+# A checkout of two libraries, a test crate that the programs do not use, and the programs.
 checkout() {
     rm -rf "$work/check out"
     mkdir -p "$work/check out/crates/low/src" "$work/check out/crates/mid/src" \
-        "$work/check out/crates/some_tests/src" "$work/check out/crates/tinmove/src"
+        "$work/check out/crates/some_tests/src" "$work/check out/crates/tinmove/src" \
+        "$work/check out/crates/tinplaces/src"
     cd "$work/check out" || exit 1
     cp "$top/tinmove" tinmove
+    ln -s tinmove tinplaces
     cp "$top/crates/tinmove/src/help.rt" crates/tinmove/src/help.rt
+    cp "$top/crates/tinplaces/src/help.rt" crates/tinplaces/src/help.rt
     printf '%s\n' '# lowest first' 'low: thiserror' 'mid: low' 'some_tests: mid low' \
-        'tinmove: mid low clap' >crates.txt
+        'tinmove: mid low clap' 'tinplaces: mid low clap' >crates.txt
     for name in low mid some_tests; do echo "// $name" >crates/$name/src/lib.rt; done
     echo 'first' >crates/tinmove/src/main.rt
+    echo 'places' >crates/tinplaces/src/main.rt
     : >"$work/calls"
 }
 
@@ -53,13 +58,14 @@ case $1 in
             grep -q wrong ../$name/src/lib.rt && echo "error: $name is wrong" && exit 1
             printf '== %s\nlogic=proved\nrt: %s proved\n' $name $name
         done
-        echo '== tinmove'
+        echo "== $(basename "$here")"
         ;;
     run)
         said=$(cat src/main.rt)
         [ ! -e "$WORK/rt_does" ] || . "$WORK/rt_does"
         mkdir -p out
-        cat >out/tinmove <<PROGRAM
+        name=$(basename "$here")
+        cat >"out/$name" <<PROGRAM
 #!/usr/bin/env bash
 [ "\${1-}" != --version ] || exit 0
 echo "said $said in \$PWD"
@@ -67,8 +73,8 @@ printf '<%s>\n' "\$@"
 cat
 exit 5
 PROGRAM
-        chmod +x out/tinmove
-        exec out/tinmove "${@:3}"
+        chmod +x "out/$name"
+        exec "out/$name" "${@:3}"
         ;;
 esac
 END
@@ -149,6 +155,21 @@ holds 'as bash tinmove' has "$work/out.txt" 'said first'
 run sh tinmove check
 holds 'as sh tinmove' has "$work/out.txt" 'said first'
 holds 'other ways: no build' same "$(calls)" 2
+
+# Under the name of the other program that one is built and run, with its own help.
+run ./tinplaces --help
+holds 'tinplaces: help' has "$out" 'usage: tinplaces'
+run ./tinplaces check --help
+holds 'tinplaces: no mode has a help' same "$status" 5
+holds 'tinplaces: built' has "$out" 'said places'
+holds 'tinplaces: two calls more' same "$(calls)" 4
+holds 'tinplaces: says its name' has "$err" 'tinplaces: there is no program'
+ln -s "$work/check out/tinplaces" "$work/else where/places"
+run "$work/else where/places" check
+holds 'tinplaces: through a link of another name' has "$out" 'said places'
+run ./tinmove check
+holds 'tinplaces: tinmove is what it was' has "$out" 'said first'
+holds 'tinplaces: no build more' same "$(calls)" 4
 
 # A source of an older date is another source.
 echo 'second' >crates/tinmove/src/main.rt

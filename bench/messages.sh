@@ -33,14 +33,15 @@ for file in files:
         if it:
             literals.add(it)
             home.setdefault(it, file)
-help_file = glob.glob("crates/*/src/help.rt")[0]
-usage = re.search(r'USAGE: &str =\s*"([^"]*)"', open(help_file, encoding="utf-8").read())
-if usage:
-    literals.add(usage[1])
-    home[usage[1]] = help_file
+for help_file in sorted(glob.glob("crates/*/src/help.rt")):
+    usage = re.search(r'USAGE: &str =\s*"([^"]*)"', open(help_file, encoding="utf-8").read())
+    if usage:
+        literals.add(usage[1])
+        home[usage[1]] = help_file
 
-# the launcher: what it fails with, says and shows, between the values that the shell puts in
-launcher = open("tinmove", encoding="utf-8").read().replace("\\\n", " ")
+# the launcher, under its first name: what it fails with, says and shows, between the values that the
+# shell puts in
+launcher = open("tinmove", encoding="utf-8").read().replace("\\\n", " ").replace("$program", "tinmove")
 for verb, text in re.findall(r"""(?m)\b(fail|echo|say_step|taken=|printf)\s*(?:\|\|)?\s*("[^"\n]*"|'[^'\n]*')""", launcher):
     text = re.sub(r"\$\(\([^)]*\)\)|\$\{?\w+\}?|%s|\\\w(?:\d+\[K)?|\[K", "\0", text[1:-1])
     text = ("tinmove: " if verb in ("fail", "say_step") else "") + text

@@ -54,7 +54,8 @@ parts_from tin a b x (t ∷ ts) (first, last, part, same, follow) =
 -- a triangle with a part up to a spot has none from it on
 not_from : (tin : Triangulation) (a b : Pt) (t u : ℕ) (first last : Spot) → IsPart tin a b t first last
     → HasPartFrom tin a b last u → t ≡ u → ⊥
-not_from tin a b t u first last part has e = go (subst (λ (n : ℕ). IsPart tin a b n has.first has.last) (sym e) has.part)
+not_from tin a b t u first last part has e =
+    go (subst (λ (n : ℕ). IsPart tin a b n has.first has.last) (sym e) has.part)
   where
     go : IsPart tin a b t has.first has.last → ⊥
     go also =

@@ -1,3 +1,4 @@
+-- The files of definitions of cert_check.
 pub mod Certificates
 pub mod Lines
 pub mod RightLists

@@ -1,3 +1,4 @@
+-- The files of definitions of dxf_layer.
 pub mod Entities
 pub mod Fields
 pub mod Shapes

@@ -150,7 +150,7 @@ turn_between a b p q k l = solve_at 4 2 (λ a b p q k l. turn a b (plus k p (plu
 pub line_moved : (a b p q : Point) → pos 0 <ℤ q.w → Same p q → turn_of a b q ≡ pos 0 → turn_of a b p ≡ pos 0
 line_moved a b p q h same z = ≡_of_mul (turn_of a b p) (pos 0) q.w h
     (zero_factor q.w (turn_of a b p) p.w (subst (λ (t : ℤ). q.w *ℤ turn_of a b p ≡ p.w *ℤ t) z
-        (turn_same a b p q same)))
+    (turn_same a b p q same)))
 
 pub between_line : (a b p q r : Point) → pos 0 <ℤ p.w → pos 0 <ℤ q.w → turn_of a b p ≡ pos 0 → turn_of a b q ≡ pos 0
     → IsMix r (p ∷ q ∷ []) → turn_of a b r ≡ pos 0

@@ -1,6 +1,6 @@
 -- The files of lemmas of migrate.
 mod OnePieces
-mod PairChanges
+pub mod PairChanges
 mod MakerRows
 mod MakerExamples
 mod OneOutcome
@@ -8,9 +8,9 @@ mod LayerRefusals
 pub mod ComparablePieces
 mod CertNames
 mod LayerLists
-mod OneLayers
-mod OneMigration
-mod MigrationSteps
-mod LayerCauses
+pub mod OneLayers
+pub mod OneMigration
+pub mod MigrationSteps
+pub mod LayerCauses
 pub mod MakerSteps
 pub mod KeptMigrations

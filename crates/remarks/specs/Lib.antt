@@ -1,3 +1,4 @@
+-- The files of definitions of remarks.
 pub mod LineColumns
 pub mod Excerpts
 pub mod LayerTables

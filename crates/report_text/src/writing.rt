@@ -1,3 +1,5 @@
+//! The text of a report.
+
 ghost use Rattle.std.specs.Prelude.{◌≡◌, ◌<◌, ◌≤◌, ◌^◌, ◌++◌, length, IfOk, OnOk, IsUtf8, codes, map};
 ghost use Rattle.std.specs.List.{AllByRecursion};
 ghost use Rattle.report_text.specs.Beginnings.{IsReportText};

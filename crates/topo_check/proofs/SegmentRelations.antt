@@ -1,12 +1,14 @@
 -- Each two segments have a relation: decided over the definitions alone. A point is on a segment exactly where it is in
--- two triangles, one on each side of it; so the parameters of common points are those that two intervals have in common.
+-- two triangles, one on each side of it; so the parameters of common points are those that two intervals have in
+-- common.
 use Rattle.std.proofs.Common.{◌≡◌, ◌⊎◌, inl, inr, ℤ, pos, neg_ℤ, ◌+ℤ◌, ◌-ℤ◌, ◌*ℤ◌, ◌≤ℤ◌, ◌<ℤ◌, [], ◌∷◌, sym}
 use Rattle.std.proofs.Common.{subst, arith}
 use Rattle.std.proofs.lemmas.Int.{ints}
 use Rattle.integer_ring.proofs.Ring.{num, neg, ◌⊕◌, ◌⊖◌, ◌⊗◌}
 use Rattle.integer_ring.proofs.Order.{≤_or_>, ≤_of_<, ≤_antisymm, nonneg_square}
 use Rattle.integer_ring.proofs.Signs.{frac-≤_trans}
-use Rattle.integer_ring.proofs.Claims.{◌≐◌, ◌≼◌, ◌≺◌, none as nothing, gap, over, eqn, ◌⊞◌, ◌⊠◌, ◌because◌, ◌otherwise◌, ◌⇒◌, follows}
+use Rattle.integer_ring.proofs.Claims.{◌≐◌, ◌≼◌, ◌≺◌, none as nothing, gap, over, eqn, ◌⊞◌, ◌⊠◌, ◌because◌, ◌otherwise◌}
+use Rattle.integer_ring.proofs.Claims.{◌⇒◌, follows}
 use Rattle.plane_base.specs.Plane.{Point, Same, turn_of, IsMix, along}
 use Rattle.plane_base.specs.Slices.{IsParam}
 use Rattle.plane_base.specs.Laws.{AreFromTo}

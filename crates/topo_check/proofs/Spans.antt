@@ -78,7 +78,7 @@ pub rounded_ordered : (pieces : List Piece) (boxes : List Rect) → AreBoxesOf I
     → AreOrdered boxes
 rounded_ordered pieces boxes h i d within =
     subst IsOrdered (get_or_default boxes i no_box d within)
-        (subst (λ (r : Rect). IsOrdered r) (sym (h.each i (omega (arith, h.same))))
+    (subst (λ (r : Rect). IsOrdered r) (sym (h.each i (omega (arith, h.same))))
     (rounded_boxed (piece_at pieces i)).ordered)
 
 pub exact_spans : (tin : Triangulation) (pieces : List Piece) (boxes : List Rect) → IsWithinLimits tin

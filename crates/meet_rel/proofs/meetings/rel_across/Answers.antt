@@ -27,7 +27,7 @@ returns-then-is_outside c =
     let s = c.own_span-on_p.result in let t = c.own_span-on_q.result in
     let x = c.edge_param-at_p.result in let y = c.edge_param-at_q.result in
     let m = meeting_of p q s.lo s.hi x t.lo t.hi y c.requires.across c.own_span-on_p.ensures.cut
-        c.own_span-on_q.ensures.cut c.edge_param-at_p.ensures.meets c.edge_param-at_q.ensures.meets in
+    c.own_span-on_q.ensures.cut c.edge_param-at_p.ensures.meets c.edge_param-at_q.ensures.meets in
     (across_told p q s.lo s.hi x t.lo t.hi y m).0 (inl (c.is_outside.ensures.0 c.if-is_outside.true))
 
 pub returns-then-is_outside-2 : goal.returns-then-is_outside-2
@@ -36,7 +36,7 @@ returns-then-is_outside-2 c =
     let s = c.own_span-on_p.result in let t = c.own_span-on_q.result in
     let x = c.edge_param-at_p.result in let y = c.edge_param-at_q.result in
     let m = meeting_of p q s.lo s.hi x t.lo t.hi y c.requires.across c.own_span-on_p.ensures.cut
-        c.own_span-on_q.ensures.cut c.edge_param-at_p.ensures.meets c.edge_param-at_q.ensures.meets in
+    c.own_span-on_q.ensures.cut c.edge_param-at_p.ensures.meets c.edge_param-at_q.ensures.meets in
     (across_told p q s.lo s.hi x t.lo t.hi y m).0 (inr (c.is_outside-2.ensures.0 c.if-is_outside-2.true))
 
 pub returns-then-is_end : goal.returns-then-is_end
@@ -45,7 +45,7 @@ returns-then-is_end c =
     let s = c.own_span-on_p.result in let t = c.own_span-on_q.result in
     let x = c.edge_param-at_p.result in let y = c.edge_param-at_q.result in
     let m = meeting_of p q s.lo s.hi x t.lo t.hi y c.requires.across c.own_span-on_p.ensures.cut
-        c.own_span-on_q.ensures.cut c.edge_param-at_p.ensures.meets c.edge_param-at_q.ensures.meets in
+    c.own_span-on_q.ensures.cut c.edge_param-at_p.ensures.meets c.edge_param-at_q.ensures.meets in
     let in_p = not_told c.is_outside.result (IsOutside x s.lo s.hi) c.is_outside.ensures c.if-is_outside.false in
     let in_q = not_told c.is_outside-2.result (IsOutside y t.lo t.hi) c.is_outside-2.ensures c.if-is_outside-2.false in
     (across_told p q s.lo s.hi x t.lo t.hi y m).1 in_p in_q (inl (c.is_end.ensures.0 c.if-is_end.true))
@@ -56,7 +56,7 @@ returns-then-is_end-2 c =
     let s = c.own_span-on_p.result in let t = c.own_span-on_q.result in
     let x = c.edge_param-at_p.result in let y = c.edge_param-at_q.result in
     let m = meeting_of p q s.lo s.hi x t.lo t.hi y c.requires.across c.own_span-on_p.ensures.cut
-        c.own_span-on_q.ensures.cut c.edge_param-at_p.ensures.meets c.edge_param-at_q.ensures.meets in
+    c.own_span-on_q.ensures.cut c.edge_param-at_p.ensures.meets c.edge_param-at_q.ensures.meets in
     let in_p = not_told c.is_outside.result (IsOutside x s.lo s.hi) c.is_outside.ensures c.if-is_outside.false in
     let in_q = not_told c.is_outside-2.result (IsOutside y t.lo t.hi) c.is_outside-2.ensures c.if-is_outside-2.false in
     (across_told p q s.lo s.hi x t.lo t.hi y m).1 in_p in_q (inr (c.is_end-2.ensures.0 c.if-is_end-2.true))
@@ -67,7 +67,7 @@ returns c =
     let s = c.own_span-on_p.result in let t = c.own_span-on_q.result in
     let x = c.edge_param-at_p.result in let y = c.edge_param-at_q.result in
     let m = meeting_of p q s.lo s.hi x t.lo t.hi y c.requires.across c.own_span-on_p.ensures.cut
-        c.own_span-on_q.ensures.cut c.edge_param-at_p.ensures.meets c.edge_param-at_q.ensures.meets in
+    c.own_span-on_q.ensures.cut c.edge_param-at_p.ensures.meets c.edge_param-at_q.ensures.meets in
     let in_p = not_told c.is_outside.result (IsOutside x s.lo s.hi) c.is_outside.ensures c.if-is_outside.false in
     let in_q = not_told c.is_outside-2.result (IsOutside y t.lo t.hi) c.is_outside-2.ensures c.if-is_outside-2.false in
     let no_p = not_told c.is_end.result (IsEnd x s.lo s.hi) c.is_end.ensures c.if-is_end.false in

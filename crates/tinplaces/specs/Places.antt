@@ -1,0 +1,102 @@
+-- The places of the changes of a migration: their written segments, how far these are from each other, and where in
+-- the layers their paths begin.
+use Rattle.std.specs.Prelude.{◌≡◌, ℕ, List, [], ◌∷◌, codes, Contains, get_or, Option, None, Some, IfSome}
+use Rattle.shelf_io.specs.Files.{Files, bytes_of}
+use Rattle.sheet_base.specs.declared.flags.How.{How}
+use Rattle.sheet_base.specs.Sheets.{Contents}
+use Rattle.tin_base.specs.declared.pieces.Change.{Change}
+use Rattle.tin_base.specs.declared.pieces.Piece.{Piece}
+use Rattle.tin_base.specs.declared.pieces.Place.{Place}
+use Rattle.tin_base.specs.Triangulation.{Triangulation}
+use Rattle.seg_gap.specs.Gaps.{IsGap}
+use Rattle.job_words.specs.declared.formats.Format.{Format}
+use Rattle.job_words.specs.Formats.{format_of}
+use Rattle.runs.specs.declared.status.Status.{Status}
+use Rattle.migrate.specs.declared.migrations.Migration.{Migration}
+use Rattle.layer_formats.specs.LayerOutcomes.{IsLayerText}
+use Rattle.layer_formats.specs.LayerTexts.{is_drawing}
+use Rattle.migrate.specs.LayerRuns.{setting_of, Done, AreCarried}
+use Rattle.migrate.specs.Migrations.{HasWay}
+use Rattle.migrate.specs.RunChanges.{AreListed, end_with}
+use Rattle.change_places.specs.declared.spots.SideSpot.{SideSpot}
+use Rattle.change_places.specs.declared.spots.ChangeSpot.{ChangeSpot}
+use Rattle.change_places.specs.PathPlaces.{path_places}
+use Rattle.change_places.specs.PlacesText.{places_text}
+
+-- ---- where the paths of layers begin
+-- the layer of this name is read, and its paths begin at these places
+pub record HasPathPlaces (told : Option Files) (how : How) (name : List ℕ) (places : List (Option ℕ)) : Type 0 where
+  pub format : Format
+  pub bytes : List ℕ
+  pub sheet : Contents
+  pub suffix : format_of name ≡ Some format
+  pub found : IfSome told (λ files. bytes_of files name ≡ Some bytes)
+  pub read : IsLayerText how format bytes sheet
+  pub places_are : places ≡ path_places (is_drawing format) bytes sheet
+
+-- so it is of the layers of these names, in order
+abbrev pub HaveAllPlaces : Option Files → How → List (List ℕ) → List (List (Option ℕ)) → Type 0
+HaveAllPlaces told how [] [] = Unit {0}
+HaveAllPlaces told how [] (places ∷ more) = ⊥
+HaveAllPlaces told how (name ∷ names) [] = ⊥
+HaveAllPlaces told how (name ∷ names) (places ∷ more) =
+    HasPathPlaces told how name places × HaveAllPlaces told how names more
+
+-- the place of the path of a piece, among the places of all layers
+abbrev pub place_among : List (List (Option ℕ)) → Place → Option ℕ
+place_among places from = get_or (get_or places from.layer []) from.path None
+
+-- ---- one change
+-- the side is that of some piece of this place: its written ends, and where its path begins
+pub record IsSideOf (pieces : List Piece) (places : List (List (Option ℕ))) (from : Place) (side : SideSpot) : Type 0
+  where
+    pub piece : Piece
+    pub is_some : Contains pieces piece
+    pub place : piece.from ≡ from
+    pub from_is : side.from ≡ from
+    pub at_is : side.at ≡ place_among places from
+    pub a_is : side.a ≡ piece.ia
+    pub b_is : side.b ≡ piece.ib
+
+-- the change with its two sides, its relations and the gap of the written segments
+pub record IsSpotOf (pieces : List Piece) (places : List (List (Option ℕ))) (change : Change) (spot : ChangeSpot) : Type
+    0 where
+  pub first : IsSideOf pieces places change.first spot.first
+  pub second : IsSideOf pieces places change.second spot.second
+  pub was_is : spot.was ≡ change.was
+  pub now_is : spot.now ≡ change.now
+  pub gap_is : IsGap spot.first.a spot.first.b spot.second.a spot.second.b spot.gap
+
+-- one for each change, in order
+abbrev pub AreSpotsOf : List Piece → List (List (Option ℕ)) → List Change → List ChangeSpot → Type 0
+AreSpotsOf pieces places [] [] = Unit {0}
+AreSpotsOf pieces places [] (spot ∷ spots) = ⊥
+AreSpotsOf pieces places (change ∷ changes) [] = ⊥
+AreSpotsOf pieces places (change ∷ changes) (spot ∷ spots) =
+    IsSpotOf pieces places change spot × AreSpotsOf pieces places changes spots
+
+-- ---- all of them
+-- the layers are carried as a migration carries them, and the text has a feature for each change of their pieces, and
+-- no other; the status says whether there is one
+pub record ArePlacesOf (told : Option Files) (migration : Migration) (tin : Triangulation) (status : Status)
+    (said : List ℕ) : Type 0 where
+  pub pieces : List Piece
+  pub done : List Done
+  pub used : ℕ
+  pub carried : AreCarried (setting_of told migration.how tin) 0 0 [] migration.layers pieces done used
+  pub changes : List Change
+  pub listed : AreListed tin pieces changes
+  pub places : List (List (Option ℕ))
+  pub have : HaveAllPlaces told migration.how migration.layers places
+  pub spots : List ChangeSpot
+  pub are_spots : AreSpotsOf pieces places changes spots
+  pub said_is : said ≡ places_text migration.layers spots
+  pub status_is : status ≡ end_with changes
+
+-- the files give this text alone, on standard output
+pub record IsPlacesDone (files : Files) (migration : Migration) (status : Status) (made : Files) : Type 0 where
+  pub tin : Triangulation
+  pub way : HasWay files migration tin
+  pub said : List ℕ
+  pub are : ArePlacesOf (Some files) migration tin status said
+  pub made_is : made ≡ (codes "-", said) ∷ []

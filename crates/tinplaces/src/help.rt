@@ -1,0 +1,96 @@
+//! What the program says of itself where the words ask for that alone.
+
+ghost use Rattle.std.specs.Prelude.{◌≡◌, ◌↔◌, ◌∷◌, [], Option, Some, map, string_bytes};
+ghost use Rattle.tinplaces.specs.Help.{Asks, text_of};
+ghost use Rattle.tinplaces.specs.declared.help.Help.{Help};
+
+/// One line for standard error, without its line feed, where the words are not understood.
+pub const USAGE: &str =
+    "usage: tinplaces --tin FILE [OPTION]... LAYER... ('tinplaces --help' explains them)";
+
+/// The text of the help.
+pub const WHOLE: &str = "\
+tinplaces 0.1.0: puts the changes of a migration on the map
+
+usage: tinplaces --tin FILE [--inverse] [--exact] [--inside-only] [--drop-other]
+                 LAYER...
+
+Carries each layer as 'tinmove migrate' does, writes no layer, and prints GeoJSON:
+one feature for each pair of pieces that touch, cross or overlap in another way
+than before, with the two written segments in metres. Its properties are the
+number of the change, both relations, the distance of the two segments in whole
+millimetres, and for each side the layer, the place as the report names it, and
+the byte at which the path begins (in a drawing the line).
+
+options:
+  --tin FILE     the triangulation, a tinshift file of format 1.0 or 1.1
+  --inverse      carry from the target frame to the source frame
+  --exact        refuse a number that would lose digits past the millimetre
+  --inside-only  take a file with a fallback, and do not apply that
+  --drop-other   leave out entities of a drawing of kinds that cannot be carried
+  --cert         is understood and changes nothing, since no layer is written
+  -h, --help     this text
+  -V, --version  the version
+
+LAYER ends in .wkt, .geojson, .json or .dxf.
+
+exit status:
+  0  nothing changed, and the text has no feature
+  1  the text has at least one feature
+  2  the words are not understood
+  3  the triangulation is refused
+  4  a layer is refused
+  5  a segment of a layer is not wholly inside the triangulation
+  6  a file could not be read
+  7  the text could not be written
+  8  memory ran out
+  9  a limit is passed
+
+example:
+  tinplaces --tin fineltra.json parcels.geojson roads.wkt > places.geojson
+";
+
+/// The line of the version.
+pub const VERSION: &str = "tinplaces 0.1.0\n";
+
+/// What the words ask the program to say of itself.
+#[derive(Clone, Copy, Debug, PartialEq, Eq)]
+pub enum Help {
+    /// What it does, its options and its exit statuses.
+    Whole,
+    /// The version.
+    Version,
+}
+
+impl Help {
+    /// What is printed on standard output, with its last line feed.
+    pub fn text(self) -> &'static str
+        ensures { result.now ≡ text_of self }
+    {
+        match self {
+            Help::Whole => WHOLE,
+            Help::Version => VERSION,
+        }
+    }
+}
+
+/// What a word alone asks for.
+fn help_of_word(word: &str) -> Option<Help>
+    ensures { (help : Help) → (result ≡ Some help) ↔ Asks (word.now ∷ []) help }
+{
+    match word {
+        "--help" | "-h" | "help" => Some(Help::Whole),
+        "--version" | "-V" => Some(Help::Version),
+        _ => None,
+    }
+}
+
+/// What the words ask the program to say of itself, where they ask for that and for nothing else.
+pub fn help_of(words: &[String]) -> Option<Help>
+    ensures { (help : Help) → (result ≡ Some help) ↔ Asks (map string_bytes words.now) help }
+{
+    match words {
+        [word] => help_of_word(word.as_str()),
+        _ => None,
+    }
+}
