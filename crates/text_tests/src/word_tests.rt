@@ -39,11 +39,15 @@ fn spelled(alloc: Global, job: &Job) -> Result<String, AllocError> {
             out,
             how,
             inverse,
+            cert,
             layers,
         } => {
             let (tin, out) = (tin.text(), out.text());
             let mut text = format!(in alloc; "migrate tin {tin} out {out}")?;
             add_flags(&mut text, *how, *inverse)?;
+            if *cert {
+                text.push_str(" cert")?;
+            }
             for layer in layers.items() {
                 text.push_str(" layer ")?;
                 text.push_str(layer.text())?;
@@ -57,6 +61,24 @@ fn spelled(alloc: Global, job: &Job) -> Result<String, AllocError> {
             Ok(text)
         }
         Job::Make { n } => format!(in alloc; "make {n}"),
+        Job::Verify {
+            tin,
+            source,
+            written,
+            cert,
+            how,
+            inverse,
+        } => {
+            let (tin, source) = (tin.text(), source.text());
+            let (written, cert) = (written.text(), cert.text());
+            let mut text = format!(in alloc; "verify tin {tin} source {source}")?;
+            text.push_str(" written ")?;
+            text.push_str(written)?;
+            text.push_str(" cert ")?;
+            text.push_str(cert)?;
+            add_flags(&mut text, *how, *inverse)?;
+            Ok(text)
+        }
     }
 }
 
@@ -81,6 +103,18 @@ const JOBS: &[(&str, &str)] = &[
     (
         "migrate --out t=o --tin=a=b .wkt x/A.wkt a.wkt",
         "migrate tin a=b out t=o layer .wkt layer x/A.wkt layer a.wkt",
+    ),
+    (
+        "migrate --cert --tin t --out o a.wkt --exact",
+        "migrate tin t out o exact cert layer a.wkt",
+    ),
+    (
+        "verify --tin t --source x/a.WKT --written=w --cert c --inverse",
+        "verify tin t source x/a.WKT written w cert c inverse",
+    ),
+    (
+        "verify --cert=- --drop-other --written o/a.dxf --source a.dxf --exact --tin t.json",
+        "verify tin t.json source a.dxf written o/a.dxf cert - exact drop-other",
     ),
     ("check --tin t", "check tin t"),
     (
@@ -111,6 +145,15 @@ const FAULTS: &[([&str; 4], WordsFault)] = &[
         WordsFault::NoMode,
     ),
     (["migrate", "check", "make", "make 1 2"], WordsFault::Parse),
+    (
+        [
+            "verify --tin t --source a.wkt --written b",
+            "verify --tin t --source a.wkt --cert c",
+            "verify --tin t --written b --cert c",
+            "verify --source a.wkt --written b --cert c",
+        ],
+        WordsFault::Parse,
+    ),
     (
         [
             "migrate --tin t --out o",
