@@ -167,4 +167,5 @@ def main():
         write(f"{name}.{end}", lines)
 
 
-main()
+if __name__ == "__main__":
+    main()

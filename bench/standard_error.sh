@@ -48,7 +48,7 @@ mkdir -p x && echo 'POINT (600002 200002)' >x/a.wkt
 says 2 -- 'a mode is missing: the first word is to be migrate, check, make or verify' 'usage: tinmove migrate|check|make'
 says 2 chek -- "'chek' is no mode: the first word is to be migrate, check, make or verify" 'usage: tinmove migrate|check|make'
 says 2 migrate --tni t.json --out o a.wkt -- "'--tni' is no option of this mode" 'usage: tinmove migrate --tin FILE'
-says 2 migrate --tin t.json a.wkt -- "'--out FOLDER' is missing" 'nothing was written' '[--drop-other] LAYER...'
+says 2 migrate --tin t.json a.wkt -- "'--out FOLDER' is missing" 'nothing was written' '[--drop-other] [--cert] LAYER...'
 says 2 migrate --tin t.json --out o -- "'LAYER' is missing"
 says 2 check --tin -- "the value is missing behind '--tin'" 'usage: tinmove check --tin FILE'
 says 2 check --tin t.json --tin t.json -- "'--tin' is there twice"
@@ -71,6 +71,21 @@ printf '\xef\xbb\xbfPOINT (1 2)\n' >mark.wkt
 says 4 migrate --tin t.json --out o mark.wkt -- 'mark.wkt:1:1: a byte order mark' 'save the file without it'
 printf 'POINT (600001 200001) POINT (600001 200001)\n' >second.wkt
 says 4 migrate --tin t.json --out o second.wkt -- 'second.wkt:1:23: a second geometry on one line: POINT'
+
+# certificates: the layer is one point in triangle 0
+"$program" migrate --tin t.json --out certified --cert a.wkt >out 2>err
+verify=(verify --tin t.json --source a.wkt --written certified/a.wkt --cert)
+says 0 "${verify[@]}" certified/a.wkt.cert --
+says 2 verify --tin t.json --source a.wkt --written b.wkt -- "'--cert FILE' is missing" 'usage: tinmove verify --tin FILE'
+says 6 "${verify[@]}" none.cert -- 'none.cert: the file is missing or could not be read'
+printf 'tinmove certificate 2\n0\n' >form.cert
+says 10 "${verify[@]}" form.cert -- 'form.cert:1' "a line that is none of a certificate's" 'take the file .cert as migrate --cert wrote it'
+printf 'tinmove certificate 1\n' >count.cert
+says 10 "${verify[@]}" count.cert -- 'the certificate has lines for another number of segments' 'take the certificate of this very source'
+printf 'tinmove certificate 1\n1\n' >segment.cert
+says 10 "${verify[@]}" segment.cert -- 'the line of this segment does not name the triangles that it goes through'
+sed 's/POINT/POINT /' certified/a.wkt >b.wkt
+says 10 verify --tin t.json --source a.wkt --written b.wkt --cert certified/a.wkt.cert -- 'b.wkt:1:7: the written layer is another than that of the source from here on'
 
 # outside
 printf '\nPOINT (600001 200001)\nLINESTRING (600001 200001, 602000 200001)\n' >out.wkt
