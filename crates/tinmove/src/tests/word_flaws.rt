@@ -148,16 +148,16 @@ fn the_usage_is_that_of_the_mode(rt: HostRuntime) -> Result<(), Fail> {
     for (texts, usage) in [
         (
             [].as_slice(),
-            "usage: tinmove migrate|check|make ARGUMENT... ('tinmove --help' explains them)",
+            "usage: tinmove migrate|check|make|verify ARGUMENT... ('tinmove --help' explains them)",
         ),
         (
             &["Check"],
-            "usage: tinmove migrate|check|make ARGUMENT... ('tinmove --help' explains them)",
+            "usage: tinmove migrate|check|make|verify ARGUMENT... ('tinmove --help' explains them)",
         ),
         (
             &["migrate", "a"],
             "usage: tinmove migrate --tin FILE --out FOLDER [--inverse] [--exact] [--inside-only]
-                       [--drop-other] LAYER...",
+                       [--drop-other] [--cert] LAYER...",
         ),
         (
             &["check"],
