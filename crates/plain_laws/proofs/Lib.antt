@@ -2,5 +2,6 @@
 pub mod Booleans
 pub mod Order
 pub mod Lists
+pub mod Options
 pub mod Digits
 pub mod Weights

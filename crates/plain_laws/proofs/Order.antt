@@ -12,6 +12,15 @@ at_most_of_equal m n e = omega arith
 pub equal_of_both : (m n : ℕ) → m ≤ n → n ≤ m → m ≡ n
 equal_of_both m n h k = omega arith
 
+-- neither of two numbers is below the other
+pub equal_of_neither : (m n : ℕ) → (m < n → ⊥) → (n < m → ⊥) → m ≡ n
+equal_of_neither m n h k = go (trichotomy m n)
+  where
+    go : (m < n) ⊎ ((m ≡ n) ⊎ (n < m)) → m ≡ n
+    go (inl less) = absurd (h less)
+    go (inr (inl same)) = same
+    go (inr (inr more)) = absurd (k more)
+
 pub ≤_trans : (a b c : ℤ) → a ≤ℤ b → b ≤ℤ c → a ≤ℤ c
 ≤_trans a b c h k = omega (arith, ints)
 
