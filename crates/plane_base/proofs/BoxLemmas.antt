@@ -1,8 +1,10 @@
 -- Boxes: mixes of places in a box are in it, the box of some points has them and is the least, and boxes that are apart
 -- have no place in common.
 use Rattle.std.proofs.Common.{◌≡◌, ◌⊎◌, inl, inr, ℕ, ℤ, pos, ◌+ℤ◌, ◌*ℤ◌, ◌≤ℤ◌, ◌<ℤ◌, List, [], ◌∷◌, ◌↔◌, ⊎_elim, IsTrue}
-use Rattle.std.proofs.Common.{Bool, true, false, not, refl, subst, sym, arith}
-use Rattle.std.proofs.lemmas.Int.{ints, int_min_is, int_max_is}
+use Rattle.std.proofs.Common.{Bool, true, false, not, refl, subst, sym, ◌∙◌, ap₂, arith, to_z, of_z}
+use Rattle.std.specs.Prelude.{FitsSigned}
+use mir.Syntax.{w64}
+use Rattle.std.proofs.lemmas.Int.{ints, int_min_is, int_max_is, to_z-of_z}
 use Rattle.std.specs.Int.{int_min, int_max}
 use lib.Signed.{lt_z_yes}
 use Rattle.integer_ring.proofs.Ring.{num, neg, ◌⊕◌, ◌⊗◌}
@@ -486,3 +488,38 @@ shared_if p q true op oq told = (
       ((share_or_apart p q op oq).shared.0 s (told.0 refl)),
 )
 shared_if p q false op oq told = (λ _. (share_or_apart p q op oq).shared.1 (λ a. no_false (told.1 a)), λ _. refl)
+
+-- ---- boxes as the code has them: each number in 64 bits
+abbrev pub kept : ℤ → ℤ
+kept n = to_z w64 (of_z w64 n)
+
+pub record DoFit (rect : Rect) : Type 0 where
+  pub x0 : FitsSigned w64 rect.x0
+  pub y0 : FitsSigned w64 rect.y0
+  pub x1 : FitsSigned w64 rect.x1
+  pub y1 : FitsSigned w64 rect.y1
+
+pub lesser_kept : (m a b : ℤ) → FitsSigned w64 m → FitsSigned w64 a → FitsSigned w64 b
+    → m ≡ int_min (kept a) (kept b) → kept m ≡ int_min a b
+lesser_kept m a b fm fa fb e =
+    to_z-of_z w64 m fm ∙ (e ∙ ap₂ int_min (to_z-of_z w64 a fa) (to_z-of_z w64 b fb))
+
+pub greater_kept : (m a b : ℤ) → FitsSigned w64 m → FitsSigned w64 a → FitsSigned w64 b
+    → m ≡ int_max (kept a) (kept b) → kept m ≡ int_max a b
+greater_kept m a b fm fa fb e =
+    to_z-of_z w64 m fm ∙ (e ∙ ap₂ int_max (to_z-of_z w64 a fa) (to_z-of_z w64 b fb))
+
+pub same_rect : (p q : Rect) → p.x0 ≡ q.x0 → p.y0 ≡ q.y0 → p.x1 ≡ q.x1 → p.y1 ≡ q.y1 → p ≡ q
+same_rect p q e f g h =
+    ap₂ (λ (x0 y0 : ℤ). at x0 y0 p.x1 p.y1) e f ∙ ap₂ (λ (x1 y1 : ℤ). at q.x0 q.y0 x1 y1) g h
+  where
+    at : ℤ → ℤ → ℤ → ℤ → Rect
+    at x0 y0 x1 y1 = record { x0 = x0; y0 = y0; x1 = x1; y1 = y1 }
+
+pub apart_kept : (p q : Rect) → DoFit p → DoFit q → (y : Bool)
+    → IsTrue false ↔ ((kept p.x1 <ℤ kept q.x0) ⊎ (kept q.x1 <ℤ kept p.x0))
+    → IsTrue y ↔ ((kept p.y1 <ℤ kept q.y0) ⊎ (kept q.y1 <ℤ kept p.y0)) → IsTrue y ↔ AreApart p q
+apart_kept p q f g y first second =
+    let px0 = f.x0 in let py0 = f.y0 in let px1 = f.x1 in let py1 = f.y1 in
+    let qx0 = g.x0 in let qy0 = g.y0 in let qx1 = g.x1 in let qy1 = g.y1 in
+    apart_if p q y (simp to_z-of_z at first) (simp to_z-of_z at second)

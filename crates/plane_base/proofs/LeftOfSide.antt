@@ -1,61 +1,15 @@
 -- Two triangles to the left of one side have a common point that is not on it.
-use Rattle.std.proofs.Common.{◌≡◌, ℕ, ◌+◌, ◌<◌, ℤ, pos, ◌+ℤ◌, ◌*ℤ◌, ◌≤ℤ◌, ◌<ℤ◌, [], ◌∷◌, sum, sym, subst, refl}
+use Rattle.std.proofs.Common.{◌≡◌, ℕ, ◌+◌, ℤ, pos, ◌+ℤ◌, ◌≤ℤ◌, ◌<ℤ◌, [], ◌∷◌, sym, subst, refl}
 use Rattle.std.proofs.Common.{arith}
 use Rattle.std.proofs.lemmas.Int.{ints}
-use Rattle.integer_ring.proofs.Ring.{num, ◌⊕◌, ◌⊗◌}
 use Rattle.integer_ring.proofs.Order.{≤_of_<, nonneg_pos}
-use Rattle.integer_ring.proofs.Claims.{◌≐◌, ◌≼◌, ◌≺◌, gap, over, ◌⊞◌, ◌⊠◌, ◌because◌, ◌⇒◌, follows}
 use Rattle.plane_base.specs.Plane.{Point, turn_of, weighed, IsMix}
-use Rattle.plane_base.proofs.Points.{turn, plus, nothing, solve_at}
 use Rattle.plane_base.proofs.InTriangle.{mix_of_turns}
+use Rattle.plane_base.proofs.NearSide.{turn_near_b, turn_near_a, turn_near, near-w, near_some}
 use Rattle.plain_laws.proofs.Weights.{lift_both, lift_times, lift}
 
 abbrev NonNeg : ℤ → Type 0
 NonNeg z = pos 0 ≤ℤ z
-
--- ---- a natural number that is as large as a number is below 0
-
--- a point of the one triangle that is near the middle of the side: its turns with the sides of the other
-turn_near_b : (a b c g : Point) (n : ℤ) → turn_of b g
-    (record {
-      x = n *ℤ a.x +ℤ (n *ℤ b.x +ℤ (pos 1 *ℤ c.x +ℤ pos 0));
-      y =
-          n *ℤ a.y +ℤ (n *ℤ b.y +ℤ (pos 1 *ℤ c.y +ℤ pos 0));
-      w = n *ℤ a.w +ℤ (n *ℤ b.w +ℤ (pos 1 *ℤ c.w +ℤ pos 0));
-    }) ≡ n
-    *ℤ turn_of a b g +ℤ turn_of b g c
-turn_near_b = solve_at 4 1 (λ a b c g n. turn b g (plus n a (plus n b (plus (num (pos 1)) c nothing))) ≐ n ⊗ turn a b g
-    ⊕ turn b g c) tt
-
-turn_near_a : (a b c g : Point) (n : ℤ) → turn_of g a
-    (record {
-      x = n *ℤ a.x +ℤ (n *ℤ b.x +ℤ (pos 1 *ℤ c.x +ℤ pos 0));
-      y =
-          n *ℤ a.y +ℤ (n *ℤ b.y +ℤ (pos 1 *ℤ c.y +ℤ pos 0));
-      w = n *ℤ a.w +ℤ (n *ℤ b.w +ℤ (pos 1 *ℤ c.w +ℤ pos 0));
-    }) ≡ n
-    *ℤ turn_of a b g +ℤ turn_of g a c
-turn_near_a = solve_at 4 1 (λ a b c g n. turn g a (plus n a (plus n b (plus (num (pos 1)) c nothing))) ≐ n ⊗ turn a b g
-    ⊕ turn g a c) tt
-
-turn_near : (a b c : Point) (n : ℤ) → turn_of a b
-    (record {
-      x = n *ℤ a.x +ℤ (n *ℤ b.x +ℤ (pos 1 *ℤ c.x +ℤ pos 0));
-      y =
-          n *ℤ a.y +ℤ (n *ℤ b.y +ℤ (pos 1 *ℤ c.y +ℤ pos 0));
-      w = n *ℤ a.w +ℤ (n *ℤ b.w +ℤ (pos 1 *ℤ c.w +ℤ pos 0));
-    })
-    ≡ turn_of a b c
-turn_near = solve_at 3 1 (λ a b c n. turn a b (plus n a (plus n b (plus (num (pos 1)) c nothing))) ≐ turn a b c) tt
-
-near-w : (v w x n : ℤ) → pos 0 <ℤ v → pos 0 <ℤ w → pos 0 <ℤ x → pos 0 ≤ℤ n
-    → pos 0 <ℤ (n *ℤ v +ℤ (n *ℤ w +ℤ (pos 1 *ℤ x +ℤ pos 0)))
-near-w =
-    follows 4 (λ v w x n. num (pos 0) ≺ v ⇒ num (pos 0) ≺ w ⇒ num (pos 0) ≺ x ⇒ num (pos 0) ≼ n
-    ⇒ num (pos 0) ≺ n ⊗ v ⊕ (n ⊗ w ⊕ (num (pos 1) ⊗ x ⊕ num (pos 0))) because gap 3 ⊠ gap 0 ⊞ gap 3 ⊠ gap 1 ⊞ over 2) tt
-
-some_weight : (n : ℕ) → 0 < sum (n ∷ n ∷ 1 ∷ [])
-some_weight n = omega arith
 
 not_both : (z : ℤ) → pos 0 <ℤ z → z ≡ pos 0 → ⊥
 not_both z h e = absurd (omega (arith, ints))
@@ -79,4 +33,4 @@ overlap_at_side a b c g ha hb hc hg d d' only =
         let at_ga : pos 0 ≤ℤ turn_of g a p = subst NonNeg (sym (turn_near_a a b c g (pos n)))
         (lift_times (pos n) (turn_of a b g) (turn_of g a c) h.1 (nonneg_pos n) d') in
         let in_u = mix_of_turns a b g p ha hb hg w d' (≤_of_< (pos 0) (turn_of a b p) at_ab) at_bg at_ga in
-        not_both (turn_of a b p) at_ab (only p w (n ∷ n ∷ 1 ∷ [], refl, some_weight n, (refl, refl)) in_u)
+        not_both (turn_of a b p) at_ab (only p w (n ∷ n ∷ 1 ∷ [], refl, near_some n, (refl, refl)) in_u)

@@ -1,26 +1,18 @@
 -- Answers to the goals of `Rect::joined` in src/boxes.rt.
-use Rattle.std.proofs.Common.{refl, rules}
-use Rattle.std.specs.Prelude.{FitsSigned}
-use Rattle.std.proofs.lemmas.Int.{to_z-of_z}
-use mir.Syntax.{w64}
+use Rattle.std.proofs.Common.{rules}
+use Rattle.plane_base.proofs.BoxLemmas.{DoFit, same_rect, lesser_kept, greater_kept}
 use Rattle.plane_base.proofs.shapes.Rect.joined.Goals as goal
 
 pub returns : goal.returns
 returns c =
-    let f0 : FitsSigned w64 c.args.self.now.x0 = search rules in
-    let f1 : FitsSigned w64 c.args.self.now.y0 = search rules in
-    let f2 : FitsSigned w64 c.args.self.now.x1 = search rules in
-    let f3 : FitsSigned w64 c.args.self.now.y1 = search rules in
-    let f4 : FitsSigned w64 c.args.other.now.x0 = search rules in
-    let f5 : FitsSigned w64 c.args.other.now.y0 = search rules in
-    let f6 : FitsSigned w64 c.args.other.now.x1 = search rules in
-    let f7 : FitsSigned w64 c.args.other.now.y1 = search rules in
-    let f8 : FitsSigned w64 c.min.result = search rules in
-    let f9 : FitsSigned w64 c.min-2.result = search rules in
-    let f10 : FitsSigned w64 c.max.result = search rules in
-    let f11 : FitsSigned w64 c.max-2.result = search rules in
-    let e0 = simp to_z-of_z at c.min.ensures.value in
-    let e1 = simp to_z-of_z at c.min-2.ensures.value in
-    let e2 = simp to_z-of_z at c.max.ensures.value in
-    let e3 = simp to_z-of_z at c.max-2.ensures.value in
-    simp to_z-of_z (rw (e0, e1, e2, e3) refl)
+    let own : DoFit c.args.self.now =
+    record { x0 = search rules; y0 = search rules; x1 = search rules; y1 = search rules } in
+    let also : DoFit c.args.other.now =
+    record { x0 = search rules; y0 = search rules; x1 = search rules; y1 = search rules } in
+    let p = c.args.self.now in
+    let q = c.args.other.now in
+    same_rect _ _
+    (lesser_kept c.min.result p.x0 q.x0 (search rules) own.x0 also.x0 c.min.ensures.value)
+    (lesser_kept c.min-2.result p.y0 q.y0 (search rules) own.y0 also.y0 c.min-2.ensures.value)
+    (greater_kept c.max.result p.x1 q.x1 (search rules) own.x1 also.x1 c.max.ensures.value)
+    (greater_kept c.max-2.result p.y1 q.y1 (search rules) own.y1 also.y1 c.max-2.ensures.value)
