@@ -18,3 +18,4 @@ pub mod Naming
 pub mod BoxLemmas
 pub mod NearSide
 pub mod NearPoints
+pub mod TwoWeights

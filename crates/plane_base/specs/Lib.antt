@@ -4,4 +4,5 @@ pub mod Slices
 pub mod Courses
 pub mod Sides
 pub mod Boxes
+pub mod TwoWeights
 pub mod Laws
