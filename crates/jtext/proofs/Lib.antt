@@ -21,3 +21,4 @@ pub mod SameTexts
 pub mod TextNodes
 pub mod MemberLoops
 pub mod OneValue
+pub mod DecimalTexts
