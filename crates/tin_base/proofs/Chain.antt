@@ -1,17 +1,15 @@
 -- The pieces of a segment that is inside follow each other without a gap.
-use Rattle.std.proofs.Common.{◌≡◌, ◌≢◌, ◌⊎◌, inl, inr, ℕ, zero, suc, ◌+◌, ◌*◌, ◌<◌, ◌≤◌, pos, ◌<ℤ◌, List, length, sym}
+use Rattle.std.proofs.Common.{◌≡◌, ◌≢◌, ◌⊎◌, inl, inr, ℕ, zero, suc, ◌+◌, ◌*◌, ◌<◌, ◌≤◌, List, length, sym}
 use Rattle.std.proofs.Common.{subst, arith}
 use Rattle.plane_base.specs.declared.shapes.Pt.{Pt}
-use Rattle.tin_base.specs.declared.frames.Frame.TheVariants.{Source}
-use Rattle.tin_base.specs.Triangulation.{Triangulation, numbers_of, places}
-use Rattle.tin_base.specs.Soundness.{turn_of_three, IsSound}
-use Rattle.tin_base.specs.Segments.{Spot, at_a, at_b, IsBefore, IsNotAfter, IsSameSpot, IsInside, IsShared, IsPart}
+use Rattle.tin_base.specs.Triangulation.{Triangulation}
+use Rattle.tin_base.specs.Soundness.{IsSound}
+use Rattle.tin_base.specs.Segments.{Spot, at_a, at_b, IsBefore, IsNotAfter, IsSameSpot, IsInside, IsPart}
 use Rattle.tin_base.specs.Segments.{Part, part_at, ArePieces, AreChain, DoCover}
-use Rattle.tin_base.proofs.Ends.{IsSpot, before_or, not_both, no_later, no_later_trans, before_trans_left}
+use Rattle.tin_base.proofs.Ends.{IsSpot, not_both, no_later, no_later_trans, before_trans_left}
 use Rattle.tin_base.proofs.Ends.{before_trans_right, up_to_same, from_same, same_of}
-use Rattle.tin_base.proofs.Parts.{between_in}
-use Rattle.tin_base.proofs.Overlap.{same_spots}
 use Rattle.tin_base.proofs.Further.{NextPart, next_part}
+use Rattle.tin_base.proofs.Apart.{apart}
 
 -- ---- a piece that begins no later than x and ends behind it
 record Next (parts : List Part) (x : Spot) : Type 0 where
@@ -42,53 +40,13 @@ next tin a b parts x sound inside pieces some more =
         }
 
 -- ---- no part begins before one that begins earlier has ended
-pub parts_apart : (tin : Triangulation) (a b : Pt) (t u : ℕ) (f l f' l' : Spot) → IsSound tin → a ≢ b
-    → IsPart tin a b t f l → IsPart tin a b u f' l' → IsBefore f f' → IsNotAfter l f'
-parts_apart tin a b t u f l f' l' sound differ p q before = go (before_or f' l)
-  where
-    steady_t : IsPart tin a b t f l → pos 0 <ℤ turn_of_three (places tin Source (numbers_of tin t))
-    steady_t p = sound.positive Source t p.in_range
-
-    steady_u : IsPart tin a b u f' l' → pos 0 <ℤ turn_of_three (places tin Source (numbers_of tin u))
-    steady_u q = sound.positive Source u q.in_range
-
-    -- two common spots, r before s: then the first spot of the one part is in the other triangle
-    clash : (r s : Spot) → IsShared tin a b t r → IsShared tin a b t s → IsShared tin a b u r → IsShared tin a b u s
-        → IsBefore r s → ⊥
-    clash r s tr ts ur us order =
-        not_both f f' before (q.none_before f (same_spots tin a b t u r s f sound differ p.in_range q.in_range tr ts ur
-        us order p.has_first))
-
-    overlapping : IsBefore f' l → IsBefore l l' ⊎ IsNotAfter l' l → ⊥
-    overlapping h which =
-        let first = q.has_first in let last = p.has_last in let last' = q.has_last in
-        let in_t : IsShared tin a b t f' = between_in tin a b t f l f' (steady_t p) p.has_first p.has_last first.some
-        (no_later f f' before) (no_later f' l h) in
-        ends in_t which
-      where
-        ends : IsShared tin a b t f' → IsBefore l l' ⊎ IsNotAfter l' l → ⊥
-        ends in_t (inl i) =
-            let last = p.has_last in
-            clash f' l in_t p.has_last q.has_first
-            (between_in tin a b u f' l' l (steady_u q) q.has_first q.has_last last.some (no_later f' l h)
-            (no_later l l' i)) h
-        ends in_t (inr i) =
-            let last' = q.has_last in let first' = q.has_first in
-            clash f' l' in_t (between_in tin a b t f l l' (steady_t p) p.has_first p.has_last last'.some
-            (no_later_trans f f' l' first'.some (no_later f f' before) (no_later f' l' q.differ)) i) q.has_first
-            q.has_last q.differ
-
-    go : IsBefore f' l ⊎ IsNotAfter l f' → IsNotAfter l f'
-    go (inr h) = h
-    go (inl h) = absurd (overlapping h (before_or l l'))
-
 below_all : (i j n : ℕ) → i < j → j < n → i < n
 below_all i j n h k = omega arith
 
 no_overlap : (tin : Triangulation) (a b : Pt) (parts : List Part) (i j : ℕ) → IsSound tin → a ≢ b
     → ArePieces tin a b parts → i < j → j < length parts → IsNotAfter (part_at parts i).last (part_at parts j).first
 no_overlap tin a b parts i j sound differ pieces below hj =
-    parts_apart tin a b (part_at parts i).triangle (part_at parts j).triangle (part_at parts i).first
+    apart tin a b (part_at parts i).triangle (part_at parts j).triangle (part_at parts i).first
     (part_at parts i).last (part_at parts j).first (part_at parts j).last sound differ
     (pieces.part i (below_all i j (length parts) below hj)) (pieces.part j hj) (pieces.in_order i j below hj)
 

@@ -20,7 +20,7 @@ use Rattle.tin_base.proofs.Ends.{from_same, same_of}
 use Rattle.tin_base.proofs.Parts.{Reaching, part_of}
 use Rattle.tin_base.specs.Outcomes.{OutcomeExists}
 use Rattle.tin_base.proofs.Apart.{begun}
-use Rattle.tin_base.proofs.Unused.{unused, less_left}
+use Rattle.tin_base.proofs.Unused.{unused, less_left, last_below}
 use Rattle.tin_base.proofs.Walk.{IsWalked, start, Follows, more, all_walked, all_inside, stuck, not_again}
 
 -- ---- the least number of some kind
@@ -29,9 +29,6 @@ record Least (P : ℕ → Type 0) (n : ℕ) : Type 0 where
   within : number < n
   is : P number
   least : (u : ℕ) → u < number → P u → ⊥
-
-below_or : (u n : ℕ) → u < suc n → (u < n) ⊎ (u ≡ n)
-below_or u n h = grind arith
 
 least_or : (P : ℕ → Type 0) (n : ℕ) → ((u : ℕ) → u < n → P u ⊎ (P u → ⊥)) → Least P n ⊎ ((u : ℕ) → u < n → P u → ⊥)
 least_or P zero decide = inr (λ u h is. absurd (omega arith))
@@ -46,7 +43,7 @@ least_or P (suc n) decide =
       })
       | inr none ↦ elim (decide n (omega arith)) [
         | inl is ↦ inl (record { number = n; within = omega arith; is = is; least = none })
-        | inr not_here ↦ inr (λ u h is. elim (below_or u n h) [
+        | inr not_here ↦ inr (λ u h is. elim (last_below u n h) [
           | inl less ↦ none u less is
           | inr same ↦
               not_here (subst P same is)

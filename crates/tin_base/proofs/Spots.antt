@@ -1,8 +1,8 @@
 -- The points of a segment by their spots: each has a positive weight, and the first and the last are its ends.
-use Rattle.std.proofs.Common.{◌≡◌, ℤ, pos, ◌+ℤ◌, ◌*ℤ◌, ◌<ℤ◌, sym, arith}
+use Rattle.std.proofs.Common.{◌≡◌, ℤ, pos, ◌+ℤ◌, ◌*ℤ◌, ◌<ℤ◌, sym, ap, arith}
 use lib.Signed.{lt_z_yes}
-use Rattle.integer_ring.proofs.Ring.{num, ◌⊕◌, ◌⊗◌}
-use Rattle.integer_ring.proofs.Claims.{◌≐◌, solve}
+use Rattle.integer_ring.proofs.Ring.{num, ◌⊕◌, ◌⊖◌, ◌⊗◌}
+use Rattle.integer_ring.proofs.Claims.{◌≐◌, eqn, ◌because◌, ◌⇒◌, follows, solve}
 use Rattle.plain_laws.proofs.Weights.{same_axis}
 use Rattle.plane_base.specs.Plane.{Same, whole}
 use Rattle.plane_base.specs.declared.shapes.Pt.{Pt}
@@ -10,7 +10,7 @@ use Rattle.plane_base.proofs.Mixes.{same_refl, same_trans, mix_moved, between-w,
 use Rattle.tin_base.specs.declared.frames.Frame.TheVariants.{Source}
 use Rattle.tin_base.specs.Triangulation.{Triangulation, numbers_of, places}
 use Rattle.tin_base.specs.Images.{IsInSome}
-use Rattle.tin_base.specs.Segments.{Spot, spot_at, at_a, at_b, IsInside}
+use Rattle.tin_base.specs.Segments.{Spot, spot_at, at_a, at_b, IsSameSpot, IsInside}
 use Rattle.tin_base.proofs.Ends.{IsSpot}
 
 pub one : pos 0 <ℤ pos 1
@@ -39,6 +39,20 @@ spot_last a b = (last_axis a.x b.x, last_axis a.y b.y)
 -- all spots of a segment from a point to itself are this point
 pub spot_of_point : (a : Pt) (s : Spot) → Same (spot_at a a s) (whole a)
 spot_of_point a s = (same_axis (pos s.of_a) (pos s.of_b) a.x, same_axis (pos s.of_a) (pos s.of_b) a.y)
+
+-- spots that are the same are at the same place
+spot_axis : (k l m n a b c d : ℤ) → l *ℤ m ≡ n *ℤ k
+    → (k *ℤ a +ℤ (l *ℤ b +ℤ pos 0)) *ℤ (m *ℤ c +ℤ (n *ℤ d +ℤ pos 0)) ≡ (m *ℤ a +ℤ (n *ℤ b +ℤ pos 0))
+    *ℤ (k *ℤ c +ℤ (l *ℤ d +ℤ pos 0))
+spot_axis = follows 8
+    (λ k l m n a b c d. l ⊗ m ≐ n ⊗ k ⇒ (k ⊗ a ⊕ (l ⊗ b ⊕ num (pos 0))) ⊗ (m ⊗ c ⊕ (n ⊗ d ⊕ num (pos 0)))
+    ≐ (m ⊗ a ⊕ (n ⊗ b ⊕ num (pos 0))) ⊗ (k ⊗ c ⊕ (l ⊗ d ⊕ num (pos 0)))
+    because eqn 0 (b ⊗ c ⊖ a ⊗ d)) tt
+
+pub same_of_spots : (a b : Pt) (s t : Spot) → IsSameSpot s t → Same (spot_at a b s) (spot_at a b t)
+same_of_spots a b s t e =
+    let k = pos s.of_a in let l = pos s.of_b in let m = pos t.of_a in let n = pos t.of_b in
+    (spot_axis k l m n a.x b.x (pos 1) (pos 1) (ap pos e), spot_axis k l m n a.y b.y (pos 1) (pos 1) (ap pos e))
 
 -- the ends of a segment that is inside are in triangles
 pub first_inside : (tin : Triangulation) (a b : Pt) → IsInside tin a b → IsInSome tin Source (whole a)

@@ -48,7 +48,7 @@ now_used parts p = subst (λ (b : Bool). fresh b ≡ 0)
     (sym (list_any-append (λ (q : Part). q.triangle == p.triangle) parts (p ∷ [])))
     (or_true (uses parts p.triangle) (p.triangle == p.triangle) (itself p.triangle))
 
-last_below : (k n : ℕ) → k < suc n → (k < n) ⊎ (k ≡ n)
+pub last_below : (k n : ℕ) → k < suc n → (k < n) ⊎ (k ≡ n)
 last_below k n h = grind arith
 
 fewer : (parts : List Part) (p : Part) (n : ℕ) → p.triangle < n → uses parts p.triangle ≡ false
