@@ -7,7 +7,8 @@ use Rattle.integer_ring.proofs.Order.{≤_or_>, ≤_of_<, nonneg_pos}
 use Rattle.integer_ring.proofs.Signs.{≤_of_mul}
 use Rattle.integer_ring.proofs.Claims.{◌≐◌, ◌≼◌, ◌≺◌, gap, over, eqn, nat, square, ◌⊞◌, ◌⊠◌, ◌because◌, ◌⇒◌, follows}
 use Rattle.plane_base.specs.declared.shapes.Pt.{Pt}
-use Rattle.seg_gap.specs.Ends.{AreWeights, dot_of, square_to, HasMixBelow, IsEndSquare}
+use Rattle.plane_base.specs.TwoWeights.{AreWeights}
+use Rattle.seg_gap.specs.Ends.{dot_of, square_to, HasMixBelow, IsEndSquare}
 use Rattle.seg_gap.proofs.Steps.{way_toE, square_toE, whole_turn, whole_turnE}
 use Rattle.seg_gap.proofs.Sides.{weights_swapped, low_swapped}
 

@@ -3,16 +3,18 @@ use Rattle.std.proofs.Common.{◌≡◌, ℕ, ◌+◌, ◌*◌, ◌<◌, ◌≤�
 use Rattle.std.proofs.lemmas.Int.{ints}
 use Rattle.std.proofs.Math.Nat.{mul-le-mul}
 use Rattle.integer_ring.proofs.Ring.{Expr, num, neg, ◌⊕◌, ◌⊖◌, ◌⊗◌}
-use Rattle.integer_ring.proofs.Order.{nonneg_pos, nonneg_square}
+use Rattle.integer_ring.proofs.Order.{nonneg_square}
 use Rattle.integer_ring.proofs.Signs.{≤_of_mul, mul-positive}
 use Rattle.integer_ring.proofs.Claims.{◌≐◌, ◌≼◌, ◌≺◌, never, gap, over, eqn, square, ◌⊞◌, ◌⊠◌, ◌because◌, ◌⇒◌, follows}
 use Rattle.integer_ring.proofs.Claims.{solve}
-use Rattle.plain_laws.proofs.Weights.{two_positive, weight_above}
+use Rattle.plain_laws.proofs.Weights.{weight_above}
 use Rattle.plane_base.specs.Plane.{Point, Same, whole}
 use Rattle.plane_base.specs.declared.shapes.Pt.{Pt}
 use Rattle.plane_base.proofs.Mixes.{mixed, between_weights, between-w, weights_between, mix_swapped}
 use Rattle.seg_gap.specs.Gaps.{IsOfSegment, square_between, AreCloser, HaveCloser}
-use Rattle.seg_gap.specs.Ends.{AreWeights, square_to, HasMixBelow}
+use Rattle.plane_base.specs.TwoWeights.{AreWeights}
+use Rattle.plane_base.proofs.TwoWeights.{weights_of}
+use Rattle.seg_gap.specs.Ends.{square_to, HasMixBelow}
 use Rattle.seg_gap.proofs.Steps.{square_toE, IsFarAt}
 use Rattle.seg_gap.proofs.Sides.{IsFar, is_far}
 use Rattle.seg_gap.proofs.Feet.{at_first}
@@ -49,9 +51,6 @@ of_weights a b (negsuc k) l w = absurd w.first.le
 of_weights a b (pos k) (negsuc l) w = absurd w.second.le
 
 -- ---- from a place to weights
-weights_of : (i j : ℕ) → 0 < i + j → AreWeights (pos i) (pos j)
-weights_of i j h = record { first = nonneg_pos i; second = nonneg_pos j; some = two_positive i j h }
-
 -- as a mix is spelled in plane_base
 abbrev axisE : Expr → Expr → Expr → Expr → Expr
 axisE a b i j = i ⊗ a ⊕ (j ⊗ b ⊕ num (pos 0))

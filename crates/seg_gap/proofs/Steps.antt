@@ -6,7 +6,8 @@ use Rattle.integer_ring.proofs.Signs.{≤_of_mul, mul-positive}
 use Rattle.integer_ring.proofs.Claims.{◌≐◌, ◌≼◌, ◌≺◌, gap, over, eqn, nat, square, ◌⊞◌, ◌⊠◌, ◌because◌, ◌⇒◌, follows}
 use Rattle.integer_ring.proofs.Claims.{solve}
 use Rattle.plane_base.specs.declared.shapes.Pt.{Pt}
-use Rattle.seg_gap.specs.Ends.{AreWeights, way_to, IsLow}
+use Rattle.plane_base.specs.TwoWeights.{AreWeights}
+use Rattle.seg_gap.specs.Ends.{way_to, IsLow}
 
 -- ---- words, and their twins on expressions
 -- on one axis: the way from a point q over n to the mix of a and b, times i + j and n

@@ -1,6 +1,7 @@
 -- What the code asks of the ends of two segments: dot products, turns, and four times the square of a distance.
 use Rattle.std.specs.Prelude.{◌⊎◌, ℕ, ◌+◌, ◌-◌, ◌*◌, ◌<◌, ◌≤◌, ℤ, pos, ◌+ℤ◌, ◌-ℤ◌, ◌*ℤ◌, ◌≤ℤ◌, ◌<ℤ◌}
 use Rattle.plane_base.specs.Plane.{whole, turn_of}
+use Rattle.plane_base.specs.TwoWeights.{AreWeights}
 use Rattle.plane_base.specs.declared.shapes.Pt.{Pt}
 
 -- the dot product of the ways from o to p and to q
@@ -17,11 +18,6 @@ pub record DoCross (a b c d : Pt) : Type 0 where
   pub second : AreOpposite (turn_of (whole c) (whole d) (whole a)) (turn_of (whole c) (whole d) (whole b))
 
 -- ---- a mix of c and d by its weights
-pub record AreWeights (k l : ℤ) : Type 0 where
-  pub first : pos 0 ≤ℤ k
-  pub second : pos 0 ≤ℤ l
-  pub some : pos 0 <ℤ (k +ℤ l)
-
 -- on one axis: the way from p to the mix, times the sum of the weights
 abbrev pub way_to : ℤ → ℤ → ℤ → ℤ → ℤ → ℤ
 way_to p c d k l = k *ℤ c +ℤ l *ℤ d -ℤ (k +ℤ l) *ℤ p
