@@ -1,5 +1,5 @@
 -- The clips of pieces in a triangulation.
-use Rattle.std.proofs.Common.{◌<◌, ℤ, pos, ◌<ℤ◌, List, [], ◌∷◌, length, refl, sym, subst, arith}
+use Rattle.std.proofs.Common.{◌<◌, pos, ◌<ℤ◌, List, [], ◌∷◌, length, refl, sym, subst, arith}
 use Rattle.plane_base.specs.Plane.{Point, IsMix, whole, corners, turn_of, IsNear, IsNearAll, IsNearTri}
 use Rattle.plane_base.specs.declared.shapes.Pt.{Pt}
 use Rattle.plane_base.specs.declared.shapes.Tri.{Tri}

@@ -36,7 +36,8 @@ common_on_both a b c d r k = record {
   positive = k.positive;
 }
 
-x_once : (ax ay bx by cx cy ex ey px py pw qx qy qw : ℤ)
+-- two points of both lines have the same place on the axis with these shares of x and y
+once : (u v ax ay bx by cx cy ex ey px py pw qx qy qw : ℤ)
     → turn_of (record { x = ax; y = ay; w = pos 1 }) (record { x = bx; y = by; w = pos 1 })
     (record { x = px; y = py; w = pw }) ≡ pos 0
     → turn_of (record { x = ax; y = ay; w = pos 1 }) (record { x = bx; y = by; w = pos 1 })
@@ -48,9 +49,10 @@ x_once : (ax ay bx by cx cy ex ey px py pw qx qy qw : ℤ)
     → (turn_of (record { x = ax; y = ay; w = pos 1 }) (record { x = bx; y = by; w = pos 1 })
     (record { x = ex; y = ey; w = pos 1 })
     -ℤ turn_of (record { x = ax; y = ay; w = pos 1 }) (record { x = bx; y = by; w = pos 1 })
-    (record { x = cx; y = cy; w = pos 1 })) *ℤ (px *ℤ qw -ℤ qx *ℤ pw) ≡ pos 0
-x_once =
-    follows 14 (λ ax ay bx by cx cy ex ey px py pw qx qy qw.
+    (record { x = cx; y = cy; w = pos 1 }))
+    *ℤ ((u *ℤ px +ℤ v *ℤ py) *ℤ qw -ℤ (u *ℤ qx +ℤ v *ℤ qy) *ℤ pw) ≡ pos 0
+once =
+    follows 16 (λ u v ax ay bx by cx cy ex ey px py pw qx qy qw.
     turn (record { x = ax; y = ay; w = num (pos 1) }) (record { x = bx; y = by; w = num (pos 1) })
     (record { x = px; y = py; w = pw }) ≐ num (pos 0)
     ⇒ turn (record { x = ax; y = ay; w = num (pos 1) }) (record { x = bx; y = by; w = num (pos 1) })
@@ -62,39 +64,21 @@ x_once =
     ⇒ (turn (record { x = ax; y = ay; w = num (pos 1) }) (record { x = bx; y = by; w = num (pos 1) })
     (record { x = ex; y = ey; w = num (pos 1) })
     ⊖ turn (record { x = ax; y = ay; w = num (pos 1) }) (record { x = bx; y = by; w = num (pos 1) })
-    (record { x = cx; y = cy; w = num (pos 1) })) ⊗ (px ⊗ qw ⊖ qx ⊗ pw) ≐ num (pos 0)
-    because eqn 0 ((ex ⊖ cx) ⊗ qw) ⊞ eqn 1 (neg (ex ⊖ cx) ⊗ pw) ⊞ eqn 2 (neg (bx ⊖ ax) ⊗ qw) ⊞ eqn 3 ((bx ⊖ ax) ⊗ pw))
-    tt
+    (record { x = cx; y = cy; w = num (pos 1) })) ⊗ ((u ⊗ px ⊕ v ⊗ py) ⊗ qw ⊖ (u ⊗ qx ⊕ v ⊗ qy) ⊗ pw) ≐ num (pos 0)
+    because eqn 0 ((u ⊗ (ex ⊖ cx) ⊕ v ⊗ (ey ⊖ cy)) ⊗ qw) ⊞ eqn 1 (neg (u ⊗ (ex ⊖ cx) ⊕ v ⊗ (ey ⊖ cy)) ⊗ pw)
+    ⊞ eqn 2 (neg (u ⊗ (bx ⊖ ax) ⊕ v ⊗ (by ⊖ ay)) ⊗ qw) ⊞ eqn 3 ((u ⊗ (bx ⊖ ax) ⊕ v ⊗ (by ⊖ ay)) ⊗ pw)) tt
 
-y_once : (ax ay bx by cx cy ex ey px py pw qx qy qw : ℤ)
-    → turn_of (record { x = ax; y = ay; w = pos 1 }) (record { x = bx; y = by; w = pos 1 })
-    (record { x = px; y = py; w = pw }) ≡ pos 0
-    → turn_of (record { x = ax; y = ay; w = pos 1 }) (record { x = bx; y = by; w = pos 1 })
-    (record { x = qx; y = qy; w = qw }) ≡ pos 0
-    → turn_of (record { x = cx; y = cy; w = pos 1 }) (record { x = ex; y = ey; w = pos 1 })
-    (record { x = px; y = py; w = pw }) ≡ pos 0
-    → turn_of (record { x = cx; y = cy; w = pos 1 }) (record { x = ex; y = ey; w = pos 1 })
-    (record { x = qx; y = qy; w = qw }) ≡ pos 0
-    → (turn_of (record { x = ax; y = ay; w = pos 1 }) (record { x = bx; y = by; w = pos 1 })
-    (record { x = ex; y = ey; w = pos 1 })
-    -ℤ turn_of (record { x = ax; y = ay; w = pos 1 }) (record { x = bx; y = by; w = pos 1 })
-    (record { x = cx; y = cy; w = pos 1 })) *ℤ (py *ℤ qw -ℤ qy *ℤ pw) ≡ pos 0
-y_once =
-    follows 14 (λ ax ay bx by cx cy ex ey px py pw qx qy qw.
-    turn (record { x = ax; y = ay; w = num (pos 1) }) (record { x = bx; y = by; w = num (pos 1) })
-    (record { x = px; y = py; w = pw }) ≐ num (pos 0)
-    ⇒ turn (record { x = ax; y = ay; w = num (pos 1) }) (record { x = bx; y = by; w = num (pos 1) })
-    (record { x = qx; y = qy; w = qw }) ≐ num (pos 0)
-    ⇒ turn (record { x = cx; y = cy; w = num (pos 1) }) (record { x = ex; y = ey; w = num (pos 1) })
-    (record { x = px; y = py; w = pw }) ≐ num (pos 0)
-    ⇒ turn (record { x = cx; y = cy; w = num (pos 1) }) (record { x = ex; y = ey; w = num (pos 1) })
-    (record { x = qx; y = qy; w = qw }) ≐ num (pos 0)
-    ⇒ (turn (record { x = ax; y = ay; w = num (pos 1) }) (record { x = bx; y = by; w = num (pos 1) })
-    (record { x = ex; y = ey; w = num (pos 1) })
-    ⊖ turn (record { x = ax; y = ay; w = num (pos 1) }) (record { x = bx; y = by; w = num (pos 1) })
-    (record { x = cx; y = cy; w = num (pos 1) })) ⊗ (py ⊗ qw ⊖ qy ⊗ pw) ≐ num (pos 0)
-    because eqn 2 ((ay ⊖ by) ⊗ qw) ⊞ eqn 3 (neg (ay ⊖ by) ⊗ pw) ⊞ eqn 0 (neg (cy ⊖ ey) ⊗ qw) ⊞ eqn 1 ((cy ⊖ ey) ⊗ pw))
-    tt
+on_x : (f p r w q s v : ℤ) → f *ℤ ((pos 1 *ℤ p +ℤ pos 0 *ℤ r) *ℤ w -ℤ (pos 1 *ℤ q +ℤ pos 0 *ℤ s) *ℤ v) ≡ pos 0
+    → f *ℤ (p *ℤ w -ℤ q *ℤ v) ≡ pos 0
+on_x = follows 7 (λ f p r w q s v. f ⊗ ((num (pos 1) ⊗ p ⊕ num (pos 0) ⊗ r) ⊗ w
+    ⊖ (num (pos 1) ⊗ q ⊕ num (pos 0) ⊗ s) ⊗ v) ≐ num (pos 0) ⇒ f ⊗ (p ⊗ w ⊖ q ⊗ v) ≐ num (pos 0)
+    because eqn 0 (num (pos 1))) tt
+
+on_y : (f p r w q s v : ℤ) → f *ℤ ((pos 0 *ℤ p +ℤ pos 1 *ℤ r) *ℤ w -ℤ (pos 0 *ℤ q +ℤ pos 1 *ℤ s) *ℤ v) ≡ pos 0
+    → f *ℤ (r *ℤ w -ℤ s *ℤ v) ≡ pos 0
+on_y = follows 7 (λ f p r w q s v. f ⊗ ((num (pos 0) ⊗ p ⊕ num (pos 1) ⊗ r) ⊗ w
+    ⊖ (num (pos 0) ⊗ q ⊕ num (pos 1) ⊗ s) ⊗ v) ≐ num (pos 0) ⇒ f ⊗ (r ⊗ w ⊖ s ⊗ v) ≐ num (pos 0)
+    because eqn 0 (num (pos 1))) tt
 
 even : (a b : ℤ) → a -ℤ b ≡ pos 0 → a ≡ b
 even a b h = omega (arith, ints)
@@ -106,13 +90,16 @@ AreAcross a b c d = turn_of (whole a) (whole b) (whole c) ≢ turn_of (whole a) 
 pub meet_once : (a b c d : Pt) (p q : Point) → AreAcross a b c d → IsOnBoth a b c d p → IsOnBoth a b c d q → Same p q
 meet_once a b c d p q across hp hq = (
   of (p.x *ℤ q.w) (q.x *ℤ p.w) (zero_cases e (p.x *ℤ q.w -ℤ q.x *ℤ p.w)
-      (x_once a.x a.y b.x b.y c.x c.y d.x d.y p.x p.y p.w q.x q.y q.w hp.first hq.first hp.second hq.second)),
+      (on_x e p.x p.y q.w q.x q.y p.w (at (pos 1) (pos 0)))),
   of (p.y *ℤ q.w) (q.y *ℤ p.w) (zero_cases e (p.y *ℤ q.w -ℤ q.y *ℤ p.w)
-      (y_once a.x a.y b.x b.y c.x c.y d.x d.y p.x p.y p.w q.x q.y q.w hp.first hq.first hp.second hq.second)),
+      (on_y e p.x p.y q.w q.x q.y p.w (at (pos 0) (pos 1)))),
 )
   where
     e : ℤ
     e = turn_of (whole a) (whole b) (whole d) -ℤ turn_of (whole a) (whole b) (whole c)
+
+    at : (u v : ℤ) → e *ℤ ((u *ℤ p.x +ℤ v *ℤ p.y) *ℤ q.w -ℤ (u *ℤ q.x +ℤ v *ℤ q.y) *ℤ p.w) ≡ pos 0
+    at u v = once u v a.x a.y b.x b.y c.x c.y d.x d.y p.x p.y p.w q.x q.y q.w hp.first hq.first hp.second hq.second
 
     of : (s t : ℤ) → (e ≡ pos 0) ⊎ (s -ℤ t ≡ pos 0) → s ≡ t
     of s t (inl z) = absurd (across (sym (even (turn_of (whole a) (whole b) (whole d))

@@ -1,5 +1,5 @@
 -- Small points are near each other, and a small clip of which the triangle has some points is proper.
-use Rattle.std.proofs.Common.{ℤ, pos, ◌<ℤ◌, Option, None, Some}
+use Rattle.std.proofs.Common.{pos, ◌<ℤ◌, Option, None, Some}
 use Rattle.std.specs.Option.{IsSome}
 use Rattle.std.proofs.lemmas.Bool.{false≢true}
 use Rattle.plane_base.specs.Plane.{IsNear, IsNearAll, IsNearTri, turn_of, whole}

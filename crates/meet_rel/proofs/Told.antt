@@ -42,6 +42,19 @@ signs a b c d of_a of_b of_c of_d t second first differ =
           of_a of_b (sym t.a_is) (sym t.b_is) h);
     }
 
+pub turns_told : (a b c d : Pt) (of_a of_b of_c of_d : ℤ) → of_a ≡ turn_of (whole c) (whole d) (whole a)
+    → of_b ≡ turn_of (whole c) (whole d) (whole b) → of_c ≡ turn_of (whole a) (whole b) (whole c)
+    → of_d ≡ turn_of (whole a) (whole b) (whole d) → AreTurns a b c d of_a of_b of_c of_d
+turns_told a b c d of_a of_b of_c of_d e f g h = record { a_is = e; b_is = f; c_is = g; d_is = h }
+
+-- the tests of both sides failed, and the turns differ
+pub signs_told : (a b c d : Pt) (of_a of_b of_c of_d : ℤ) → AreTurns a b c d of_a of_b of_c of_d → (second first : Bool)
+    → IsTrue second ↔ AreOnOneSide of_c of_d → second ≡ false → IsTrue first ↔ AreOnOneSide of_a of_b → first ≡ false
+    → of_c ≢ of_d → AreSigns a b c d
+signs_told a b c d of_a of_b of_c of_d t second first of_second not_second of_first not_first differ =
+    signs a b c d of_a of_b of_c of_d t (not_told second (AreOnOneSide of_c of_d) of_second not_second)
+    (not_told first (AreOnOneSide of_a of_b) of_first not_first) differ
+
 pub touching_told : (a b c d : Pt) (of_a of_b of_c of_d : ℤ) → AreTurns a b c d of_a of_b of_c of_d → AreSigns a b c d
     → IsSomeZero of_a of_b of_c of_d → HaveRelation Touching (whole a) (whole b) (whole c) (whole d)
 touching_told a b c d of_a of_b of_c of_d t s h =

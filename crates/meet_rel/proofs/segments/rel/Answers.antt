@@ -4,8 +4,9 @@ use Rattle.std.proofs.lemmas.Int.{to_z-of_z}
 use mir.Syntax.{w128}
 use Rattle.meet_rel.specs.Signs.{AreOnOneSide, IsSomeZero}
 use Rattle.meet_rel.proofs.Boxes.{apart_by_boxes}
-use Rattle.meet_rel.proofs.Crossings.{apart_by_first, apart_by_second, AreSigns}
-use Rattle.meet_rel.proofs.Told.{AreTurns, side_moved, not_told, signs, touching_told, crossing_told, on_one_line}
+use Rattle.meet_rel.proofs.Crossings.{apart_by_first, apart_by_second}
+use Rattle.meet_rel.proofs.Told.{side_moved, not_told, turns_told, signs_told, touching_told, crossing_told}
+use Rattle.meet_rel.proofs.Told.{on_one_line}
 use Rattle.meet_rel.proofs.segments.rel.Goals as goal
 
 pub returns-then-are_boxes_apart : goal.returns-then-are_boxes_apart
@@ -32,16 +33,10 @@ rel_on_line-requires c =
     let fa : SFits w128 c.turn-of_a.result = search rules in let fb : SFits w128 c.turn-of_b.result = search rules in
     let of_a = c.turn-of_a.result in let of_b = c.turn-of_b.result in let of_c = c.turn-of_c.result in let of_d =
     c.turn-of_d.result in
-    let t : AreTurns c.args.a c.args.b c.args.c c.args.d of_a of_b of_c of_d =
-    record {
-      a_is = c.turn-of_a.ensures.value;
-      b_is = c.turn-of_b.ensures.value;
-      c_is =
-          c.turn-of_c.ensures.value;
-      d_is = c.turn-of_d.ensures.value;
-    } in
     let e : of_c ≡ of_d = sym (to_z-of_z w128 of_c fc) ∙ ap (to_z w128) c.if-of_c-of_d.true ∙ to_z-of_z w128 of_d fd in
-    on_one_line c.args.a c.args.b c.args.c c.args.d of_a of_b of_c of_d t
+    on_one_line c.args.a c.args.b c.args.c c.args.d of_a of_b of_c of_d
+    (turns_told c.args.a c.args.b c.args.c c.args.d of_a of_b of_c of_d c.turn-of_a.ensures.value
+    c.turn-of_b.ensures.value c.turn-of_c.ensures.value c.turn-of_d.ensures.value)
     (not_told c.are_on_one_side.result (AreOnOneSide of_c of_d) (simp to_z-of_z at c.are_on_one_side.ensures)
     c.if-are_on_one_side.false)
     (not_told c.are_on_one_side-2.result (AreOnOneSide of_a of_b) (simp to_z-of_z at c.are_on_one_side-2.ensures)
@@ -54,22 +49,13 @@ returns-then-is_some_zero c =
     let fa : SFits w128 c.turn-of_a.result = search rules in let fb : SFits w128 c.turn-of_b.result = search rules in
     let of_a = c.turn-of_a.result in let of_b = c.turn-of_b.result in let of_c = c.turn-of_c.result in let of_d =
     c.turn-of_d.result in
-    let t : AreTurns c.args.a c.args.b c.args.c c.args.d of_a of_b of_c of_d =
-    record {
-      a_is = c.turn-of_a.ensures.value;
-      b_is = c.turn-of_b.ensures.value;
-      c_is =
-          c.turn-of_c.ensures.value;
-      d_is = c.turn-of_d.ensures.value;
-    } in
-    let s : AreSigns c.args.a c.args.b c.args.c c.args.d =
-    signs c.args.a c.args.b c.args.c c.args.d of_a of_b of_c of_d t
-    (not_told c.are_on_one_side.result (AreOnOneSide of_c of_d) (simp to_z-of_z at c.are_on_one_side.ensures)
-    c.if-are_on_one_side.false)
-    (not_told c.are_on_one_side-2.result (AreOnOneSide of_a of_b) (simp to_z-of_z at c.are_on_one_side-2.ensures)
-    c.if-are_on_one_side-2.false)
-    (λ e. c.if-of_c-of_d.false (ap (of_z w128) e)) in
-    touching_told c.args.a c.args.b c.args.c c.args.d of_a of_b of_c of_d t s
+    let t = turns_told c.args.a c.args.b c.args.c c.args.d of_a of_b of_c of_d c.turn-of_a.ensures.value
+    c.turn-of_b.ensures.value c.turn-of_c.ensures.value c.turn-of_d.ensures.value in
+    touching_told c.args.a c.args.b c.args.c c.args.d of_a of_b of_c of_d t
+    (signs_told c.args.a c.args.b c.args.c c.args.d of_a of_b of_c of_d t c.are_on_one_side.result
+    c.are_on_one_side-2.result (simp to_z-of_z at c.are_on_one_side.ensures) c.if-are_on_one_side.false
+    (simp to_z-of_z at c.are_on_one_side-2.ensures) c.if-are_on_one_side-2.false
+    (λ e. c.if-of_c-of_d.false (ap (of_z w128) e)))
     ((simp to_z-of_z at c.is_some_zero.ensures).0 c.if-is_some_zero.true)
 
 pub returns : goal.returns
@@ -78,21 +64,12 @@ returns c =
     let fa : SFits w128 c.turn-of_a.result = search rules in let fb : SFits w128 c.turn-of_b.result = search rules in
     let of_a = c.turn-of_a.result in let of_b = c.turn-of_b.result in let of_c = c.turn-of_c.result in let of_d =
     c.turn-of_d.result in
-    let t : AreTurns c.args.a c.args.b c.args.c c.args.d of_a of_b of_c of_d =
-    record {
-      a_is = c.turn-of_a.ensures.value;
-      b_is = c.turn-of_b.ensures.value;
-      c_is =
-          c.turn-of_c.ensures.value;
-      d_is = c.turn-of_d.ensures.value;
-    } in
-    let s : AreSigns c.args.a c.args.b c.args.c c.args.d =
-    signs c.args.a c.args.b c.args.c c.args.d of_a of_b of_c of_d t
-    (not_told c.are_on_one_side.result (AreOnOneSide of_c of_d) (simp to_z-of_z at c.are_on_one_side.ensures)
-    c.if-are_on_one_side.false)
-    (not_told c.are_on_one_side-2.result (AreOnOneSide of_a of_b) (simp to_z-of_z at c.are_on_one_side-2.ensures)
-    c.if-are_on_one_side-2.false)
-    (λ e. c.if-of_c-of_d.false (ap (of_z w128) e)) in
-    crossing_told c.args.a c.args.b c.args.c c.args.d of_a of_b of_c of_d t s
+    let t = turns_told c.args.a c.args.b c.args.c c.args.d of_a of_b of_c of_d c.turn-of_a.ensures.value
+    c.turn-of_b.ensures.value c.turn-of_c.ensures.value c.turn-of_d.ensures.value in
+    crossing_told c.args.a c.args.b c.args.c c.args.d of_a of_b of_c of_d t
+    (signs_told c.args.a c.args.b c.args.c c.args.d of_a of_b of_c of_d t c.are_on_one_side.result
+    c.are_on_one_side-2.result (simp to_z-of_z at c.are_on_one_side.ensures) c.if-are_on_one_side.false
+    (simp to_z-of_z at c.are_on_one_side-2.ensures) c.if-are_on_one_side-2.false
+    (λ e. c.if-of_c-of_d.false (ap (of_z w128) e)))
     (not_told c.is_some_zero.result (IsSomeZero of_a of_b of_c of_d) (simp to_z-of_z at c.is_some_zero.ensures)
     c.if-is_some_zero.false)
