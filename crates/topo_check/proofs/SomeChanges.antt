@@ -1,26 +1,23 @@
 -- Pieces have a list of changes: each two pieces have a change or none, and the changed pairs are gone through in their
 -- order.
-use Rattle.std.proofs.Common.{◌≡◌, ◌≢◌, ◌⊎◌, inl, inr, ⊎_elim, ℕ, zero, suc, ◌<◌, ◌≤◌, ℤ, pos, ◌+ℤ◌, ◌*ℤ◌}
+use Rattle.std.proofs.Common.{◌≡◌, ◌≢◌, ◌⊎◌, inl, inr, ⊎_elim, ℕ, zero, suc, ◌<◌, ◌≤◌}
 use Rattle.std.proofs.Common.{List, [], ◌∷◌, ◌++◌, length, map, get_or, Contains}
-use Rattle.std.proofs.Common.{refl, sym, ap, subst, arith}
+use Rattle.std.proofs.Common.{refl, sym, subst, arith}
 use Rattle.std.proofs.lemmas.Bool.{cases_lt, false_from_ne_true}
 use Rattle.std.proofs.lemmas.List.{get_or_default, length-map}
 use Rattle.std.proofs.lemmas.List.Elements.{Contains-push, Contains-push_cases, Contains-append_left}
 use Rattle.std.proofs.lemmas.List.Quantifiers.{all_pairs_push}
-use Rattle.integer_ring.proofs.Ring.{num, ◌⊕◌, ◌⊖◌, ◌⊗◌}
-use Rattle.integer_ring.proofs.Claims.{◌≐◌, eqn, ◌because◌, ◌⇒◌, follows}
 use Rattle.plain_laws.proofs.Order.{trichotomy}
 use Rattle.plane_base.specs.Plane.{Same, whole}
-use Rattle.plane_base.specs.declared.shapes.Pt.{Pt}
 use Rattle.plane_base.proofs.Mixes.{same_refl}
 use Rattle.tin_base.specs.declared.pieces.Piece.{Piece}
 use Rattle.tin_base.specs.declared.pieces.Change.{Change}
 use Rattle.tin_base.specs.declared.relations.Rel.{Rel}
 use Rattle.tin_base.specs.declared.relations.Rel.TheVariants.{Apart, Touching, Crossing, Overlapping}
 use Rattle.tin_base.specs.Triangulation.{Triangulation}
-use Rattle.tin_base.specs.Segments.{Spot, Part, spot_at, IsSameSpot}
+use Rattle.tin_base.specs.Segments.{Spot, Part, spot_at}
 use Rattle.tin_base.specs.Pieces.{IsPieceOf, IsPieceInside, first_point, last_point}
-use Rattle.tin_base.proofs.Spots.{one}
+use Rattle.tin_base.proofs.Spots.{one, same_of_spots}
 use Rattle.tin_base.proofs.Ends.{same_of}
 use Rattle.meet_rel.proofs.Ways.{AreDifferent}
 use Rattle.meet_rel.proofs.Ending.{same_or_different, different_not, has_ends}
@@ -36,21 +33,6 @@ use Rattle.topo_check.proofs.Ordered.{all_listed, too_many}
 use Rattle.topo_check.proofs.SegmentRelations.{each_relation, relation_moved}
 
 -- ---- the relation that two pieces had
-spot_axis : (a b r q s t : ℤ) → q *ℤ s ≡ t *ℤ r
-    → (r *ℤ a +ℤ (q *ℤ b +ℤ pos 0)) *ℤ (s *ℤ pos 1 +ℤ (t *ℤ pos 1 +ℤ pos 0))
-    ≡ (s *ℤ a +ℤ (t *ℤ b +ℤ pos 0)) *ℤ (r *ℤ pos 1 +ℤ (q *ℤ pos 1 +ℤ pos 0))
-spot_axis =
-    follows 6 (λ a b r q s t. q ⊗ s ≐ t ⊗ r ⇒ (r ⊗ a ⊕ (q ⊗ b ⊕ num (pos 0)))
-    ⊗ (s ⊗ num (pos 1) ⊕ (t ⊗ num (pos 1) ⊕ num (pos 0))) ≐ (s ⊗ a ⊕ (t ⊗ b ⊕ num (pos 0)))
-    ⊗ (r ⊗ num (pos 1) ⊕ (q ⊗ num (pos 1) ⊕ num (pos 0))) because eqn 0 (b ⊖ a)) tt
-
-same_place : (a b : Pt) (s t : Spot) → IsSameSpot s t → Same (spot_at a b s) (spot_at a b t)
-same_place a b s t e =
-    let even : pos s.of_b *ℤ pos t.of_a ≡ pos t.of_b *ℤ pos s.of_a = ap (λ (n : ℕ). pos n) e in (
-      spot_axis a.x b.x (pos s.of_a) (pos s.of_b) (pos t.of_a) (pos t.of_b) even,
-      spot_axis a.y b.y (pos s.of_a) (pos s.of_b) (pos t.of_a) (pos t.of_b) even,
-    )
-
 -- two parts of one piece have their ends at the same places
 record HaveSamePlaces (piece : Piece) (s t : Part) : Type 0 where
   first : Same (first_point piece s) (first_point piece t)
@@ -74,9 +56,9 @@ same_places tin piece s t hs ht = go (same_or_different piece.a piece.b)
     go (inr d) =
         let p = hs.of_segment (different_not piece.a piece.b d) in
         let q = ht.of_segment (different_not piece.a piece.b d) in record {
-          first = same_place piece.a piece.b s.first t.first
+          first = same_of_spots piece.a piece.b s.first t.first
               (same_of s.first t.first (p.none_before t.first q.has_first) (q.none_before s.first p.has_first));
-          last = same_place piece.a piece.b s.last t.last
+          last = same_of_spots piece.a piece.b s.last t.last
               (same_of s.last t.last (q.none_after s.last p.has_last) (p.none_after t.last q.has_last));
         }
 
