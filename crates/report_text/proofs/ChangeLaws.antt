@@ -13,7 +13,7 @@ use Rattle.report_text.specs.Fields.{after, short_at}
 use Rattle.report_text.specs.LineKinds.{place_at, relation_at, change_of, found_or, as_relation, is_same}
 use Rattle.report_text.specs.ReportText.{field, place_text, relation_word, change_line}
 use Rattle.report_text.specs.Reports.{IsPlaceHeld, IsChangeHeld, IsChanged}
-use Rattle.report_text.proofs.Numbers.{Stops}
+use Rattle.text_places.specs.Digits.{Stops}
 use Rattle.report_text.proofs.Binding.{bound, some_is}
 use Rattle.report_text.proofs.FieldLaws.{short_again, short_takes}
 use Rattle.report_text.proofs.Words.{after_takes}

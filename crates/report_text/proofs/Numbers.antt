@@ -7,21 +7,18 @@ use Rattle.std.specs.Char.{is_ascii_digit}
 use Rattle.std.specs.List.{prefix_len}
 use Rattle.std.specs.Fmt.{decimal}
 use Rattle.std.specs.Result.{OkIff, result_ok}
-use Rattle.std.specs.Str.{all_ascii_digits, IsUtf8}
+use Rattle.std.specs.Str.{all_ascii_digits}
 use Rattle.std.specs.Str.Parse.{digits_value, ParsesUnsigned}
 use Rattle.std.proofs.lemmas.Bool.Decides.{nat_tests}
-use Rattle.std.proofs.lemmas.Fmt.{decimal_is_IsNumeral, decimal-digits_value, first_decimal, IsAscii-from_digits}
+use Rattle.std.proofs.lemmas.Fmt.{decimal_is_IsNumeral, decimal-digits_value, first_decimal}
 use Rattle.std.proofs.lemmas.Fmt.{decimal_nonempty, decimal_digit}
 use Rattle.std.proofs.lemmas.List.{take_at, drop_at, take-append-drop}
-use Rattle.std.proofs.lemmas.Str.{IsUtf8-from_ascii}
 use Rattle.std.proofs.lemmas.Str.Parse.{parse_digits}
 use Rattle.report_text.proofs.Binding.{bound, some_is}
 use Rattle.report_text.specs.Fields.{has_leading_zero, number_of, number_at}
-use Rattle.std.proofs.lemmas.Bool.{and_parts}
 use Rattle.plain_laws.proofs.Digits.{digit_texts}
-
-pub digits_utf8 : (digits : List ℕ) → all_ascii_digits digits ≡ true → IsUtf8 digits
-digits_utf8 digits all = IsUtf8-from_ascii digits (IsAscii-from_digits digits (digit_texts.to digits all))
+use Rattle.text_places.specs.Digits.{Stops}
+use Rattle.text_places.proofs.DigitFronts.{are_front_digits, digits_end}
 
 -- the three tests: there is a digit, the first of several is 0, the value fits
 abbrev tested : Bool → Bool → Bool → Bool
@@ -138,33 +135,6 @@ number_takes digits number all is =
     let same : decimal (digits_value 10 digits) ≡ digits =
     decimal-digits_value digit_texts digits all told.some (only_digit digits told.some told.plain) told.small in
     (sym same ∙ ap decimal told.value, subst (λ n. n < 2 ^ 64) told.value told.small)
-
-pub are_front_digits : (text : List ℕ) → all_ascii_digits (take (prefix_len is_ascii_digit text) text) ≡ true
-are_front_digits [] = refl
-are_front_digits (byte ∷ text) = by_test (are_front_digits text) (is_ascii_digit byte) refl
-  where
-    one_more : 1 + prefix_len is_ascii_digit text ≡ suc (prefix_len is_ascii_digit text)
-    one_more = omega arith
-
-    by_test : all_ascii_digits (take (prefix_len is_ascii_digit text) text) ≡ true → (test : Bool)
-        → test ≡ is_ascii_digit byte
-        → all_ascii_digits (take (cond test (1 + prefix_len is_ascii_digit text) 0) (byte ∷ text)) ≡ true
-    by_test later true is = rw (one_more, ← is) later
-    by_test later false is = refl
-
--- what does not go on with a digit
-abbrev pub Stops : List ℕ → Type 0
-Stops [] = Unit {0}
-Stops (byte ∷ rest) = is_ascii_digit byte ≡ false
-
-pub digits_end : (digits rest : List ℕ) → all_ascii_digits digits ≡ true → Stops rest
-    → prefix_len is_ascii_digit (digits ++ rest) ≡ length digits
-digits_end [] [] all stops = refl
-digits_end [] (byte ∷ rest) all stops = rw stops refl
-digits_end (digit ∷ digits) rest all stops =
-    let parts = and_parts (is_ascii_digit digit) (all_ascii_digits digits) all in
-    let later = digits_end digits rest parts.1 stops in
-    rw (parts.0, later) (omega arith)
 
 pub number_at_again : (number : ℕ) (rest : List ℕ) → number < 2 ^ 64 → Stops rest
     → number_at (decimal number ++ rest) ≡ Some (number, rest)

@@ -1,8 +1,8 @@
 -- Answers to the goals of `number_at` in src/fields.rt.
 use Rattle.std.specs.Char.{is_ascii_digit}
 use Rattle.std.proofs.lemmas.List.Sums.{prefix_len-le-length}
-use Rattle.report_text.proofs.Numbers.{are_front_digits}
 use Rattle.report_text.proofs.fields.number_at.Goals as goal
+use Rattle.text_places.proofs.DigitFronts.{are_front_digits}
 
 pub split_at-requires : goal.split_at-requires
 split_at-requires c = rw c.digit_count.ensures (prefix_len-le-length is_ascii_digit c.args.text.now)

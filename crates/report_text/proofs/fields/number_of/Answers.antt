@@ -1,8 +1,9 @@
 -- Answers to the goals of `number_of` in src/fields.rt.
 use Rattle.std.proofs.Common.{◌∙◌, sym, subst}
 use Rattle.std.specs.Str.Parse.{ParsesUnsigned}
-use Rattle.report_text.proofs.Numbers.{digits_utf8, parsed}
+use Rattle.report_text.proofs.Numbers.{parsed}
 use Rattle.report_text.proofs.fields.number_of.Goals as goal
+use Rattle.plain_laws.proofs.Digits.{digits_utf8}
 
 pub returns-in_default : goal.returns-in_default
 returns-in_default c = absurd (c.in_default.ensures.cases.0 (digits_utf8 c.args.digits.now c.requires))
