@@ -1,17 +1,12 @@
 -- Answers to the goals of `least_from` in src/slicing.rt.
-use Rattle.std.proofs.Common.{◌≡◌, ℕ, ◌<◌, get_or, Option, Some, None, IfSome, IfNone, subst}
+use Rattle.std.proofs.Common.{◌≡◌, ℕ, ◌<◌, get_or, subst}
 use borrow.Author.Count.{below_more}
 use Rattle.seg_walk.specs.declared.steps.Step.{Step}
 use Rattle.tin_base.specs.Slices.{spot_of}
 use Rattle.seg_walk.specs.Beginning.{HasNoPartFrom, IsPartFrom}
 use Rattle.seg_walk.proofs.Going.{known_before, known_all}
+use Rattle.plain_laws.proofs.Options.{some_told, none_told}
 use Rattle.seg_walk.proofs.slicing.least_from.Goals as goal
-
-some_told : {A : Type 0} (P : A → Type 0) (answer : Option A) (x : A) → answer ≡ Some x → IfSome answer P → P x
-some_told P answer x e h = subst (λ o. IfSome o P) e h
-
-none_told : {A : Type 0} {P : Type 0} (answer : Option A) → answer ≡ None → IfNone answer P → P
-none_told {P = P} answer e h = subst (λ o. IfNone o P) e h
 
 pub returns-in-Some-clause-some : goal.returns-in-Some-clause-some
 returns-in-Some-clause-some c =
@@ -30,7 +25,7 @@ pub loop-place-preserved : goal.loop-place-preserved
 loop-place-preserved c =
     below_more (λ k. HasNoPartFrom c.args.tin.now c.args.a c.args.b (spot_of c.args.at) (get_or c.args.numbers.now k 0))
     c.loop-place.place c.loop-place.invariant
-    (none_told c.step_in.result c.in_default.is c.step_in.ensures.none)
+    (none_told _ c.step_in.result c.in_default.is c.step_in.ensures.none)
 
 pub returns-clause-none : goal.returns-clause-none
 returns-clause-none c = λ u has. known_all (λ v. HasNoPartFrom c.args.tin.now c.args.a c.args.b (spot_of c.args.at) v)

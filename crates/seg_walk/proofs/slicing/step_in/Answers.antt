@@ -1,17 +1,11 @@
 -- Answers to the goals of `step_in` in src/slicing.rt.
-use Rattle.std.proofs.Common.{◌≡◌, Option, Some, None, IfSome, IfNone, subst}
 use Rattle.tin_base.proofs.Telling.{told, denied}
 use Rattle.tin_base.specs.Slices.{IsSliceIn}
 use Rattle.tin_base.proofs.SlicedParts.{params, part_told, not_begun}
 use Rattle.seg_walk.proofs.Beginning.{not_missed}
 use Rattle.tin_base.proofs.Params.{same_spot}
+use Rattle.plain_laws.proofs.Options.{some_told, none_told}
 use Rattle.seg_walk.proofs.slicing.step_in.Goals as goal
-
-some_told : {A : Type 0} (P : A → Type 0) (answer : Option A) (x : A) → answer ≡ Some x → IfSome answer P → P x
-some_told P answer x e h = subst (λ o. IfSome o P) e h
-
-none_told : {A : Type 0} {P : Type 0} (answer : Option A) → answer ≡ None → IfNone answer P → P
-none_told {P = P} answer e h = subst (λ o. IfNone o P) e h
 
 pub returns-then-goes_on_from-clause-some : goal.returns-then-goes_on_from-clause-some
 returns-then-goes_on_from-clause-some c =
@@ -38,4 +32,4 @@ returns-else-goes_on_from-clause-none c =
 pub returns-in_default-clause-none : goal.returns-in_default-clause-none
 returns-in_default-clause-none c =
     λ first last p begins. not_missed c.args.tin.now c.args.a c.args.b c.args.triangle first c.requires.limits
-    c.requires.in_range (none_told c.slice_in.result c.in_default.is c.slice_in.ensures.none) p.has_first
+    c.requires.in_range (none_told _ c.slice_in.result c.in_default.is c.slice_in.ensures.none) p.has_first
