@@ -95,13 +95,13 @@ near_all corners h frames.Target m n first second = (
 )
 
 -- ---- faces
-among_at : (rows : List Corner) (i : ℕ) → i < length rows → list_any (is_same (get_or rows i no_corner)) rows ≡ true
+pub among_at : (rows : List Corner) (i : ℕ) → i < length rows → list_any (is_same (get_or rows i no_corner)) rows ≡ true
 among_at [] i within = absurd (omega (arith, within))
 among_at (row ∷ rows) zero within = rw (is_itself row) refl
 among_at (row ∷ rows) (suc i) within = or_right (is_same (get_or rows i no_corner) row)
     (list_any (is_same (get_or rows i no_corner)) rows) (among_at rows i (omega (arith, within)))
 
-row_within : (rows : List Corner) (row : ℕ) → row < length rows → number_of_row rows row < length (corners_of rows)
+pub row_within : (rows : List Corner) (row : ℕ) → row < length rows → number_of_row rows row < length (corners_of rows)
 row_within rows row within =
     number_within (corners_of rows) (get_or rows row no_corner)
     (corners_have (get_or rows row no_corner) rows ∙ among_at rows row within)
@@ -182,7 +182,7 @@ all_within corners (p ∷ []) h = absurd h
 all_within corners (p ∷ q ∷ []) h = absurd h
 all_within corners (p ∷ q ∷ r ∷ s ∷ more) h = absurd h
 
-face_there : (corners : List Corner) (faces : List (List ℕ)) (t : ℕ) → AreFacesOf corners faces → t < length faces
+pub face_there : (corners : List Corner) (faces : List (List ℕ)) (t : ℕ) → AreFacesOf corners faces → t < length faces
     → IsFaceOf corners (get_or faces t [])
 face_there corners [] t h within = absurd (omega (arith, within))
 face_there corners (face ∷ faces) zero h within = h.0

@@ -25,7 +25,7 @@ use Rattle.tin_file.specs.declared.faults.TinFault.{TinFault}
 use Rattle.tin_file.specs.declared.faults.TinFault.TheVariants.{TooMany}
 use Rattle.tin_file.proofs.RowsRead.{same_ok, rows_reach, rows_long, faces_long, faces_below}
 
-split_then : {A B : Type 0} (f : A → Result B TinFault) (r : Result A TinFault) (made : B) → and_then f r ≡ Ok made
+pub split_then : {A B : Type 0} (f : A → Result B TinFault) (r : Result A TinFault) (made : B) → and_then f r ≡ Ok made
     → (value : A) × (r ≡ Ok value) × (f value ≡ Ok made)
 split_then f (Ok value) made h = (value, refl, h)
 split_then f (Err fault) made h = cc
