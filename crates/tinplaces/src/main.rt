@@ -40,8 +40,8 @@ fn words_of(rt: &HostRuntime) -> Result<Vec<String>, Status> {
     }
 }
 
-/// Does what the words ask for over real files and standard output. A line of usage behind words that are not
-/// understood, and what is to be said of a refusal, go to standard error; that they cannot be written changes nothing.
+/// Does what the words ask for over real files and standard output. What is to be said of a refusal, and behind words
+/// that are not understood a line of usage, go to standard error; that they cannot be written changes nothing.
 fn run_on_files(rt: &HostRuntime, words: &[String]) -> Status {
     let Ok(mut shelf) = FileShelf::new(rt, rt.alloc()) else {
         return Status::Memory;
@@ -51,11 +51,11 @@ fn run_on_files(rt: &HostRuntime, words: &[String]) -> Status {
     };
     let migration = read_migration(rt.alloc(), words).ok();
     let end = run_to_end(rt.alloc(), words, &mut shelf, &mut press);
-    if end.status == Status::Words {
-        let _ = rt.eprintln(USAGE);
-    }
     if let Some(refusal) = end.refusal {
         say_remarks(rt, migration.as_ref(), refusal);
+    }
+    if end.status == Status::Words {
+        let _ = rt.eprintln(USAGE);
     }
     end.status
 }
