@@ -59,7 +59,7 @@ fn ran(
     Ok((status, press))
 }
 
-/// Whether a run of these words over the square and these files ends so, and prints this text and makes no other file.
+/// Whether a run of these words over the square and these files ends so, and prints this text.
 fn prints(
     alloc: Global,
     texts: &[&str],
