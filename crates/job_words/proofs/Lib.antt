@@ -8,6 +8,7 @@ pub mod Placed
 pub mod OneAnswer
 pub mod SizesRead
 pub mod SimpleCommands
+mod MoreRules
 pub mod Migrations
 pub mod Verifications
 pub mod Distinct

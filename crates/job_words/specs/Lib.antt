@@ -9,3 +9,4 @@ pub mod Sizes
 pub mod Jobs
 pub mod Kept
 pub mod Laws
+pub mod InsideCommands

@@ -1,10 +1,11 @@
 //! The commands by which `clap` reads the words of the modes.
 
-ghost use Rattle.std.specs.Prelude.{◌≡◌, false, IfOk};
+ghost use Rattle.std.specs.Prelude.{◌≡◌, false, map, IfOk};
 ghost use Rattle.clap.specs.Walk.{rule_of};
 ghost use Rattle.clap.specs.Simple.{app_of};
 ghost use Rattle.job_words.specs.declared.modes.Mode.TheVariants.{Migrate, Check, Make, Verify};
 ghost use Rattle.job_words.specs.Commands.{command_for, flag_rule, option_rule, word_rule, words_rule};
+ghost use Rattle.job_words.specs.InsideCommands.{bare_command, with_rules};
 
 use crate::modes::Mode;
 use clap::{Arg, ArgAction, Command};
@@ -48,20 +49,50 @@ fn words<'a>(alloc: Global, id: &'a str) -> Arg<'a>
         .required(true)
 }
 
+/// The command with an option of each of these names, which has to stand once.
+fn with_options<'a>(
+    alloc: Global,
+    command: Command<'a>,
+    ids: &[&'a str],
+) -> Result<Command<'a>, AllocError>
+    ensures { IfOk result (λ made. app_of made ≡ with_rules (app_of command.entry) (map (λ id. option_rule id.now) ids.entry.now)) }
+{
+    let mut made = command;
+    for id in ids {
+        made = made.arg(option(alloc, id))?;
+    }
+    Ok(made)
+}
+
+/// The command with a flag of each of these names, which may stand once.
+fn with_flags<'a>(
+    alloc: Global,
+    command: Command<'a>,
+    ids: &[&'a str],
+) -> Result<Command<'a>, AllocError>
+    ensures { IfOk result (λ made. app_of made ≡ with_rules (app_of command.entry) (map (λ id. flag_rule id.now) ids.entry.now)) }
+{
+    let mut made = command;
+    for id in ids {
+        made = made.arg(flag(alloc, id))?;
+    }
+    Ok(made)
+}
+
+/// The command of this name, without an option for help.
+fn bare<'a>(alloc: Global, name: &'a str) -> Command<'a>
+    ensures { app_of result ≡ bare_command name.entry.now }
+{
+    Command::new(alloc, name).disable_help_flag(true)
+}
+
 /// `migrate --tin FILE --out FOLDER [--inverse] [--exact] [--inside-only] [--drop-other] [--cert] LAYER...`
 fn migrate_command<'a>(alloc: Global) -> Result<Command<'a>, AllocError>
     ensures { IfOk result (λ command. app_of command ≡ command_for Migrate) }
 {
-    let command = Command::new(alloc, "migrate")
-        .disable_help_flag(true)
-        .arg(option(alloc, "tin"))?
-        .arg(option(alloc, "out"))?
-        .arg(flag(alloc, "inverse"))?
-        .arg(flag(alloc, "exact"))?
-        .arg(flag(alloc, "inside-only"))?
-        .arg(flag(alloc, "drop-other"))?
-        .arg(flag(alloc, "cert"))?
-        .arg(words(alloc, "layer"))?;
+    let flags = ["inverse", "exact", "inside-only", "drop-other", "cert"];
+    let named = with_options(alloc, bare(alloc, "migrate"), &["tin", "out"])?;
+    let command = with_flags(alloc, named, &flags)?.arg(words(alloc, "layer"))?;
     Ok(command)
 }
 
@@ -69,11 +100,8 @@ fn migrate_command<'a>(alloc: Global) -> Result<Command<'a>, AllocError>
 fn check_command<'a>(alloc: Global) -> Result<Command<'a>, AllocError>
     ensures { IfOk result (λ command. app_of command ≡ command_for Check) }
 {
-    let command = Command::new(alloc, "check")
-        .disable_help_flag(true)
-        .arg(option(alloc, "tin"))?
-        .arg(flag(alloc, "exact"))?
-        .arg(flag(alloc, "inside-only"))?;
+    let named = with_options(alloc, bare(alloc, "check"), &["tin"])?;
+    let command = with_flags(alloc, named, &["exact", "inside-only"])?;
     Ok(command)
 }
 
@@ -81,9 +109,7 @@ fn check_command<'a>(alloc: Global) -> Result<Command<'a>, AllocError>
 fn make_command<'a>(alloc: Global) -> Result<Command<'a>, AllocError>
     ensures { IfOk result (λ command. app_of command ≡ command_for Make) }
 {
-    let command = Command::new(alloc, "make")
-        .disable_help_flag(true)
-        .arg(word(alloc, "n"))?;
+    let command = bare(alloc, "make").arg(word(alloc, "n"))?;
     Ok(command)
 }
 
@@ -91,16 +117,10 @@ fn make_command<'a>(alloc: Global) -> Result<Command<'a>, AllocError>
 fn verify_command<'a>(alloc: Global) -> Result<Command<'a>, AllocError>
     ensures { IfOk result (λ command. app_of command ≡ command_for Verify) }
 {
-    let command = Command::new(alloc, "verify")
-        .disable_help_flag(true)
-        .arg(option(alloc, "tin"))?
-        .arg(option(alloc, "source"))?
-        .arg(option(alloc, "written"))?
-        .arg(option(alloc, "cert"))?
-        .arg(flag(alloc, "inverse"))?
-        .arg(flag(alloc, "exact"))?
-        .arg(flag(alloc, "inside-only"))?
-        .arg(flag(alloc, "drop-other"))?;
+    let files = ["tin", "source", "written", "cert"];
+    let named = with_options(alloc, bare(alloc, "verify"), &files)?;
+    let flags = ["inverse", "exact", "inside-only", "drop-other"];
+    let command = with_flags(alloc, named, &flags)?;
     Ok(command)
 }
 

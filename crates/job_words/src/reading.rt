@@ -102,6 +102,18 @@ fn verification_in(alloc: Global, matches: &ArgMatches<'_>) -> Result<Job, Words
     })
 }
 
+/// The job that the matches of a mode ask for.
+fn job_of(alloc: Global, mode: Mode, matches: &ArgMatches<'_>) -> Result<Job, WordsFault>
+    ensures { IsAnswer (job_in mode (rows_of (found_of matches.now))) result }
+{
+    match mode {
+        Mode::Migrate => migration_in(alloc, matches),
+        Mode::Check => check_in(alloc, matches),
+        Mode::Make => make_in(matches),
+        Mode::Verify => verification_in(alloc, matches),
+    }
+}
+
 /// The job of the words of the command line, without the program's name.
 pub fn read_words(alloc: Global, words: &[String]) -> Result<Job, WordsFault>
     // The words give this job.
@@ -120,10 +132,5 @@ pub fn read_words(alloc: Global, words: &[String]) -> Result<Job, WordsFault>
         return Err(WordsFault::NoMode);
     };
     let matches = read_matches(alloc, mode, words)?;
-    match mode {
-        Mode::Migrate => migration_in(alloc, &matches),
-        Mode::Check => check_in(alloc, &matches),
-        Mode::Make => make_in(&matches),
-        Mode::Verify => verification_in(alloc, &matches),
-    }
+    job_of(alloc, mode, &matches)
 }
