@@ -1,6 +1,5 @@
 -- The files of lemmas of tinmove.
 mod OneOutcome
-mod Fronts
 mod RunEnds
 mod ReportLimits
 mod WordsEnd

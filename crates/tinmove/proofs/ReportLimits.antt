@@ -18,8 +18,9 @@ use Rattle.runs.specs.Output.{file_of, files_of, HasSlash, AreWritable, HasForm}
 use Rattle.runs.proofs.RefusalLines.{never-write}
 use Rattle.runs.proofs.LimitLines.{TellsNone, at-first, t-line, none-begins, of_tin, of_layers, of_written, of_cert}
 use Rattle.runs.proofs.LimitLines.{of_none, limit_line}
-use Rattle.tinmove.specs.Ends.{IsFrontOf, IsWrittenOf, TellsBytes}
-use Rattle.tinmove.proofs.Fronts.{whole-front, slash-dash}
+use Rattle.publication.specs.Fronts.{IsFrontOf}
+use Rattle.publication.proofs.Fronts.{whole-front, slash-dash}
+use Rattle.tinmove.specs.Ends.{IsWrittenOf, TellsBytes}
 use Rattle.tinmove.proofs.RunEnds.{HasPrinted, never-write-end}
 
 -- a front of a line that does not tell of bytes does not

@@ -21,7 +21,8 @@ use Rattle.runs.proofs.RefusalLines.{never-write, memory-line}
 use Rattle.migrate.specs.Maker.{MayNotBeMade}
 use Rattle.tinmove.specs.Jobs.{LacksJob}
 use Rattle.tinmove.specs.Outcome.{IsJobDone, no_job, refused, done}
-use Rattle.tinmove.specs.Ends.{IsFrontOf, Makes, by_outcome, after_read_fault, out_of_memory, made_whole}
+use Rattle.publication.specs.Fronts.{IsFrontOf}
+use Rattle.tinmove.specs.Ends.{Makes, by_outcome, after_read_fault, out_of_memory, made_whole}
 use Rattle.tinmove.specs.Ends.{after_write_fault, EndsTold, IsWrittenOf, IsToBeMade, by_job, by_refusal, Stands}
 use Rattle.tinmove.specs.Ends.{all_made, front_made, MayRefuseJob}
 

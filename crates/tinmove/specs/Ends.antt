@@ -1,5 +1,5 @@
 -- How a run ends: by its outcome, after a read fault, because memory ran out, or after a write fault.
-use Rattle.std.specs.Prelude.{◌≡◌, ℕ, List, [], ◌∷◌, ◌++◌, codes, take, Option, None, Some}
+use Rattle.std.specs.Prelude.{◌≡◌, ℕ, List, [], ◌∷◌, ◌++◌, codes, Option, None, Some}
 use Rattle.shelf_io.specs.Files.{Files}
 use Rattle.shelf_io.specs.Load.{LacksName}
 use Rattle.job_words.specs.declared.jobs.Job.{Job}
@@ -16,6 +16,7 @@ use Rattle.migrate.specs.Migrations.{IsReachedBy, LacksWanted, IsMigrationWritte
 use Rattle.migrate.specs.Maker.{IsMakingWritten}
 use Rattle.verify_mode.specs.Files.{LacksWanted as LacksCompared}
 use Rattle.verify_mode.specs.Verifications.{IsReachedBy as IsComparedBy, IsVerificationWritten, IsEndOfVerification}
+use Rattle.publication.specs.Fronts.{IsFrontOf}
 use Rattle.tinmove.specs.Jobs.{migration_with, verification_with}
 use Rattle.tinmove.specs.Outcome.{HasOutcome, IsJobRefused}
 
@@ -39,13 +40,6 @@ pub data Makes (words : List (List ℕ)) (files : Files) (shelf_rose : Type 0) (
     after_read_fault : shelf_rose → (job : Job) → IsJobOf words job → (refusal : Refusal) → IsReached files job refusal
         → Refuses refusal status made → Makes words files shelf_rose status made
     out_of_memory : Refuses NoMemory status made → Makes words files shelf_rose status made
-
--- made files that are a front of others: all whole but the last, which has a front of its bytes
-abbrev pub IsFrontOf : Files → Files → Type 0
-IsFrontOf [] whole = Unit {0}
-IsFrontOf (file ∷ files) [] = ⊥
-IsFrontOf (file ∷ []) (full ∷ rest) = (count : ℕ) × (file ≡ (full.0, take count full.1))
-IsFrontOf (file ∷ next ∷ files) (full ∷ rest) = (file ≡ full) × IsFrontOf (next ∷ files) rest
 
 -- the four ways in which a run ends
 pub data Ends (words : List (List ℕ)) (files : Files) (shelf_rose press_rose : Type 0) (status : Status)

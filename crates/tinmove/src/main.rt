@@ -10,7 +10,6 @@ mod laws;
 mod layer_notes;
 mod press_notes;
 mod progress;
-mod publication;
 mod refused_files;
 mod run;
 mod strays;

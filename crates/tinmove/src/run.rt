@@ -18,8 +18,8 @@ ghost use Rattle.tinmove.specs.Ends.{EndsTold, Stands, LacksWantedOf, TellsBytes
 ghost use Rattle.check_mode.specs.Checks.{IsChecked, IsEndOfCheck};
 
 use crate::jobs::prepare;
-use crate::publication::{publish, refuse};
 use job_words::read_words;
+use publication::{publish, refuse};
 use runs::{Refusal, Status};
 use shelf_io::{Press, Shelf};
 use std::alloc::Global;

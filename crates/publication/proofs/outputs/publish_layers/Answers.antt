@@ -1,7 +1,7 @@
--- Answers to the goals of `publish_layers` in src/publication.rt.
+-- Answers to the goals of `publish_layers` in src/outputs.rt.
 use Rattle.shelf_io.proofs.Made.{on_err_always}
-use Rattle.tinmove.proofs.Fronts.{lacks_next, front_next}
-use Rattle.tinmove.proofs.publication.publish_layers.Goals as goal
+use Rattle.publication.proofs.Fronts.{lacks_next, front_next}
+use Rattle.publication.proofs.outputs.publish_layers.Goals as goal
 
 pub print-requires-clause-new : goal.print-requires-clause-new
 print-requires-clause-new g c =

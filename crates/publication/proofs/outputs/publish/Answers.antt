@@ -1,8 +1,8 @@
--- Answers to the goals of `publish` in src/publication.rt.
+-- Answers to the goals of `publish` in src/outputs.rt.
 use Rattle.std.proofs.Common.{map, codes, [], ◌∷◌}
 use Rattle.runs.specs.Output.{file_of}
-use Rattle.tinmove.proofs.Fronts.{front_told, front_printed, lacks_dash}
-use Rattle.tinmove.proofs.publication.publish.Goals as goal
+use Rattle.publication.proofs.Fronts.{front_told, front_printed, lacks_dash}
+use Rattle.publication.proofs.outputs.publish.Goals as goal
 
 pub returns-in-Err-clause-front : goal.returns-in-Err-clause-front
 returns-in-Err-clause-front g c = λ write.

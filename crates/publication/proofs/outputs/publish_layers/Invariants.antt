@@ -1,7 +1,7 @@
--- The invariants of `publish_layers` in src/publication.rt.
+-- The invariants of `publish_layers` in src/outputs.rt.
 use Rattle.std.proofs.Common.{◌≡◌, false, IfSome, map, take}
 use Rattle.runs.specs.Output.{file_of}
-use Rattle.tinmove.proofs.publication.publish_layers.Given as goal
+use Rattle.publication.proofs.outputs.publish_layers.Given as goal
 
 abbrev pub invariant-loop-file : goal.invariant-loop-file
 invariant-loop-file g l =

@@ -4,7 +4,7 @@ ghost use Rattle.std.specs.Prelude.{◌≡◌, ◌≢◌, ◌⊎◌, ◌+◌, �
 ghost use Rattle.shelf_io.specs.Count.{Rose, HasCause};
 ghost use Rattle.runs.specs.Status.{end_of};
 ghost use Rattle.runs.specs.Refusals.{line_of, status_of};
-ghost use Rattle.tinmove.specs.Ends.{IsFrontOf};
+ghost use Rattle.publication.specs.Fronts.{IsFrontOf};
 ghost use Rattle.runs.specs.Output.{file_of, files_of, AreWritable};
 
 use runs::{LayerFile, Output, Refusal, Status};

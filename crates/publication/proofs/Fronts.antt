@@ -8,7 +8,7 @@ use Rattle.shelf_io.specs.Made.{Lacks, PrintsFront}
 use Rattle.job_words.proofs.Deciding.{texts-differ}
 use Rattle.runs.specs.declared.output.LayerFile.{LayerFile}
 use Rattle.runs.specs.Output.{HasSlash, file_of, AreWritable}
-use Rattle.tinmove.specs.Ends.{IsFrontOf}
+use Rattle.publication.specs.Fronts.{IsFrontOf}
 
 abbrev File : Type 0
 File = List ℕ × List ℕ

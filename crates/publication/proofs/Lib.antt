@@ -1,0 +1,2 @@
+-- The files of lemmas of publication.
+pub mod Fronts
