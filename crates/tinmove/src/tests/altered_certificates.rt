@@ -3,9 +3,8 @@
 
 use crate::tests::memory_runs::{NEVER, SQUARE, TRIANGLE, holds, ran_over, shelf_of};
 use runs::Status;
-use shelf_io::{MemShelf, Shelf};
+use shelf_io::{MemPress, MemShelf, Shelf};
 use std::alloc::{AllocError, Global};
-use std::test::Fail;
 
 /// The bytes with one of them changed to one that is in no certificate.
 fn changed_at(alloc: Global, bytes: &[u8], at: usize) -> Result<Vec<u8>, AllocError> {
@@ -74,22 +73,37 @@ fn says(
     Ok(ended == status && holds(&press, &[("-", Some(line))]))
 }
 
-/// Whether each byte of the certificate, once it is another, makes a bad line, and each number a list that is not right
-/// or a bad line.
-fn each_change_is_refused(
+/// Whether each byte of the certificate, once it is another, makes a bad line.
+fn each_byte_is_refused(
     alloc: Global,
     way: &Way<'_>,
     written: &[u8],
     cert: &[u8],
 ) -> Result<bool, AllocError> {
     let mut line = 1u32;
-    let mut begins = false;
     for (at, byte) in cert.iter().enumerate() {
         let other = changed_at(alloc, cert, at)?;
         let said = format!(in alloc; "certificate: form at line {line}\n")?;
         if !says(alloc, way, written, &other, Status::Uncertified, &said)? {
             return Ok(false);
         }
+        if *byte == b'\n' {
+            line = line.saturating_add(1);
+        }
+    }
+    Ok(true)
+}
+
+/// Whether each number of the certificate behind its front, once it is another, makes a list that is not right or a bad
+/// line.
+fn each_number_is_refused(
+    alloc: Global,
+    way: &Way<'_>,
+    written: &[u8],
+    cert: &[u8],
+) -> Result<bool, AllocError> {
+    let mut begins = false;
+    for (at, byte) in cert.iter().enumerate() {
         if begins && byte.is_ascii_digit() {
             let other = greater_at(alloc, cert, at)?;
             if says(alloc, way, written, &other, Status::Same, "certified\n")? {
@@ -97,10 +111,17 @@ fn each_change_is_refused(
             }
         }
         begins = !byte.is_ascii_digit();
-        if *byte == b'\n' {
-            line = line.saturating_add(1);
-        }
     }
+    Ok(true)
+}
+
+/// Whether each byte of the written layer, once it is another, is the first that differs.
+fn each_other_layer_is_refused(
+    alloc: Global,
+    way: &Way<'_>,
+    written: &[u8],
+    cert: &[u8],
+) -> Result<bool, AllocError> {
     for at in 0..written.len() {
         let other = changed_at(alloc, written, at)?;
         let said = format!(in alloc; "certificate: differs at {at}\n")?;
@@ -111,27 +132,44 @@ fn each_change_is_refused(
     Ok(true)
 }
 
-/// Whether the layer is carried, its certificate is accepted, and each change is refused.
-fn is_certified(alloc: Global, way: &Way<'_>) -> Result<bool, AllocError> {
+/// Whether the certificate of the written layer is accepted, and each change is refused.
+fn each_change_is_refused(
+    alloc: Global,
+    way: &Way<'_>,
+    written: &[u8],
+    cert: &[u8],
+) -> Result<bool, AllocError> {
+    Ok(
+        says(alloc, way, written, cert, Status::Same, "certified\n")?
+            && each_byte_is_refused(alloc, way, written, cert)?
+            && each_number_is_refused(alloc, way, written, cert)?
+            && each_other_layer_is_refused(alloc, way, written, cert)?,
+    )
+}
+
+/// How a migration of the layer with a certificate ends, and what it makes.
+fn migrated(alloc: Global, way: &Way<'_>) -> Result<(Status, MemPress), AllocError> {
     let mut words = Vec::new(alloc);
     words.extend_from_slice(&[
         "migrate", "--tin", "t.json", "--out", "o", "--cert", way.name,
     ])?;
     words.extend_from_slice(way.words)?;
     let shelf = way_shelf(alloc, way)?;
-    let (status, press) = ran_over(alloc, &words, shelf, 4096, NEVER)?;
+    ran_over(alloc, &words, shelf, 4096, NEVER)
+}
+
+/// Whether the layer is carried, its certificate is accepted, and each change is refused.
+fn is_certified(alloc: Global, way: &Way<'_>) -> Result<bool, AllocError> {
+    let (status, press) = migrated(alloc, way)?;
     let file = format!(in alloc; "o/{name}", name = way.name)?;
     let cert_file = format!(in alloc; "{file}.cert")?;
-    let (Some(written), Some(cert)) = (press.made_bytes(&file), press.made_bytes(&cert_file)) else {
-        return Ok(false);
-    };
     if status != Status::Same && status != Status::Changed {
         return Ok(false);
     }
-    if !says(alloc, way, written, cert, Status::Same, "certified\n")? {
-        return Ok(false);
+    match (press.made_bytes(&file), press.made_bytes(&cert_file)) {
+        (Some(written), Some(cert)) => each_change_is_refused(alloc, way, written, cert),
+        _ => Ok(false),
     }
-    each_change_is_refused(alloc, way, written, cert)
 }
 
 /// A collection with a line across the diagonal, a polygon and a feature without a place.
@@ -142,45 +180,87 @@ const COLLECTION: &str =
 const DRAWING: &str =
     "  0\nSECTION\n  2\nENTITIES\n  0\nLINE\n  8\nPARCEL\n 10\n10.0\n 20\n0.0\n 11\n0.0\n 21\n10.0\n  0\nENDSEC\n  0\nEOF\n";
 
-#[test]
-fn each_change_of_a_certificate_is_refused(rt: HostRuntime) -> Result<(), Fail> {
-    let alloc = rt.alloc();
-    let none: &[&str] = &[];
-    for (tin, name, layer, words) in [
-        (SQUARE, "l.wkt", "LINESTRING (10 0, 0 10)", none),
-        (SQUARE, "l.wkt", "LINESTRING (0 0, 10 10)", none),
-        (
-            SQUARE,
-            "l.wkt",
-            "LINESTRING (1 1, 1 1, 2 1)\nPOINT (6 4)\n",
-            none,
-        ),
-        (
-            SQUARE,
-            "l.wkt",
-            "POLYGON ((1 1, 9 1, 9 9, 1 9, 1 1), (4 3, 3 4, 6 6, 4 3))",
-            none,
-        ),
-        (SQUARE, "l.wkt", "POINT (5 5)", none),
-        (SQUARE, "l.wkt", "POINT EMPTY\n", none),
-        (TRIANGLE, "l.wkt", "MULTIPOINT (5 0, (0 0), EMPTY)", none),
-        (SQUARE, "l.geojson", COLLECTION, none),
-        (SQUARE, "l.dxf", DRAWING, none),
-        (SQUARE, "l.wkt", "POINT (100 110)", &["--inverse"]),
-        (
-            SQUARE,
-            "l.wkt",
-            "LINESTRING (110 100, 100 110)",
-            &["--inverse", "--exact"],
-        ),
-    ] {
-        let way = Way {
-            tin,
-            name,
-            layer,
-            words,
-        };
-        assert!(rt; is_certified(alloc, &way)?, "at {layer}");
+/// The layers, each with its triangulation and words.
+const WAYS: &[Way<'_>] = &[
+    Way {
+        tin: SQUARE,
+        name: "l.wkt",
+        layer: "LINESTRING (10 0, 0 10)",
+        words: &[],
+    },
+    Way {
+        tin: SQUARE,
+        name: "l.wkt",
+        layer: "LINESTRING (0 0, 10 10)",
+        words: &[],
+    },
+    Way {
+        tin: SQUARE,
+        name: "l.wkt",
+        layer: "LINESTRING (1 1, 1 1, 2 1)\nPOINT (6 4)\n",
+        words: &[],
+    },
+    Way {
+        tin: SQUARE,
+        name: "l.wkt",
+        layer: "POLYGON ((1 1, 9 1, 9 9, 1 9, 1 1), (4 3, 3 4, 6 6, 4 3))",
+        words: &[],
+    },
+    Way {
+        tin: SQUARE,
+        name: "l.wkt",
+        layer: "POINT (5 5)",
+        words: &[],
+    },
+    Way {
+        tin: SQUARE,
+        name: "l.wkt",
+        layer: "POINT EMPTY\n",
+        words: &[],
+    },
+    Way {
+        tin: TRIANGLE,
+        name: "l.wkt",
+        layer: "MULTIPOINT (5 0, (0 0), EMPTY)",
+        words: &[],
+    },
+    Way {
+        tin: SQUARE,
+        name: "l.geojson",
+        layer: COLLECTION,
+        words: &[],
+    },
+    Way {
+        tin: SQUARE,
+        name: "l.dxf",
+        layer: DRAWING,
+        words: &[],
+    },
+    Way {
+        tin: SQUARE,
+        name: "l.wkt",
+        layer: "POINT (100 110)",
+        words: &["--inverse"],
+    },
+    Way {
+        tin: SQUARE,
+        name: "l.wkt",
+        layer: "LINESTRING (110 100, 100 110)",
+        words: &["--inverse", "--exact"],
+    },
+];
+
+/// The first of the layers whose certificate, or a change of it, is answered otherwise, or none.
+fn first_other(alloc: Global, ways: &[Way<'static>]) -> Result<Option<&'static str>, AllocError> {
+    for way in ways {
+        if !is_certified(alloc, way)? {
+            return Ok(Some(way.layer));
+        }
     }
-    Ok(())
+    Ok(None)
+}
+
+#[test]
+fn each_change_of_a_certificate_is_refused(rt: HostRuntime) {
+    assert_eq!(rt; first_other(rt.alloc(), WAYS), Ok(None));
 }

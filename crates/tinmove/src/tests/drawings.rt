@@ -1,9 +1,8 @@
 //! Runs over whole drawings, in memory. The expected texts and lines are worked out by hand.
 
-use crate::tests::memory_runs::{SQUARE, makes};
+use crate::tests::memory_runs::{Job, Made, SQUARE, first_other_job, makes};
 use runs::Status;
 use std::alloc::{AllocError, Global};
-use std::test::Fail;
 
 /// A drawing up to the end of its entities: a line across the diagonal, and a line on a layout of paper.
 const FRONT: &str =
@@ -51,95 +50,134 @@ fn with_returns(alloc: Global, text: &str) -> Result<String, AllocError> {
 
 const MIGRATE: [&str; 6] = ["migrate", "--tin", "s.json", "--out", "o", "p.dxf"];
 
-/// Whether a run that carries this drawing through the square ends so, and makes these files.
-fn migrates(
-    alloc: Global,
-    texts: &[&str],
-    drawing: &str,
-    wanted: Status,
-    made: &[(&str, Option<&str>)],
-) -> bool {
-    let files = [("s.json", SQUARE), ("p.dxf", drawing)];
-    makes(alloc, texts, &files, wanted, made)
+/// The texts of which a drawing is made, words, how a run of them ends, and files that it makes.
+type Row = (
+    &'static [&'static str],
+    &'static [&'static str],
+    Status,
+    Made,
+);
+
+/// Whether a run that carries the drawing through the square ends so, and makes these files.
+fn migrates(alloc: Global, row: &Row) -> bool {
+    match joined(alloc, row.0) {
+        Ok(drawing) => {
+            let files = [("s.json", SQUARE), ("p.dxf", drawing.as_str())];
+            makes(alloc, row.1, &files, row.2, row.3)
+        }
+        Err(_) => false,
+    }
 }
 
-#[test]
-fn a_line_across_the_diagonal_becomes_two(rt: HostRuntime) -> Result<(), Fail> {
-    let alloc = rt.alloc();
-    let drawing = joined(alloc, &[FRONT, BACK])?;
-    let made = [("o/p.dxf", Some(CARRIED)), ("-", Some(REPORT))];
-    assert!(rt; migrates(alloc, &MIGRATE, &drawing, Status::Same, &made));
-    Ok(())
+/// The number of the first drawing whose run ends otherwise or makes other files, or none.
+fn first_other(alloc: Global, rows: &[Row]) -> Option<usize> {
+    for (number, row) in rows.iter().enumerate() {
+        if !migrates(alloc, row) {
+            return Some(number);
+        }
+    }
+    None
 }
 
-#[test]
-fn carriage_returns_are_kept_in_copies_too(rt: HostRuntime) -> Result<(), Fail> {
-    let alloc = rt.alloc();
-    let drawing = joined(alloc, &[FRONT, BACK])?;
-    let drawing = with_returns(alloc, &drawing)?;
-    let written = with_returns(alloc, CARRIED)?;
-    let made = [("o/p.dxf", Some(written.as_str())), ("-", Some(REPORT))];
-    assert!(rt; migrates(alloc, &MIGRATE, &drawing, Status::Same, &made));
-    Ok(())
-}
-
-#[test]
-fn another_entity_is_refused(rt: HostRuntime) -> Result<(), Fail> {
-    let alloc = rt.alloc();
-    let drawing = joined(alloc, &[FRONT, ARC, BACK])?;
-    let made = [
-        ("o/p.dxf", None),
-        ("-", Some("layer 0: entity at line 59\n")),
-    ];
-    assert!(rt; migrates(alloc, &MIGRATE, &drawing, Status::Layer, &made));
-    Ok(())
-}
-
-#[test]
-fn another_entity_is_left_out(rt: HostRuntime) -> Result<(), Fail> {
-    let alloc = rt.alloc();
-    let report = "tinmove report 1
+/// The line across the diagonal becomes two, and another entity is left out where that is asked.
+const SPLIT: &[Row] = &[
+    (
+        &[FRONT, BACK],
+        &MIGRATE,
+        Status::Same,
+        &[("o/p.dxf", Some(CARRIED)), ("-", Some(REPORT))],
+    ),
+    (
+        &[FRONT, ARC, BACK],
+        &[
+            "migrate",
+            "--tin",
+            "s.json",
+            "--out",
+            "o",
+            "p.dxf",
+            "--drop-other",
+        ],
+        Status::Same,
+        &[
+            ("o/p.dxf", Some(CARRIED)),
+            (
+                "-",
+                Some(
+                    "tinmove report 1
 triangulation corners 4 triangles 2 inexact 0 name s.json
 layer 0 paths 1 segments 1 pieces 2 inexact 0 dropped 1 name p.dxf
 extents 0 as they were
 changes 0
 end
-";
-    let words = [
-        "migrate",
-        "--tin",
-        "s.json",
-        "--out",
-        "o",
-        "p.dxf",
-        "--drop-other",
-    ];
-    let drawing = joined(alloc, &[FRONT, ARC, BACK])?;
-    let made = [("o/p.dxf", Some(CARRIED)), ("-", Some(report))];
-    assert!(rt; migrates(alloc, &words, &drawing, Status::Same, &made));
-    Ok(())
+",
+                ),
+            ),
+        ],
+    ),
+];
+
+#[test]
+fn a_line_across_the_diagonal_becomes_two(rt: HostRuntime) {
+    assert_eq!(rt; first_other(rt.alloc(), SPLIT), None);
 }
+
+const REFUSED: &[Row] = &[
+    (
+        &[FRONT, ARC, BACK],
+        &MIGRATE,
+        Status::Layer,
+        &[
+            ("o/p.dxf", None),
+            ("-", Some("layer 0: entity at line 59\n")),
+        ],
+    ),
+    (
+        &[
+            "0\nSECTION\n2\nENTITIES\n0\nLINE\n5\n1A\n10\n0\n20\n0\n11\n1\n21\n1\n0\nENDSEC\n0\nEOF\n",
+        ],
+        &MIGRATE,
+        Status::Layer,
+        &[("-", Some("layer 0: seed at line 7\n")), ("o/p.dxf", None)],
+    ),
+    (
+        &["0\nSECTION\n2\nENTITIES\n0\nLINE\n10\n0\n20\n0\n11\n1\n0\nENDSEC\n0\nEOF\n"],
+        &MIGRATE,
+        Status::Layer,
+        &[("-", Some("layer 0: count at line 5\n")), ("o/p.dxf", None)],
+    ),
+    (
+        &["0\nSECTION\n"],
+        &MIGRATE,
+        Status::Layer,
+        &[("-", Some("layer 0: no eof\n")), ("o/p.dxf", None)],
+    ),
+    (
+        &["AutoCAD Binary DXF"],
+        &MIGRATE,
+        Status::Layer,
+        &[("-", Some("layer 0: binary\n")), ("o/p.dxf", None)],
+    ),
+];
 
 #[test]
 fn refused_drawings_have_one_line(rt: HostRuntime) {
-    for (drawing, line) in [
-        (
-            "0\nSECTION\n2\nENTITIES\n0\nLINE\n5\n1A\n10\n0\n20\n0\n11\n1\n21\n1\n0\nENDSEC\n0\nEOF\n",
-            "layer 0: seed at line 7\n",
-        ),
-        (
-            "0\nSECTION\n2\nENTITIES\n0\nLINE\n10\n0\n20\n0\n11\n1\n0\nENDSEC\n0\nEOF\n",
-            "layer 0: count at line 5\n",
-        ),
-        ("0\nSECTION\n", "layer 0: no eof\n"),
-        ("AutoCAD Binary DXF", "layer 0: binary\n"),
-    ] {
-        let made = [("-", Some(line)), ("o/p.dxf", None)];
-        assert!(rt;
-            migrates(rt.alloc(), &MIGRATE, drawing, Status::Layer, &made),
-            "at {line}"
-        );
-    }
+    assert_eq!(rt; first_other(rt.alloc(), REFUSED), None);
+}
+
+/// Whether the drawing with carriage returns is written with them.
+fn keeps_returns(alloc: Global) -> Result<bool, AllocError> {
+    let drawing = joined(alloc, &[FRONT, BACK])?;
+    let drawing = with_returns(alloc, &drawing)?;
+    let written = with_returns(alloc, CARRIED)?;
+    let files = [("s.json", SQUARE), ("p.dxf", drawing.as_str())];
+    let made = [("o/p.dxf", Some(written.as_str())), ("-", Some(REPORT))];
+    Ok(makes(alloc, &MIGRATE, &files, Status::Same, &made))
+}
+
+#[test]
+fn carriage_returns_are_kept_in_copies_too(rt: HostRuntime) {
+    assert_eq!(rt; keeps_returns(rt.alloc()), Ok(true));
 }
 
 /// A row of so many squares of 10 m, each of two triangles, which goes 100 m further on both axes.
@@ -181,34 +219,58 @@ fn line_with_data(alloc: Global, count: u32) -> Result<String, AllocError> {
     Ok(text)
 }
 
-/// The line becomes 512, each with all of the extended data: with 2^22 bytes of it these are more than the 2^31 bytes
-/// that a written drawing may have, and no memory is asked for.
-#[test]
-fn a_drawing_that_would_be_too_long_is_not_written(rt: HostRuntime) -> Result<(), Fail> {
-    let alloc = rt.alloc();
-    let report = "tinmove report 1
+/// How many bytes of extended data the line has, how a run that carries it ends, and what it says.
+const LENGTHS: &[(u32, Status, &str)] = &[
+    (
+        100,
+        Status::Same,
+        "tinmove report 1
 triangulation corners 514 triangles 512 inexact 0 name s.json
 layer 0 paths 1 segments 1 pieces 512 inexact 0 dropped 0 name p.dxf
 extents 0 as they were
 changes 0
 end
-";
+",
+    ),
+    (1 << 22, Status::Memory, "no memory\n"),
+];
+
+/// Whether a run that carries the line with so many bytes of extended data through the squares ends so and says this.
+fn ends_with_data(
+    alloc: Global,
+    count: u32,
+    wanted: Status,
+    line: &str,
+) -> Result<bool, AllocError> {
     let tin = row_of_squares(alloc, 256)?;
-    for (count, wanted, line) in [
-        (100, Status::Same, report),
-        (1 << 22, Status::Memory, "no memory\n"),
-    ] {
-        let drawing = line_with_data(alloc, count)?;
-        let files = [("s.json", tin.as_str()), ("p.dxf", drawing.as_str())];
-        let made = [("-", Some(line))];
-        assert!(rt; makes(alloc, &MIGRATE, &files, wanted, &made), "at {line}");
-    }
-    Ok(())
+    let drawing = line_with_data(alloc, count)?;
+    let files = [("s.json", tin.as_str()), ("p.dxf", drawing.as_str())];
+    let made = [("-", Some(line))];
+    Ok(makes(alloc, &MIGRATE, &files, wanted, &made))
 }
 
+/// The first of the lengths with which a run ends otherwise, or none.
+fn first_other_length(
+    alloc: Global,
+    rows: &[(u32, Status, &str)],
+) -> Result<Option<u32>, AllocError> {
+    for &(count, wanted, line) in rows {
+        if !ends_with_data(alloc, count, wanted, line)? {
+            return Ok(Some(count));
+        }
+    }
+    Ok(None)
+}
+
+/// The line becomes 512, each with all of the extended data: with 2^22 bytes of it these are more than the 2^31 bytes
+/// that a written drawing may have, and no memory is asked for.
 #[test]
-fn layers_of_three_formats_are_carried(rt: HostRuntime) {
-    let words = [
+fn a_drawing_that_would_be_too_long_is_not_written(rt: HostRuntime) {
+    assert_eq!(rt; first_other_length(rt.alloc(), LENGTHS), Ok(None));
+}
+
+const OF_THREE_FORMATS: &[Job] = &[(
+    &[
         "migrate",
         "--tin",
         "s.json",
@@ -217,8 +279,8 @@ fn layers_of_three_formats_are_carried(rt: HostRuntime) {
         "lines.wkt",
         "wells.geojson",
         "walls.dxf",
-    ];
-    let files = [
+    ],
+    &[
         ("s.json", SQUARE),
         ("lines.wkt", "LINESTRING (10 0, 0 10)\nPOINT (6 4)\n"),
         (
@@ -229,14 +291,31 @@ fn layers_of_three_formats_are_carried(rt: HostRuntime) {
             "walls.dxf",
             "  0\nSECTION\n  2\nHEADER\n  9\n$HANDSEED\n  5\n2F\n  0\nENDSEC\n  0\nSECTION\n  2\nENTITIES\n  0\nLINE\n  5\n2E\n  8\nWALL\n 10\n0.0\n 20\n5.0\n 11\n10.0\n 21\n5.0\n  0\nENDSEC\n  0\nEOF\n",
         ),
-    ];
-    let lines =
-        "LINESTRING (110.000 100.000, 105.002 105.002, 100.000 110.000)\nPOINT (106.001 104.001)\n";
-    let wells =
-        r#"{"type":"Feature","properties":{"id":1},"geometry":{"type":"Point","coordinates":[103.000,101.000]}}"#;
-    let walls =
-        "  0\nSECTION\n  2\nHEADER\n  9\n$HANDSEED\n  5\n30\n  0\nENDSEC\n  0\nSECTION\n  2\nENTITIES\n  0\nLINE\n  5\n2E\n  8\nWALL\n 10\n100.000\n 20\n105.000\n 11\n105.002\n 21\n105.002\n  0\nLINE\n  5\n2F\n  8\nWALL\n 10\n105.002\n 20\n105.002\n 11\n110.002\n 21\n105.002\n  0\nENDSEC\n  0\nEOF\n";
-    let report = "tinmove report 1
+    ],
+    Status::Changed,
+    &[
+        (
+            "o/lines.wkt",
+            Some(
+                "LINESTRING (110.000 100.000, 105.002 105.002, 100.000 110.000)\nPOINT (106.001 104.001)\n",
+            ),
+        ),
+        (
+            "o/wells.geojson",
+            Some(
+                r#"{"type":"Feature","properties":{"id":1},"geometry":{"type":"Point","coordinates":[103.000,101.000]}}"#,
+            ),
+        ),
+        (
+            "o/walls.dxf",
+            Some(
+                "  0\nSECTION\n  2\nHEADER\n  9\n$HANDSEED\n  5\n30\n  0\nENDSEC\n  0\nSECTION\n  2\nENTITIES\n  0\nLINE\n  5\n2E\n  8\nWALL\n 10\n100.000\n 20\n105.000\n 11\n105.002\n 21\n105.002\n  0\nLINE\n  5\n2F\n  8\nWALL\n 10\n105.002\n 20\n105.002\n 11\n110.002\n 21\n105.002\n  0\nENDSEC\n  0\nEOF\n",
+            ),
+        ),
+        (
+            "-",
+            Some(
+                "tinmove report 1
 triangulation corners 4 triangles 2 inexact 0 name s.json
 layer 0 paths 2 segments 2 pieces 3 inexact 0 dropped 0 name lines.wkt
 layer 1 paths 1 segments 1 pieces 1 inexact 0 dropped 0 name wells.geojson
@@ -245,12 +324,13 @@ extents 2 as they were
 changes 1
 change 0/0/0/0 0/1/0/0 touching apart
 end
-";
-    let made = [
-        ("o/lines.wkt", Some(lines)),
-        ("o/wells.geojson", Some(wells)),
-        ("o/walls.dxf", Some(walls)),
-        ("-", Some(report)),
-    ];
-    assert!(rt; makes(rt.alloc(), &words, &files, Status::Changed, &made));
+",
+            ),
+        ),
+    ],
+)];
+
+#[test]
+fn layers_of_three_formats_are_carried(rt: HostRuntime) {
+    assert_eq!(rt; first_other_job(rt.alloc(), OF_THREE_FORMATS), None);
 }

@@ -87,14 +87,89 @@ pub fn makes(
 /// The words that carry one layer through one triangulation.
 pub const MIGRATE: [&str; 6] = ["migrate", "--tin", "t.json", "--out", "o", "p.wkt"];
 
-/// Whether a run that carries this layer through this triangulation ends so, and makes these files.
+/// Files by their names and texts.
+pub type Files = &'static [(&'static str, &'static str)];
+
+/// Files that are made, by their names and texts. `None`: a file that is not begun.
+pub type Made = &'static [(&'static str, Option<&'static str>)];
+
+/// Words, the files that they find, how a run of them ends, and files that it makes.
+pub type Job = (&'static [&'static str], Files, Status, Made);
+
+/// The number of the first job that ends otherwise or makes other files, or none.
+pub fn first_other_job(alloc: Global, jobs: &[Job]) -> Option<usize> {
+    for (number, &(texts, files, wanted, made)) in jobs.iter().enumerate() {
+        if !makes(alloc, texts, files, wanted, made) {
+            return Some(number);
+        }
+    }
+    None
+}
+
+/// A triangulation, a layer, how a run that carries it ends, and files that it makes.
+pub type Carried = (&'static str, &'static str, Status, Made);
+
+/// Whether a run that carries the layer through the triangulation, each in a file of its name, ends so, and makes these
+/// files.
 pub fn migrates(
     alloc: Global,
-    tin: &str,
-    layer: &str,
+    names: (&str, &str),
+    (tin, layer): (&str, &str),
     wanted: Status,
-    made: &[(&str, Option<&str>)],
+    made: Made,
 ) -> bool {
-    let files = [("t.json", tin), ("p.wkt", layer)];
-    makes(alloc, &MIGRATE, &files, wanted, made)
+    let words = ["migrate", "--tin", names.0, "--out", "o", names.1];
+    let files = [(names.0, tin), (names.1, layer)];
+    makes(alloc, &words, &files, wanted, made)
+}
+
+/// The number of the first row that ends otherwise or makes other files, or none, where the files of the triangulation
+/// and of the layer have these names.
+pub fn first_other(alloc: Global, names: (&str, &str), rows: &[Carried]) -> Option<usize> {
+    for (number, row) in rows.iter().enumerate() {
+        if !migrates(alloc, names, (row.0, row.1), row.2, row.3) {
+            return Some(number);
+        }
+    }
+    None
+}
+
+/// The calls of a run to the shelf and to the press that fail, how it ends, and files that it leaves.
+pub type Failing = ((u64, u64), Status, Made);
+
+/// Whether a run of these words over these files, whose writes take at most `most` bytes, ends so and leaves these
+/// files.
+fn fails(alloc: Global, texts: &[&str], files: Files, most: usize, row: &Failing) -> bool
+    requires { 0 < most }
+{
+    let Ok(mut shelf) = shelf_of(alloc, files) else {
+        return false;
+    };
+    // Each file took one call of the shelf.
+    let call = row.0.0.saturating_add(files.len() as u64);
+    if shelf.fail_at(call).is_err() {
+        return false;
+    }
+    match ran_over(alloc, texts, shelf, most, row.0.1) {
+        Ok((status, press)) => status == row.1 && holds(&press, row.2),
+        Err(_) => false,
+    }
+}
+
+/// The number of the first row that ends otherwise or leaves other files, or none.
+pub fn first_other_fault(
+    alloc: Global,
+    texts: &[&str],
+    files: Files,
+    most: usize,
+    rows: &[Failing],
+) -> Option<usize>
+    requires { 0 < most }
+{
+    for (number, row) in rows.iter().enumerate() {
+        if !fails(alloc, texts, files, most, row) {
+            return Some(number);
+        }
+    }
+    None
 }

@@ -4,11 +4,12 @@
 ghost use Rattle.std.specs.Prelude.{◌≡◌, ◌<◌, [], None, IfOk};
 
 use crate::sure_run::run_surely;
-use crate::tests::memory_runs::{NEVER, SQUARE, TRIANGLE, holds, ran_over, words_of};
+use crate::tests::memory_runs::{
+    Failing, Files, NEVER, SQUARE, TRIANGLE, first_other_fault, holds, ran_over, words_of,
+};
 use runs::Status;
 use shelf_io::{MemShelf, SurePress, SureShelf};
 use std::alloc::{AllocError, Global};
-use std::test::Fail;
 
 const TWO: [&str; 7] = ["migrate", "--tin", "t.json", "--out", "o", "a.wkt", "b.wkt"];
 
@@ -16,41 +17,103 @@ const POINT: &str = "POINT (5 0)";
 
 const WRITTEN: &str = "POINT (105.001 100.000)";
 
-/// A shelf of the triangle and two layers of a point in it, which is read by so many bytes at most.
-fn shelf_of_two(alloc: Global, most: usize) -> Result<MemShelf, AllocError>
+/// The triangle and two layers of a point in it.
+const TWO_POINTS: Files = &[("t.json", TRIANGLE), ("a.wkt", POINT), ("b.wkt", POINT)];
+
+/// With writes of 4 bytes a layer takes eight calls: it is begun, its 23 bytes are written by six, and it is ended.
+const FAILED_WRITES: &[Failing] = &[
+    (
+        (NEVER, 0),
+        Status::Write,
+        &[("o/a.wkt", None), ("o/b.wkt", None), ("-", None)],
+    ),
+    (
+        (NEVER, 1),
+        Status::Write,
+        &[("o/a.wkt", Some("")), ("o/b.wkt", None), ("-", None)],
+    ),
+    (
+        (NEVER, 6),
+        Status::Write,
+        &[
+            ("o/a.wkt", Some("POINT (105.001 100.0")),
+            ("o/b.wkt", None),
+            ("-", None),
+        ],
+    ),
+    (
+        (NEVER, 7),
+        Status::Write,
+        &[("o/a.wkt", Some(WRITTEN)), ("o/b.wkt", None), ("-", None)],
+    ),
+    (
+        (NEVER, 8),
+        Status::Write,
+        &[("o/a.wkt", Some(WRITTEN)), ("o/b.wkt", None), ("-", None)],
+    ),
+    (
+        (NEVER, 10),
+        Status::Write,
+        &[
+            ("o/a.wkt", Some(WRITTEN)),
+            ("o/b.wkt", Some("POIN")),
+            ("-", None),
+        ],
+    ),
+    (
+        (NEVER, 16),
+        Status::Write,
+        &[
+            ("o/a.wkt", Some(WRITTEN)),
+            ("o/b.wkt", Some(WRITTEN)),
+            ("-", None),
+        ],
+    ),
+    (
+        (NEVER, 17),
+        Status::Write,
+        &[
+            ("o/a.wkt", Some(WRITTEN)),
+            ("o/b.wkt", Some(WRITTEN)),
+            ("-", Some("")),
+        ],
+    ),
+];
+
+#[test]
+fn each_call_of_the_press_fails_once(rt: HostRuntime) {
+    let other = first_other_fault(rt.alloc(), &TWO, TWO_POINTS, 4, FAILED_WRITES);
+    assert_eq!(rt; other, None);
+}
+
+/// A refusal whose line cannot be written.
+const FAILED_REFUSALS: &[Failing] = &[
+    ((NEVER, 0), Status::Write, &[("-", None), ("o/q.wkt", None)]),
+    (
+        (NEVER, 1),
+        Status::Write,
+        &[("-", Some("")), ("o/q.wkt", None)],
+    ),
+];
+
+#[test]
+fn a_refusal_that_cannot_be_written(rt: HostRuntime) {
+    let words = ["migrate", "--tin", "t.json", "--out", "o", "q.wkt"];
+    let other = first_other_fault(rt.alloc(), &words, TWO_POINTS, 4, FAILED_REFUSALS);
+    assert_eq!(rt; other, None);
+}
+
+/// A shelf of the triangle and two layers of a point in it, which is read by so many bytes at most, and of which a
+/// call fails.
+fn shelf_of_two(alloc: Global, most: usize, call: u64) -> Result<MemShelf, AllocError>
     requires { 0 < most }
 {
     let mut shelf = MemShelf::new(alloc, most);
     shelf.add("t.json", TRIANGLE.as_bytes())?;
     shelf.add("a.wkt", POINT.as_bytes())?;
     shelf.add("b.wkt", POINT.as_bytes())?;
+    shelf.fail_at(call)?;
     Ok(shelf)
-}
-
-#[test]
-fn each_call_of_the_press_fails_once(rt: HostRuntime) -> Result<(), Fail> {
-    let alloc = rt.alloc();
-    // With writes of 4 bytes a layer takes eight calls: it is begun, its 23 bytes are written by six, and it is ended.
-    for (call, first, second, report) in [
-        (0, None, None, None),
-        (1, Some(""), None, None),
-        (6, Some("POINT (105.001 100.0"), None, None),
-        (7, Some(WRITTEN), None, None),
-        (8, Some(WRITTEN), None, None),
-        (10, Some(WRITTEN), Some("POIN"), None),
-        (16, Some(WRITTEN), Some(WRITTEN), None),
-        (17, Some(WRITTEN), Some(WRITTEN), Some("")),
-    ] {
-        let shelf = shelf_of_two(alloc, 4096)?;
-        let (status, press) = ran_over(alloc, &TWO, shelf, 4, call)?;
-        let made = [("o/a.wkt", first), ("o/b.wkt", second), ("-", report)];
-        assert_eq!(rt;
-            (status, holds(&press, &made)),
-            (Status::Write, true),
-            "at call {call}"
-        );
-    }
-    Ok(())
 }
 
 /// How many calls a file of so many bytes takes, read by `most` bytes at most: it is begun, read, and read once more at
@@ -61,53 +124,59 @@ fn calls_of(length: usize, most: usize) -> u64
     (length.div_ceil(most) as u64).saturating_add(2)
 }
 
-/// Whether each failing call of the shelf ends the run with the line of the file that was being read.
+/// How a run of which this call of the shelf fails ends, and whether it says this alone.
+fn ended(alloc: Global, most: usize, call: u64, line: &str) -> Result<(Status, bool), AllocError>
+    requires { 0 < most }
+{
+    let shelf = shelf_of_two(alloc, most, call)?;
+    let (status, press) = ran_over(alloc, &TWO, shelf, 4096, NEVER)?;
+    Ok((
+        status,
+        holds(&press, &[("-", Some(line)), ("o/a.wkt", None)]),
+    ))
+}
+
+/// Whether each of these calls of the shelf, where it fails, ends the run with this line.
+fn are_named(alloc: Global, most: usize, calls: (u64, u64), line: &str) -> Result<bool, AllocError>
+    requires { 0 < most }
+{
+    for call in calls.0..calls.1 {
+        if ended(alloc, most, call, line)? != (Status::Read, true) {
+            return Ok(false);
+        }
+    }
+    Ok(true)
+}
+
+/// Whether each failing call of the shelf ends the run with the line of the file that was being read, and the call
+/// behind the last is none of the run's.
 fn each_read_is_named(alloc: Global, most: usize) -> Result<bool, AllocError>
     requires { 0 < most }
 {
     let tin = calls_of(TRIANGLE.len(), most);
     let first = tin.saturating_add(calls_of(POINT.len(), most));
     let second = first.saturating_add(calls_of(POINT.len(), most));
-    for call in 0..second {
-        let line = if call < tin {
-            "read fault: triangulation\n"
-        } else if call < first {
-            "read fault: layer 0\n"
-        } else {
-            "read fault: layer 1\n"
-        };
-        let mut shelf = shelf_of_two(alloc, most)?;
-        shelf.fail_at(call)?;
-        let (status, press) = ran_over(alloc, &TWO, shelf, 4096, NEVER)?;
-        if status != Status::Read || !holds(&press, &[("-", Some(line)), ("o/a.wkt", None)]) {
-            return Ok(false);
-        }
+    if !are_named(alloc, most, (0, tin), "read fault: triangulation\n")? {
+        return Ok(false);
     }
-    // The call behind the last is none of the run's.
-    let mut shelf = shelf_of_two(alloc, most)?;
-    shelf.fail_at(second)?;
-    let (status, _) = ran_over(alloc, &TWO, shelf, 4096, NEVER)?;
+    if !are_named(alloc, most, (tin, first), "read fault: layer 0\n")? {
+        return Ok(false);
+    }
+    if !are_named(alloc, most, (first, second), "read fault: layer 1\n")? {
+        return Ok(false);
+    }
+    let (status, _) = ended(alloc, most, second, "")?;
     Ok(status == Status::Same)
 }
 
 #[test]
-fn each_call_of_the_shelf_fails_once(rt: HostRuntime) -> Result<(), Fail> {
-    assert!(rt; each_read_is_named(rt.alloc(), 1)?);
-    assert!(rt; each_read_is_named(rt.alloc(), 4096)?);
-    Ok(())
+fn each_call_of_the_shelf_fails_once(rt: HostRuntime) {
+    assert_eq!(rt; each_read_is_named(rt.alloc(), 1), Ok(true));
 }
 
 #[test]
-fn a_refusal_that_cannot_be_written(rt: HostRuntime) -> Result<(), Fail> {
-    let alloc = rt.alloc();
-    let words = ["migrate", "--tin", "t.json", "--out", "o", "q.wkt"];
-    for (call, said) in [(0, None), (1, Some(""))] {
-        let shelf = shelf_of_two(alloc, 4096)?;
-        let (status, press) = ran_over(alloc, &words, shelf, 4, call)?;
-        let is_left = holds(&press, &[("-", said), ("o/q.wkt", None)]);
-        assert_eq!(rt; (status, is_left), (Status::Write, true), "at call {call}");
-    }
-    Ok(())
+fn each_call_of_the_shelf_that_reads_whole_files_fails_once(rt: HostRuntime) {
+    assert_eq!(rt; each_read_is_named(rt.alloc(), 4096), Ok(true));
 }
 
 const NINE: [&str; 6] = ["migrate", "--tin", "s.json", "--out", "o", "nine.wkt"];
@@ -138,50 +207,76 @@ fn shelf_of_nine(alloc: Global, most: usize) -> Result<MemShelf, AllocError>
     Ok(shelf)
 }
 
-#[test]
-fn reads_and_writes_of_one_byte(rt: HostRuntime) -> Result<(), Fail> {
-    let alloc = rt.alloc();
+/// How a run of reads and writes of one byte ends, and whether it makes the layer and the report.
+fn ended_by_bytes(alloc: Global) -> Result<(Status, bool), AllocError> {
     let shelf = shelf_of_nine(alloc, 1)?;
     let (status, press) = ran_over(alloc, &NINE, shelf, 1, NEVER)?;
-    assert_eq!(rt; status, Status::Changed);
-    assert!(rt;
-        holds(
-            &press,
-            &[("o/nine.wkt", Some(CARRIED)), ("-", Some(REPORT))]
-        )
-    );
-    Ok(())
+    let made = [("o/nine.wkt", Some(CARRIED)), ("-", Some(REPORT))];
+    Ok((status, holds(&press, &made)))
 }
 
 #[test]
-fn an_outside_that_never_fails(rt: HostRuntime) -> Result<(), Fail> {
-    let alloc = rt.alloc();
-    let words = words_of(alloc, &NINE)?;
+fn reads_and_writes_of_one_byte(rt: HostRuntime) {
+    assert_eq!(rt; ended_by_bytes(rt.alloc()), Ok((Status::Changed, true)));
+}
+
+/// Words, how many files and bytes a press has room for, how a run over the square and its layer ends, and what the
+/// press tells of it.
+type Sure = (
+    &'static [&'static str],
+    (u32, u64),
+    Status,
+    &'static [(&'static str, Option<&'static str>)],
+);
+
+/// Whether the press tells these files with these texts. `None`: it tells none of this name.
+fn tells(press: &SurePress, made: &[(&str, Option<&str>)]) -> bool {
+    for &(name, text) in made {
+        if press.made_bytes(name) != text.map(|text| text.as_bytes()) {
+            return false;
+        }
+    }
+    true
+}
+
+/// Whether a run over an outside of which no call fails ends so.
+fn ends_surely(alloc: Global, row: &Sure) -> Result<bool, AllocError> {
+    let words = words_of(alloc, row.0)?;
     let mut shelf = SureShelf::new(shelf_of_nine(alloc, 7)?);
-    let mut press = SurePress::new(alloc, 2, 1000)?;
-    assert_eq!(rt;
-        run_surely(alloc, &words, &mut shelf, &mut press),
-        Status::Changed
-    );
-    assert_eq!(rt; press.made_bytes("o/nine.wkt"), Some(CARRIED.as_bytes()));
-    assert_eq!(rt; press.made_bytes("-"), Some(REPORT.as_bytes()));
+    let mut press = SurePress::new(alloc, row.1.0, row.1.1)?;
+    let status = run_surely(alloc, &words, &mut shelf, &mut press);
+    Ok(status == row.2 && tells(&press, row.3))
+}
+
+/// The number of the first row that ends otherwise, or none.
+fn first_other_sure(alloc: Global, rows: &[Sure]) -> Result<Option<usize>, AllocError> {
+    for (number, row) in rows.iter().enumerate() {
+        if !ends_surely(alloc, row)? {
+            return Ok(Some(number));
+        }
+    }
+    Ok(None)
+}
+
+const SURE: &[Sure] = &[
+    (
+        &NINE,
+        (2, 1000),
+        Status::Changed,
+        &[("o/nine.wkt", Some(CARRIED)), ("-", Some(REPORT))],
+    ),
     // What is past the reserved room is taken all the same.
-    let mut narrow = SurePress::new(alloc, 2, 100)?;
-    assert_eq!(rt;
-        run_surely(alloc, &words, &mut shelf, &mut narrow),
-        Status::Changed
-    );
-    assert_eq!(rt; narrow.made_bytes("o/nine.wkt"), None);
+    (&NINE, (2, 100), Status::Changed, &[("o/nine.wkt", None)]),
     // A missing file is a read fault.
-    let lacking = words_of(alloc, &["check", "--tin", "t.json"])?;
-    let mut press = SurePress::new(alloc, 1, 100)?;
-    assert_eq!(rt;
-        run_surely(alloc, &lacking, &mut shelf, &mut press),
-        Status::Read
-    );
-    assert_eq!(rt;
-        press.made_bytes("-"),
-        Some(b"read fault: triangulation\n".as_slice())
-    );
-    Ok(())
+    (
+        &["check", "--tin", "t.json"],
+        (1, 100),
+        Status::Read,
+        &[("-", Some("read fault: triangulation\n"))],
+    ),
+];
+
+#[test]
+fn an_outside_that_never_fails(rt: HostRuntime) {
+    assert_eq!(rt; first_other_sure(rt.alloc(), SURE), Ok(None));
 }

@@ -5,7 +5,6 @@ use carry_map::{MOST_PIECES, carry};
 use plane_base::Pt;
 use sheet_base::{How, Layer};
 use std::alloc::Global;
-use std::test::Fail;
 use tin_base::{Change, Place, Rel};
 use tin_check::check_tin;
 use tin_file::read_tin;
@@ -41,40 +40,69 @@ fn changes_of(alloc: Global, most: u32) -> Option<Result<Vec<Change>, ChangesFau
     }
 }
 
-fn place(path: u32, piece: u32) -> Place {
-    Place {
+/// The point that rounding takes off the line.
+const TAKEN_OFF: &[Change] = &[Change {
+    first: Place {
         layer: 0,
-        path,
+        path: 0,
         segment: 0,
-        piece,
+        piece: 0,
+    },
+    second: Place {
+        layer: 0,
+        path: 1,
+        segment: 0,
+        piece: 0,
+    },
+    was: Rel::Touching,
+    now: Rel::Apart,
+}];
+
+/// Whether these are the changes of the layer's pieces, where so many may be.
+fn are_changes(alloc: Global, most: u32, wanted: &[Change]) -> bool {
+    match changes_of(alloc, most) {
+        Some(Ok(listed)) => listed.as_slice() == wanted,
+        _ => false,
     }
 }
 
 #[test]
-fn a_point_that_rounding_takes_off_a_line_is_listed(rt: HostRuntime) -> Result<(), Fail> {
-    let alloc = rt.alloc();
-    let listed = changes_of(alloc, 8).expect(&rt, "carried")?;
-    let want = Change {
-        first: place(0, 0),
-        second: place(1, 0),
-        was: Rel::Touching,
-        now: Rel::Apart,
+fn a_point_that_rounding_takes_off_a_line_is_listed(rt: HostRuntime) {
+    assert!(rt; are_changes(rt.alloc(), 8, TAKEN_OFF));
+}
+
+#[test]
+fn more_changes_than_there_may_be_are_refused(rt: HostRuntime) {
+    let none = changes_of(rt.alloc(), 0);
+    assert!(rt; matches!(none, Some(Err(ChangesFault::TooMany))));
+}
+
+/// Points in millimetres, and the least triangle that has each.
+const LOCATED: &[(i64, i64, Option<u32>)] = &[
+    (5_000, 5_000, Some(0)),
+    (0, 10_000, Some(1)),
+    (10_001, 0, None),
+];
+
+/// Whether this is the triangle of the point.
+fn is_located(index: &TinIndex, &(x, y, wanted): &(i64, i64, Option<u32>)) -> bool {
+    index.locate(Pt { x, y }) == wanted
+}
+
+/// The number of the first point that is found in another triangle, or none.
+fn first_other(alloc: Global, rows: &[(i64, i64, Option<u32>)]) -> Option<usize> {
+    let Some(index) = index_of(alloc) else {
+        return Some(rows.len());
     };
-    assert_eq!(rt; listed.as_slice(), [want].as_slice());
-    let none = changes_of(alloc, 0).expect(&rt, "carried");
-    assert!(rt; matches!(none, Err(ChangesFault::TooMany)));
-    Ok(())
+    for (number, row) in rows.iter().enumerate() {
+        if !is_located(&index, row) {
+            return Some(number);
+        }
+    }
+    None
 }
 
 #[test]
-fn a_point_has_its_least_triangle(rt: HostRuntime) -> Result<(), Fail> {
-    let index = index_of(rt.alloc()).expect(&rt, "sound");
-    for (x, y, want) in [
-        (5_000, 5_000, Some(0)),
-        (0, 10_000, Some(1)),
-        (10_001, 0, None),
-    ] {
-        assert_eq!(rt; index.locate(Pt { x, y }), want, "at {x} {y}");
-    }
-    Ok(())
+fn a_point_has_its_least_triangle(rt: HostRuntime) {
+    assert_eq!(rt; first_other(rt.alloc(), LOCATED), None);
 }
