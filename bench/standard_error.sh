@@ -66,7 +66,7 @@ mkdir -p folder.json
 says 6 check --tin folder.json -- 'folder.json: the system says: Is a directory'
 says 3 check --tin a.wkt -- 'a.wkt:1:1: text that may not stand here: POINT'
 printf 'POINT (600001 200001)\nPOINT (600001 200001 484.91)\n' >height.wkt
-says 4 migrate --tin t.json --out o height.wkt -- 'height.wkt:2:22: a third number, here a height: 484.91' 'ogr2ogr -dim XY'
+says 4 migrate --tin t.json --out o height.wkt -- 'height.wkt:2:22: a number too many: 484.91' 'ogr2ogr -dim XYZ'
 printf '\xef\xbb\xbfPOINT (1 2)\n' >mark.wkt
 says 4 migrate --tin t.json --out o mark.wkt -- 'mark.wkt:1:1: a byte order mark' 'save the file without it'
 printf 'POINT (600001 200001) POINT (600001 200001)\n' >second.wkt

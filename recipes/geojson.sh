@@ -8,9 +8,9 @@ tin=$1 source=$2 layer=$3 epsg=$4 result=$5
 folder=$(mktemp -d)
 trap 'rm -rf "$folder"' EXIT
 
-# -dim XY leaves heights out. Three digits are whole millimetres: with more, numbers are rounded,
-# and the report counts them as inexact.
-ogr2ogr -f GeoJSON -dim XY -lco COORDINATE_PRECISION=3 "$folder/$layer.geojson" "$source" "$layer"
+# Three digits are whole millimetres: with more, numbers are rounded, and the report counts them as
+# inexact.
+ogr2ogr -f GeoJSON -lco COORDINATE_PRECISION=3 "$folder/$layer.geojson" "$source" "$layer"
 status=0
 "${TINMOVE:-tinmove}" migrate --tin "$tin" --out "$folder/carried" "$folder/$layer.geojson" \
     >"$folder/report" || status=$?

@@ -6,8 +6,8 @@ usage: readable_drawing.py DRAWING.dxf READABLE.dxf [TOLERANCE]
 Arcs, circles, ellipses, splines and the bulges of polylines become straight pieces that are at
 most TOLERANCE, 0.001 m if left out, from them. Hatches become their outlines, MTEXT becomes one TEXT
 a line, attributes of inserts become texts, dimensions and leaders their parts, and polylines in
-space and sloped lines lose their heights. The kinds that are left are listed at the end: tinmove
-takes such a drawing with --drop-other alone. Needs ezdxf (Debian: python3-ezdxf).
+space lose their heights. The kinds that are left are listed at the end: tinmove takes such a
+drawing with --drop-other alone. Needs ezdxf (Debian: python3-ezdxf).
 """
 import collections
 import sys
@@ -55,9 +55,6 @@ class Drawing:
         elif kind == "POLYLINE" and (entity.is_3d_polyline or entity.has_arc):
             self.add_line(entity, make_path(entity).flattening(self.tolerance), entity.is_closed)
             kind = "POLYLINE in space or with bulges"
-        elif kind == "LINE" and entity.dxf.start.z != entity.dxf.end.z:
-            self.add_line(entity, [entity.dxf.start, entity.dxf.end])
-            kind = "sloped LINE"
         elif kind == "HATCH":
             for path in from_hatch(entity):
                 self.add_line(entity, path.flattening(self.tolerance), True)

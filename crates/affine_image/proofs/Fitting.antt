@@ -13,18 +13,32 @@ use Rattle.plane_base.specs.declared.shapes.Pt.{Pt}
 use Rattle.sheet_base.specs.declared.paths.PathKind.{PathKind}
 use Rattle.sheet_base.specs.declared.paths.PathKind.TheVariants.{Dot, Line, Loop}
 use Rattle.sheet_base.specs.declared.paths.PathRow.{PathRow}
-use Rattle.sheet_base.specs.Segments.{points_in, segments_of, segments_in, no_point, point_at, begin_of, end_of}
+use Rattle.sheet_base.specs.PointHeights.{Height, Position, points_of, heights_of, height_in, IsHeightWithinReach}
+use Rattle.sheet_base.specs.Segments.{points_in, segments_of, segments_in, next_in, no_point, point_at, begin_of}
+use Rattle.sheet_base.specs.Segments.{end_of}
 use Rattle.sheet_base.specs.Sheets.{Contents, IsPathFrom, AreTiled, IsSheet}
-use Rattle.sheet_base.specs.Fitting.{Runs, run_begin, EndsAlone, IsWithinReach, DoFit}
+use Rattle.sheet_base.specs.Fitting.{Runs, run_begin, EndsAlone, HaveCrossingHeights, IsWithinReach}
 use Rattle.mm_decimal.specs.declared.limits.TheConstants.{LIMIT}
 use Rattle.tin_base.specs.Triangulation.{Triangulation}
 use Rattle.tin_base.specs.Limits.{IsWithinLimits, IsInReach}
+use Rattle.tin_base.specs.Soundness.{IsSound}
 use Rattle.tin_base.specs.Segments.{Part, spot_at, ArePiecesAt}
 use Rattle.affine_image.specs.Rounded.{IsRoundedImageAt}
 use Rattle.affine_image.specs.SheetSegments.{Segment, PathVertex, segment_at, vertex_at, path_vertices, vertices_from}
 use Rattle.affine_image.specs.SheetSegments.{sheet_vertices}
-use Rattle.affine_image.specs.SheetImages.{AreEndsOfAllButLast, AreCrossings, IsRun, AreRuns, joined, begins_from}
+use Rattle.affine_image.specs.SheetImages.{AreEndsOfAllButLast, joined, begins_from}
+use Rattle.affine_image.proofs.PlaneRuns.{ArePlaneCrossings, IsPlaneRun, ArePlaneRuns, plane, plane_runs, plane_joined}
+use Rattle.affine_image.proofs.PlaneRuns.{plane_begins}
+use Rattle.affine_image.specs.SheetPieces.{IsSheetInside}
+use Rattle.affine_image.specs.SheetImages.{IsRun, AreImagesOf}
 use Rattle.affine_image.specs.SheetLaws.{ImagesFit}
+use Rattle.affine_image.proofs.RunReach.{heights_within}
+use Rattle.affine_image.proofs.RunHeights.{vertex_height, vertex_inside, first_height, later_height, alone_height}
+use Rattle.affine_image.proofs.RunHeights.{height_at_run, run_here, runs_count, some_images}
+use Rattle.std.specs.Option.{is_some}
+use Rattle.std.specs.Prelude.{◌&&◌}
+use Rattle.std.proofs.lemmas.Bool.{cases_lt, lt-ltb}
+use Rattle.std.proofs.lemmas.List.{length-map, get_or-map, take-map}
 use Rattle.affine_image.proofs.Reach.{rounded_images_are_in_reach}
 
 -- ---- where a run begins
@@ -43,7 +57,7 @@ begin_at n (run ∷ runs) (suc k) h =
     moved m {l = l} e = omega arith
 
 -- ---- as many runs as vertices, as many places as runs
-pub run_count : (tin : Triangulation) (vs : List PathVertex) (runs : List (List Pt)) → AreRuns tin vs runs
+pub run_count : (tin : Triangulation) (vs : List PathVertex) (runs : List (List Pt)) → ArePlaneRuns tin vs runs
     → length runs ≡ length vs
 run_count tin [] [] h = refl
 run_count tin [] (run ∷ runs) h = absurd h
@@ -55,7 +69,7 @@ place_count n [] = refl
 place_count n (run ∷ runs) = ap suc (place_count (n + length run) runs)
 
 run_at : (tin : Triangulation) (vs : List PathVertex) (runs : List (List Pt)) (k : ℕ) (d : PathVertex)
-    → AreRuns tin vs runs → k < length vs → IsRun tin (get_or vs k d) (get_or runs k [])
+    → ArePlaneRuns tin vs runs → k < length vs → IsPlaneRun tin (get_or vs k d) (get_or runs k [])
 run_at tin [] [] k d are h = absurd (omega arith)
 run_at tin [] (run ∷ runs) k d are h = absurd are
 run_at tin (v ∷ vs) [] k d are h = absurd are
@@ -63,19 +77,20 @@ run_at tin (v ∷ vs) (run ∷ runs) zero d are h = are.0
 run_at tin (v ∷ vs) (run ∷ runs) (suc k) d are h = run_at tin vs runs k d are.1 (omega arith)
 
 -- ---- how many vertices
-vertex_count : (points : List Pt) (n : ℕ) (rows : List PathRow) (first past : ℕ) → AreTiled rows first past
-    → first + length (vertices_from points n rows) ≡ past
-vertex_count points n [] first past e = sum e
+vertex_count : (points : List Pt) (heights : List Height) (n : ℕ) (rows : List PathRow) (first past : ℕ)
+    → AreTiled rows first past
+    → first + length (vertices_from points heights n rows) ≡ past
+vertex_count points heights n [] first past e = sum e
   where
     sum : first ≡ past → first + 0 ≡ past
     sum e = omega arith
-vertex_count points n (row ∷ rows) first past h =
+vertex_count points heights n (row ∷ rows) first past h =
     let path = h.0 in
-    sum (length (vertices_from points n (row ∷ rows))) (length (path_vertices points n row))
-    (length (vertices_from points (n + 1) rows))
-    (length-append (path_vertices points n row) (vertices_from points (n + 1) rows))
-    (length-map-range_with_len (vertex_at points n row) 0 (points_in row)) path.begins path.some
-    (vertex_count points (n + 1) rows row.past past h.1)
+    sum (length (vertices_from points heights n (row ∷ rows))) (length (path_vertices points heights n row))
+    (length (vertices_from points heights (n + 1) rows))
+    (length-append (path_vertices points heights n row) (vertices_from points heights (n + 1) rows))
+    (length-map-range_with_len (vertex_at points heights n row) 0 (points_in row)) path.begins path.some
+    (vertex_count points heights (n + 1) rows row.past past h.1)
   where
     sum : (l m k : ℕ) → l ≡ m + k → m ≡ row.past - row.first → row.first ≡ first → row.first < row.past
         → row.past + k ≡ past → first + l ≡ past
@@ -95,34 +110,36 @@ begins_behind (r ∷ rows) first past (suc i) row h k e = let path =
     up : r.first ≡ first → r.first < r.past → r.past ≤ row.first → first ≤ row.first
     up e f g = omega arith
 
-vertex_of : (points : List Pt) (n : ℕ) (rows : List PathRow) (first past i j k : ℕ) (row : PathRow) (d : PathVertex)
+vertex_of : (points : List Pt) (heights : List Height) (n : ℕ) (rows : List PathRow) (first past i j k : ℕ)
+    (row : PathRow) (d : PathVertex)
     → AreTiled rows first past → i < length rows → row ≡ get_or rows i row → j < points_in row
     → k + first ≡ row.first + j
-    → get_or (vertices_from points n rows) k d ≡ vertex_at points (n + i) row j
-vertex_of points n [] first past i j k row d tiled h e hj at = absurd (omega arith)
-vertex_of points n (r ∷ rows) first past zero j k row d tiled h e hj at =
+    → get_or (vertices_from points heights n rows) k d ≡ vertex_at points heights (n + i) row j
+vertex_of points heights n [] first past i j k row d tiled h e hj at = absurd (omega arith)
+vertex_of points heights n (r ∷ rows) first past zero j k row d tiled h e hj at =
     let path = tiled.0 in
     let here : k ≡ j = same (ap (λ (x : PathRow). x.first) e) path.begins in
     let upto : j < points_in r = subst (λ (x : PathRow). j < points_in x) e hj in
-    ap (λ (m : ℕ). get_or (path_vertices points n r ++ vertices_from points (n + 1) rows) m d) here
-    ∙ get_or-append (path_vertices points n r) (vertices_from points (n + 1) rows) d j
-    (subst (λ (m : ℕ). j < m) (sym (length-map-range_with_len (vertex_at points n r) 0 (points_in r))) upto)
-    ∙ get_or-map-range_with_len (vertex_at points n r) 0 (points_in r) j j d upto (omega arith)
-    ∙ ap (λ (x : PathRow). vertex_at points n x j) (sym e) ∙ ap (λ (m : ℕ). vertex_at points m row j) (omega arith)
+    ap (λ (m : ℕ). get_or (path_vertices points heights n r ++ vertices_from points heights (n + 1) rows) m d) here
+    ∙ get_or-append (path_vertices points heights n r) (vertices_from points heights (n + 1) rows) d j
+    (subst (λ (m : ℕ). j < m) (sym (length-map-range_with_len (vertex_at points heights n r) 0 (points_in r))) upto)
+    ∙ get_or-map-range_with_len (vertex_at points heights n r) 0 (points_in r) j j d upto (omega arith)
+    ∙ ap (λ (x : PathRow). vertex_at points heights n x j) (sym e)
+    ∙ ap (λ (m : ℕ). vertex_at points heights m row j) (omega arith)
   where
     same : row.first ≡ r.first → r.first ≡ first → k ≡ j
     same e f = omega arith
-vertex_of points n (r ∷ rows) first past (suc i) j k row d tiled h e hj at =
+vertex_of points heights n (r ∷ rows) first past (suc i) j k row d tiled h e hj at =
     let path = tiled.0 in
-    let front = path_vertices points n r in
+    let front = path_vertices points heights n r in
     let m = row.first + j - r.past in
     let behind = begins_behind rows r.past past i row tiled.1 (omega arith) e in
-    let there : k ≡ length front + m = split (length-map-range_with_len (vertex_at points n r) 0 (points_in r))
+    let there : k ≡ length front + m = split (length-map-range_with_len (vertex_at points heights n r) 0 (points_in r))
     path.begins path.some behind in
-    ap (λ (x : ℕ). get_or (front ++ vertices_from points (n + 1) rows) x d) there
-    ∙ get_or-append-add front (vertices_from points (n + 1) rows) m d
-    ∙ vertex_of points (n + 1) rows r.past past i j m row d tiled.1 (omega arith) e hj (rest behind)
-    ∙ ap (λ (x : ℕ). vertex_at points x row j) (omega arith)
+    ap (λ (x : ℕ). get_or (front ++ vertices_from points heights (n + 1) rows) x d) there
+    ∙ get_or-append-add front (vertices_from points heights (n + 1) rows) m d
+    ∙ vertex_of points heights (n + 1) rows r.past past i j m row d tiled.1 (omega arith) e hj (rest behind)
+    ∙ ap (λ (x : ℕ). vertex_at points heights x row j) (omega arith)
   where
     split : {l : ℕ} → l ≡ r.past - r.first → r.first ≡ first → r.first < r.past → r.past ≤ row.first
         → k ≡ l + (row.first + j - r.past)
@@ -139,7 +156,7 @@ point_crossings tin a (part ∷ []) images pieces ends = ends
 point_crossings tin a (part ∷ next ∷ parts) images pieces ends = absurd pieces
 
 same_ends : (tin : Triangulation) (segment : Segment) (images : List Pt) → segment.a ≡ segment.b
-    → AreCrossings tin (Some segment) images → images ≡ []
+    → ArePlaneCrossings tin (Some segment) images → images ≡ []
 same_ends tin segment images e cross =
     point_crossings tin segment.a cross.0 images (cross.1.0 e)
     (subst (λ (q : Pt). AreEndsOfAllButLast tin segment.a q cross.0 images) (sym e) cross.2)
@@ -175,10 +192,11 @@ to_itself points row h e = ap (λ (n : ℕ). point_at points n) (sym (back row.f
         zeroed : (m : ℕ) → m ≡ m + 0
         zeroed m = omega arith
 
-last_crossings : (tin : Triangulation) (points : List Pt) (path : ℕ) (row : PathRow) (images : List Pt)
+last_crossings : (tin : Triangulation) (points : List Pt) (heights : List Height) (path : ℕ) (row : PathRow)
+    (images : List Pt)
     → IsPathFrom row.first row → (row.kind ≢ Loop) ⊎ (points_in row ≡ 1)
-    → AreCrossings tin (vertex_at points path row (points_in row - 1)).segment images → images ≡ []
-last_crossings tin points path row images from which cross = go (below_or (points_in row - 1) (segments_in row))
+    → ArePlaneCrossings tin (vertex_at points heights path row (points_in row - 1)).segment images → images ≡ []
+last_crossings tin points heights path row images from which cross = go (below_or (points_in row - 1) (segments_in row))
   where
     some : 0 < points_in row
     some = more row.first row.past from.some
@@ -190,15 +208,16 @@ last_crossings tin points path row images from which cross = go (below_or (point
     one m n e = omega arith
 
     go : (points_in row - 1 < segments_in row) ⊎ (points_in row - 1 < segments_in row → ⊥) → images ≡ []
-    go (inr past) = subst (λ (b : Bool). AreCrossings tin
-        (cond b (Some (segment_at points path row (points_in row - 1))) None) images)
+    go (inr past) = subst (λ (b : Bool). ArePlaneCrossings tin
+        (cond b (Some (segment_at points heights path row (points_in row - 1))) None) images)
         (not_below (points_in row - 1) (segments_in row) past) cross
     go (inl within) =
         let single = lone row.kind (points_in row) some which (λ e. one row.first row.past (from.dot e)) within in
         let first : points_in row - 1 ≡ 0 = ap (λ (n : ℕ). n - 1) single in
-        same_ends tin (segment_at points path row 0) images (to_itself points row from.some single)
-        (subst (λ (n : ℕ). AreCrossings tin (Some (segment_at points path row n)) images) first
-        (subst (λ (b : Bool). AreCrossings tin (cond b (Some (segment_at points path row (points_in row - 1))) None)
+        same_ends tin (segment_at points heights path row 0) images (to_itself points row from.some single)
+        (subst (λ (n : ℕ). ArePlaneCrossings tin (Some (segment_at points heights path row n)) images) first
+        (subst (λ (b : Bool). ArePlaneCrossings tin
+        (cond b (Some (segment_at points heights path row (points_in row - 1))) None)
         images) (below (points_in row - 1) (segments_in row) within) cross))
 
 -- ---- in reach
@@ -222,18 +241,18 @@ ends_reached tin a b (part ∷ next ∷ parts) (image ∷ images) limits e =
     All-cons IsWithinReach image images (point_reached tin (spot_at a b part.last) image limits e.0)
     (ends_reached tin a b (next ∷ parts) images limits e.1)
 
-run_reached : (tin : Triangulation) (v : PathVertex) (run : List Pt) → IsWithinLimits tin → IsRun tin v run
+run_reached : (tin : Triangulation) (v : PathVertex) (run : List Pt) → IsWithinLimits tin → IsPlaneRun tin v run
     → All IsWithinReach run
 run_reached tin v [] limits h = absurd h
 run_reached tin v (image ∷ images) limits h =
     All-cons IsWithinReach image images (point_reached tin _ image limits h.0) (crossings v.segment h.1)
   where
-    crossings : (s : Option Segment) → AreCrossings tin s images → All IsWithinReach images
+    crossings : (s : Option Segment) → ArePlaneCrossings tin s images → All IsWithinReach images
     crossings None e = subst (λ (xs : List Pt). All IsWithinReach xs) (sym e) none_reached
     crossings (Some s) e = ends_reached tin s.a s.b e.0 images limits e.2
 
 runs_reached : (tin : Triangulation) (vs : List PathVertex) (runs : List (List Pt)) → IsWithinLimits tin
-    → AreRuns tin vs runs → All IsWithinReach (joined runs)
+    → ArePlaneRuns tin vs runs → All IsWithinReach (joined runs)
 runs_reached tin [] [] limits h = none_reached
 runs_reached tin [] (run ∷ runs) limits h = absurd h
 runs_reached tin (v ∷ vs) [] limits h = absurd h
@@ -242,18 +261,19 @@ runs_reached tin (v ∷ vs) (run ∷ runs) limits h =
 
 -- ---- the images fit
 abbrev no_vertex : PathVertex
-no_vertex = record { point = no_point; segment = None }
+no_vertex = record { point = no_point; height = None; segment = None }
 
-some_run : (tin : Triangulation) (v : PathVertex) (run : List Pt) → IsRun tin v run → 0 < length run
+some_run : (tin : Triangulation) (v : PathVertex) (run : List Pt) → IsPlaneRun tin v run → 0 < length run
 some_run tin v [] h = absurd h
 some_run tin v (image ∷ images) h = omega arith
 
-pub alone_run : (tin : Triangulation) (points : List Pt) (path : ℕ) (row : PathRow) (run : List Pt)
+pub alone_run : (tin : Triangulation) (points : List Pt) (heights : List Height) (path : ℕ) (row : PathRow)
+    (run : List Pt)
     → IsPathFrom row.first row → (row.kind ≢ Loop) ⊎ (points_in row ≡ 1)
-    → IsRun tin (vertex_at points path row (points_in row - 1)) run → length run ≡ 1
-alone_run tin points path row [] from which h = absurd h
-alone_run tin points path row (image ∷ images) from which h =
-    ap (λ (xs : List Pt). suc (length xs)) (last_crossings tin points path row images from which h.1)
+    → IsPlaneRun tin (vertex_at points heights path row (points_in row - 1)) run → length run ≡ 1
+alone_run tin points heights path row [] from which h = absurd h
+alone_run tin points heights path row (image ∷ images) from which h =
+    ap (λ (xs : List Pt). suc (length xs)) (last_crossings tin points heights path row images from which h.1)
 
 row_from : (rows : List PathRow) (first past i : ℕ) (row : PathRow) → AreTiled rows first past → i < length rows
     → row ≡ get_or rows i row → IsPathFrom row.first row
@@ -267,7 +287,8 @@ row_upto : (rows : List PathRow) (first past i : ℕ) (row : PathRow) → AreTil
     → row ≡ get_or rows i row → row.past ≤ past
 row_upto [] first past i row h k e = absurd (omega arith)
 row_upto (r ∷ rows) first past zero row h k e =
-    upto (length (vertices_from [] 0 rows)) (ap (λ (x : PathRow). x.past) e) (vertex_count [] 0 rows r.past past h.1)
+    upto (length (vertices_from [] [] 0 rows)) (ap (λ (x : PathRow). x.past) e)
+    (vertex_count [] [] 0 rows r.past past h.1)
   where
     upto : (l : ℕ) → row.past ≡ r.past → r.past + l ≡ past → row.past ≤ past
     upto l e f = omega arith
@@ -302,16 +323,17 @@ step_is images runs k are h =
     more : (n : ℕ) → n + 0 ≡ n
     more n = omega arith
 
-run_many : (tin : Triangulation) (sheet : Contents) (runs : List (List Pt)) → IsSheet sheet
-    → AreRuns tin (sheet_vertices sheet) runs → length runs ≡ length sheet.points
+pub run_many : (tin : Triangulation) (sheet : Contents) (runs : List (List Pt)) → IsSheet sheet
+    → ArePlaneRuns tin (sheet_vertices sheet) runs → length runs ≡ length sheet.points
 run_many tin sheet runs is are = run_count tin (sheet_vertices sheet) runs are
-    ∙ zeroed (length (sheet_vertices sheet)) (vertex_count sheet.points 0 sheet.paths 0 (length sheet.points) is.tiled)
+    ∙ zeroed (length (sheet_vertices sheet)) (vertex_count sheet.points sheet.heights 0 sheet.paths 0
+    (length sheet.points) is.tiled)
   where
     zeroed : (m : ℕ) → 0 + m ≡ length sheet.points → m ≡ length sheet.points
     zeroed m e = omega arith
 
 risen : (tin : Triangulation) (sheet : Contents) (images : Runs) (runs : List (List Pt)) (k : ℕ) → IsSheet sheet
-    → AreRuns tin (sheet_vertices sheet) runs → AreJoined images runs → k < length sheet.points
+    → ArePlaneRuns tin (sheet_vertices sheet) runs → AreJoined images runs → k < length sheet.points
     → run_begin images k < run_begin images (k + 1)
 risen tin sheet images runs k is are joint h =
     let here : k < length runs = subst (λ (n : ℕ). k < n) (sym (run_many tin sheet runs is are)) h in
@@ -324,7 +346,7 @@ risen tin sheet images runs k is are joint h =
     up {m = m} {n = n} {l = l} e f = omega arith
 
 alone_at : (tin : Triangulation) (sheet : Contents) (images : Runs) (runs : List (List Pt)) (i : ℕ) (row : PathRow)
-    → IsSheet sheet → AreRuns tin (sheet_vertices sheet) runs → AreJoined images runs → i < length sheet.paths
+    → IsSheet sheet → ArePlaneRuns tin (sheet_vertices sheet) runs → AreJoined images runs → i < length sheet.paths
     → row ≡ get_or sheet.paths i row → EndsAlone images row
 alone_at tin sheet images runs i row is are joint h e which last at =
     let from = row_from sheet.paths 0 (length sheet.points) i row is.tiled h e in
@@ -333,12 +355,13 @@ alone_at tin sheet images runs i row is are joint h e which last at =
     let here : last < length runs = subst (λ (n : ℕ). last < n) (sym (run_many tin sheet runs is are)) below in
     let there : last < length (sheet_vertices sheet) =
     subst (λ (n : ℕ). last < n) (run_count tin (sheet_vertices sheet) runs are) here in
-    let vertex = vertex_of sheet.points 0 sheet.paths 0 (length sheet.points) i (points_in row - 1) last row no_vertex
+    let vertex = vertex_of sheet.points sheet.heights 0 sheet.paths 0 (length sheet.points) i (points_in row - 1) last
+    row no_vertex
     is.tiled h e (under row.first row.past from.some) (place row.first row.past from.some at) in
-    let run = subst (λ (v : PathVertex). IsRun tin v (get_or runs last [])) vertex
+    let run = subst (λ (v : PathVertex). IsPlaneRun tin v (get_or runs last [])) vertex
     (run_at tin (sheet_vertices sheet) runs last no_vertex are there) in
     step_is images runs last joint here ∙ ap (λ (n : ℕ). run_begin images last + n)
-    (alone_run tin sheet.points (0 + i) row (get_or runs last []) from which run)
+    (alone_run tin sheet.points sheet.heights (0 + i) row (get_or runs last []) from which run)
   where
     under : (m n : ℕ) → m < n → n - m - 1 < n - m
     under m n h = omega arith
@@ -346,18 +369,158 @@ alone_at tin sheet images runs i row is are joint h e which last at =
     place : (m n : ℕ) → m < n → last + 1 ≡ n → last + 0 ≡ m + (n - m - 1)
     place m n h e = omega arith
 
+-- ---- with their heights
+pub plane_joint : (images : Runs) (runs : List (List Position)) → images.points ≡ points_of (joined runs)
+    → images.run ≡ begins_from 0 runs → AreJoined images (plane runs)
+plane_joint images runs points run =
+    record { points = points ∙ sym (plane_joined runs); run = run ∙ sym (plane_begins 0 runs) }
+
+plane_length : (runs : List (List Position)) (k : ℕ)
+    → length (joined (take k (plane runs))) ≡ length (joined (take k runs))
+plane_length runs k =
+    ap (λ (rs : List (List Pt)). length (joined rs)) (take-map (λ (run : List Position). points_of run) k runs)
+    ∙ ap (λ (ps : List Pt). length ps) (plane_joined (take k runs))
+    ∙ length-map (joined (take k runs)) (λ (position : Position). position.point)
+
+plane_at : (runs : List (List Position)) (k : ℕ) → k < length runs
+    → length (get_or (plane runs) k []) ≡ length (get_or runs k [])
+plane_at runs k h =
+    ap (λ (ps : List Pt). length ps) (get_or-map (λ (run : List Position). points_of run) runs k [] [] h)
+    ∙ length-map (get_or runs k []) (λ (position : Position). position.point)
+
+module _ (tin : Triangulation) (sheet : Contents) (images : Runs) (sound : IsSound tin) (is : IsSheet sheet)
+    (inside : IsSheetInside tin sheet) (are : AreImagesOf tin sheet images) where
+  abbrev vs : List PathVertex
+  vs = sheet_vertices sheet
+
+  joint : AreJoined images (plane are.runs)
+  joint = plane_joint images are.runs are.points are.run
+
+  many : length vs ≡ length sheet.points
+  many = zeroed (length vs) (vertex_count sheet.points sheet.heights 0 sheet.paths 0 (length sheet.points) is.tiled)
+    where
+      zeroed : (m : ℕ) → 0 + m ≡ length sheet.points → m ≡ length sheet.points
+      zeroed m e = omega (arith, e)
+
+  runs_many : length are.runs ≡ length sheet.points
+  runs_many = runs_count tin vs are.runs are.of_vertices ∙ many
+
+  begin_here : (k : ℕ) → k < length sheet.points → run_begin images k ≡ length (joined (take k are.runs))
+  begin_here k h =
+      begin_is images (plane are.runs) k joint
+      (let e = length-map are.runs (λ (run : List Position). points_of run) in let f =
+      runs_many in omega (arith, e, f, h))
+      ∙ plane_length are.runs k
+
+  step_here : (k : ℕ) → k < length sheet.points
+      → run_begin images (k + 1) ≡ run_begin images k + length (get_or are.runs k [])
+  step_here k h =
+      let below : k < length are.runs = let f = runs_many in omega (arith, f, h) in
+      step_is images (plane are.runs) k joint
+      (let e = length-map are.runs (λ (run : List Position). points_of run) in omega (arith, e, below))
+      ∙ ap (λ (n : ℕ). run_begin images k + n) (plane_at are.runs k below)
+
+  height_here : (k m : ℕ) → k < length sheet.points → m < length (get_or are.runs k [])
+      → height_in images.heights (run_begin images k + m) ≡ height_in (heights_of (get_or are.runs k [])) m
+  height_here k m h below =
+      ap (λ (hs : List Height). height_in hs (run_begin images k + m)) are.heights
+      ∙ ap (λ (n : ℕ). height_in (heights_of (joined are.runs)) (n + m)) (begin_here k h)
+      ∙ height_at_run are.runs k m (let f = runs_many in omega (arith, f, h)) below
+
+  run_of : (k : ℕ) → k < length sheet.points → IsRun tin (get_or vs k no_vertex) (get_or are.runs k [])
+  run_of k h = run_here tin vs are.runs k no_vertex are.of_vertices (let f = many in omega (arith, f, h))
+
+  own : (k : ℕ) → k < length sheet.points
+      → height_in images.heights (run_begin images k) ≡ height_in sheet.heights k
+  own k h =
+      let run = get_or are.runs k [] in
+      ap (height_in images.heights) (plus_zero (run_begin images k))
+      ∙ height_here k 0 h (some_images tin (get_or vs k no_vertex) run (run_of k h))
+      ∙ first_height tin (get_or vs k no_vertex) run (run_of k h)
+      ∙ vertex_height sheet.points sheet.heights 0 sheet.paths 0 (length sheet.points) k no_vertex is.tiled
+      (omega (arith, h))
+      ∙ ap (height_in sheet.heights) (zero_less k)
+    where
+      plus_zero : (n : ℕ) → n ≡ n + 0
+      plus_zero n = omega arith
+
+      zero_less : (n : ℕ) → n + 0 ≡ n
+      zero_less n = omega arith
+
+  crossings_at : (i : ℕ) (row : PathRow) → i < length sheet.paths → row ≡ get_or sheet.paths i row
+      → HaveCrossingHeights sheet images row
+  crossings_at i row h e point image from upto behind before =
+      go (cases_lt j (segments_in row))
+    where
+      j : ℕ
+      j = point - row.first
+
+      below : point < length sheet.points
+      below = let past = row_upto sheet.paths 0 (length sheet.points) i row is.tiled h e in omega (arith, past, upto)
+
+      run : List Position
+      run = get_or are.runs point []
+
+      m : ℕ
+      m = image - run_begin images point - 1
+
+      place : image ≡ run_begin images point + suc m
+      place = omega (arith, behind)
+
+      fits : suc m < length run
+      fits = let f = step_here point below in omega (arith, f, behind, before)
+
+      vertex : get_or vs point no_vertex ≡ vertex_at sheet.points sheet.heights (0 + i) row j
+      vertex = vertex_of sheet.points sheet.heights 0 sheet.paths 0 (length sheet.points) i j point row no_vertex
+          is.tiled
+          h e (omega (arith, from, upto)) (omega (arith, from))
+
+      at_point : row.first + j ≡ point
+      at_point = omega (arith, from)
+
+      segment : Segment
+      segment = segment_at sheet.points sheet.heights (0 + i) row j
+
+      go : (j < segments_in row) ⊎ (segments_in row ≤ j)
+          → is_some (height_in images.heights image)
+          ≡ (is_some (height_in sheet.heights point) && is_some (height_in sheet.heights (next_in row point)))
+      go (inl begun) =
+          let some : (get_or vs point no_vertex).segment ≡ Some segment = ap (λ (v : PathVertex). v.segment) vertex
+          ∙ ap (λ (b : Bool). cond b (Some segment) None) (lt-ltb j (segments_in row) begun) in
+          ap (λ (n : ℕ). is_some (height_in images.heights n)) place
+          ∙ ap (λ (z : Height). is_some z) (height_here point (suc m) below fits)
+          ∙ later_height tin (get_or vs point no_vertex) run segment m sound
+          (vertex_inside tin vs point no_vertex segment inside (let f = many in omega (arith, f, below)) some) some
+          (run_of point below) fits
+          ∙ ap (λ (n : ℕ). is_some (height_in sheet.heights n) && is_some (height_in sheet.heights (next_in row n)))
+          at_point
+      go (inr none) =
+          absurd (alone_height tin (get_or vs point no_vertex) run m (ap (λ (v : PathVertex). v.segment) vertex
+          ∙ ap (λ (b : Bool). cond b (Some segment) None) (not_below j (segments_in row) (λ k. omega (arith, none, k))))
+          (run_of point below) fits)
+
 pub images_fit : ImagesFit
-images_fit tin sheet images limits is are few = by (record { points = are.points; run = are.run })
-  where
-    by : AreJoined images are.runs → DoFit sheet images
-    by joint = record {
+images_fit tin sheet images limits sound is inside are few =
+    let runs = plane are.runs in
+    let of_vertices = plane_runs tin (sheet_vertices sheet) are.runs are.of_vertices in
+    let joint = plane_joint images are.runs are.points are.run in
+    record {
       few = few;
-      one_each = ap (λ (ns : List ℕ). length ns) are.run ∙ place_count 0 are.runs
-          ∙ run_many tin sheet are.runs is are.of_vertices;
-      begins = begin_is images are.runs 0 joint (omega arith);
-      rises = λ point h. risen tin sheet images are.runs point is are.of_vertices joint h;
-      alone = λ i d h. alone_at tin sheet images are.runs i (get_or sheet.paths i d) is are.of_vertices joint h
+      one_each = ap (λ (ns : List ℕ). length ns) joint.run ∙ place_count 0 runs
+          ∙ run_many tin sheet runs is of_vertices;
+      begins = begin_is images runs 0 joint (omega arith);
+      rises = λ point h. risen tin sheet images runs point is of_vertices joint h;
+      alone = λ i d h. alone_at tin sheet images runs i (get_or sheet.paths i d) is of_vertices joint h
           (get_or_default sheet.paths i d (get_or sheet.paths i d) h);
-      in_reach = subst (λ (ps : List Pt). All IsWithinReach ps) (sym are.points)
-          (runs_reached tin (sheet_vertices sheet) are.runs limits are.of_vertices);
+      in_reach = subst (λ (ps : List Pt). All IsWithinReach ps) (sym joint.points)
+          (runs_reached tin (sheet_vertices sheet) runs limits of_vertices);
+      height_each = ap (λ (hs : List Height). length hs) are.heights
+          ∙ length-map (joined are.runs) (λ (position : Position). position.height)
+          ∙ sym (length-map (joined are.runs) (λ (position : Position). position.point))
+          ∙ ap (λ (ps : List Pt). length ps) (sym are.points);
+      heights_in_reach = subst (λ (hs : List Height). All IsHeightWithinReach hs) (sym are.heights)
+          (heights_within tin sheet are.runs is.heights_in_reach are.of_vertices);
+      own_heights = own tin sheet images sound is inside are;
+      crossing_heights = λ i d h. crossings_at tin sheet images sound is inside are i (get_or sheet.paths i d) h
+          (get_or_default sheet.paths i d (get_or sheet.paths i d) h);
     }

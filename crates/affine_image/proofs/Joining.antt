@@ -1,18 +1,17 @@
 -- The parts of a segment that is inside follow each other from its first end to its last, and so do the images of their
 -- ends.
-use Rattle.std.proofs.Common.{◌≡◌, ◌≢◌, ◌⊎◌, inl, inr, ℕ, zero, suc, ◌+◌, ◌<◌, ℤ, pos, ◌+ℤ◌, ◌*ℤ◌, ◌<ℤ◌, List, [], ◌∷◌}
+use Rattle.std.proofs.Common.{◌≡◌, ◌≢◌, ◌⊎◌, inl, inr, ℕ, zero, suc, ◌+◌, ◌<◌, ℤ, pos, ◌<ℤ◌, List, [], ◌∷◌}
 use Rattle.std.proofs.Common.{length, ap, ap₂, sym, subst, arith}
 use Rattle.std.proofs.lemmas.Int.{ints}
-use Rattle.integer_ring.proofs.Ring.{num, ◌⊕◌, ◌⊖◌, ◌⊗◌}
-use Rattle.integer_ring.proofs.Claims.{◌≐◌, eqn, ◌because◌, ◌⇒◌, follows}
 use Rattle.plane_base.specs.Plane.{Same, whole}
 use Rattle.plane_base.specs.declared.shapes.Pt.{Pt}
 use Rattle.plane_base.proofs.Mixes.{same_trans, weights_between}
 use Rattle.tin_base.specs.Triangulation.{Triangulation}
 use Rattle.tin_base.specs.Soundness.{IsSound}
-use Rattle.tin_base.specs.Segments.{Spot, spot_at, at_a, at_b, IsSameSpot, IsInside, Part, part_at, ArePieces}
+use Rattle.tin_base.specs.Segments.{Spot, spot_at, at_a, at_b, IsInside, Part, part_at, ArePieces}
 use Rattle.tin_base.specs.Segments.{ArePiecesAt, ArePiecesOf, AreChain}
 use Rattle.tin_base.proofs.Spots.{one, spot-w, spot_first, spot_last, first_axis, spot_of_point}
+pub use Rattle.tin_base.proofs.Spots.{same_of_spots}
 use Rattle.tin_base.proofs.Chain.{chain}
 
 -- ---- two points are the same, or not
@@ -29,20 +28,6 @@ same_or a b = go (int_same_or a.x b.x) (int_same_or a.y b.y)
     go (inl x) (inl y) = inl (ap₂ at x y)
     go (inl x) (inr y) = inr (λ e. y (ap (λ (p : Pt). p.y) e))
     go (inr x) y = inr (λ e. x (ap (λ (p : Pt). p.x) e))
-
--- ---- the points of spots
-spot_axis : (k l m n a b c d : ℤ) → l *ℤ m ≡ n *ℤ k
-    → (k *ℤ a +ℤ (l *ℤ b +ℤ pos 0)) *ℤ (m *ℤ c +ℤ (n *ℤ d +ℤ pos 0)) ≡ (m *ℤ a +ℤ (n *ℤ b +ℤ pos 0))
-    *ℤ (k *ℤ c +ℤ (l *ℤ d +ℤ pos 0))
-spot_axis = follows 8
-    (λ k l m n a b c d. l ⊗ m ≐ n ⊗ k ⇒ (k ⊗ a ⊕ (l ⊗ b ⊕ num (pos 0))) ⊗ (m ⊗ c ⊕ (n ⊗ d ⊕ num (pos 0)))
-    ≐ (m ⊗ a ⊕ (n ⊗ b ⊕ num (pos 0))) ⊗ (k ⊗ c ⊕ (l ⊗ d ⊕ num (pos 0)))
-    because eqn 0 (b ⊗ c ⊖ a ⊗ d)) tt
-
-pub same_of_spots : (a b : Pt) (s t : Spot) → IsSameSpot s t → Same (spot_at a b s) (spot_at a b t)
-same_of_spots a b s t e =
-    let k = pos s.of_a in let l = pos s.of_b in let m = pos t.of_a in let n = pos t.of_b in
-    (spot_axis k l m n a.x b.x (pos 1) (pos 1) (ap pos e), spot_axis k l m n a.y b.y (pos 1) (pos 1) (ap pos e))
 
 -- ---- the parts of a segment that is inside
 pub record AreInLine (a b : Pt) (parts : List Part) : Type 0 where

@@ -10,6 +10,8 @@ pub mod Moving
 pub mod Joining
 pub mod Told
 pub mod Fitting
+pub mod PairedHeights
+pub mod SomeImages
 pub mod Bearing
 pub mod OneCut
 pub mod Segmenting
@@ -19,5 +21,11 @@ pub mod Leaving
 pub mod PathVertices
 pub mod SheetPaths
 pub mod Runs
+pub mod PlaneRuns
+pub mod SpotHeights
+pub mod RunHeights
+pub mod OneHeight
+pub mod RunReach
+pub mod OneSheet
 pub mod Counting
 mod HeightLemmas

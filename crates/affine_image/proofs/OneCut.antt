@@ -12,11 +12,11 @@ use Rattle.tin_base.specs.Segments.{ArePieces, ArePiecesAt, ArePiecesOf}
 use Rattle.tin_base.proofs.Ends.{IsSpot, no_later_trans, not_both, no_later, before_trans_left, before_trans_right}
 use Rattle.affine_image.specs.Rounded.{IsRoundedImageAt}
 use Rattle.affine_image.specs.SheetImages.{AreEndsOfAllButLast}
-use Rattle.tin_base.proofs.Spots.{spot-w}
-use Rattle.affine_image.proofs.Joining.{same_or, same_of_spots}
+use Rattle.tin_base.proofs.Spots.{spot-w, same_of_spots}
+use Rattle.affine_image.proofs.Joining.{same_or}
 use Rattle.affine_image.proofs.Moving.{rounded_moved}
 use Rattle.affine_image.proofs.Rounding.{rounded_images_agree}
-use Rattle.plain_laws.proofs.Order.{trichotomy}
+use Rattle.plain_laws.proofs.Order.{trichotomy, equal_of_neither}
 use Rattle.tin_base.proofs.Ends.{up_to_same}
 
 -- ---- the order of spots
@@ -165,15 +165,6 @@ all_alike (part ∷ parts) [] count twins = absurd (omega (arith, count))
 all_alike (part ∷ parts) (other ∷ others) count twins =
     (twins 0 (omega arith), all_alike parts others (omega (arith, count)) (λ i h. twins (suc i) (omega (arith, h))))
 
--- neither of two numbers is below the other
-neither : (m n : ℕ) → (m < n → ⊥) → (n < m → ⊥) → m ≡ n
-neither m n h k = go (trichotomy m n)
-  where
-    go : (m < n) ⊎ ((m ≡ n) ⊎ (n < m)) → m ≡ n
-    go (inl less) = absurd (h less)
-    go (inr (inl same)) = same
-    go (inr (inr more)) = absurd (k more)
-
 twins_at : (tin : Triangulation) (a b : Pt) (parts others : List Part) (i : ℕ) → ArePieces tin a b parts
     → ArePieces tin a b others → i < length parts → AreTwins (part_at parts i) (part_at others i)
 twins_at tin a b parts others i p q h =
@@ -184,7 +175,7 @@ twins_at tin a b parts others i p q h =
     let alike = at.alike in
     record {
       triangle =
-          neither (part_at parts i).triangle (part_at others i).triangle
+          equal_of_neither (part_at parts i).triangle (part_at others i).triangle
           (λ less. q.least i (part_at parts i).triangle at.within less
           (part_moved tin a b (part_at parts i).triangle (part_at parts i).first (part_at parts i).last
           (part_at others i).first (part_at others i).last also_first.some also_last.some alike.first alike.last
@@ -222,7 +213,7 @@ point_alike tin a [] (other ∷ next ∷ others) p q = absurd q
 point_alike tin a (part ∷ []) [] (within, has, least, first, last) q = absurd (q (part.triangle, within, has))
 point_alike tin a (part ∷ []) (other ∷ []) (within, has, least, first, last) (within', has', least', first', last') = (
   record {
-    triangle = neither part.triangle other.triangle (λ less. least' part.triangle less has)
+    triangle = equal_of_neither part.triangle other.triangle (λ less. least' part.triangle less has)
         (λ less. least other.triangle less has');
     first = at_first part.first other.first first first';
     last = at_first part.last other.last last last';

@@ -10,6 +10,7 @@ use Rattle.plane_base.specs.declared.shapes.Pt.{Pt}
 use Rattle.sheet_base.specs.declared.paths.PathKind.{PathKind}
 use Rattle.sheet_base.specs.declared.paths.PathKind.TheVariants.{Dot, Line, Loop}
 use Rattle.sheet_base.specs.declared.paths.PathRow.{PathRow}
+use Rattle.sheet_base.specs.PointHeights.{Height}
 use Rattle.sheet_base.specs.Segments.{points_in, segments_of, segments_in, point_at, begin_of, end_of}
 use Rattle.sheet_base.specs.Sheets.{IsPathFrom}
 use Rattle.affine_image.specs.SheetSegments.{Segment, PathVertex, segment_at, vertex_at, path_vertices, segments_begun}
@@ -37,24 +38,26 @@ few row path = few_of row.kind (points_in row) (some row.first row.past path.som
     one m n e = omega arith
 
 -- ---- the vertices so far
-abbrev pub first_vertices : List Pt → ℕ → PathRow → ℕ → List PathVertex
-first_vertices points path row j = map (vertex_at points path row) (range_with_len 0 j)
+abbrev pub first_vertices : List Pt → List Height → ℕ → PathRow → ℕ → List PathVertex
+first_vertices points heights path row j = map (vertex_at points heights path row) (range_with_len 0 j)
 
-pub one_vertex_more : (points : List Pt) (path : ℕ) (row : PathRow) (j : ℕ)
-    → first_vertices points path row (j + 1) ≡ first_vertices points path row j ++ vertex_at points path row j ∷ []
-one_vertex_more points path row j = map-range_with_len_more (vertex_at points path row) 0 j j (omega arith)
+pub one_vertex_more : (points : List Pt) (heights : List Height) (path : ℕ) (row : PathRow) (j : ℕ)
+    → first_vertices points heights path row (j + 1) ≡ first_vertices points heights path row j
+    ++ vertex_at points heights path row j ∷ []
+one_vertex_more points heights path row j =
+    map-range_with_len_more (vertex_at points heights path row) 0 j j (omega arith)
 
-pub begins_one : (points : List Pt) (path : ℕ) (row : PathRow) (j : ℕ) → j < segments_in row
-    → (vertex_at points path row j).segment ≡ Some (segment_at points path row j)
-begins_one points path row j h = ap (λ (b : Bool). cond b (Some (segment_at points path row j)) None)
+pub begins_one : (points : List Pt) (heights : List Height) (path : ℕ) (row : PathRow) (j : ℕ) → j < segments_in row
+    → (vertex_at points heights path row j).segment ≡ Some (segment_at points heights path row j)
+begins_one points heights path row j h = ap (λ (b : Bool). cond b (Some (segment_at points heights path row j)) None)
     (lt-ltb j (segments_in row) h)
 
 not_below : (j n : ℕ) → n ≤ j → ltb j n ≡ false
 not_below j n h = grind arith
 
-pub begins_none : (points : List Pt) (path : ℕ) (row : PathRow) (j : ℕ) → segments_in row ≤ j
-    → (vertex_at points path row j).segment ≡ None
-begins_none points path row j h = ap (λ (b : Bool). cond b (Some (segment_at points path row j)) None)
+pub begins_none : (points : List Pt) (heights : List Height) (path : ℕ) (row : PathRow) (j : ℕ) → segments_in row ≤ j
+    → (vertex_at points heights path row j).segment ≡ None
+begins_none points heights path row j h = ap (λ (b : Bool). cond b (Some (segment_at points heights path row j)) None)
     (not_below j (segments_in row) h)
 
 pub in_points : (row : PathRow) (j : ℕ) → IsPathFrom row.first row → j < segments_in row → j < points_in row
@@ -82,21 +85,26 @@ next_begins points row j h = ap (λ (n : ℕ). point_at points n)
     next k n m h = ap (λ (b : Bool). cond b (k + 1) m) (lt-ltb (k + 1) n h)
 
 -- ---- the segments around one
-pub split_at : (points : List Pt) (path : ℕ) (row : PathRow) (j : ℕ) → IsPathFrom row.first row → j < segments_in row
-    → segments_begun (path_vertices points path row) ≡ segments_begun (first_vertices points path row j)
-    ++ ((segment_at points path row j ∷ []) ++ segments_begun (drop (suc j) (path_vertices points path row)))
-split_at points path row j from h =
-    ap segments_begun (sym (take-append-drop j (path_vertices points path row)))
-    ∙ begun_append (take j (path_vertices points path row)) (drop j (path_vertices points path row))
+pub split_at : (points : List Pt) (heights : List Height) (path : ℕ) (row : PathRow) (j : ℕ) → IsPathFrom row.first row
+    → j < segments_in row
+    → segments_begun (path_vertices points heights path row) ≡ segments_begun (first_vertices points heights path row j)
+    ++ ((segment_at points heights path row j ∷ [])
+    ++ segments_begun (drop (suc j) (path_vertices points heights path row)))
+split_at points heights path row j from h =
+    ap segments_begun (sym (take-append-drop j (path_vertices points heights path row)))
+    ∙ begun_append (take j (path_vertices points heights path row)) (drop j (path_vertices points heights path row))
     ∙ ap₂ (λ (vs ws : List PathVertex). segments_begun vs ++ segments_begun ws)
-    (take-map-range_with_len (vertex_at points path row) 0 (points_in row) j up)
-    (drop-cons (path_vertices points path row) j (vertex_at points path row j)
-    (subst (λ (n : ℕ). j < n) (sym (length-map-range_with_len (vertex_at points path row) 0 (points_in row))) here)
-    ∙ ap (λ (v : PathVertex). v ∷ drop (suc j) (path_vertices points path row))
-    (get_or-map-range_with_len (vertex_at points path row) 0 (points_in row) j j (vertex_at points path row j) here
+    (take-map-range_with_len (vertex_at points heights path row) 0 (points_in row) j up)
+    (drop-cons (path_vertices points heights path row) j (vertex_at points heights path row j)
+    (subst (λ (n : ℕ). j < n) (sym (length-map-range_with_len (vertex_at points heights path row) 0 (points_in row)))
+    here)
+    ∙ ap (λ (v : PathVertex). v ∷ drop (suc j) (path_vertices points heights path row))
+    (get_or-map-range_with_len (vertex_at points heights path row) 0 (points_in row) j j
+    (vertex_at points heights path row j) here
     (omega arith)))
-    ∙ ap (λ (s : Option Segment). segments_begun (first_vertices points path row j)
-    ++ cons_option s (segments_begun (drop (suc j) (path_vertices points path row)))) (begins_one points path row j h)
+    ∙ ap (λ (s : Option Segment). segments_begun (first_vertices points heights path row j)
+    ++ cons_option s (segments_begun (drop (suc j) (path_vertices points heights path row))))
+    (begins_one points heights path row j h)
   where
     here : j < points_in row
     here = let f = few row from in within (segments_in row) (points_in row) h f.upto

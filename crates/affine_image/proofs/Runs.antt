@@ -1,21 +1,21 @@
 -- The runs of vertices, and the segments that are inside, one list behind the other.
 use Rattle.std.proofs.Common.{◌≡◌, ℕ, ◌+◌, List, [], ◌∷◌, ◌++◌, length, ap, ◌∙◌, arith}
 use Rattle.std.proofs.lemmas.List.{length-append}
-use Rattle.plane_base.specs.declared.shapes.Pt.{Pt}
+use Rattle.sheet_base.specs.PointHeights.{Position}
 use Rattle.tin_base.specs.Triangulation.{Triangulation}
 use Rattle.affine_image.specs.SheetSegments.{Segment, PathVertex}
 use Rattle.affine_image.specs.SheetPieces.{AreInside}
 use Rattle.affine_image.specs.SheetImages.{AreRuns, joined, begins_from}
 
 -- ---- runs
-pub runs_more : (tin : Triangulation) (vs ws : List PathVertex) (rs ss : List (List Pt)) → AreRuns tin vs rs
+pub runs_more : (tin : Triangulation) (vs ws : List PathVertex) (rs ss : List (List Position)) → AreRuns tin vs rs
     → AreRuns tin ws ss → AreRuns tin (vs ++ ws) (rs ++ ss)
 runs_more tin [] ws [] ss h k = k
 runs_more tin [] ws (r ∷ rs) ss h k = absurd h
 runs_more tin (v ∷ vs) ws [] ss h k = absurd h
 runs_more tin (v ∷ vs) ws (r ∷ rs) ss h k = (h.0, runs_more tin vs ws rs ss h.1 k)
 
-pub begins_more : (n : ℕ) (rs ss : List (List Pt))
+pub begins_more : {X : Type 0} (n : ℕ) (rs ss : List (List X))
     → begins_from n (rs ++ ss) ≡ begins_from n rs ++ begins_from (n + length (joined rs)) ss
 begins_more n [] ss = ap (λ (m : ℕ). begins_from m ss) (omega arith)
 begins_more n (r ∷ rs) ss = ap (λ (ms : List ℕ). n ∷ ms)

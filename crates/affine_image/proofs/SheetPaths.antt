@@ -5,6 +5,7 @@ use Rattle.std.proofs.Math.Seq.{drop-cons}
 use Rattle.std.proofs.lemmas.List.{take_more, append-nil, length-take-le, get_or_default}
 use Rattle.plane_base.specs.declared.shapes.Pt.{Pt}
 use Rattle.sheet_base.specs.declared.paths.PathRow.{PathRow}
+use Rattle.sheet_base.specs.PointHeights.{Height}
 use Rattle.sheet_base.specs.declared.paths.PathKind.TheVariants.{Dot}
 use Rattle.sheet_base.specs.Sheets.{Contents, IsPathFrom, AreTiled, IsSheet}
 use Rattle.affine_image.specs.SheetSegments.{Segment, PathVertex, path_vertices, vertices_from, segments_begun}
@@ -48,15 +49,16 @@ row_at (r ∷ rows) first past zero row h k e =
 row_at (r ∷ rows) first past (suc i) row h k e = row_at rows r.past past i row h.1 (omega arith) e
 
 -- ---- the vertices of paths
-pub vertices_more : (points : List Pt) (n : ℕ) (rs bs : List PathRow)
-    → vertices_from points n (rs ++ bs) ≡ vertices_from points n rs ++ vertices_from points (n + length rs) bs
-vertices_more points n [] bs = ap (λ (m : ℕ). vertices_from points m bs) (omega arith)
-vertices_more points n (row ∷ rs) bs =
-    ap (λ (vs : List PathVertex). path_vertices points n row ++ vs)
-    (vertices_more points (n + 1) rs bs ∙ ap
-    (λ (m : ℕ). vertices_from points (n + 1) rs ++ vertices_from points m bs) (omega arith))
-    ∙ sym (append_assoc (path_vertices points n row) (vertices_from points (n + 1) rs)
-    (vertices_from points (n + length (row ∷ rs)) bs))
+pub vertices_more : (points : List Pt) (heights : List Height) (n : ℕ) (rs bs : List PathRow)
+    → vertices_from points heights n (rs ++ bs) ≡ vertices_from points heights n rs
+    ++ vertices_from points heights (n + length rs) bs
+vertices_more points heights n [] bs = ap (λ (m : ℕ). vertices_from points heights m bs) (omega arith)
+vertices_more points heights n (row ∷ rs) bs =
+    ap (λ (vs : List PathVertex). path_vertices points heights n row ++ vs)
+    (vertices_more points heights (n + 1) rs bs ∙ ap
+    (λ (m : ℕ). vertices_from points heights (n + 1) rs ++ vertices_from points heights m bs) (omega arith))
+    ∙ sym (append_assoc (path_vertices points heights n row) (vertices_from points heights (n + 1) rs)
+    (vertices_from points heights (n + length (row ∷ rs)) bs))
 
 counted : (rows : List PathRow) (i : ℕ) → i ≤ length rows → 0 + length (take i rows) ≡ i
 counted rows i h = zeroed (length-take-le i rows h)
@@ -91,42 +93,47 @@ below : (i n : ℕ) → i < n → i ≤ n
 below i n h = omega arith
 
 -- ---- one path more
-pub one_path_more : (points : List Pt) (rows : List PathRow) (i : ℕ) (row : PathRow) → i < length rows
-    → IsRowAt rows i row → vertices_from points 0 (take (i + 1) rows) ≡ vertices_from points 0 (take i rows)
-    ++ path_vertices points i row
-one_path_more points rows i row h e =
-    ap (λ (xs : List PathRow). vertices_from points 0 xs)
+pub one_path_more : (points : List Pt) (heights : List Height) (rows : List PathRow) (i : ℕ) (row : PathRow)
+    → i < length rows
+    → IsRowAt rows i row → vertices_from points heights 0 (take (i + 1) rows)
+    ≡ vertices_from points heights 0 (take i rows)
+    ++ path_vertices points heights i row
+one_path_more points heights rows i row h e =
+    ap (λ (xs : List PathRow). vertices_from points heights 0 xs)
     (take_more rows i row h ∙ ap (λ (last : PathRow). take i rows ++ last ∷ []) (sym e))
-    ∙ vertices_more points 0 (take i rows) (row ∷ [])
-    ∙ ap (λ (n : ℕ). vertices_from points 0 (take i rows) ++ (path_vertices points n row ++ []))
+    ∙ vertices_more points heights 0 (take i rows) (row ∷ [])
+    ∙ ap (λ (n : ℕ). vertices_from points heights 0 (take i rows) ++ (path_vertices points heights n row ++ []))
     (counted rows i (below i (length rows) h))
-    ∙ ap (λ (vs : List PathVertex). vertices_from points 0 (take i rows) ++ vs)
-    (append-nil (path_vertices points i row))
+    ∙ ap (λ (vs : List PathVertex). vertices_from points heights 0 (take i rows) ++ vs)
+    (append-nil (path_vertices points heights i row))
 
 -- ---- the segments around those of a path
-pub split_paths : (points : List Pt) (rows : List PathRow) (i : ℕ) (row : PathRow) → i < length rows
+pub split_paths : (points : List Pt) (heights : List Height) (rows : List PathRow) (i : ℕ) (row : PathRow)
+    → i < length rows
     → IsRowAt rows i row
-    → segments_begun (vertices_from points 0 rows) ≡ segments_begun (vertices_from points 0 (take i rows))
-    ++ (segments_begun (path_vertices points i row)
-    ++ segments_begun (vertices_from points (i + 1) (drop (suc i) rows)))
-split_paths points rows i row h e = begun
+    → segments_begun (vertices_from points heights 0 rows)
+    ≡ segments_begun (vertices_from points heights 0 (take i rows))
+    ++ (segments_begun (path_vertices points heights i row)
+    ++ segments_begun (vertices_from points heights (i + 1) (drop (suc i) rows)))
+split_paths points heights rows i row h e = begun
   where
-    split : vertices_from points 0 rows ≡ vertices_from points 0 (take i rows)
-        ++ (path_vertices points i row ++ vertices_from points (i + 1) (drop (suc i) rows))
+    split : vertices_from points heights 0 rows ≡ vertices_from points heights 0 (take i rows)
+        ++ (path_vertices points heights i row ++ vertices_from points heights (i + 1) (drop (suc i) rows))
     split =
-        ap (λ (xs : List PathRow). vertices_from points 0 xs)
+        ap (λ (xs : List PathRow). vertices_from points heights 0 xs)
         (sym (take-append-drop i rows) ∙ ap (λ (rs : List PathRow). take i rows ++ rs)
         (drop-cons rows i row h ∙ ap (λ (first : PathRow). first ∷ drop (suc i) rows) (sym e)))
-        ∙ vertices_more points 0 (take i rows) (row ∷ drop (suc i) rows)
-        ∙ ap (λ (n : ℕ). vertices_from points 0 (take i rows)
-        ++ (path_vertices points n row ++ vertices_from points (n + 1) (drop (suc i) rows)))
+        ∙ vertices_more points heights 0 (take i rows) (row ∷ drop (suc i) rows)
+        ∙ ap (λ (n : ℕ). vertices_from points heights 0 (take i rows)
+        ++ (path_vertices points heights n row ++ vertices_from points heights (n + 1) (drop (suc i) rows)))
         (counted rows i (below i (length rows) h))
 
-    begun : segments_begun (vertices_from points 0 rows) ≡ segments_begun (vertices_from points 0 (take i rows))
-        ++ (segments_begun (path_vertices points i row)
-        ++ segments_begun (vertices_from points (i + 1) (drop (suc i) rows)))
+    begun : segments_begun (vertices_from points heights 0 rows)
+        ≡ segments_begun (vertices_from points heights 0 (take i rows))
+        ++ (segments_begun (path_vertices points heights i row)
+        ++ segments_begun (vertices_from points heights (i + 1) (drop (suc i) rows)))
     begun =
-        ap segments_begun split ∙ begun_append (vertices_from points 0 (take i rows))
-        (path_vertices points i row ++ vertices_from points (i + 1) (drop (suc i) rows))
-        ∙ ap (λ (ss : List Segment). segments_begun (vertices_from points 0 (take i rows)) ++ ss)
-        (begun_append (path_vertices points i row) (vertices_from points (i + 1) (drop (suc i) rows)))
+        ap segments_begun split ∙ begun_append (vertices_from points heights 0 (take i rows))
+        (path_vertices points heights i row ++ vertices_from points heights (i + 1) (drop (suc i) rows))
+        ∙ ap (λ (ss : List Segment). segments_begun (vertices_from points heights 0 (take i rows)) ++ ss)
+        (begun_append (path_vertices points heights i row) (vertices_from points heights (i + 1) (drop (suc i) rows)))

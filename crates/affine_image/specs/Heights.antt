@@ -1,12 +1,7 @@
 -- The height of a point of a segment, between those of its ends.
 use Rattle.std.specs.Prelude.{◌≡◌, ℤ, pos, ◌+ℤ◌, ◌*ℤ◌, ◌≤ℤ◌, ◌<ℤ◌}
 use Rattle.frac128.specs.Rounding.{half_up_of}
-
--- The weights of two ends in a mix of them: none is negative, and not both are zero.
-pub record AreWeights (u v : ℤ) : Type 0 where
-  pub first : pos 0 ≤ℤ u
-  pub second : pos 0 ≤ℤ v
-  pub some : pos 0 <ℤ (u +ℤ v)
+use Rattle.plane_base.specs.TwoWeights.{AreWeights}
 
 -- the height of the mix of two ends with weights u and v, where the ends have the heights a and b: (u a + v b) / (u +
 -- v), rounded half up

@@ -10,3 +10,4 @@ pub mod SheetLaws
 pub mod SegmentImages
 pub mod Sides
 pub mod Heights
+pub mod SpotHeights

@@ -1,6 +1,7 @@
 -- The laws of the pieces and images of a sheet.
 use Rattle.std.specs.Prelude.{◌≡◌, ℕ, ◌+◌, ◌<◌, ◌^◌, List, All, length, map, slice_get, Some}
-use Rattle.sheet_base.specs.Sheets.{Contents, IsSheet}
+use Rattle.plane_base.specs.declared.shapes.Pt.{Pt}
+use Rattle.sheet_base.specs.Sheets.{Contents, AreTiled, IsSheet}
 use Rattle.sheet_base.specs.Fitting.{Runs, DoFit}
 use Rattle.sheet_base.specs.ReadBack.{Ends, ends_of, imaged}
 use Rattle.tin_base.specs.declared.pieces.Piece.{Piece}
@@ -35,13 +36,20 @@ abbrev pub SheetPiecesArePieces : Type 0
 SheetPiecesArePieces = (tin : Triangulation) (layer : ℕ) (sheet : Contents) (pieces : List Piece)
     → ArePiecesOfSheet tin layer sheet pieces → All (IsImagedPiece tin) pieces
 
--- the images of a sheet fit it, where they are few enough to be counted in 32 bits
+-- Of each sound triangulation: where all segments of a sheet are inside, whose paths follow each other without a gap, it
+-- has images
+abbrev pub ImagesExist : Type 0
+ImagesExist = (tin : Triangulation) → IsSound tin → (sheet : Contents) → AreTiled sheet.paths 0 (length sheet.points)
+    → IsSheetInside tin sheet → (images : Runs) × AreImagesOf tin sheet images
+
+-- Of each sound triangulation: the images of a sheet all of whose segments are inside fit it, where they are few enough
+-- to be counted in 32 bits
 abbrev pub ImagesFit : Type 0
-ImagesFit = (tin : Triangulation) (sheet : Contents) (images : Runs) → IsWithinLimits tin → IsSheet sheet
-    → AreImagesOf tin sheet images → length images.points < 2 ^ 32 → DoFit sheet images
+ImagesFit = (tin : Triangulation) (sheet : Contents) (images : Runs) → IsWithinLimits tin → IsSound tin → IsSheet sheet
+    → IsSheetInside tin sheet → AreImagesOf tin sheet images → length images.points < 2 ^ 32 → DoFit sheet images
 
 -- the rounded images of the ends of some pieces, from the first point's to the last one's
-abbrev pub image_ends : List Piece → List Ends
+abbrev pub image_ends : List Piece → List (Ends Pt)
 image_ends pieces = map (λ (piece : Piece). record { from = piece.ia; to = piece.ib }) pieces
 
 -- Of each sound triangulation: where all segments of a sheet are inside, its paths with their images in place of their

@@ -6,52 +6,57 @@ use Rattle.plane_base.specs.declared.shapes.Pt.{Pt}
 use Rattle.sheet_base.specs.declared.paths.PathKind.{PathKind}
 use Rattle.sheet_base.specs.declared.paths.PathKind.TheVariants.{Dot, Line, Loop}
 use Rattle.sheet_base.specs.declared.paths.PathRow.{PathRow}
+use Rattle.sheet_base.specs.PointHeights.{Height, height_in}
+use Rattle.sheet_base.specs.ReadBack.{Ends, height_ends_at}
 use Rattle.sheet_base.specs.Segments.{points_in, segments_in, begin_of, end_of}
 use Rattle.sheet_base.specs.Sheets.{Contents}
 
--- a segment from a to b: the path that it is of, and its number in the path, each counted from 0
+-- a segment from a to b, with the heights of its ends: the path that it is of, and its number in the path, each counted
+-- from 0
 pub record Segment : Type 0 where
   pub path : ℕ
   pub number : ℕ
   pub a : Pt
   pub b : Pt
+  pub heights : Ends Height
 
--- a point of a path, and the segment that begins there, where one does
+-- a point of a path with its height, and the segment that begins there, where one does
 pub record PathVertex : Type 0 where
   pub point : Pt
+  pub height : Height
   pub segment : Option Segment
 
 -- the segment of this number, of the path of that number
-abbrev pub segment_at : List Pt → ℕ → PathRow → ℕ → Segment
-segment_at points path row number = record {
+abbrev pub segment_at : List Pt → List Height → ℕ → PathRow → ℕ → Segment
+segment_at points heights path row number = record {
   path = path;
   number = number;
   a = begin_of points row number;
-  b =
-      end_of points row number;
+  b = end_of points row number;
+  heights = height_ends_at heights row number;
 }
 
 -- the path's vertex of this number: the segment of the same number begins there, if the path has one
-abbrev pub vertex_at : List Pt → ℕ → PathRow → ℕ → PathVertex
-vertex_at points path row number =
-    record {
-      point = begin_of points row number;
-      segment =
-          if nat_lt number (segments_in row) then Some (segment_at points path row number) else None;
-    }
+abbrev pub vertex_at : List Pt → List Height → ℕ → PathRow → ℕ → PathVertex
+vertex_at points heights path row number = record {
+  point = begin_of points row number;
+  height = height_in heights (row.first + number);
+  segment = if nat_lt number (segments_in row) then Some (segment_at points heights path row number) else None;
+}
 
 -- the vertices of a path
-abbrev pub path_vertices : List Pt → ℕ → PathRow → List PathVertex
-path_vertices points path row = map (vertex_at points path row) (range_with_len 0 (points_in row))
+abbrev pub path_vertices : List Pt → List Height → ℕ → PathRow → List PathVertex
+path_vertices points heights path row = map (vertex_at points heights path row) (range_with_len 0 (points_in row))
 
 -- of paths that are numbered from this number on
-abbrev pub vertices_from : List Pt → ℕ → List PathRow → List PathVertex
-vertices_from points path [] = []
-vertices_from points path (row ∷ rows) = path_vertices points path row ++ vertices_from points (path + 1) rows
+abbrev pub vertices_from : List Pt → List Height → ℕ → List PathRow → List PathVertex
+vertices_from points heights path [] = []
+vertices_from points heights path (row ∷ rows) = path_vertices points heights path row
+    ++ vertices_from points heights (path + 1) rows
 
 -- the vertices of a sheet
 abbrev pub sheet_vertices : Contents → List PathVertex
-sheet_vertices sheet = vertices_from sheet.points 0 sheet.paths
+sheet_vertices sheet = vertices_from sheet.points sheet.heights 0 sheet.paths
 
 -- the segments that begin at some vertices
 abbrev pub segments_begun : List PathVertex → List Segment

@@ -3,7 +3,7 @@
 ghost use Rattle.affine_image.specs.Laws.{RoundedImagesAgree, CutsAreImages, RoundedImagesAreInReach};
 ghost use Rattle.affine_image.specs.Laws.{RoundedImagesAreNear, DoubledNumeratorsAreSmall};
 ghost use Rattle.affine_image.specs.SegmentImages.{PieceImagesAreTheImage};
-ghost use Rattle.affine_image.specs.SheetLaws.{PieceImagesAreJoined, SheetPiecesArePieces, ImagesFit};
+ghost use Rattle.affine_image.specs.SheetLaws.{PieceImagesAreJoined, SheetPiecesArePieces, ImagesExist, ImagesFit};
 ghost use Rattle.affine_image.specs.SheetLaws.{ImageSegmentsArePieces};
 
 /// A law: the rounded image of a place is one, whichever triangle gives it.
@@ -45,6 +45,11 @@ pub fn piece_images_are_the_image()
 /// A law: each piece of a sheet is a piece of the triangulation, with the rounded images of its own ends.
 pub fn sheet_pieces_are_pieces()
     ensures { SheetPiecesArePieces }
+{}
+
+/// A law: where all segments of a sheet are inside a sound triangulation, it has images.
+pub fn images_exist()
+    ensures { ImagesExist }
 {}
 
 /// A law: the images of a sheet fit it, where there are fewer than 2^32.

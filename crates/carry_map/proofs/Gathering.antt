@@ -2,18 +2,23 @@
 use Rattle.std.proofs.Common.{◌≡◌, ℕ, ◌+◌, ◌-◌, ◌≤◌, List, [], ◌∷◌, ◌++◌, Option, Some, None, take, drop, length}
 use Rattle.std.proofs.Common.{append_assoc, ap, refl, sym, ◌∙◌, subst, arith}
 use Rattle.std.proofs.Math.Seq.{drop-append_seam}
-use Rattle.std.proofs.lemmas.List.{take_all, append-nil, length-append}
-use Rattle.std.proofs.lemmas.Grind.{flat_map-append}
+use Rattle.std.proofs.lemmas.List.{take_all, append-nil, length-append, length-map}
 use Rattle.std.specs.List.{cons_option}
 use Rattle.plane_base.specs.declared.shapes.Pt.{Pt}
 use Rattle.tin_base.specs.declared.pieces.Piece.{Piece}
 use Rattle.tin_base.specs.Triangulation.{Triangulation}
+use Rattle.sheet_base.specs.PointHeights.{Height, Position, paired, points_of, heights_of}
+use Rattle.sheet_base.proofs.PositionLists.{paired_points, paired_heights}
 use Rattle.tin_base.specs.Segments.{IsInside}
+use Rattle.affine_image.specs.SpotHeights.{crossing_heights}
+use Rattle.affine_image.proofs.SpotHeights.{crossing_count}
 use Rattle.affine_image.specs.Rounded.{IsRoundedImage}
 use Rattle.affine_image.specs.SheetSegments.{Segment, PathVertex, segments_begun}
 use Rattle.affine_image.specs.SheetPieces.{first_place, ArePiecesOfAll, AreInside}
 use Rattle.affine_image.specs.SheetImages.{AreCrossings, joined, begins_from}
 use Rattle.affine_image.proofs.Told.{inner_ends}
+use Rattle.affine_image.proofs.PairedHeights.{crossings_paired, ends_count}
+use Rattle.affine_image.proofs.PlaneRuns.{items_on}
 use Rattle.affine_image.proofs.Runs.{runs_more, begins_more, inside_more}
 use Rattle.affine_image.proofs.Segmenting.{begun_append}
 use Rattle.carry_map.specs.Carried.{inner_images, AreSegmentTold, IsSegmentCarried, AreCarried}
@@ -45,12 +50,13 @@ pieces_more tin layer (s ∷ ss) ts ps qs h k = (
 )
 
 -- ---- carried
-pub carried_none : (tin : Triangulation) (layer : ℕ) (points : List Pt) (run : List ℕ) (pieces : List Piece)
-    → AreCarried tin layer [] points points run run pieces pieces
-carried_none tin layer points run pieces = record {
+pub carried_none : (tin : Triangulation) (layer : ℕ) (points : List Pt) (heights : List Height) (run : List ℕ)
+    (pieces : List Piece) → AreCarried tin layer [] points points heights heights run run pieces pieces
+carried_none tin layer points heights run pieces = record {
   runs = [];
   of_vertices = tt;
   points_are = sym (append-nil points);
+  heights_are = sym (append-nil heights);
   run_are = sym (append-nil run);
   own = [];
   pieces_are = sym (append-nil pieces);
@@ -58,19 +64,19 @@ carried_none tin layer points run pieces = record {
   inside = tt;
 }
 
-pub carried_on : (tin : Triangulation) (layer : ℕ) (vs ws : List PathVertex) (x y z : List Pt) (r s t : List ℕ)
-    (p q o : List Piece) → AreCarried tin layer vs x y r s p q → AreCarried tin layer ws y z s t q o
-    → AreCarried tin layer (vs ++ ws) x z r t p o
-carried_on tin layer vs ws x y z r s t p q o g h = record {
+pub carried_on : (tin : Triangulation) (layer : ℕ) (vs ws : List PathVertex) (x y z : List Pt) (a b c : List Height)
+    (r s t : List ℕ) (p q o : List Piece) → AreCarried tin layer vs x y a b r s p q
+    → AreCarried tin layer ws y z b c s t q o → AreCarried tin layer (vs ++ ws) x z a c r t p o
+carried_on tin layer vs ws x y z a b c r s t p q o g h = record {
   runs = g.runs ++ h.runs;
   of_vertices = runs_more tin vs ws g.runs h.runs g.of_vertices h.of_vertices;
-  points_are = h.points_are ∙ ap (λ (xs : List Pt). xs ++ joined h.runs) g.points_are
-      ∙ append_assoc x (joined g.runs) (joined h.runs)
-      ∙ ap (λ (xs : List Pt). x ++ xs) (sym (flat_map-append (λ run. run) g.runs h.runs));
+  points_are = items_on (λ (position : Position). position.point) x y z g.runs h.runs g.points_are h.points_are;
+  heights_are = items_on (λ (position : Position). position.height) a b c g.runs h.runs g.heights_are h.heights_are;
   run_are = h.run_are ∙ ap (λ (ms : List ℕ). ms ++ begins_from (length y) h.runs) g.run_are
       ∙ append_assoc r (begins_from (length x) g.runs) (begins_from (length y) h.runs)
       ∙ ap (λ (ms : List ℕ). r ++ ms) (ap (λ (m : ℕ). begins_from (length x) g.runs ++ begins_from m h.runs)
-      (ap (λ (xs : List Pt). length xs) g.points_are ∙ length-append x (joined g.runs))
+      (ap (λ (xs : List Pt). length xs) g.points_are ∙ length-append x (points_of (joined g.runs))
+      ∙ ap (λ (n : ℕ). length x + n) (length-map (joined g.runs) (λ (position : Position). position.point)))
       ∙ sym (begins_more (length x) g.runs h.runs));
   own = g.own ++ h.own;
   pieces_are = h.pieces_are ∙ ap (λ (xs : List Piece). xs ++ h.own) g.pieces_are ∙ append_assoc p g.own h.own;
@@ -82,13 +88,15 @@ carried_on tin layer vs ws x y z r s t p q o g h = record {
 
 -- a vertex that begins no segment
 pub carried_last : (tin : Triangulation) (layer : ℕ) (vertex : PathVertex) (image : Pt) (points points' : List Pt)
-    (run run' : List ℕ) (pieces : List Piece) → vertex.segment ≡ None → IsRoundedImage tin vertex.point image
-    → points' ≡ points ++ image ∷ [] → run' ≡ run ++ length points ∷ []
-    → AreCarried tin layer (vertex ∷ []) points points' run run' pieces pieces
-carried_last tin layer vertex image points points' run run' pieces none is e f = record {
-  runs = (image ∷ []) ∷ [];
-  of_vertices = ((is, subst (λ (s : Option Segment). AreCrossings tin s []) (sym none) refl), tt);
+    (heights heights' : List Height) (run run' : List ℕ) (pieces : List Piece) → vertex.segment ≡ None
+    → IsRoundedImage tin vertex.point image
+    → points' ≡ points ++ image ∷ [] → heights' ≡ heights ++ vertex.height ∷ [] → run' ≡ run ++ length points ∷ []
+    → AreCarried tin layer (vertex ∷ []) points points' heights heights' run run' pieces pieces
+carried_last tin layer vertex image points points' heights heights' run run' pieces none is e g f = record {
+  runs = (record { point = image; height = vertex.height } ∷ []) ∷ [];
+  of_vertices = ((is, refl, subst (λ (s : Option Segment). AreCrossings tin s []) (sym none) refl), tt);
   points_are = e;
+  heights_are = g;
   run_are = f;
   own = [];
   pieces_are = sym (append-nil pieces);
@@ -98,32 +106,43 @@ carried_last tin layer vertex image points points' run run' pieces none is e f =
 
 -- and one that does
 pub carried_way : (tin : Triangulation) (layer : ℕ) (vertex : PathVertex) (segment : Segment) (image : Pt)
-    (points points' points'' : List Pt) (run run' : List ℕ) (pieces pieces' : List Piece)
+    (points points' points'' : List Pt) (heights heights' heights'' : List Height) (run run' : List ℕ)
+    (pieces pieces' : List Piece)
     → vertex.segment ≡ Some segment → IsRoundedImage tin vertex.point image
-    → points' ≡ points ++ image ∷ [] → run' ≡ run ++ length points ∷ [] → IsInside tin segment.a segment.b
-    → IsSegmentCarried tin segment.a segment.b (first_place layer segment) points' points'' pieces pieces'
-    → AreCarried tin layer (vertex ∷ []) points points'' run run' pieces pieces'
-carried_way tin layer vertex segment image points points' points'' run run' pieces pieces' some is e f inside carried =
-    go carried.told refl
+    → points' ≡ points ++ image ∷ [] → heights' ≡ heights ++ vertex.height ∷ [] → run' ≡ run ++ length points ∷ []
+    → IsInside tin segment.a segment.b
+    → IsSegmentCarried tin segment.a segment.b segment.heights (first_place layer segment) points' points'' heights'
+    heights'' pieces pieces'
+    → AreCarried tin layer (vertex ∷ []) points points'' heights heights'' run run' pieces pieces'
+carried_way tin layer vertex segment image points points' points'' heights heights' heights'' run run' pieces pieces'
+    some is e g f inside carried = go carried.told carried.crossings carried.rises
   where
     go : (told : AreSegmentTold tin segment.a segment.b (first_place layer segment) pieces pieces')
-        → carried.told ≡ told → AreCarried tin layer (vertex ∷ []) points points'' run run' pieces pieces'
-    go told same =
-        let behind = inner_images told.own in
-        let crossings : AreCrossings tin (Some segment) behind = (
-          told.parts,
-          told.cut,
-          inner_ends tin segment.a segment.b (first_place layer segment) told.parts told.own
-              told.told,
-        ) in
+        → points'' ≡ points' ++ inner_images told.own
+        → heights'' ≡ heights' ++ crossing_heights segment.a segment.b segment.heights told.parts
+        → AreCarried tin layer (vertex ∷ []) points points'' heights heights'' run run' pieces pieces'
+    go told points_on heights_on =
+        let ends = inner_ends tin segment.a segment.b (first_place layer segment) told.parts told.own told.told in
+        let hs = crossing_heights segment.a segment.b segment.heights told.parts in
+        let images = inner_images told.own in
+        let count : length images ≡ length hs = ends_count tin segment.a segment.b told.parts images ends
+        ∙ sym (crossing_count segment.a segment.b segment.heights told.parts) in
+        let behind = paired images hs in
+        let first : Position = record { point = image; height = vertex.height } in
+        let crossings = crossings_paired tin segment told.parts images told.cut ends count in
         record {
-          runs = (image ∷ behind) ∷ [];
-          of_vertices = ((is, subst (λ (s : Option Segment). AreCrossings tin s behind) (sym some) crossings), tt);
-          points_are = carried.crossings ∙ ap (λ (xs : List Pt). xs ++ inner_images (carried.told).own) e
-              ∙ append_assoc points (image ∷ []) (inner_images (carried.told).own)
-              ∙ ap (λ (t : AreSegmentTold tin segment.a segment.b (first_place layer segment) pieces pieces'). points
-              ++ (image ∷ inner_images t.own)) same ∙ ap (λ (xs : List Pt). points ++ (image ∷ xs))
-              (sym (append-nil behind));
+          runs = (first ∷ behind) ∷ [];
+          of_vertices = (
+            (is, refl, subst (λ (s : Option Segment). AreCrossings tin s behind) (sym some) crossings),
+            tt,
+          );
+          points_are = points_on ∙ ap (λ (xs : List Pt). xs ++ images) e ∙ append_assoc points (image ∷ []) images
+              ∙ ap (λ (xs : List Pt). points ++ (image ∷ xs)) (sym (paired_points images hs count)
+              ∙ ap (λ (ps : List Position). points_of ps) (sym (append-nil behind)));
+          heights_are = heights_on ∙ ap (λ (zs : List Height). zs ++ hs) g
+              ∙ append_assoc heights (vertex.height ∷ []) hs
+              ∙ ap (λ (zs : List Height). heights ++ (vertex.height ∷ zs)) (sym (paired_heights images hs count)
+              ∙ ap (λ (ps : List Position). heights_of ps) (sym (append-nil behind)));
           run_are = f;
           own = told.own;
           pieces_are = told.are;
@@ -136,3 +155,15 @@ carried_way tin layer vertex segment image points points' points'' run run' piec
           );
           inside = subst (λ (s : Option Segment). AreInside tin (cons_option s [])) (sym some) (inside, tt);
         }
+
+-- as many heights as points
+pub carried_each : (tin : Triangulation) (layer : ℕ) (vs : List PathVertex) (x y : List Pt) (a b : List Height)
+    (r s : List ℕ) (p q : List Piece) → AreCarried tin layer vs x y a b r s p q → length a ≡ length x
+    → length b ≡ length y
+carried_each tin layer vs x y a b r s p q carried e =
+    ap (λ (zs : List Height). length zs) carried.heights_are ∙ length-append a (heights_of (joined carried.runs))
+    ∙ ap (λ (n : ℕ). length a + n) (length-map (joined carried.runs) (λ (position : Position). position.height)
+    ∙ sym (length-map (joined carried.runs) (λ (position : Position). position.point)))
+    ∙ ap (λ (n : ℕ). n + length (points_of (joined carried.runs))) e
+    ∙ sym (length-append x (points_of (joined carried.runs)))
+    ∙ ap (λ (ps : List Pt). length ps) (sym carried.points_are)

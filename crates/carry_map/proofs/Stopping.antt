@@ -2,6 +2,8 @@
 use Rattle.std.proofs.Common.{◌≡◌, ℕ, ◌+◌, ◌<◌, ◌≤◌, List, [], ◌∷◌, ◌++◌, length, append_assoc, ap, refl, sym, ◌∙◌}
 use Rattle.std.proofs.Common.{arith}
 use Rattle.std.proofs.lemmas.List.{length-append}
+use Rattle.sheet_base.specs.PointHeights.{Height}
+use Rattle.sheet_base.specs.ReadBack.{Ends}
 use Rattle.tin_base.specs.declared.pieces.Piece.{Piece}
 use Rattle.tin_base.specs.Triangulation.{Triangulation}
 use Rattle.affine_image.specs.SheetSegments.{Segment}
@@ -13,9 +15,9 @@ use Rattle.carry_map.specs.Causes.{HaveRoom, IsReached, IsCause, IsWayCause}
 use Rattle.affine_image.proofs.Runs.{inside_more}
 use Rattle.carry_map.proofs.Gathering.{pieces_more}
 
--- the segment of a way
-abbrev pub segment_of : Way → Segment
-segment_of way = record { path = way.from.path; number = way.from.segment; a = way.a; b = way.b }
+-- the segment of a way, with these heights of its ends
+abbrev pub segment_of : Way → Ends Height → Segment
+segment_of way ends = record { path = way.from.path; number = way.from.segment; a = way.a; b = way.b; heights = ends }
 
 -- it is reached where it is the first
 reached_first : (tin : Triangulation) (layer old most : ℕ) (segment : Segment) → old ≤ most
@@ -29,23 +31,23 @@ reached_first tin layer old most segment h =
           record { inside = tt; pieces = []; are = refl; room = omega (arith, h) };
     }
 
-pub cause_of_way : (tin : Triangulation) (layer old most : ℕ) (way : Way) (fault : CarryFault) → old ≤ most
-    → IsWayCause tin way old most fault → IsCause tin layer old most (segment_of way ∷ []) fault
+pub cause_of_way : (tin : Triangulation) (layer old most : ℕ) (way : Way) (ends : Ends Height) (fault : CarryFault)
+    → old ≤ most → IsWayCause tin way old most fault → IsCause tin layer old most (segment_of way ends ∷ []) fault
 unfolding reached_first
-cause_of_way tin layer old most way (Layer f) h cause = absurd cause
-cause_of_way tin layer old most way (Outside path number) h cause =
+cause_of_way tin layer old most way ends (Layer f) h cause = absurd cause
+cause_of_way tin layer old most way ends (Outside path number) h cause =
     record {
-      segment = segment_of way;
-      reached = reached_first tin layer old most (segment_of way) h;
+      segment = segment_of way ends;
+      reached = reached_first tin layer old most (segment_of way ends) h;
       path_is =
           cause.0;
       number_is = cause.1;
       outside = cause.2;
     }
-cause_of_way tin layer old most way TooMany h cause =
+cause_of_way tin layer old most way ends TooMany h cause =
     record {
-      segment = segment_of way;
-      reached = reached_first tin layer old most (segment_of way) h;
+      segment = segment_of way ends;
+      reached = reached_first tin layer old most (segment_of way ends) h;
       inside =
           cause.inside;
       parts = cause.parts;
@@ -55,7 +57,7 @@ cause_of_way tin layer old most way TooMany h cause =
   where
     full : (m n : ℕ) → most < m + n → most < m + 0 + n
     full m n f = omega arith
-cause_of_way tin layer old most way NoMemory h cause = tt
+cause_of_way tin layer old most way ends NoMemory h cause = tt
 
 -- ---- segments before it, whose pieces stand already, and behind it
 room_more : (tin : Triangulation) (layer old most : ℕ) (ss ts : List Segment) (own : List Piece) → AreInside tin ss

@@ -14,7 +14,7 @@ ghost use Rattle.carry_map.specs.Causes.{IsFirstOutside, IsFirstTooMany, IsCause
 
 use crate::CarryFault;
 use crate::paths::{Gathered, Track, carry_path};
-use sheet_base::{Images, Listed, Sheet};
+use sheet_base::{Heights, Images, Listed, Sheet};
 use std::alloc::Global;
 use tin_base::{Piece, Place};
 use tin_index::TinIndex;
@@ -29,16 +29,18 @@ fn carry_paths(
 ) -> Result<Gathered, CarryFault>
     requires room { vec_len pieces.old ≤ most }
     requires most { most ≤ MOST_PIECES }
-    ensures carried { IfOk result (λ gathered. AreCarried index.now layer (sheet_vertices sheet.now) [] gathered.points.items [] gathered.run.items pieces.old.items pieces.new.items) }
+    ensures carried { IfOk result (λ gathered. AreCarried index.now layer (sheet_vertices sheet.now) [] gathered.points.items [] gathered.heights [] gathered.run.items pieces.old.items pieces.new.items) }
     ensures room { OnOk result (vec_len pieces.new ≤ most) }
     ensures few { IfOk result (λ gathered. vec_len gathered.points ≤ 2 * vec_len pieces.new) }
     ensures cause { IfErr result (λ fault. IsCause index.now layer (vec_len pieces.old) most (sheet_segments sheet.now) fault) }
     ensures grows { Grows pieces.old.items pieces.new.items }
 {
     let points = sheet.points();
+    let heights = sheet.heights();
     // (as many crossings as half of the points find room)
     let mut gathered = Gathered {
         points: Vec::with_capacity(alloc, points.len().saturating_add(points.len() / 2))?,
+        heights: Heights::none(alloc, 0),
         run: Vec::with_capacity(alloc, points.len())?,
     };
     // (about as many pieces as points)
@@ -53,7 +55,16 @@ fn carry_paths(
                 piece: 0,
             },
         };
-        carry_path(alloc, index, points, track, most, &mut gathered, pieces)?;
+        carry_path(
+            alloc,
+            index,
+            points,
+            heights,
+            track,
+            most,
+            &mut gathered,
+            pieces,
+        )?;
     }
     Ok(gathered)
 }
@@ -65,7 +76,7 @@ fn sheet_known(sheet: &Sheet)
     let _ = sheet.paths();
 }
 
-/// Carries a layer: the images of its sheet, and its pieces, which are appended in order. `layer` is its number, and
+/// Carries a layer: the images of its sheet with their heights, and its pieces, which are appended in order. `layer` is its number, and
 /// with its pieces there are to be at most `most`. Each segment must be inside: all its points in source triangles.
 /// At the first segment that is not, or whose pieces find no room, the answer is `Outside` or `TooMany`; a segment that
 /// is outside is `Outside`. The paths with the images in place of their points have as segments, in order, those
@@ -100,7 +111,11 @@ pub fn carry(
     sheet_known(sheet);
     let before = pieces.len();
     match carry_paths(alloc, index, sheet, layer, most, pieces) {
-        Ok(gathered) => Ok(Images::of(Listed::of(gathered.points), Listed::of(gathered.run))),
+        Ok(gathered) => Ok(Images::of(
+            Listed::of(gathered.points),
+            gathered.heights,
+            Listed::of(gathered.run),
+        )),
         Err(fault) => {
             pieces.truncate(before);
             Err(fault)

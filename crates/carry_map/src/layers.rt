@@ -1,8 +1,9 @@
 //! One call reads a layer, carries it and writes its bytes with the images in place of its points.
 
-ghost use Rattle.std.specs.Prelude.{◌≡◌, ◌≢◌, ℕ, ◌≤◌, ◌^◌, length, drop, vec_len, IfOk, OnOk, OnErr, IsErrOf};
+ghost use Rattle.std.specs.Prelude.{◌≡◌, ℕ, ◌≤◌, ◌^◌, length, drop, vec_len, IfOk, OnOk, OnErr, IsErrOf};
 ghost use Rattle.sheet_base.specs.declared.faults.LayerFault.{LayerFault};
 ghost use Rattle.sheet_base.specs.declared.faults.LayerFault.TheVariants.{NoMemory};
+ghost use Rattle.sheet_base.specs.Splices.{AreInOrder};
 ghost use Rattle.affine_image.specs.SheetSegments.{sheet_segments};
 ghost use Rattle.carry_map.specs.declared.limits.TheConstants.{MOST_PIECES};
 ghost use Rattle.carry_map.specs.Layers.{IsLayerCarried, IsLayerOutside, IsLayerTooMany, IsBackAsPieces};
@@ -33,14 +34,20 @@ fn path_count(sheet: &Sheet) -> u32
     sheet.paths().len() as u32
 }
 
-/// Why a layer that is not read is not carried.
-fn unread(fault: LayerFault) -> CarryFault
-    ensures layer { fault ≢ NoMemory → result ≡ CarryFault.Layer fault }
-    ensures memory { fault ≡ NoMemory → result ≡ CarryFault.NoMemory }
+/// The sheet of a layer, or why the layer is not carried: its first fault, or memory that runs out.
+fn read_sheet<L: Layer>(alloc: Global, bytes: &[u8], how: How) -> Result<Sheet, CarryFault>
+    requires { length bytes.now ≤ 2 ^ 26 }
+    ensures sheet { IfOk result (λ sheet. L.reads how bytes.now sheet) }
+    ensures edits { IfOk result (λ sheet. AreInOrder 0 sheet.edits (length bytes.now)) }
+    ensures layer { (fault : LayerFault) → IsErrOf result (CarryFault.Layer fault) → L.refuses how bytes.now fault }
+    ensures memory { ¬ IsErrOf result (CarryFault.Layer NoMemory) }
+    ensures outside { (path segment : ℕ) → ¬ IsErrOf result (CarryFault.Outside path segment) }
+    ensures too_many { ¬ IsErrOf result CarryFault.TooMany }
 {
-    match fault {
-        LayerFault::NoMemory => CarryFault::NoMemory,
-        fault => CarryFault::Layer(fault),
+    match L::read(alloc, bytes, how) {
+        Ok(sheet) => Ok(sheet),
+        Err(LayerFault::NoMemory) => Err(CarryFault::NoMemory),
+        Err(fault) => Err(CarryFault::Layer(fault)),
     }
 }
 
@@ -77,7 +84,7 @@ pub fn carry_layer<L: Layer>(
         → IsLayerTooMany index.now (L.reads how bytes.now) layer (vec_len pieces.old) most }
     ensures unchanged { OnErr result (pieces.new.items ≡ pieces.old.items) }
 {
-    let sheet = L::read(alloc, bytes, how).map_err(unread)?;
+    let sheet = read_sheet::<L>(alloc, bytes, how)?;
     let before = pieces.len();
     let images = carry(alloc, index, &sheet, layer, most, pieces)?;
     match L::render(alloc, bytes, how, &sheet, &images) {

@@ -12,6 +12,6 @@ mod segments;
 
 pub use carrying::carry;
 pub use faults::CarryFault;
-pub use laws::{limits_are_stated, outcome_exists};
+pub use laws::{layer_end_exists, limits_are_stated, outcome_exists};
 pub use layers::{Carried, carry_layer};
 pub use limits::MOST_PIECES;

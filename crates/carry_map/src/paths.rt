@@ -1,11 +1,12 @@
 //! One call carries a path: it appends the images of its points and crossings, and the pieces of its segments.
 
-ghost use Rattle.std.specs.Prelude.{◌≡◌, ◌+◌, ◌*◌, ◌<◌, ◌≤◌, ◌^◌, [], ◌∷◌, ◌++◌, length, vec_len, IfSome, IfNone};
+ghost use Rattle.std.specs.Prelude.{◌≡◌, ◌+◌, ◌*◌, ◌<◌, ◌≤◌, ◌^◌, [], ◌∷◌, ◌++◌, length, vec_len, IfSome, IfNone, All};
 ghost use Rattle.std.specs.Prelude.{IfErr, OnOk};
 ghost use Rattle.plane_base.specs.Plane.{whole};
 ghost use Rattle.tin_base.specs.declared.frames.Frame.TheVariants.{Source};
 ghost use Rattle.tin_base.specs.Images.{IsInSome};
-ghost use Rattle.sheet_base.specs.Segments.{points_in, segments_in, next_in, begin_of, end_of};
+ghost use Rattle.sheet_base.specs.Segments.{points_in, segments_in, begin_of, end_of};
+ghost use Rattle.sheet_base.specs.PointHeights.{IsHeightWithinReach};
 ghost use Rattle.sheet_base.specs.Sheets.{IsPathFrom};
 ghost use Rattle.affine_image.specs.Rounded.{IsRoundedImage};
 ghost use Rattle.affine_image.specs.SheetSegments.{path_vertices, segments_begun};
@@ -15,17 +16,18 @@ ghost use Rattle.carry_map.specs.Causes.{IsCause};
 
 use crate::CarryFault;
 use crate::segments::{Way, carry_segment};
-use affine_image::{image_of, next_point, point_count, segment_count};
+use affine_image::{end_heights, image_of, next_point, point_count, segment_count};
 use plane_base::Pt;
-use sheet_base::PathRow;
+use sheet_base::{Heights, PathRow};
 use std::alloc::Global;
 use tin_base::{Piece, Place};
 use tin_index::TinIndex;
 
-/// The images so far, and where the run of each point begins.
+/// The images so far with their heights, and where the run of each point begins.
 #[derive(Drop)]
 pub(crate) struct Gathered {
     pub(crate) points: Vec<Pt>,
+    pub(crate) heights: Heights,
     pub(crate) run: Vec<u32>,
 }
 
@@ -63,15 +65,19 @@ fn last_triangle(pieces: &[Piece], triangle: u32) -> u32 {
     }
 }
 
-/// Begins the run of the next point with its image.
-fn begin_run(gathered: &mut Gathered, image: Pt) -> Result<(), CarryFault>
+/// Begins the run of the next point with its image and its height.
+fn begin_run(gathered: &mut Gathered, image: Pt, height: Option<i64>) -> Result<(), CarryFault>
     requires few { vec_len gathered.old.points < 2 ^ 32 }
+    requires few_heights { length gathered.old.heights < 2 ^ 32 }
     ensures points { OnOk result (gathered.new.points.items ≡ gathered.old.points.items ++ image ∷ []) }
+    ensures heights { OnOk result (gathered.new.heights ≡ gathered.old.heights ++ height ∷ []) }
+    ensures count { OnOk result (length gathered.new.heights ≡ length gathered.old.heights + 1) }
     ensures run { OnOk result (gathered.new.run.items ≡ gathered.old.run.items ++ vec_len gathered.old.points ∷ []) }
     ensures memory { IfErr result (λ fault. fault ≡ CarryFault.NoMemory) }
 {
     gathered.run.push(gathered.points.len() as u32)?;
     gathered.points.push(image)?;
+    gathered.heights.push(height)?;
     Ok(())
 }
 
@@ -102,6 +108,7 @@ pub(crate) fn carry_path(
     alloc: Global,
     index: &TinIndex,
     points: &[Pt],
+    heights: &Heights,
     track: Track,
     most: u32,
     gathered: &mut Gathered,
@@ -112,10 +119,12 @@ pub(crate) fn carry_path(
     requires room { vec_len pieces.old ≤ most }
     requires most { most ≤ MOST_PIECES }
     requires few { vec_len gathered.old.points ≤ 2 * vec_len pieces.old }
-    ensures carried { OnOk result (AreCarried index.now track.from.layer (path_vertices points.now track.from.path track.row) gathered.old.points.items gathered.new.points.items gathered.old.run.items gathered.new.run.items pieces.old.items pieces.new.items) }
+    requires each { length gathered.old.heights ≡ vec_len gathered.old.points }
+    requires reach { All IsHeightWithinReach heights.now }
+    ensures carried { OnOk result (AreCarried index.now track.from.layer (path_vertices points.now heights.now track.from.path track.row) gathered.old.points.items gathered.new.points.items gathered.old.heights gathered.new.heights gathered.old.run.items gathered.new.run.items pieces.old.items pieces.new.items) }
     ensures room { OnOk result (vec_len pieces.new ≤ most) }
     ensures few { OnOk result (vec_len gathered.new.points ≤ 2 * vec_len pieces.new) }
-    ensures cause { IfErr result (λ fault. IsCause index.now track.from.layer (vec_len pieces.old) most (segments_begun (path_vertices points.now track.from.path track.row)) fault) }
+    ensures cause { IfErr result (λ fault. IsCause index.now track.from.layer (vec_len pieces.old) most (segments_begun (path_vertices points.now heights.now track.from.path track.row)) fault) }
     ensures grows { Grows pieces.old.items pieces.new.items }
 {
     let Some(found) = find(index, points[track.row.first as usize]) else {
@@ -128,15 +137,26 @@ pub(crate) fn carry_path(
     // where a segment ends the next begins
     let mut triangle = found.triangle;
     for number in 0..segment_count(track.row) {
-        begin_run(gathered, image)?;
         let way = way_at(points, track, number, triangle);
-        image = carry_segment(alloc, index, way, most, image, &mut gathered.points, pieces)?;
+        let ends = end_heights(heights, track.row, number);
+        begin_run(gathered, image, ends.from)?;
+        image = carry_segment(
+            alloc,
+            index,
+            way,
+            ends,
+            most,
+            image,
+            &mut gathered.points,
+            &mut gathered.heights,
+            pieces,
+        )?;
         triangle = last_triangle(pieces, triangle);
     }
     if segment_count(track.row) == point_count(track.row) {
         return Ok(());
     }
     // the last point of a line begins no segment
-    begin_run(gathered, image)?;
+    begin_run(gathered, image, heights.at(track.row.past as usize - 1))?;
     Ok(())
 }

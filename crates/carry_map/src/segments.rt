@@ -1,6 +1,6 @@
 //! One call carries a segment: it cuts it, and appends its pieces and the images of its crossings.
 
-ghost use Rattle.std.specs.Prelude.{◌≡◌, ◌↔◌, ◌+◌, ◌<◌, ◌≤◌, ◌++◌, IsTrue, map, length, vec_len, IfOk, IfErr, OnOk};
+ghost use Rattle.std.specs.Prelude.{◌≡◌, ◌↔◌, ◌+◌, ◌<◌, ◌≤◌, ◌^◌, ◌++◌, IsTrue, map, length, vec_len, IfOk, IfErr, OnOk};
 ghost use Rattle.seg_walk.specs.Steps.{AreSteps};
 ghost use Rattle.tin_base.specs.Limits.{IsWithinLimits};
 ghost use Rattle.tin_base.specs.Segments.{IsInside, spot_at};
@@ -8,13 +8,17 @@ ghost use Rattle.tin_base.specs.Slices.{spot_of, IsSliceIn, AreNearTriangle};
 ghost use Rattle.tin_base.specs.Soundness.{IsSound};
 ghost use Rattle.affine_image.specs.Rounded.{IsRoundedImage, IsRoundedImageAt};
 ghost use Rattle.carry_map.specs.declared.limits.TheConstants.{MOST_PIECES};
-ghost use Rattle.carry_map.specs.Carried.{Grows, AreSegmentTold, IsSegmentCarried};
+ghost use Rattle.carry_map.specs.Carried.{Grows, AreSegmentTold, IsSegmentTold, IsSegmentCarried};
+ghost use Rattle.affine_image.specs.SpotHeights.{param_height};
+ghost use Rattle.carry_map.specs.StepHeights.{HaveParams};
+ghost use Rattle.sheet_base.specs.PointHeights.{IsHeightWithinReach};
 ghost use Rattle.carry_map.specs.Causes.{IsCutCause, IsWayCause};
 
 use crate::CarryFault;
-use affine_image::end_image;
+use affine_image::{EndHeights, end_image, height_between};
 use plane_base::Pt;
 use seg_walk::{Step, Steps, WalkFault, cut_from};
+use sheet_base::Heights;
 use std::alloc::Global;
 use tin_base::{Piece, Place, SoundTin};
 use tin_index::TinIndex;
@@ -105,6 +109,21 @@ fn push_ends(pieces: &[Piece], points: &mut Vec<Pt>) -> Result<(), CarryFault>
     Ok(())
 }
 
+/// Appends the heights of the last points of some steps' parts.
+fn push_heights(ends: EndHeights, steps: &[Step], heights: &mut Heights) -> Result<(), CarryFault>
+    requires from { IsHeightWithinReach ends.from }
+    requires to { IsHeightWithinReach ends.to }
+    requires between { HaveParams steps.now }
+    requires few { length heights.old + length steps.now < 2 ^ 32 }
+    ensures ok { OnOk result (heights.new ≡ heights.old ++ map (λ step. param_height ends.from ends.to step.slice.hi) steps.now) }
+    ensures memory { IfErr result (λ fault. fault ≡ CarryFault.NoMemory) }
+{
+    for step in steps {
+        heights.push(height_between(ends, step.slice.hi))?;
+    }
+    Ok(())
+}
+
 /// The pieces of a segment, with the slices of their triangles.
 fn cut_way(alloc: Global, index: &TinIndex, way: Way) -> Result<Steps, CarryFault>
     ensures steps { IfOk result (λ steps. AreSteps index.now way.a way.b steps.items) }
@@ -122,20 +141,25 @@ fn cut_way(alloc: Global, index: &TinIndex, way: Way) -> Result<Steps, CarryFaul
 }
 
 /// Cuts a segment, whose first end has this image, and appends its pieces where they find room. Answers the image of
-/// its last end.
+/// its last end. The heights of its crossings are appended too.
 fn tell_segment(
     alloc: Global,
     index: &TinIndex,
     way: Way,
+    ends: EndHeights,
     most: u32,
     image: Pt,
+    heights: &mut Heights,
     pieces: &mut Vec<Piece>,
 ) -> Result<Pt, CarryFault>
     requires image { IsRoundedImage index.now way.a image }
+    requires from { IsHeightWithinReach ends.from }
+    requires to { IsHeightWithinReach ends.to }
+    requires few { length heights.old < 2 ^ 31 }
     requires first { way.from.piece ≡ 0 }
     requires room { vec_len pieces.old ≤ most }
     requires most { most ≤ MOST_PIECES }
-    ensures told { OnOk result (AreSegmentTold index.now way.a way.b way.from pieces.old.items pieces.new.items) }
+    ensures told { OnOk result (IsSegmentTold index.now way.a way.b (record { from = ends.from; to = ends.to }) way.from heights.old heights.new pieces.old.items pieces.new.items) }
     ensures more { OnOk result (vec_len pieces.old < vec_len pieces.new) }
     ensures room { OnOk result (vec_len pieces.new ≤ most) }
     ensures end { IfOk result (λ end. IsRoundedImage index.now way.b end) }
@@ -150,26 +174,32 @@ fn tell_segment(
     if found.len() > most as usize - pieces.len() {
         return Err(CarryFault::TooMany);
     }
+    push_heights(ends, &found[..found.len() - 1], heights)?;
     let end = tell_pieces(tin, way, found, image, pieces)?;
     Ok(end)
 }
 
-/// Appends the pieces of a segment, whose first end has this image, and the images of its crossings. Answers the image
-/// of its last end.
+/// Appends the pieces of a segment, whose first end has this image, and the images and heights of its crossings.
+/// Answers the image of its last end.
 pub(crate) fn carry_segment(
     alloc: Global,
     index: &TinIndex,
     way: Way,
+    ends: EndHeights,
     most: u32,
     image: Pt,
     points: &mut Vec<Pt>,
+    heights: &mut Heights,
     pieces: &mut Vec<Piece>,
 ) -> Result<Pt, CarryFault>
     requires image { IsRoundedImage index.now way.a image }
+    requires from { IsHeightWithinReach ends.from }
+    requires to { IsHeightWithinReach ends.to }
+    requires few { length heights.old < 2 ^ 31 }
     requires first { way.from.piece ≡ 0 }
     requires room { vec_len pieces.old ≤ most }
     requires most { most ≤ MOST_PIECES }
-    ensures carried { OnOk result (IsSegmentCarried index.now way.a way.b way.from points.old.items points.new.items pieces.old.items pieces.new.items) }
+    ensures carried { OnOk result (IsSegmentCarried index.now way.a way.b (record { from = ends.from; to = ends.to }) way.from points.old.items points.new.items heights.old heights.new pieces.old.items pieces.new.items) }
     ensures count { OnOk result (vec_len points.new + vec_len pieces.old + 1 ≡ vec_len points.old + vec_len pieces.new) }
     ensures room { OnOk result (vec_len pieces.new ≤ most) }
     ensures more { OnOk result (vec_len pieces.old < vec_len pieces.new) }
@@ -179,7 +209,7 @@ pub(crate) fn carry_segment(
     ensures grows { Grows pieces.old.items pieces.new.items }
 {
     let before = pieces.len();
-    let end = tell_segment(alloc, index, way, most, image, pieces)?;
+    let end = tell_segment(alloc, index, way, ends, most, image, heights, pieces)?;
     let own = &pieces[before..];
     push_ends(&own[..own.len() - 1], points)?;
     Ok(end)

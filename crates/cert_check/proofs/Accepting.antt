@@ -8,13 +8,13 @@ use Rattle.sheet_base.specs.Splices.{spliced}
 use Rattle.tin_base.specs.Triangulation.{Triangulation}
 use Rattle.affine_image.specs.SheetSegments.{Segment, sheet_segments}
 use Rattle.affine_image.specs.SheetImages.{AreImagesOf}
+use Rattle.affine_image.proofs.OneSheet.{images_same}
 use Rattle.cert_check.specs.Certificates.{head_text, lines_text, certificate_of, IsCertificate}
 use Rattle.cert_check.specs.RightLists.{IsRightList, AreRightLists}
 use Rattle.cert_check.specs.Checks.{IsFirstNotRight, IsFirstDifference, IsCounted, IsNotRight, IsDifferent}
 use Rattle.cert_check.specs.PieceLists.{lists_of}
 use Rattle.cert_check.specs.Laws.{IsRightlyCertified, IsAccepted, PiecesAreAccepted}
 use Rattle.cert_check.proofs.LineLaws.{one_certificate, no_bad_line}
-use Rattle.cert_check.proofs.OneImage.{images_one}
 use Rattle.cert_check.proofs.PathLists.{right_length}
 use Rattle.cert_check.proofs.PieceRows.{sheet_certified}
 
@@ -81,6 +81,6 @@ pieces_accepted tin source text layer sheet images pieces limits sound inside ar
             not_different (spliced source (text different.sheet different.images) (different.sheet).edits)
             (spliced source (text sheet images) sheet.edits) place
             (ap₂ (λ (s : Contents) (i : Runs). spliced source (text s i) s.edits) different.read
-            (images_one tin sheet different.images images sound inside
+            (images_same tin sheet different.images images sound
             (subst (λ (s : Contents). AreImagesOf tin s different.images) different.read different.are_images) are))
             different.first

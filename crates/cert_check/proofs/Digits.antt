@@ -1,25 +1,22 @@
 -- Numbers below 2^32 in digits without leading zeros.
 use Rattle.std.specs.Prelude.{◌↔◌, IsTrue, IfSome, IfNone, Option}
-use Rattle.std.proofs.Common.{◌≡◌, ℕ, zero, suc, ◌+◌, ◌<◌, ◌≤◌, ◌^◌, Bool, true, false, cond, List, [], ◌∷◌, ◌++◌}
+use Rattle.std.proofs.Common.{◌≡◌, ℕ, zero, suc, ◌+◌, ◌<◌, ◌≤◌, ◌^◌, Bool, true, false, List, [], ◌∷◌, ◌++◌}
 use Rattle.std.proofs.Common.{length, take, drop, get_or, Result, Ok, Err, refl, sym, ◌∙◌, ap, ap₂, subst, arith}
 use Rattle.std.specs.Char.{is_ascii_digit}
 use Rattle.std.specs.List.{prefix_len}
 use Rattle.std.specs.Fmt.{decimal}
 use Rattle.std.specs.Result.{OkIff, result_ok}
-use Rattle.std.specs.Str.{all_ascii_digits, IsUtf8}
+use Rattle.std.specs.Str.{all_ascii_digits}
 use Rattle.std.specs.Str.Parse.{digits_value, ParsesUnsigned}
-use Rattle.std.proofs.lemmas.Bool.{and_parts}
-use Rattle.std.proofs.lemmas.Fmt.{decimal_is_IsNumeral, decimal-digits_value, first_decimal, IsAscii-from_digits}
+use Rattle.std.proofs.lemmas.Fmt.{decimal_is_IsNumeral, decimal-digits_value, first_decimal}
 use Rattle.std.proofs.lemmas.Fmt.{decimal_injective, decimal_digit, parse-decimal}
 use Rattle.std.proofs.lemmas.List.{take_at, drop_at, take-append-drop}
-use Rattle.std.proofs.lemmas.Str.{IsUtf8-from_ascii}
 use Rattle.std.proofs.lemmas.Str.Parse.{parse_digits}
 use Rattle.plain_laws.proofs.Digits.{digit_texts}
 use Rattle.cert_check.specs.Certificates.{separator}
-use Rattle.cert_check.specs.Numbers.{HasLeadingZero, Stops, IsNumber, IsEnded}
-
-pub digits_utf8 : (digits : List ℕ) → all_ascii_digits digits ≡ true → IsUtf8 digits
-digits_utf8 digits all = IsUtf8-from_ascii digits (IsAscii-from_digits digits (digit_texts.to digits all))
+use Rattle.text_places.specs.Digits.{Stops}
+use Rattle.text_places.proofs.DigitFronts.{front_stops, digits_end}
+use Rattle.cert_check.specs.Numbers.{HasLeadingZero, IsNumber, IsEnded}
 
 wide : (n : ℕ) → n < 2 ^ 32 → n < 2 ^ 64
 wide n h = omega arith
@@ -74,41 +71,6 @@ not_read digits answer e n small is parses err = let read =
     parse-decimal 32 n digits answer small (wide n small) is parses in cc
 
 -- ---- the digits at the front
-pub are_front_digits : (text : List ℕ) → all_ascii_digits (take (prefix_len is_ascii_digit text) text) ≡ true
-are_front_digits [] = refl
-are_front_digits (byte ∷ text) = by_test (are_front_digits text) (is_ascii_digit byte) refl
-  where
-    one_more : 1 + prefix_len is_ascii_digit text ≡ suc (prefix_len is_ascii_digit text)
-    one_more = omega arith
-
-    by_test : all_ascii_digits (take (prefix_len is_ascii_digit text) text) ≡ true → (test : Bool)
-        → test ≡ is_ascii_digit byte
-        → all_ascii_digits (take (cond test (1 + prefix_len is_ascii_digit text) 0) (byte ∷ text)) ≡ true
-    by_test later true is = rw (one_more, ← is) later
-    by_test later false is = refl
-
--- what is behind them stops
-pub front_stops : (text : List ℕ) → Stops (drop (prefix_len is_ascii_digit text) text)
-front_stops [] = tt
-front_stops (byte ∷ text) = by_test (front_stops text) (is_ascii_digit byte) refl
-  where
-    one_more : 1 + prefix_len is_ascii_digit text ≡ suc (prefix_len is_ascii_digit text)
-    one_more = omega arith
-
-    by_test : Stops (drop (prefix_len is_ascii_digit text) text) → (test : Bool) → test ≡ is_ascii_digit byte
-        → Stops (drop (cond test (1 + prefix_len is_ascii_digit text) 0) (byte ∷ text))
-    by_test later true is = rw one_more later
-    by_test later false is = sym is
-
-digits_end : (digits rest : List ℕ) → all_ascii_digits digits ≡ true → Stops rest
-    → prefix_len is_ascii_digit (digits ++ rest) ≡ length digits
-digits_end [] [] all stops = refl
-digits_end [] (byte ∷ rest) all stops = rw stops refl
-digits_end (digit ∷ digits) rest all stops =
-    let parts = and_parts (is_ascii_digit digit) (all_ascii_digits digits) all in
-    let later = digits_end digits rest parts.1 stops in
-    rw (parts.0, later) (omega arith)
-
 -- a number's digits are all that are at the front
 pub record IsFront (text : List ℕ) (number : ℕ) (rest : List ℕ) : Type 0 where
   pub digits : take (prefix_len is_ascii_digit text) text ≡ decimal number

@@ -12,8 +12,8 @@ pub mod PathLists
 pub mod SheetLaws
 pub mod TextLaws
 pub mod CertCauses
-pub mod OneImage
 pub mod Accepting
 pub mod FewNumbers
 mod OneEnd
 mod SomeCertificate
+mod SomeEnd

@@ -4,7 +4,6 @@ use Rattle.std.proofs.Common.{Err, refl, sym, ◌∙◌, ap, ap₂, subst, appen
 use Rattle.std.specs.Prelude.{slice_get, Some}
 use Rattle.std.specs.List.{AllByRecursion}
 use Rattle.std.proofs.lemmas.List.{append_cancel_left}
-use Rattle.std.proofs.lemmas.Bool.{cases_order}
 use Rattle.sheet_base.specs.declared.edits.Edit.{Edit}
 use Rattle.sheet_base.specs.declared.faults.LayerFault.{LayerFault}
 use Rattle.sheet_base.specs.Sheets.{Contents}
@@ -16,6 +15,7 @@ use Rattle.tin_base.specs.Triangulation.{Triangulation}
 use Rattle.tin_base.specs.Soundness.{IsSound}
 use Rattle.affine_image.specs.SheetSegments.{Segment, sheet_segments}
 use Rattle.affine_image.specs.SheetImages.{AreImagesOf}
+use Rattle.affine_image.proofs.OneSheet.{images_same}
 use Rattle.cert_check.specs.declared.faults.CertFault.{CertFault}
 use Rattle.cert_check.specs.declared.faults.CertFault.TheVariants.{Layer, Form, Count, Segment as WrongSegment, Differs}
 use Rattle.cert_check.specs.declared.faults.CertFault.TheVariants.{NoMemory}
@@ -24,10 +24,9 @@ use Rattle.cert_check.specs.Lines.{HasNoLine, IsBadBehind, IsBadLine}
 use Rattle.cert_check.specs.RightLists.{IsRightList, AreRightLists}
 use Rattle.cert_check.specs.Checks.{IsFirstNotRight, IsFirstDifference, IsCertified, IsCertCause}
 use Rattle.cert_check.specs.Laws.{IsCertEnd, CertificatesEndOnce}
-use Rattle.cert_check.proofs.CertCauses.{all_inside}
 use Rattle.cert_check.proofs.LineLaws.{one_certificate, no_bad_line, one_line}
-use Rattle.cert_check.proofs.OneImage.{images_one}
 use Rattle.cert_check.proofs.PathLists.{right_length}
+use Rattle.plain_laws.proofs.Order.{equal_of_neither}
 
 -- ---- the first bad line
 bad_lines_one : (before others : List (List ℕ)) (rest more : List ℕ) → AllByRecursion IsList before
@@ -130,20 +129,9 @@ not_before : (text other : List ℕ) (a b : ℕ) → IsFirstDifference text othe
     → ⊥
 not_before text other a b x y less = x.differ (same_front b a text other y.front less)
 
-order_of : (a b : ℕ) → (a < b → ⊥) → (b < a → ⊥) → a ≡ b
-order_of a b unlike never =
-    elim (cases_order a b) [
-      | inl same ↦ same
-      | inr other ↦
-          elim other [
-            | inl less ↦ absurd (unlike less)
-            | inr more ↦ absurd (never more)
-          ]
-    ]
-
 difference_one : (text other : List ℕ) (a b : ℕ) → IsFirstDifference text other a → IsFirstDifference text other b
     → a ≡ b
-difference_one text other a b x y = order_of a b (not_before text other a b x y) (not_before text other b a y x)
+difference_one text other a b x y = equal_of_neither a b (not_before text other a b x y) (not_before text other b a y x)
 
 -- ---- the ends
 abbrev End : Type 0
@@ -202,8 +190,7 @@ module _ (tin : Triangulation) (source written : List ℕ) (reads : Contents →
     lists_end_one sheet lists a b (right_end right images are end) (wrong_end path number also same y) =
         absurd (wrong_or_right tin (sheet_segments sheet) lists path number y right)
     lists_end_one sheet lists a b (right_end right images are end) (right_end right_too others too also) =
-        let one = images_one tin sheet images others sound (all_inside tin (sheet_segments sheet) lists sound right) are
-        too in
+        let one = images_same tin sheet images others sound are too in
         text_end_one (spliced source (text sheet others) sheet.edits) a b
         (subst (λ (i : Runs). IsTextEnd (spliced source (text sheet i) sheet.edits) a) one end) also
 

@@ -25,7 +25,7 @@ same_trans s t u some h k =
     same_of s u (no_later_trans s t u some (up_to_same s t h) (up_to_same t u k))
     (no_later_trans u t s some (from_same t u k) (from_same s t h))
 
-following_moved : (tin : Triangulation) (a b : Pt) (x y : Spot) (numbers : List ℕ) → IsSpot x → IsSameSpot x y
+pub following_moved : (tin : Triangulation) (a b : Pt) (x y : Spot) (numbers : List ℕ) → IsSpot x → IsSameSpot x y
     → AreFollowing tin a b x numbers → AreFollowing tin a b y numbers
 following_moved tin a b x y [] some same ends = same_trans y x at_b some (sym same) ends
 following_moved tin a b x y (t ∷ ts) some same (first, last, part, begins, follow) =

@@ -1,13 +1,15 @@
 -- The images of vertices by the lines of their segments, one after the other.
 use Rattle.std.proofs.Common.{◌≡◌, ℕ, suc, ◌+◌, ◌-◌, ◌<◌, ◌≤◌, List, [], ◌∷◌, ◌++◌, Option, Some, None, drop, length}
 use Rattle.std.proofs.Common.{append_assoc, ap, refl, sym, ◌∙◌, subst, arith}
-use Rattle.std.specs.Prelude.{IfErr, IfSome, IfNone, Result, Ok, Err}
+use Rattle.std.specs.Prelude.{IfErr, Result, Ok, Err}
 use Rattle.std.specs.Result.{IsErrAnd}
 use Rattle.std.specs.List.{AllByRecursion, cons_option}
-use Rattle.std.proofs.lemmas.List.{append-nil, length-append}
+use Rattle.std.proofs.lemmas.List.{append-nil, length-append, length-map}
 use Rattle.std.proofs.lemmas.Grind.{flat_map-append}
 use Rattle.plane_base.specs.declared.shapes.Pt.{Pt}
 use Rattle.sheet_base.specs.declared.paths.PathRow.{PathRow}
+use Rattle.sheet_base.specs.PointHeights.{Height, Position, points_of, heights_of, height_in}
+use Rattle.sheet_base.specs.ReadBack.{Ends, height_ends_at}
 use Rattle.sheet_base.specs.Segments.{points_in, segments_in, begin_of, end_of}
 use Rattle.sheet_base.specs.Sheets.{IsPathFrom}
 use Rattle.tin_base.specs.Triangulation.{Triangulation}
@@ -16,6 +18,7 @@ use Rattle.affine_image.specs.SheetSegments.{Segment, PathVertex, segment_at, ve
 use Rattle.affine_image.specs.SheetImages.{AreCrossings, joined, begins_from}
 use Rattle.affine_image.proofs.PathVertices.{few, first_vertices, one_vertex_more, begins_one, begins_none, next_begins}
 use Rattle.affine_image.proofs.PathVertices.{split_at}
+use Rattle.affine_image.proofs.PlaneRuns.{items_on}
 use Rattle.affine_image.proofs.Runs.{runs_more, begins_more}
 use Rattle.affine_image.proofs.Segmenting.{begun_append}
 use Rattle.cert_check.specs.Certificates.{line_text, lines_text, IsList}
@@ -54,12 +57,13 @@ pub texts_more : (ls ms : List (List ℕ)) → lines_text (ls ++ ms) ≡ lines_t
 texts_more ls ms = flat_map-append line_text ls ms
 
 -- ---- vertices behind vertices
-pub imaged_none : (tin : Triangulation) (points : List Pt) (run text : List ℕ)
-    → AreImaged tin [] points points run run text text
-imaged_none tin points run text = record {
+pub imaged_none : (tin : Triangulation) (points : List Pt) (heights : List Height) (run text : List ℕ)
+    → AreImaged tin [] points points heights heights run run text text
+imaged_none tin points heights run text = record {
   runs = [];
   of_vertices = tt;
   points_are = sym (append-nil points);
+  heights_are = sym (append-nil heights);
   run_are = sym (append-nil run);
   lists = [];
   are_lists = tt;
@@ -67,18 +71,19 @@ imaged_none tin points run text = record {
   spelled = refl;
 }
 
-pub imaged_on : (tin : Triangulation) (vs ws : List PathVertex) (x y z : List Pt) (r s t a b c : List ℕ)
-    → AreImaged tin vs x y r s a b → AreImaged tin ws y z s t b c → AreImaged tin (vs ++ ws) x z r t a c
-imaged_on tin vs ws x y z r s t a b c g h = record {
+pub imaged_on : (tin : Triangulation) (vs ws : List PathVertex) (x y z : List Pt) (u v w : List Height)
+    (r s t a b c : List ℕ) → AreImaged tin vs x y u v r s a b → AreImaged tin ws y z v w s t b c
+    → AreImaged tin (vs ++ ws) x z u w r t a c
+imaged_on tin vs ws x y z u v w r s t a b c g h = record {
   runs = g.runs ++ h.runs;
   of_vertices = runs_more tin vs ws g.runs h.runs g.of_vertices h.of_vertices;
-  points_are = h.points_are ∙ ap (λ (xs : List Pt). xs ++ joined h.runs) g.points_are
-      ∙ append_assoc x (joined g.runs) (joined h.runs)
-      ∙ ap (λ (xs : List Pt). x ++ xs) (sym (flat_map-append (λ run. run) g.runs h.runs));
+  points_are = items_on (λ (position : Position). position.point) x y z g.runs h.runs g.points_are h.points_are;
+  heights_are = items_on (λ (position : Position). position.height) u v w g.runs h.runs g.heights_are h.heights_are;
   run_are = h.run_are ∙ ap (λ (ms : List ℕ). ms ++ begins_from (length y) h.runs) g.run_are
       ∙ append_assoc r (begins_from (length x) g.runs) (begins_from (length y) h.runs)
       ∙ ap (λ (ms : List ℕ). r ++ ms) (ap (λ (m : ℕ). begins_from (length x) g.runs ++ begins_from m h.runs)
-      (ap (λ (xs : List Pt). length xs) g.points_are ∙ length-append x (joined g.runs))
+      (ap (λ (xs : List Pt). length xs) g.points_are ∙ length-append x (points_of (joined g.runs))
+      ∙ ap (λ (n : ℕ). length x + n) (length-map (joined g.runs) (λ (position : Position). position.point)))
       ∙ sym (begins_more (length x) g.runs h.runs));
   lists = g.lists ++ h.lists;
   are_lists = lists_more g.lists h.lists g.are_lists h.are_lists;
@@ -89,15 +94,28 @@ imaged_on tin vs ws x y z r s t a b c g h = record {
       ∙ ap (λ (xs : List ℕ). xs ++ c) (sym (texts_more g.lists h.lists));
 }
 
+-- as many heights as points
+pub imaged_each : (tin : Triangulation) (vs : List PathVertex) (x y : List Pt) (u v : List Height)
+    (r s a b : List ℕ) → AreImaged tin vs x y u v r s a b → length u ≡ length x → length v ≡ length y
+imaged_each tin vs x y u v r s a b imaged e =
+    ap (λ (hs : List Height). length hs) imaged.heights_are ∙ length-append u (heights_of (joined imaged.runs))
+    ∙ ap (λ (n : ℕ). length u + n) (length-map (joined imaged.runs) (λ (position : Position). position.height)
+    ∙ sym (length-map (joined imaged.runs) (λ (position : Position). position.point)))
+    ∙ ap (λ (n : ℕ). n + length (points_of (joined imaged.runs))) e
+    ∙ sym (length-append x (points_of (joined imaged.runs)))
+    ∙ ap (λ (ps : List Pt). length ps) (sym imaged.points_are)
+
 -- a vertex that begins no segment
 pub imaged_last : (tin : Triangulation) (vertex : PathVertex) (image : Pt) (points points' : List Pt)
-    (run run' text rest : List ℕ) → vertex.segment ≡ None → IsRoundedImage tin vertex.point image
-    → points' ≡ points ++ image ∷ [] → run' ≡ run ++ length points ∷ [] → rest ≡ text
-    → AreImaged tin (vertex ∷ []) points points' run run' text rest
-imaged_last tin vertex image points points' run run' text rest none is e f same = record {
-  runs = (image ∷ []) ∷ [];
-  of_vertices = ((is, subst (λ (s : Option Segment). AreCrossings tin s []) (sym none) refl), tt);
+    (heights heights' : List Height) (run run' text rest : List ℕ) → vertex.segment ≡ None
+    → IsRoundedImage tin vertex.point image → points' ≡ points ++ image ∷ []
+    → heights' ≡ heights ++ vertex.height ∷ [] → run' ≡ run ++ length points ∷ [] → rest ≡ text
+    → AreImaged tin (vertex ∷ []) points points' heights heights' run run' text rest
+imaged_last tin vertex image points points' heights heights' run run' text rest none is e g f same = record {
+  runs = (record { point = image; height = vertex.height } ∷ []) ∷ [];
+  of_vertices = ((is, refl, subst (λ (s : Option Segment). AreCrossings tin s []) (sym none) refl), tt);
   points_are = e;
+  heights_are = g;
   run_are = f;
   lists = [];
   are_lists = tt;
@@ -107,26 +125,34 @@ imaged_last tin vertex image points points' run run' text rest none is e f same 
 
 -- and one that does
 pub imaged_way : (tin : Triangulation) (vertex : PathVertex) (segment : Segment) (points points' : List Pt)
-    (run run' text rest : List ℕ) → vertex.segment ≡ Some segment → vertex.point ≡ segment.a
-    → IsSegmentImaged tin segment.a segment.b points points' run run' text rest
-    → AreImaged tin (vertex ∷ []) points points' run run' text rest
-imaged_way tin vertex segment points points' run run' text rest some point imaged = go imaged.behind imaged.line
+    (heights heights' : List Height) (run run' text rest : List ℕ) → vertex.segment ≡ Some segment
+    → vertex.point ≡ segment.a → vertex.height ≡ segment.heights.from
+    → IsSegmentImaged tin segment.a segment.b segment.heights points points' heights heights' run run' text rest
+    → AreImaged tin (vertex ∷ []) points points' heights heights' run run' text rest
+imaged_way tin vertex segment points points' heights heights' run run' text rest some point high imaged =
+    go imaged.behind imaged.line
   where
-    go : IsRunBehind tin segment.a segment.b points points' → IsLine text imaged.list rest
-        → AreImaged tin (vertex ∷ []) points points' run run' text rest
+    go : IsRunBehind tin segment.a segment.b segment.heights points points' heights heights'
+        → IsLine text imaged.list rest
+        → AreImaged tin (vertex ∷ []) points points' heights heights' run run' text rest
     go behind line =
-        let crossings : AreCrossings tin (Some segment) behind.crossings = (behind.parts, behind.cut, behind.ends) in
+        let crossings : AreCrossings tin (Some segment) behind.crossings =
+        (behind.parts, behind.cut, behind.last_images, behind.last_heights) in
+        let first : Position = record { point = behind.image; height = segment.heights.from } in
         record {
-          runs = (behind.image ∷ behind.crossings) ∷ [];
+          runs = (first ∷ behind.crossings) ∷ [];
           of_vertices = (
             (
               subst (λ (p : Pt). IsRoundedImage tin p behind.image) (sym point) behind.is_image,
-              subst
-                  (λ (s : Option Segment). AreCrossings tin s behind.crossings) (sym some) crossings,
+              sym high,
+              subst (λ (s : Option Segment). AreCrossings tin s behind.crossings) (sym some) crossings,
             ),
             tt,
           );
-          points_are = behind.are ∙ ap (λ (xs : List Pt). points ++ (behind.image ∷ xs))
+          points_are = behind.points_are ∙ ap (λ (ps : List Position). points ++ (behind.image ∷ points_of ps))
+              (sym (append-nil behind.crossings));
+          heights_are = behind.heights_are
+              ∙ ap (λ (ps : List Position). heights ++ (segment.heights.from ∷ heights_of ps))
               (sym (append-nil behind.crossings));
           run_are = imaged.run_are;
           lists = imaged.list ∷ [];
@@ -137,69 +163,86 @@ imaged_way tin vertex segment points points' run run' text rest some point image
         }
 
 -- ---- what stands after some vertices of a path
-pub record IsPathImaged (tin : Triangulation) (points : List Pt) (path : ℕ) (row : PathRow) (x x' : List Pt)
-    (r r' a a' : List ℕ) (j triangle : ℕ) : Type 0 where
-  pub imaged : AreImaged tin (first_vertices points path row j) x x' r r' a a'
-  pub listed : length (segments_begun (first_vertices points path row j)) ≡ j
+pub record IsPathImaged (tin : Triangulation) (points : List Pt) (heights : List Height) (path : ℕ) (row : PathRow)
+    (x x' : List Pt) (u u' : List Height) (r r' a a' : List ℕ) (j triangle : ℕ) : Type 0 where
+  pub imaged : AreImaged tin (first_vertices points heights path row j) x x' u u' r r' a a'
+  pub each : length u' ≡ length x'
+  pub listed : length (segments_begun (first_vertices points heights path row j)) ≡ j
   pub last : 0 < j → j < points_in row → IsTriangleWith tin triangle (begin_of points row j)
   pub count : length x' + length a' + j ≤ length x + length a
 
-pub path_start : (tin : Triangulation) (points : List Pt) (path : ℕ) (row : PathRow) (x : List Pt) (r a : List ℕ)
-    (triangle : ℕ) → IsPathImaged tin points path row x x r r a a 0 triangle
-path_start tin points path row x r a triangle = record {
-  imaged = imaged_none tin x r a;
+pub path_start : (tin : Triangulation) (points : List Pt) (heights : List Height) (path : ℕ) (row : PathRow)
+    (x : List Pt) (u : List Height) (r a : List ℕ) (triangle : ℕ) → length u ≡ length x
+    → IsPathImaged tin points heights path row x x u u r r a a 0 triangle
+path_start tin points heights path row x u r a triangle each = record {
+  imaged = imaged_none tin x u r a;
+  each = each;
   listed = refl;
   last = λ h. absurd (omega arith);
   count = omega arith;
 }
 
+-- the heights of the ends of a way
+abbrev pub way_ends : Way → Ends Height
+way_ends way = record { from = way.ends.from; to = way.ends.to }
+
 -- the way is the path's segment of this number
-pub record IsWayAt (points : List Pt) (track : Track) (j : ℕ) (way : Way) : Type 0 where
+pub record IsWayAt (points : List Pt) (heights : List Height) (track : Track) (j : ℕ) (way : Way) : Type 0 where
   pub path : way.path ≡ track.path
   pub number : way.number ≡ j
   pub a : way.a ≡ begin_of points track.row j
   pub b : way.b ≡ end_of points track.row j
+  pub ends : way_ends way ≡ height_ends_at heights track.row j
 
-pub path_next : (tin : Triangulation) (points : List Pt) (track : Track) (x x' y : List Pt) (r r' s a a' b : List ℕ)
-    (j triangle triangle' : ℕ) (way : Way)
+pub path_next : (tin : Triangulation) (points : List Pt) (heights : List Height) (track : Track)
+    (x x' y : List Pt) (u u' v : List Height) (r r' s a a' b : List ℕ) (j triangle triangle' : ℕ) (way : Way)
     → IsPathFrom track.row.first track.row → j < segments_in track.row
-    → IsPathImaged tin points track.path track.row x x' r r' a a' j triangle → IsWayAt points track j way
-    → IsSegmentImaged tin way.a way.b x' y r' s a' b → IsTriangleWith tin triangle' way.b
-    → length y + length b + 1 ≤ length x' + length a'
-    → IsPathImaged tin points track.path track.row x y r s a b (j + 1) triangle'
-path_next tin points track x x' y r r' s a a' b j triangle triangle' way path h state is imaged last count = record {
-  imaged = subst (λ (vs : List PathVertex). AreImaged tin vs x y r s a b)
-      (sym (one_vertex_more points track.path track.row j)) both;
-  listed = ap (λ (vs : List PathVertex). length (segments_begun vs)) (one_vertex_more points track.path track.row j)
-      ∙ ap (λ (ss : List Segment). length ss) (begun_append (first_vertices points track.path track.row j)
-      (vertex_at points track.path track.row j ∷ []))
-      ∙ ap (λ (s : Option Segment). length (segments_begun (first_vertices points track.path track.row j)
-      ++ cons_option s [])) (begins_one points track.path track.row j h)
-      ∙ length-append (segments_begun (first_vertices points track.path track.row j))
-      (segment_at points track.path track.row j ∷ []) ∙ ap (λ (n : ℕ). n + 1) state.listed;
-  last = λ _ further. subst (λ (p : Pt). IsTriangleWith tin triangle' p) (is.b ∙ next_begins points track.row j further)
-      last;
-  count = (let c = state.count in omega (arith, c, count));
-}
+    → IsPathImaged tin points heights track.path track.row x x' u u' r r' a a' j triangle
+    → IsWayAt points heights track j way
+    → IsSegmentImaged tin way.a way.b (way_ends way) x' y u' v r' s a' b
+    → IsTriangleWith tin triangle' way.b → length y + length b + 1 ≤ length x' + length a'
+    → IsPathImaged tin points heights track.path track.row x y u v r s a b (j + 1) triangle'
+path_next tin points heights track x x' y u u' v r r' s a a' b j triangle triangle' way path h state is imaged last
+    count = record {
+      imaged = subst (λ (vs : List PathVertex). AreImaged tin vs x y u v r s a b)
+          (sym (one_vertex_more points heights track.path track.row j)) both;
+      each = imaged_each tin (vertex_at points heights track.path track.row j ∷ []) x' y u' v r' s a' b here state.each;
+      listed = ap (λ (vs : List PathVertex). length (segments_begun vs))
+          (one_vertex_more points heights track.path track.row j)
+          ∙ ap (λ (ss : List Segment). length ss) (begun_append (first_vertices points heights track.path track.row j)
+          (vertex_at points heights track.path track.row j ∷ []))
+          ∙ ap (λ (s : Option Segment). length (segments_begun (first_vertices points heights track.path track.row j)
+          ++ cons_option s [])) (begins_one points heights track.path track.row j h)
+          ∙ length-append (segments_begun (first_vertices points heights track.path track.row j))
+          (segment_at points heights track.path track.row j ∷ []) ∙ ap (λ (n : ℕ). n + 1) state.listed;
+      last = λ _ further. subst (λ (p : Pt). IsTriangleWith tin triangle' p) (is.b ∙ next_begins points track.row j further)
+          last;
+      count = (let c = state.count in omega (arith, c, count));
+    }
   where
-    here : AreImaged tin (vertex_at points track.path track.row j ∷ []) x' y r' s a' b
-    here = imaged_way tin (vertex_at points track.path track.row j) (segment_at points track.path track.row j) x' y r' s
-        a' b (begins_one points track.path track.row j h) refl
-        (subst (λ (p : Pt). IsSegmentImaged tin p (end_of points track.row j) x' y r' s a' b) is.a
-        (subst (λ (q : Pt). IsSegmentImaged tin way.a q x' y r' s a' b) is.b imaged))
+    here : AreImaged tin (vertex_at points heights track.path track.row j ∷ []) x' y u' v r' s a' b
+    here = imaged_way tin (vertex_at points heights track.path track.row j)
+        (segment_at points heights track.path track.row j) x' y u' v r' s
+        a' b (begins_one points heights track.path track.row j h) refl refl
+        (subst (λ (p : Pt). IsSegmentImaged tin p (end_of points track.row j) (height_ends_at heights track.row j) x' y
+        u' v r' s a' b) is.a
+        (subst (λ (q : Pt). IsSegmentImaged tin way.a q (height_ends_at heights track.row j) x' y u' v r' s a' b) is.b
+        (subst (λ (e : Ends Height). IsSegmentImaged tin way.a way.b e x' y u' v r' s a' b) is.ends imaged)))
 
-    both : AreImaged tin (first_vertices points track.path track.row j ++ vertex_at points track.path track.row j ∷ [])
-        x y r s a b
-    both = imaged_on tin (first_vertices points track.path track.row j) (vertex_at points track.path track.row j ∷ []) x
-        x' y r r' s a a' b state.imaged here
+    both : AreImaged tin (first_vertices points heights track.path track.row j
+        ++ vertex_at points heights track.path track.row j ∷ []) x y u v r s a b
+    both = imaged_on tin (first_vertices points heights track.path track.row j)
+        (vertex_at points heights track.path track.row j ∷ []) x x' y u u' v r r' s a a' b state.imaged here
 
 -- there is a line for each segment
-pub path_line : (tin : Triangulation) (points : List Pt) (path : ℕ) (row : PathRow) (x x' : List Pt)
-    (r r' a a' : List ℕ) (j triangle : ℕ) → HasLines a (segments_in row) → j < segments_in row
-    → IsPathImaged tin points path row x x' r r' a a' j triangle → (more : List ℕ) × BeginsWithLine a' more
-path_line tin points path row x x' r r' a a' j triangle has h state = let i =
+pub path_line : (tin : Triangulation) (points : List Pt) (heights : List Height) (path : ℕ) (row : PathRow)
+    (x x' : List Pt) (u u' : List Height) (r r' a a' : List ℕ) (j triangle : ℕ) → HasLines a (segments_in row)
+    → j < segments_in row → IsPathImaged tin points heights path row x x' u u' r r' a a' j triangle
+    → (more : List ℕ) × BeginsWithLine a' more
+path_line tin points heights path row x x' u u' r r' a a' j triangle has h state = let i =
     state.imaged in still_lines a a' i.lists j (segments_in row) has i.spelled i.are_lists
-    (right_length tin (segments_begun (first_vertices points path row j)) i.lists i.are_right ∙ state.listed) h
+    (right_length tin (segments_begun (first_vertices points heights path row j)) i.lists i.are_right
+    ∙ state.listed) h
 
 -- ---- the end of the path
 pub but_last : (row : PathRow) (j : ℕ) → IsPathFrom row.first row → j ≡ segments_in row → (j ≡ points_in row → ⊥)
@@ -209,51 +252,65 @@ but_last row j from e other = let f = few row from in there (segments_in row) (p
     there : (m n : ℕ) → j ≡ m → m ≤ n → n ≤ m + 1 → (j ≡ n → ⊥) → j + 1 ≡ n
     there m n e h k other = grind arith
 
+pub last_place : (row : PathRow) (j : ℕ) → row.first < row.past → j + 1 ≡ points_in row → row.first + j ≡ row.past - 1
+last_place row j h e = place row.first row.past h e
+  where
+    place : (m n : ℕ) → m < n → j + 1 ≡ n - m → m + j ≡ n - 1
+    place m n h e = omega arith
+
 -- each vertex but the last begins a segment
-pub path_but_last : (tin : Triangulation) (points : List Pt) (path : ℕ) (row : PathRow) (x x' y : List Pt)
-    (r r' s a a' b : List ℕ) (j triangle : ℕ) (image : Pt) → IsPathFrom row.first row → j ≡ segments_in row
-    → (j ≡ points_in row → ⊥)
-    → IsPathImaged tin points path row x x' r r' a a' j triangle → IsRoundedImage tin (begin_of points row j) image
-    → y ≡ x' ++ image ∷ [] → s ≡ r' ++ length x' ∷ [] → b ≡ a'
-    → AreImaged tin (path_vertices points path row) x y r s a b
-path_but_last tin points path row x x' y r r' s a a' b j triangle image from e other state is ey es eb =
-    subst (λ (n : ℕ). AreImaged tin (first_vertices points path row n) x y r s a b) (but_last row j from e other)
-    (subst (λ (vs : List PathVertex). AreImaged tin vs x y r s a b) (sym (one_vertex_more points path row j))
-    (imaged_on tin (first_vertices points path row j) (vertex_at points path row j ∷ []) x x' y r r' s a a' b
-    state.imaged
-    (imaged_last tin (vertex_at points path row j) image x' y r' s a' b (begins_none points path row j (omega arith)) is
-    ey es eb)))
+pub path_but_last : (tin : Triangulation) (points : List Pt) (heights : List Height) (path : ℕ) (row : PathRow)
+    (x x' y : List Pt) (u u' v : List Height) (r r' s a a' b : List ℕ) (j triangle : ℕ) (image : Pt)
+    (height : Height) → IsPathFrom row.first row → j ≡ segments_in row → (j ≡ points_in row → ⊥)
+    → IsPathImaged tin points heights path row x x' u u' r r' a a' j triangle
+    → IsRoundedImage tin (begin_of points row j) image → height ≡ height_in heights (row.past - 1)
+    → y ≡ x' ++ image ∷ [] → v ≡ u' ++ height ∷ [] → s ≡ r' ++ length x' ∷ [] → b ≡ a'
+    → AreImaged tin (path_vertices points heights path row) x y u v r s a b
+path_but_last tin points heights path row x x' y u u' v r r' s a a' b j triangle image height from e other state is high
+    ey ev es eb =
+    subst (λ (n : ℕ). AreImaged tin (first_vertices points heights path row n) x y u v r s a b)
+    (but_last row j from e other)
+    (subst (λ (vs : List PathVertex). AreImaged tin vs x y u v r s a b)
+    (sym (one_vertex_more points heights path row j))
+    (imaged_on tin (first_vertices points heights path row j) (vertex_at points heights path row j ∷ []) x x' y u u' v
+    r r' s a a' b state.imaged
+    (imaged_last tin (vertex_at points heights path row j) image x' y u' v r' s a' b
+    (begins_none points heights path row j (omega arith)) is ey
+    (ev ∙ ap (λ (z : Height). u' ++ z ∷ []) (high ∙ ap (height_in heights)
+    (sym (last_place row j from.some (but_last row j from e other))))) es eb)))
 
 -- ---- why it is not passed
-pub path_cause : (tin : Triangulation) (points : List Pt) (track : Track) (x x' : List Pt) (r r' a a' : List ℕ)
-    (j triangle : ℕ) (way : Way) (fault : CertFault)
+pub path_cause : (tin : Triangulation) (points : List Pt) (heights : List Height) (track : Track) (x x' : List Pt)
+    (u u' : List Height) (r r' a a' : List ℕ) (j triangle : ℕ) (way : Way) (fault : CertFault)
     → IsPathFrom track.row.first track.row → j < segments_in track.row
-    → IsPathImaged tin points track.path track.row x x' r r' a a' j triangle → IsWayAt points track j way
+    → IsPathImaged tin points heights track.path track.row x x' u u' r r' a a' j triangle
+    → IsWayAt points heights track j way
     → IsWayCause tin way a' fault
-    → IsStopCause tin (segments_begun (path_vertices points track.path track.row)) a fault
-path_cause tin points track x x' r r' a a' j triangle way (Layer f) path h state is cause = absurd cause
-path_cause tin points track x x' r r' a a' j triangle way (Form f) path h state is cause = absurd cause
-path_cause tin points track x x' r r' a a' j triangle way (Count f g) path h state is cause = absurd cause
-path_cause tin points track x x' r r' a a' j triangle way (Differs f) path h state is cause = absurd cause
-path_cause tin points track x x' r r' a a' j triangle way NoMemory path h state is cause = tt
-path_cause tin points track x x' r r' a a' j triangle way (WrongSegment p n) path h state is cause =
+    → IsStopCause tin (segments_begun (path_vertices points heights track.path track.row)) a fault
+path_cause tin points heights track x x' u u' r r' a a' j triangle way (Layer f) path h state is cause = absurd cause
+path_cause tin points heights track x x' u u' r r' a a' j triangle way (Form f) path h state is cause = absurd cause
+path_cause tin points heights track x x' u u' r r' a a' j triangle way (Count f g) path h state is cause = absurd cause
+path_cause tin points heights track x x' u u' r r' a a' j triangle way (Differs f) path h state is cause = absurd cause
+path_cause tin points heights track x x' u u' r r' a a' j triangle way NoMemory path h state is cause = tt
+path_cause tin points heights track x x' u u' r r' a a' j triangle way (WrongSegment p n) path h state is cause =
     go state.imaged cause.2
   where
-    go : AreImaged tin (first_vertices points track.path track.row j) x x' r r' a a' → HasWrongLine tin way.a way.b a'
-        → IsStoppedAt tin (segments_begun (path_vertices points track.path track.row)) a p n
+    go : AreImaged tin (first_vertices points heights track.path track.row j) x x' u u' r r' a a'
+        → HasWrongLine tin way.a way.b a'
+        → IsStoppedAt tin (segments_begun (path_vertices points heights track.path track.row)) a p n
     go imaged wrong = by imaged wrong wrong.line
       where
-        by : (imaged : AreImaged tin (first_vertices points track.path track.row j) x x' r r' a a')
+        by : (imaged : AreImaged tin (first_vertices points heights track.path track.row j) x x' u u' r r' a a')
             (wrong : HasWrongLine tin way.a way.b a') → IsLine a' wrong.list wrong.rest
-            → IsStoppedAt tin (segments_begun (path_vertices points track.path track.row)) a p n
+            → IsStoppedAt tin (segments_begun (path_vertices points heights track.path track.row)) a p n
         by imaged wrong line = record {
-          before = segments_begun (first_vertices points track.path track.row j);
-          segment = segment_at points track.path track.row j;
-          behind = segments_begun (drop (suc j) (path_vertices points track.path track.row));
+          before = segments_begun (first_vertices points heights track.path track.row j);
+          segment = segment_at points heights track.path track.row j;
+          behind = segments_begun (drop (suc j) (path_vertices points heights track.path track.row));
           right = imaged.lists;
           list = wrong.list;
           rest = wrong.rest;
-          segments_are = split_at points track.path track.row j path h;
+          segments_are = split_at points heights track.path track.row j path h;
           are_lists = imaged.are_lists;
           is_list = line.list;
           spelled = imaged.spelled ∙ ap (λ (xs : List ℕ). lines_text imaged.lists ++ xs) line.spelled;
@@ -270,24 +327,13 @@ pub exits : {A : Type 0} (Q : CertFault → Type 0) (fault : CertFault) (r : Res
 exits Q fault (Ok value) h q = absurd h
 exits Q fault (Err e) h q = subst Q (sym h) q
 
--- ---- the whole path, and its last point
-pub path_all : (tin : Triangulation) (points : List Pt) (path : ℕ) (row : PathRow) (x x' : List Pt) (r r' a a' : List ℕ)
-    (j triangle : ℕ) → j ≡ points_in row → IsPathImaged tin points path row x x' r r' a a' j triangle
-    → AreImaged tin (path_vertices points path row) x x' r r' a a'
-path_all tin points path row x x' r r' a a' j triangle e state =
-    subst (λ (n : ℕ). AreImaged tin (first_vertices points path row n) x x' r r' a a') e state.imaged
-
-pub last_place : (row : PathRow) (j : ℕ) → row.first < row.past → j + 1 ≡ points_in row → row.first + j ≡ row.past - 1
-last_place row j h e = place row.first row.past h e
-  where
-    place : (m n : ℕ) → m < n → j + 1 ≡ n - m → m + j ≡ n - 1
-    place m n h e = omega arith
-
-pub some_told : {A : Type 0} (P : A → Type 0) (answer : Option A) (x : A) → answer ≡ Some x → IfSome answer P → P x
-some_told P answer x e h = subst (λ o. IfSome o P) e h
-
-pub none_told : {A : Type 0} (P : Type 0) (answer : Option A) → answer ≡ None → IfNone answer P → P
-none_told P answer e h = subst (λ o. IfNone o P) e h
+-- ---- the whole path
+pub path_all : (tin : Triangulation) (points : List Pt) (heights : List Height) (path : ℕ) (row : PathRow)
+    (x x' : List Pt) (u u' : List Height) (r r' a a' : List ℕ) (j triangle : ℕ) → j ≡ points_in row
+    → IsPathImaged tin points heights path row x x' u u' r r' a a' j triangle
+    → AreImaged tin (path_vertices points heights path row) x x' u u' r r' a a'
+path_all tin points heights path row x x' u u' r r' a a' j triangle e state =
+    subst (λ (n : ℕ). AreImaged tin (first_vertices points heights path row n) x x' u u' r r' a a') e state.imaged
 
 pub wrong_line : (tin : Triangulation) (a b : Pt) (text numbers items rest : List ℕ) → IsLine text numbers rest
     → items ≡ numbers → (IsRightList tin a b items → ⊥) → HasWrongLine tin a b text

@@ -1,18 +1,20 @@
 -- The images by a right list are those of the segment's pieces.
 use Rattle.std.proofs.Common.{◌≡◌, ◌≢◌, ◌⊎◌, inl, inr, ℕ, zero, suc, ◌+◌, ◌-◌, ◌*◌, ◌<◌, pos, ◌<ℤ◌, List, [], ◌∷◌, ◌++◌}
-use Rattle.std.proofs.Common.{length, get_or, take, append_assoc, ◌≤◌, refl, sym, ◌∙◌, ap, subst, arith}
-use Rattle.std.proofs.lemmas.List.{take_more, take_all, length-append}
+use Rattle.std.proofs.Common.{length, get_or, take, map, append_assoc, ◌≤◌, refl, sym, ◌∙◌, ap, ap₂, subst, arith}
+use Rattle.std.proofs.lemmas.List.{take_more, take_all, length-append, length-map, length-take-le, map-append}
 use lib.Signed.{lt_z_yes}
 use Rattle.plane_base.specs.Plane.{whole}
 use Rattle.plane_base.specs.declared.shapes.Pt.{Pt}
 use Rattle.plane_base.specs.declared.slicing.Stretch.{Stretch}
 use Rattle.plane_base.proofs.Mixes.{same_sym, mix_moved}
+use Rattle.sheet_base.specs.PointHeights.{Height, Position, points_of, heights_of}
+use Rattle.sheet_base.specs.ReadBack.{Ends}
 use Rattle.tin_base.specs.declared.frames.Frame.TheVariants.{Source}
 use Rattle.tin_base.specs.Triangulation.{Triangulation, numbers_of, places}
 use Rattle.tin_base.specs.Limits.{IsWithinLimits}
 use Rattle.tin_base.specs.Soundness.{IsSound}
 use Rattle.tin_base.specs.Segments.{Spot, spot_at, at_a, at_b, IsSameSpot, IsInside, IsShared, IsPart, Part}
-use Rattle.tin_base.specs.Segments.{ArePiecesAt, ArePiecesOf}
+use Rattle.tin_base.specs.Segments.{ArePiecesAt, ArePiecesOf, part_at}
 use Rattle.tin_base.specs.Slices.{spot_of, IsSliceIn}
 use Rattle.tin_base.proofs.Apart.{same_last}
 use Rattle.tin_base.proofs.Ends.{IsSpot, before_trans_left, before_trans_right, same_of}
@@ -22,10 +24,14 @@ use Rattle.tin_base.proofs.SlicedParts.{HasParams, params, within, part_told}
 use Rattle.tin_base.proofs.Spots.{spot-w, spot_first, spot_last}
 use Rattle.affine_image.specs.Rounded.{IsRoundedImage, IsRoundedImageAt}
 use Rattle.affine_image.specs.SheetImages.{AreEndsOfAllButLast}
+use Rattle.affine_image.specs.SpotHeights.{mixed_height, param_height, crossing_heights}
 use Rattle.affine_image.proofs.Joining.{same_or, same_of_spots}
 use Rattle.affine_image.proofs.Moving.{rounded_moved}
+use Rattle.affine_image.proofs.OneHeight.{mixed_one}
+use Rattle.affine_image.proofs.SpotHeights.{IsInner, inner_height, cut_inner}
 use Rattle.cert_check.specs.RightLists.{AreFollowing, IsOneWith, IsRightList}
-use Rattle.cert_check.specs.SheetLists.{HasPart, IsEndImage, AreEndImages, IsRunBehind, IsTriangleWith}
+use Rattle.cert_check.specs.SheetLists.{HasPart, IsEndImage, IsEndHeight, IsEndPosition, AreEndPositions, IsEndBehind}
+use Rattle.cert_check.specs.SheetLists.{IsRunBehind, IsTriangleWith}
 use Rattle.cert_check.proofs.Following.{IsRow, row_rest, row_of, right_inside}
 use Rattle.cert_check.proofs.Passing.{same_trans}
 
@@ -56,25 +62,37 @@ end_told tin a b t slice image limits ht told is f l p = go (params tin a b t sl
         rounded_moved tin (spot_at a b hi) (spot_at a b l) image (spot-w a b hi (spot_some slice.hi ends.hi))
         (same_of_spots a b l hi (same_end tin a b t slice f l limits ht told p)) is
 
+pub height_told : (tin : Triangulation) (a b : Pt) (ends : Ends Height) (t : ℕ) (slice : Stretch) → IsWithinLimits tin
+    → t < length tin.triangles → IsSliceIn tin a b t slice
+    → IsEndHeight tin a b ends t (param_height ends.from ends.to slice.hi)
+height_told tin a b ends t slice limits ht told f l p = go (params tin a b t slice limits ht told) p.has_last
+  where
+    go : HasParams slice → IsShared tin a b t l
+        → param_height ends.from ends.to slice.hi ≡ mixed_height l.of_a l.of_b ends.from ends.to
+    go high has =
+        let hi = spot_of slice.hi in
+        sym (mixed_one l.of_a l.of_b hi.of_a hi.of_b ends.from ends.to has.some (spot_some slice.hi high.hi)
+        (same_end tin a b t slice f l limits ht told p))
+
 -- a triangle with a part shares its first spot
 pub part_shared : (tin : Triangulation) (a b : Pt) (t : ℕ) → HasPart tin a b t → ((s : Spot) → IsShared tin a b t s → ⊥)
     → ⊥
 part_shared tin a b t (f, l, part) none = none f part.has_first
 
 -- ---- the images of the ends
-pub ends_more : (tin : Triangulation) (a b : Pt) (ts : List ℕ) (t : ℕ) (images : List Pt) (image : Pt)
-    → AreEndImages tin a b ts images → IsEndImage tin a b t image
-    → AreEndImages tin a b (ts ++ t ∷ []) (images ++ image ∷ [])
-ends_more tin a b [] t [] image h k = (k, refl)
-ends_more tin a b [] t (i ∷ images) image h k = absurd (let e = h in cc)
-ends_more tin a b (u ∷ ts) t [] image h k = absurd h
-ends_more tin a b (u ∷ ts) t (i ∷ images) image h k = (h.0, ends_more tin a b ts t images image h.1 k)
+pub ends_more : (tin : Triangulation) (a b : Pt) (ends : Ends Height) (ts : List ℕ) (t : ℕ) (images : List Position)
+    (image : Position) → AreEndPositions tin a b ends ts images → IsEndPosition tin a b ends t image
+    → AreEndPositions tin a b ends (ts ++ t ∷ []) (images ++ image ∷ [])
+ends_more tin a b ends [] t [] image h k = (k, refl)
+ends_more tin a b ends [] t (i ∷ images) image h k = absurd (let e = h in cc)
+ends_more tin a b ends (u ∷ ts) t [] image h k = absurd h
+ends_more tin a b ends (u ∷ ts) t (i ∷ images) image h k = (h.0, ends_more tin a b ends ts t images image h.1 k)
 
-pub ends_length : (tin : Triangulation) (a b : Pt) (ts : List ℕ) (images : List Pt) → AreEndImages tin a b ts images
-    → length images ≡ length ts
-ends_length tin a b [] images h = ap (λ (is : List Pt). length is) h
-ends_length tin a b (t ∷ ts) [] h = absurd h
-ends_length tin a b (t ∷ ts) (i ∷ images) h = ap suc (ends_length tin a b ts images h.1)
+pub ends_length : (tin : Triangulation) (a b : Pt) (ends : Ends Height) (ts : List ℕ) (images : List Position)
+    → AreEndPositions tin a b ends ts images → length images ≡ length ts
+ends_length tin a b ends [] images h = ap (λ (is : List Position). length is) h
+ends_length tin a b ends (t ∷ ts) [] h = absurd h
+ends_length tin a b ends (t ∷ ts) (i ∷ images) h = ap suc (ends_length tin a b ends ts images h.1)
 
 -- ---- no part begins at the last end
 none_behind : (m n k o : ℕ) → o ≡ 0 → m * n < k * o → ⊥
@@ -94,15 +112,17 @@ stuck_at_b tin a b x (t ∷ ts) last some (f, l, part, same, follow) e =
     not_from_b tin a b t f l part (same_trans f x at_b some same e)
 
 -- ---- the ends of the triangles' parts are those of the pieces
-ends_of_row : (tin : Triangulation) (a b : Pt) (x y : Spot) (parts : List Part) (front : List ℕ) (last : ℕ)
-    (images : List Pt) → IsSound tin → a ≢ b → IsSpot x → IsSpot y → IsRow tin a b x parts
-    → AreFollowing tin a b y (front ++ last ∷ []) → IsSameSpot x y → AreEndImages tin a b front images
-    → AreEndsOfAllButLast tin a b parts images
-ends_of_row tin a b x y [] front last images sound differ some_x some_y row follow same ends =
+ends_of_row : (tin : Triangulation) (a b : Pt) (ends : Ends Height) (x y : Spot) (parts : List Part) (front : List ℕ)
+    (last : ℕ) (images : List Position) → IsSound tin → a ≢ b → IsSpot x → IsSpot y → IsRow tin a b x parts
+    → ((i : ℕ) → i + 1 < length parts → IsInner a b (part_at parts i).last)
+    → AreFollowing tin a b y (front ++ last ∷ []) → IsSameSpot x y → AreEndPositions tin a b ends front images
+    → AreEndsOfAllButLast tin a b parts (points_of images) × (heights_of images ≡ crossing_heights a b ends parts)
+ends_of_row tin a b ends x y [] front last images sound differ some_x some_y row inner follow same told =
     absurd (stuck_at_b tin a b y front last some_y follow (same_trans y x at_b some_x (sym same) (row.none refl)))
-ends_of_row tin a b x y (p ∷ []) [] last images sound differ some_x some_y row follow same ends = ends
-ends_of_row tin a b x y (p ∷ []) (t ∷ ts) last images sound differ some_x some_y row (f, l, part, begins, follow) same
-    ends = absurd (go (row.part 0 (omega arith)))
+ends_of_row tin a b ends x y (p ∷ []) [] last images sound differ some_x some_y row inner follow same told =
+    (ap (λ (is : List Position). points_of is) told, ap (λ (is : List Position). heights_of is) told)
+ends_of_row tin a b ends x y (p ∷ []) (t ∷ ts) last images sound differ some_x some_y row inner
+    (f, l, part, begins, follow) same told = absurd (go (row.part 0 (omega arith)))
   where
     go : IsPart tin a b p.triangle p.first p.last → ⊥
     go own =
@@ -112,8 +132,8 @@ ends_of_row tin a b x y (p ∷ []) (t ∷ ts) last images sound differ some_x so
         let end = same_last tin a b p.triangle t p.first p.last f l sound differ own part first in
         stuck_at_b tin a b l ts last has.some follow
         (same_trans l p.last at_b has'.some (sym end) (row.ends 0 (omega arith)))
-ends_of_row tin a b x y (p ∷ q ∷ ps) [] last images sound differ some_x some_y row (f, l, part, begins, at_end) same
-    ends = absurd (go (row.part 0 (omega arith)) (row.part 1 (omega arith)))
+ends_of_row tin a b ends x y (p ∷ q ∷ ps) [] last images sound differ some_x some_y row inner
+    (f, l, part, begins, at_end) same told = absurd (go (row.part 0 (omega arith)) (row.part 1 (omega arith)))
   where
     go : IsPart tin a b p.triangle p.first p.last → IsPart tin a b q.triangle q.first q.last → ⊥
     go own next =
@@ -124,23 +144,35 @@ ends_of_row tin a b x y (p ∷ q ∷ ps) [] last images sound differ some_x some
         not_from_b tin a b q.triangle q.first q.last next
         (same_trans q.first p.last at_b has'.some (row.joined 0 (omega arith))
         (same_trans p.last l at_b has.some end at_end))
-ends_of_row tin a b x y (p ∷ q ∷ ps) (t ∷ ts) last [] sound differ some_x some_y row follow same ends = absurd ends
-ends_of_row tin a b x y (p ∷ q ∷ ps) (t ∷ ts) last (image ∷ images) sound differ some_x some_y row
-    (f, l, part, begins, follow) same ends =
-    go (row.part 0 (omega arith)) (λ some_last some_l end. ends_of_row tin a b p.last l (q ∷ ps) ts last images sound
-    differ some_last some_l (row_rest tin a b x p (q ∷ ps) row) follow end ends.1)
+ends_of_row tin a b ends x y (p ∷ q ∷ ps) (t ∷ ts) last [] sound differ some_x some_y row inner follow same told =
+    absurd told
+ends_of_row tin a b ends x y (p ∷ q ∷ ps) (t ∷ ts) last (image ∷ images) sound differ some_x some_y row inner
+    (f, l, part, begins, follow) same told =
+    go (row.part 0 (omega arith)) (inner 0 (omega arith)) (λ some_last some_l end.
+    ends_of_row tin a b ends p.last l (q ∷ ps) ts last images sound differ some_last some_l
+    (row_rest tin a b x p (q ∷ ps) row) (λ i h. inner (suc i) (omega (arith, h))) follow end told.1)
   where
-    go : IsPart tin a b p.triangle p.first p.last
-        → (IsSpot p.last → IsSpot l → IsSameSpot p.last l → AreEndsOfAllButLast tin a b (q ∷ ps) images)
-        → AreEndsOfAllButLast tin a b (p ∷ q ∷ ps) (image ∷ images)
-    go own others =
+    go : IsPart tin a b p.triangle p.first p.last → IsInner a b p.last
+        → (IsSpot p.last → IsSpot l → IsSameSpot p.last l → AreEndsOfAllButLast tin a b (q ∷ ps) (points_of images)
+        × (heights_of images ≡ crossing_heights a b ends (q ∷ ps)))
+        → AreEndsOfAllButLast tin a b (p ∷ q ∷ ps) (points_of (image ∷ images))
+        × (heights_of (image ∷ images) ≡ crossing_heights a b ends (p ∷ q ∷ ps))
+    go own within others =
         let has = part.has_last in let has' = own.has_last in
         let first : IsSameSpot p.first f = same_trans p.first x f some_x (row.begins (omega arith))
         (same_trans x y f some_y same (sym begins)) in
-        let end = same_last tin a b p.triangle t p.first p.last f l sound differ own part first in (
-          rounded_moved tin (spot_at a b l) (spot_at a b p.last) image (spot-w a b l has.some)
-              (same_of_spots a b p.last l end) (ends.0 f l part),
-          others has'.some has.some end,
+        let end = same_last tin a b p.triangle t p.first p.last f l sound differ own part first in
+        let here = told.0 in
+        let rest = others has'.some has.some end in (
+          (
+            rounded_moved tin (spot_at a b l) (spot_at a b p.last) image.point (spot-w a b l has.some)
+                (same_of_spots a b p.last l end) (here.0 f l part),
+            rest.0,
+          ),
+          ap₂ (λ (h : Height) (hs : List Height). h ∷ hs)
+              (here.1 f l part
+              ∙ mixed_one l.of_a l.of_b p.last.of_a p.last.of_b ends.from ends.to has.some has'.some (sym end)
+              ∙ sym (inner_height a b ends p.last within)) rest.1,
         )
 
 -- ---- a segment of one point
@@ -150,44 +182,56 @@ none_in_front tin a [] last h = refl
 none_in_front tin a (t ∷ []) last h = absurd h
 none_in_front tin a (t ∷ u ∷ ts) last h = absurd h
 
-one_point : (tin : Triangulation) (a : Pt) (parts : List Part) (images : List Pt) → IsInside tin a a
-    → ArePiecesAt tin a parts → images ≡ [] → AreEndsOfAllButLast tin a a parts images
-one_point tin a [] images inside none e = e
-one_point tin a (part ∷ []) images inside h e = e
-one_point tin a (part ∷ next ∷ parts) images inside h e = absurd h
+one_point : (tin : Triangulation) (a : Pt) (ends : Ends Height) (parts : List Part) (images : List Position)
+    → IsInside tin a a → ArePiecesAt tin a parts → images ≡ []
+    → AreEndsOfAllButLast tin a a parts (points_of images) × (heights_of images ≡ crossing_heights a a ends parts)
+one_point tin a ends [] images inside none e =
+    (ap (λ (is : List Position). points_of is) e, ap (λ (is : List Position). heights_of is) e)
+one_point tin a ends (part ∷ []) images inside h e =
+    (ap (λ (is : List Position). points_of is) e, ap (λ (is : List Position). heights_of is) e)
+one_point tin a ends (part ∷ next ∷ parts) images inside h e = absurd h
 
 -- ---- the run
-pub run_told : (tin : Triangulation) (a b : Pt) (front : List ℕ) (last : ℕ) (image : Pt) (images before after : List Pt)
+pub run_told : (tin : Triangulation) (a b : Pt) (ends : Ends Height) (front : List ℕ) (last : ℕ) (image : Pt)
+    (images : List Position) (points points' : List Pt) (heights heights' : List Height)
     → IsSound tin → IsRightList tin a b (front ++ last ∷ []) → IsRoundedImage tin a image
-    → AreEndImages tin a b front images → after ≡ before ++ image ∷ images
-    → IsRunBehind tin a b before after
-run_told tin a b front last image images before after sound right is ends are = by_outcome (outcome tin sound a b)
+    → AreEndPositions tin a b ends front images → points' ≡ points ++ image ∷ points_of images
+    → heights' ≡ heights ++ ends.from ∷ heights_of images
+    → IsRunBehind tin a b ends points points' heights heights'
+run_told tin a b ends front last image images points points' heights heights' sound right is told points_on heights_on =
+    by_outcome (outcome tin sound a b)
   where
     inside : IsInside tin a b
     inside = right_inside tin a b (front ++ last ∷ []) sound right
 
     by_ends : (parts : List Part) → ArePiecesOf tin a b parts → (a ≡ b) ⊎ (a ≢ b)
-        → AreEndsOfAllButLast tin a b parts images
+        → AreEndsOfAllButLast tin a b parts (points_of images) × (heights_of images ≡ crossing_heights a b ends parts)
     by_ends parts cut (inl same) =
-        subst (λ (q : Pt). AreEndsOfAllButLast tin a q parts images) same
-        (one_point tin a parts images (subst (λ (q : Pt). IsInside tin a q) (sym same) inside) (cut.0 same)
-        (subst (λ (ts : List ℕ). AreEndImages tin a b ts images) (none_in_front tin a front last (right.0 same)) ends))
+        subst (λ (q : Pt). AreEndsOfAllButLast tin a q parts (points_of images)
+        × (heights_of images ≡ crossing_heights a q ends parts)) same
+        (one_point tin a ends parts images (subst (λ (q : Pt). IsInside tin a q) (sym same) inside) (cut.0 same)
+        (subst (λ (ts : List ℕ). AreEndPositions tin a b ends ts images)
+        (none_in_front tin a front last (right.0 same)) told))
     by_ends parts cut (inr differ) =
-        ends_of_row tin a b at_a at_a parts front last images sound differ (omega arith) (omega arith)
-        (row_of tin a b parts sound differ inside (cut.1 differ)) (right.1 differ) refl ends
+        ends_of_row tin a b ends at_a at_a parts front last images sound differ (omega arith) (omega arith)
+        (row_of tin a b parts sound differ inside (cut.1 differ))
+        (λ i h. cut_inner tin a b parts i sound inside cut h) (right.1 differ) refl told
 
     by_outcome : ((parts : List Part) × ArePiecesOf tin a b parts × IsInside tin a b) ⊎ (IsInside tin a b → ⊥)
-        → IsRunBehind tin a b before after
-    by_outcome (inl (parts, cut, _)) = record {
-      image = image;
-      is_image = is;
-      crossings = images;
-      parts = parts;
-      cut =
-          cut;
-      ends = by_ends parts cut (same_or a b);
-      are = are;
-    }
+        → IsRunBehind tin a b ends points points' heights heights'
+    by_outcome (inl (parts, cut, _)) =
+        let last_of = by_ends parts cut (same_or a b) in
+        record {
+          image = image;
+          is_image = is;
+          crossings = images;
+          parts = parts;
+          cut = cut;
+          last_images = last_of.0;
+          last_heights = last_of.1;
+          points_are = points_on;
+          heights_are = heights_on;
+        }
     by_outcome (inr out) = absurd (out inside)
 
 -- ---- the ends of a right list
@@ -266,30 +310,46 @@ each_has tin a b front last i h right = go (same_or a b)
     go (inr differ) = part_of_way tin a b at_a front last i h (right.1 differ)
 
 -- ---- the images so far
-pub record AreEndsBehind (tin : Triangulation) (a b : Pt) (front : List ℕ) (i : ℕ) (before after : List Pt) : Type 0
-  where
-    pub image : Pt
-    pub is : IsRoundedImage tin a image
-    pub own : List Pt
-    pub ends : AreEndImages tin a b (take i front) own
-    pub are : after ≡ before ++ image ∷ own
+pub record AreEndsBehind (tin : Triangulation) (a b : Pt) (ends : Ends Height) (front : List ℕ) (i : ℕ)
+    (points points' : List Pt) (heights heights' : List Height) : Type 0 where
+  pub image : Pt
+  pub is : IsRoundedImage tin a image
+  pub own : List Position
+  pub are_ends : AreEndPositions tin a b ends (take i front) own
+  pub points_are : points' ≡ points ++ image ∷ points_of own
+  pub heights_are : heights' ≡ heights ++ ends.from ∷ heights_of own
 
-pub ends_start : (tin : Triangulation) (a b : Pt) (front : List ℕ) (image : Pt) (before after : List Pt)
-    → IsRoundedImage tin a image → after ≡ before ++ image ∷ [] → AreEndsBehind tin a b front 0 before after
-ends_start tin a b front image before after is e = record { image = image; is = is; own = []; ends = refl; are = e }
+pub ends_start : (tin : Triangulation) (a b : Pt) (ends : Ends Height) (front : List ℕ) (image : Pt)
+    (points points' : List Pt) (heights heights' : List Height) → IsRoundedImage tin a image
+    → points' ≡ points ++ image ∷ [] → heights' ≡ heights ++ ends.from ∷ []
+    → AreEndsBehind tin a b ends front 0 points points' heights heights'
+ends_start tin a b ends front image points points' heights heights' is e f =
+    record { image = image; is = is; own = []; are_ends = refl; points_are = e; heights_are = f }
 
-pub ends_next : (tin : Triangulation) (a b : Pt) (front : List ℕ) (i : ℕ) (before after after' : List Pt)
-    → i < length front → AreEndsBehind tin a b front i before after
-    → (image : Pt) × (after' ≡ after ++ image ∷ []) × IsEndImage tin a b (get_or front i 0) image
-    → AreEndsBehind tin a b front (i + 1) before after'
-ends_next tin a b front i before after after' h so_far (image, e, is) = record {
+-- items of one image more
+item_on : {X : Type 0} (item : Position → X) (x y z : List X) (first : X) (own : List Position) (image : Position)
+    → y ≡ x ++ first ∷ map item own → z ≡ y ++ item image ∷ [] → z ≡ x ++ first ∷ map item (own ++ image ∷ [])
+item_on item x y z first own image e f =
+    f ∙ ap (λ (xs : List _). xs ++ item image ∷ []) e
+    ∙ append_assoc x (first ∷ map item own) (item image ∷ [])
+    ∙ ap (λ (xs : List _). x ++ first ∷ xs) (sym (map-append item own (image ∷ [])))
+
+pub ends_next : (tin : Triangulation) (a b : Pt) (ends : Ends Height) (front : List ℕ) (i : ℕ)
+    (points points' points'' : List Pt) (heights heights' heights'' : List Height) → i < length front
+    → AreEndsBehind tin a b ends front i points points' heights heights'
+    → IsEndBehind tin a b ends (get_or front i 0) points' points'' heights' heights''
+    → AreEndsBehind tin a b ends front (i + 1) points points'' heights heights''
+ends_next tin a b ends front i points points' points'' heights heights' heights'' h so_far next = record {
   image = so_far.image;
   is = so_far.is;
-  own = so_far.own ++ image ∷ [];
-  ends = subst (λ (ts : List ℕ). AreEndImages tin a b ts (so_far.own ++ image ∷ [])) (sym (take_more front i 0 h))
-      (ends_more tin a b (take i front) (get_or front i 0) so_far.own image so_far.ends is);
-  are = e ∙ ap (λ (xs : List Pt). xs ++ image ∷ []) so_far.are
-      ∙ append_assoc before (so_far.image ∷ so_far.own) (image ∷ []);
+  own = so_far.own ++ next.image ∷ [];
+  are_ends = subst (λ (ts : List ℕ). AreEndPositions tin a b ends ts (so_far.own ++ next.image ∷ []))
+      (sym (take_more front i 0 h))
+      (ends_more tin a b ends (take i front) (get_or front i 0) so_far.own next.image so_far.are_ends next.is_end);
+  points_are = item_on (λ (position : Position). position.point) points points' points'' so_far.image so_far.own
+      next.image so_far.points_are next.points_are;
+  heights_are = item_on (λ (position : Position). position.height) heights heights' heights'' ends.from so_far.own
+      next.image so_far.heights_are next.heights_are;
 }
 
 all_taken : (front : List ℕ) (i : ℕ) → i ≡ length front → take i front ≡ front
@@ -298,22 +358,35 @@ all_taken front i e = take_all i front (from (length front) e)
     from : (n : ℕ) → i ≡ n → n ≤ i
     from n e = omega arith
 
-pub ends_all : (tin : Triangulation) (a b : Pt) (front : List ℕ) (last i : ℕ) (before after : List Pt) → IsSound tin
-    → IsRightList tin a b (front ++ last ∷ []) → i ≡ length front → AreEndsBehind tin a b front i before after
-    → IsRunBehind tin a b before after
-ends_all tin a b front last i before after sound right e so_far =
-    run_told tin a b front last so_far.image so_far.own before after sound right so_far.is
-    (subst (λ (ts : List ℕ). AreEndImages tin a b ts so_far.own) (all_taken front i e) so_far.ends) so_far.are
+pub ends_all : (tin : Triangulation) (a b : Pt) (ends : Ends Height) (front : List ℕ) (last i : ℕ)
+    (points points' : List Pt) (heights heights' : List Height) → IsSound tin
+    → IsRightList tin a b (front ++ last ∷ []) → i ≡ length front
+    → AreEndsBehind tin a b ends front i points points' heights heights'
+    → IsRunBehind tin a b ends points points' heights heights'
+ends_all tin a b ends front last i points points' heights heights' sound right e so_far =
+    run_told tin a b ends front last so_far.image so_far.own points points' heights heights' sound right so_far.is
+    (subst (λ (ts : List ℕ). AreEndPositions tin a b ends ts so_far.own) (all_taken front i e) so_far.are_ends)
+    so_far.points_are so_far.heights_are
 
-pub ends_count : (tin : Triangulation) (a b : Pt) (front : List ℕ) (i : ℕ) (before after : List Pt) → i ≡ length front
-    → AreEndsBehind tin a b front i before after → length after ≡ length before + (length front + 1)
-ends_count tin a b front i before after e so_far =
-    sum (length after) (length before) (length so_far.own)
-    (ap (λ (xs : List Pt). length xs) so_far.are ∙ length-append before (so_far.image ∷ so_far.own))
-    (ends_length tin a b front so_far.own (subst (λ (ts : List ℕ). AreEndImages tin a b ts so_far.own)
-    (all_taken front i e) so_far.ends))
+-- as many images as triangles, and as many heights
+pub ends_count : (tin : Triangulation) (a b : Pt) (ends : Ends Height) (front : List ℕ) (i : ℕ)
+    (points points' : List Pt) (heights heights' : List Height) → i ≤ length front
+    → AreEndsBehind tin a b ends front i points points' heights heights'
+    → (length points' ≡ length points + (i + 1)) × (length heights' ≡ length heights + (i + 1))
+ends_count tin a b ends front i points points' heights heights' below so_far =
+    let own : length so_far.own ≡ i = ends_length tin a b ends (take i front) so_far.own so_far.are_ends
+    ∙ length-take-le i front below in (
+      sum (length points') (length points) (length (points_of so_far.own))
+          (ap (λ (xs : List Pt). length xs) so_far.points_are
+          ∙ length-append points (so_far.image ∷ points_of so_far.own))
+          (length-map so_far.own (λ (position : Position). position.point) ∙ own),
+      sum (length heights') (length heights) (length (heights_of so_far.own))
+          (ap (λ (xs : List Height). length xs) so_far.heights_are
+          ∙ length-append heights (ends.from ∷ heights_of so_far.own))
+          (length-map so_far.own (λ (position : Position). position.height) ∙ own),
+    )
   where
-    sum : (k m o : ℕ) → k ≡ m + suc o → o ≡ length front → k ≡ m + (length front + 1)
+    sum : (k m o : ℕ) → k ≡ m + suc o → o ≡ i → k ≡ m + (i + 1)
     sum k m o e f = omega arith
 
 pub first_in : (tin : Triangulation) (a b : Pt) (numbers : List ℕ) → 0 < length numbers → IsRightList tin a b numbers

@@ -4,6 +4,7 @@ use Rattle.std.proofs.Common.{ap, refl, sym, ◌∙◌, subst, arith}
 use Rattle.std.proofs.lemmas.List.{append-nil, append_cancel_left, length-append, take_all}
 use Rattle.plane_base.specs.declared.shapes.Pt.{Pt}
 use Rattle.sheet_base.specs.declared.paths.PathRow.{PathRow}
+use Rattle.sheet_base.specs.PointHeights.{Height}
 use Rattle.sheet_base.specs.Segments.{segments_in}
 use Rattle.sheet_base.specs.Sheets.{IsPathFrom}
 use Rattle.tin_base.specs.Triangulation.{Triangulation}
@@ -19,84 +20,95 @@ use Rattle.cert_check.specs.declared.faults.CertFault.TheVariants.{Layer, Form, 
 use Rattle.cert_check.specs.declared.faults.CertFault.TheVariants.{NoMemory}
 use Rattle.cert_check.specs.SheetLists.{HasLines, AreImaged, IsStoppedAt, IsStopCause, IsImageCause, HasRightLists}
 use Rattle.cert_check.proofs.LineNumbers.{LinesLeft, lines_left, still_enough}
-use Rattle.cert_check.proofs.PathLists.{imaged_none, imaged_on, lists_more, texts_more, right_more, right_length}
+use Rattle.cert_check.proofs.PathLists.{imaged_none, imaged_on, imaged_each, lists_more, texts_more, right_more}
+use Rattle.cert_check.proofs.PathLists.{right_length}
 
 -- ---- what stands after some paths
-pub record IsSheetImaged (tin : Triangulation) (points : List Pt) (rows : List PathRow) (x : List Pt)
-    (r text rest : List ℕ) (i : ℕ) : Type 0 where
-  pub imaged : AreImaged tin (vertices_from points 0 (take i rows)) [] x [] r text rest
+pub record IsSheetImaged (tin : Triangulation) (points : List Pt) (heights : List Height) (rows : List PathRow)
+    (x : List Pt) (u : List Height) (r text rest : List ℕ) (i : ℕ) : Type 0 where
+  pub imaged : AreImaged tin (vertices_from points heights 0 (take i rows)) [] x [] u [] r text rest
+  pub each : length u ≡ length x
   pub count : length x + length rest ≤ length text
 
-pub sheet_start : (tin : Triangulation) (points : List Pt) (rows : List PathRow) (x : List Pt) (r text rest : List ℕ)
-    → x ≡ [] → r ≡ [] → rest ≡ text → IsSheetImaged tin points rows x r text rest 0
-sheet_start tin points rows x r text rest ex er e =
-    subst (λ (xs : List Pt). IsSheetImaged tin points rows xs r text rest 0) (sym ex)
-    (subst (λ (rs : List ℕ). IsSheetImaged tin points rows [] rs text rest 0) (sym er)
-    (subst (λ (left : List ℕ). IsSheetImaged tin points rows [] [] text left 0) (sym e)
-    (record { imaged = imaged_none tin [] [] text; count = omega arith })))
+pub sheet_start : (tin : Triangulation) (points : List Pt) (heights : List Height) (rows : List PathRow) (x : List Pt)
+    (u : List Height) (r text rest : List ℕ) → x ≡ [] → u ≡ [] → r ≡ [] → rest ≡ text
+    → IsSheetImaged tin points heights rows x u r text rest 0
+sheet_start tin points heights rows x u r text rest ex eu er e =
+    subst (λ (xs : List Pt). IsSheetImaged tin points heights rows xs u r text rest 0) (sym ex)
+    (subst (λ (hs : List Height). IsSheetImaged tin points heights rows [] hs r text rest 0) (sym eu)
+    (subst (λ (rs : List ℕ). IsSheetImaged tin points heights rows [] [] rs text rest 0) (sym er)
+    (subst (λ (left : List ℕ). IsSheetImaged tin points heights rows [] [] [] text left 0) (sym e)
+    (record { imaged = imaged_none tin [] [] [] text; each = refl; count = omega arith }))))
 
-pub sheet_next : (tin : Triangulation) (points : List Pt) (rows : List PathRow) (x y : List Pt) (r s text a b : List ℕ)
-    (i : ℕ) (row : PathRow) → i < length rows → IsRowAt rows i row → IsSheetImaged tin points rows x r text a i
-    → AreImaged tin (path_vertices points i row) x y r s a b → length y + length b ≤ length x + length a
-    → IsSheetImaged tin points rows y s text b (i + 1)
-sheet_next tin points rows x y r s text a b i row h e state imaged few = record {
-  imaged = subst (λ (vs : List PathVertex). AreImaged tin vs [] y [] s text b)
-      (sym (one_path_more points rows i row h e))
-      (imaged_on tin (vertices_from points 0 (take i rows)) (path_vertices points i row) [] x y [] r s text a b
-      state.imaged imaged);
+pub sheet_next : (tin : Triangulation) (points : List Pt) (heights : List Height) (rows : List PathRow) (x y : List Pt)
+    (u v : List Height) (r s text a b : List ℕ) (i : ℕ) (row : PathRow) → i < length rows → IsRowAt rows i row
+    → IsSheetImaged tin points heights rows x u r text a i
+    → AreImaged tin (path_vertices points heights i row) x y u v r s a b
+    → length y + length b ≤ length x + length a → IsSheetImaged tin points heights rows y v s text b (i + 1)
+sheet_next tin points heights rows x y u v r s text a b i row h e state imaged few = record {
+  imaged = subst (λ (vs : List PathVertex). AreImaged tin vs [] y [] v [] s text b)
+      (sym (one_path_more points heights rows i row h e))
+      (imaged_on tin (vertices_from points heights 0 (take i rows)) (path_vertices points heights i row) [] x y [] u
+      v []
+      r s text a b state.imaged imaged);
+  each = imaged_each tin (path_vertices points heights i row) x y u v r s a b imaged state.each;
   count = (let c = state.count in omega (arith, c, few));
 }
 
 -- there are lines for the segments of the next path
-pub sheet_lines : (tin : Triangulation) (points : List Pt) (rows : List PathRow) (x : List Pt) (r text a : List ℕ)
-    (i n : ℕ) (row : PathRow) → i < length rows → IsRowAt rows i row → IsPathFrom row.first row
-    → n ≡ length (segments_begun (vertices_from points 0 rows)) → HasLines text n
-    → IsSheetImaged tin points rows x r text a i → HasLines a (segments_in row)
-sheet_lines tin points rows x r text a i n row h e path en has state = go state.imaged
+pub sheet_lines : (tin : Triangulation) (points : List Pt) (heights : List Height) (rows : List PathRow)
+    (x : List Pt) (u : List Height) (r text a : List ℕ) (i n : ℕ) (row : PathRow) → i < length rows → IsRowAt rows i row
+    → IsPathFrom row.first row
+    → n ≡ length (segments_begun (vertices_from points heights 0 rows)) → HasLines text n
+    → IsSheetImaged tin points heights rows x u r text a i → HasLines a (segments_in row)
+sheet_lines tin points heights rows x u r text a i n row h e path en has state = go state.imaged
   where
     done : List Segment
-    done = segments_begun (vertices_from points 0 (take i rows))
+    done = segments_begun (vertices_from points heights 0 (take i rows))
 
     own : List Segment
-    own = segments_begun (path_vertices points i row)
+    own = segments_begun (path_vertices points heights i row)
 
     behind : List Segment
-    behind = segments_begun (vertices_from points (i + 1) (drop (suc i) rows))
+    behind = segments_begun (vertices_from points heights (i + 1) (drop (suc i) rows))
 
     fits : (k l m o b : ℕ) → n ≡ k → k ≡ l + o → o ≡ m + b → (j : ℕ) → j ≡ l → (q : ℕ) → m ≡ q → j + q ≤ n
     fits k l m o b e f g j ej q eq = omega arith
 
-    go : AreImaged tin (vertices_from points 0 (take i rows)) [] x [] r text a → HasLines a (segments_in row)
+    go : AreImaged tin (vertices_from points heights 0 (take i rows)) [] x [] u [] r text a
+        → HasLines a (segments_in row)
     go imaged =
         still_enough text a imaged.lists (segments_in row) n has imaged.spelled imaged.are_lists
-        (fits (length (segments_begun (vertices_from points 0 rows))) (length done) (length own)
+        (fits (length (segments_begun (vertices_from points heights 0 rows))) (length done) (length own)
         (length (own ++ behind)) (length behind) en
-        (ap (λ (ss : List Segment). length ss) (split_paths points rows i row h e) ∙ length-append done (own ++ behind))
+        (ap (λ (ss : List Segment). length ss) (split_paths points heights rows i row h e)
+        ∙ length-append done (own ++ behind))
         (length-append own behind)
         (length imaged.lists) (right_length tin done imaged.lists imaged.are_right) (segments_in row)
-        (begun_in points i row path))
+        (begun_in points heights i row path))
 
 -- ---- why it is not passed
-pub sheet_cause : (tin : Triangulation) (points : List Pt) (rows : List PathRow) (x : List Pt) (r text a : List ℕ)
-    (i : ℕ) (row : PathRow) (fault : CertFault) → i < length rows → IsRowAt rows i row
-    → IsSheetImaged tin points rows x r text a i
-    → IsStopCause tin (segments_begun (path_vertices points i row)) a fault
-    → IsStopCause tin (segments_begun (vertices_from points 0 rows)) text fault
-sheet_cause tin points rows x r text a i row (Layer f) h e state cause = absurd cause
-sheet_cause tin points rows x r text a i row (Form f) h e state cause = absurd cause
-sheet_cause tin points rows x r text a i row (Count f g) h e state cause = absurd cause
-sheet_cause tin points rows x r text a i row (Differs f) h e state cause = absurd cause
-sheet_cause tin points rows x r text a i row NoMemory h e state cause = tt
-sheet_cause tin points rows x r text a i row (WrongSegment p n) h e state stop = go state.imaged
+pub sheet_cause : (tin : Triangulation) (points : List Pt) (heights : List Height) (rows : List PathRow)
+    (x : List Pt) (u : List Height) (r text a : List ℕ) (i : ℕ) (row : PathRow) (fault : CertFault) → i < length rows
+    → IsRowAt rows i row
+    → IsSheetImaged tin points heights rows x u r text a i
+    → IsStopCause tin (segments_begun (path_vertices points heights i row)) a fault
+    → IsStopCause tin (segments_begun (vertices_from points heights 0 rows)) text fault
+sheet_cause tin points heights rows x u r text a i row (Layer f) h e state cause = absurd cause
+sheet_cause tin points heights rows x u r text a i row (Form f) h e state cause = absurd cause
+sheet_cause tin points heights rows x u r text a i row (Count f g) h e state cause = absurd cause
+sheet_cause tin points heights rows x u r text a i row (Differs f) h e state cause = absurd cause
+sheet_cause tin points heights rows x u r text a i row NoMemory h e state cause = tt
+sheet_cause tin points heights rows x u r text a i row (WrongSegment p n) h e state stop = go state.imaged
   where
     done : List Segment
-    done = segments_begun (vertices_from points 0 (take i rows))
+    done = segments_begun (vertices_from points heights 0 (take i rows))
 
     behind : List Segment
-    behind = segments_begun (vertices_from points (i + 1) (drop (suc i) rows))
+    behind = segments_begun (vertices_from points heights (i + 1) (drop (suc i) rows))
 
-    go : AreImaged tin (vertices_from points 0 (take i rows)) [] x [] r text a
-        → IsStoppedAt tin (segments_begun (vertices_from points 0 rows)) text p n
+    go : AreImaged tin (vertices_from points heights 0 (take i rows)) [] x [] u [] r text a
+        → IsStoppedAt tin (segments_begun (vertices_from points heights 0 rows)) text p n
     go imaged = record {
       before = done ++ stop.before;
       segment = stop.segment;
@@ -104,7 +116,7 @@ sheet_cause tin points rows x r text a i row (WrongSegment p n) h e state stop =
       right = imaged.lists ++ stop.right;
       list = stop.list;
       rest = stop.rest;
-      segments_are = split_paths points rows i row h e
+      segments_are = split_paths points heights rows i row h e
           ∙ ap (λ (ss : List Segment). done ++ (ss ++ behind)) stop.segments_are
           ∙ ap (λ (ss : List Segment). done ++ ss) (append_assoc stop.before (stop.segment ∷ stop.behind) behind)
           ∙ sym (append_assoc done stop.before (stop.segment ∷ (stop.behind ++ behind)));
@@ -120,13 +132,16 @@ sheet_cause tin points rows x r text a i row (WrongSegment p n) h e state stop =
     }
 
 -- ---- all paths
-pub sheet_all : (tin : Triangulation) (points points' : List Pt) (rows : List PathRow) (x : List Pt)
-    (r text rest : List ℕ) (i : ℕ) → i ≡ length rows → points ≡ points' → IsSheetImaged tin points rows x r text rest i
-    → AreImaged tin (vertices_from points' 0 rows) [] x [] r text rest
-sheet_all tin points points' rows x r text rest i e ep state =
-    subst (λ (ps : List Pt). AreImaged tin (vertices_from ps 0 rows) [] x [] r text rest) ep
-    (subst (λ (rs : List PathRow). AreImaged tin (vertices_from points 0 rs) [] x [] r text rest)
-    (take_all i rows (upto (length rows) e)) state.imaged)
+pub sheet_all : (tin : Triangulation) (points points' : List Pt) (heights heights' : List Height)
+    (rows : List PathRow) (x : List Pt) (u : List Height) (r text rest : List ℕ) (i : ℕ) → i ≡ length rows
+    → points ≡ points' → heights ≡ heights'
+    → IsSheetImaged tin points heights rows x u r text rest i
+    → AreImaged tin (vertices_from points' heights' 0 rows) [] x [] u [] r text rest
+sheet_all tin points points' heights heights' rows x u r text rest i e ep eh state =
+    subst (λ (hs : List Height). AreImaged tin (vertices_from points' hs 0 rows) [] x [] u [] r text rest) eh
+    (subst (λ (ps : List Pt). AreImaged tin (vertices_from ps heights 0 rows) [] x [] u [] r text rest) ep
+    (subst (λ (rs : List PathRow). AreImaged tin (vertices_from points heights 0 rs) [] x [] u [] r text rest)
+    (take_all i rows (upto (length rows) e)) state.imaged))
   where
     upto : (n : ℕ) → i ≡ n → n ≤ i
     upto n e = omega arith
@@ -149,10 +164,11 @@ nil_of lists (l ∷ others) k e f = absurd (out (length (lists ++ l ∷ others))
     out : (m n o : ℕ) → m ≡ n + suc o → m ≡ k → n ≡ k → ⊥
     out m n o g e f = absurd (omega arith)
 
-pub right_all : (tin : Triangulation) (vertices : List PathVertex) (x : List Pt) (r cert text rest : List ℕ)
+pub right_all : (tin : Triangulation) (vertices : List PathVertex) (x : List Pt) (u : List Height)
+    (r cert text rest : List ℕ)
     → cert ≡ head_text ++ text → HasCount cert (length (segments_begun vertices))
-    → AreImaged tin vertices [] x [] r text rest → HasRightLists tin (segments_begun vertices) cert
-right_all tin vertices x r cert text rest e (lists, count, is) imaged =
+    → AreImaged tin vertices [] x [] u [] r text rest → HasRightLists tin (segments_begun vertices) cert
+right_all tin vertices x u r cert text rest e (lists, count, is) imaged =
     go (lines_left lists imaged.lists rest is.are_lists imaged.are_lists
     (append_cancel_left head_text (lines_text lists) text (sym is.spelled ∙ e) ∙ imaged.spelled))
   where

@@ -14,7 +14,8 @@ use Rattle.cert_check.specs.Certificates.{head_text, separator}
 use Rattle.cert_check.specs.Lines.{BeginsWithLine, HasNoLine, AreLines, IsBadBehind}
 use Rattle.cert_check.specs.Numbers.{IsNumber, IsEnded}
 use Rattle.cert_check.specs.Laws.{TextOutcomeExists}
-use Rattle.cert_check.proofs.Digits.{no_leading_zero, are_front_digits, no_front, number_front, not_ended}
+use Rattle.text_places.proofs.DigitFronts.{are_front_digits}
+use Rattle.cert_check.proofs.Digits.{no_leading_zero, no_front, number_front, not_ended}
 use Rattle.cert_check.proofs.Digits.{nothing_behind, ended_is_number}
 use Rattle.cert_check.proofs.LineLaws.{number_before, line_front, line_behind, shorter, line_shorter, AreLinesSoFar}
 use Rattle.cert_check.proofs.LineLaws.{lines_start, lines_more, lines_end, lines_bad, count_of, bad_line}

@@ -96,3 +96,11 @@ CertificatesEndOnce reads refuses text =
     → (end other : Result (Unit {0}) CertFault)
     → IsCertEnd tin source written (reads how source) (refuses how source) (text source how) cert end
     → IsCertEnd tin source written (reads how source) (refuses how source) (text source how) cert other → end ≡ other
+
+-- and it ends
+abbrev pub CertificateEndExists : (How → List ℕ → Contents → Type 0) → (How → List ℕ → LayerFault → Type 0)
+    → (List ℕ → How → Contents → Runs → Edit → List ℕ) → Type 0
+CertificateEndExists reads refuses text =
+    (how : How) (tin : Triangulation) (source written cert : List ℕ) → IsSound tin
+    → (end : Result (Unit {0}) CertFault)
+    × IsCertEnd tin source written (reads how source) (refuses how source) (text source how) cert end

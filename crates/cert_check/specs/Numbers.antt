@@ -1,16 +1,11 @@
 -- Numbers at the front of a text. Only private functions speak of them.
-use Rattle.std.specs.Prelude.{◌≡◌, ℕ, ◌<◌, ◌^◌, Bool, false, List, [], ◌∷◌, ◌++◌, length, slice_index, decimal}
-use Rattle.std.specs.Char.{is_ascii_digit}
+use Rattle.std.specs.Prelude.{◌≡◌, ℕ, ◌<◌, ◌^◌, Bool, List, ◌∷◌, ◌++◌, length, slice_index, decimal}
+use Rattle.text_places.specs.Digits.{Stops}
 use Rattle.cert_check.specs.Certificates.{separator}
 
 -- the first of several digits is 0
 abbrev pub HasLeadingZero : List ℕ → Type 0
 HasLeadingZero digits = (1 < length digits) × (slice_index digits 0 ≡ 48)
-
--- the text is at its end, or goes on with a byte that is no digit
-abbrev pub Stops : List ℕ → Type 0
-Stops [] = Unit {0}
-Stops (byte ∷ rest) = is_ascii_digit byte ≡ false
 
 -- the text begins with this number, and the rest is behind its digits
 pub record IsNumber (text : List ℕ) (number : ℕ) (rest : List ℕ) : Type 0 where

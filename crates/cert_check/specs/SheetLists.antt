@@ -3,10 +3,13 @@ use Rattle.std.specs.Prelude.{◌≡◌, ℕ, ◌<◌, ◌≤◌, List, [], ◌�
 use Rattle.std.specs.List.{AllByRecursion}
 use Rattle.plane_base.specs.Plane.{whole}
 use Rattle.plane_base.specs.declared.shapes.Pt.{Pt}
+use Rattle.sheet_base.specs.PointHeights.{Height, Position, points_of, heights_of}
+use Rattle.sheet_base.specs.ReadBack.{Ends}
 use Rattle.tin_base.specs.declared.frames.Frame.TheVariants.{Source}
 use Rattle.tin_base.specs.Triangulation.{Triangulation, IsInTriangle}
 use Rattle.tin_base.specs.Segments.{Spot, Part, spot_at, IsPart, ArePiecesOf}
 use Rattle.affine_image.specs.Rounded.{IsRoundedImage, IsRoundedImageAt}
+use Rattle.affine_image.specs.SpotHeights.{mixed_height, crossing_heights}
 use Rattle.affine_image.specs.SheetSegments.{Segment, PathVertex, segments_begun}
 use Rattle.affine_image.specs.SheetImages.{AreEndsOfAllButLast, AreRuns, joined, begins_from}
 use Rattle.cert_check.specs.declared.faults.CertFault.{CertFault}
@@ -38,29 +41,52 @@ abbrev pub IsEndImage : Triangulation → Pt → Pt → ℕ → Pt → Type 0
 IsEndImage tin a b t image = (first last : Spot) → IsPart tin a b t first last
     → IsRoundedImageAt tin (spot_at a b last) image
 
--- of each triangle
-abbrev pub AreEndImages : Triangulation → Pt → Pt → List ℕ → List Pt → Type 0
-AreEndImages tin a b [] images = images ≡ []
-AreEndImages tin a b (t ∷ ts) [] = ⊥
-AreEndImages tin a b (t ∷ ts) (image ∷ images) = IsEndImage tin a b t image × AreEndImages tin a b ts images
+-- its height, where that point is no end of the segment
+abbrev pub IsEndHeight : Triangulation → Pt → Pt → Ends Height → ℕ → Height → Type 0
+IsEndHeight tin a b ends t height = (first last : Spot) → IsPart tin a b t first last
+    → height ≡ mixed_height last.of_a last.of_b ends.from ends.to
 
--- the run of the vertex a, where the segment from a to b begins, stands behind the images before
-pub record IsRunBehind (tin : Triangulation) (a b : Pt) (before after : List Pt) : Type 0 where
+-- both
+abbrev pub IsEndPosition : Triangulation → Pt → Pt → Ends Height → ℕ → Position → Type 0
+IsEndPosition tin a b ends t image = IsEndImage tin a b t image.point × IsEndHeight tin a b ends t image.height
+
+-- of each triangle
+abbrev pub AreEndPositions : Triangulation → Pt → Pt → Ends Height → List ℕ → List Position → Type 0
+AreEndPositions tin a b ends [] images = images ≡ []
+AreEndPositions tin a b ends (t ∷ ts) [] = ⊥
+AreEndPositions tin a b ends (t ∷ ts) (image ∷ images) =
+    IsEndPosition tin a b ends t image × AreEndPositions tin a b ends ts images
+
+-- the image of the last point of the triangle's part stands behind the images before, and its height behind theirs
+pub record IsEndBehind (tin : Triangulation) (a b : Pt) (ends : Ends Height) (t : ℕ) (points points' : List Pt)
+    (heights heights' : List Height) : Type 0 where
+  pub image : Position
+  pub is_end : IsEndPosition tin a b ends t image
+  pub points_are : points' ≡ points ++ image.point ∷ []
+  pub heights_are : heights' ≡ heights ++ image.height ∷ []
+
+-- the run of the vertex a stands behind the images before: its image, and those of the crossings of the segment from a
+-- to b, whose ends have these heights
+pub record IsRunBehind (tin : Triangulation) (a b : Pt) (ends : Ends Height) (points points' : List Pt)
+    (heights heights' : List Height) : Type 0 where
   pub image : Pt
   pub is_image : IsRoundedImage tin a image
-  pub crossings : List Pt
+  pub crossings : List Position
   pub parts : List Part
   pub cut : ArePiecesOf tin a b parts
-  pub ends : AreEndsOfAllButLast tin a b parts crossings
-  pub are : after ≡ before ++ image ∷ crossings
+  pub last_images : AreEndsOfAllButLast tin a b parts (points_of crossings)
+  pub last_heights : heights_of crossings ≡ crossing_heights a b ends parts
+  pub points_are : points' ≡ points ++ image ∷ points_of crossings
+  pub heights_are : heights' ≡ heights ++ ends.from ∷ heights_of crossings
 
 -- the runs of some vertices stand behind the images before, and the lines of right lists for their segments in front of
 -- the rest of the text
 pub record AreImaged (tin : Triangulation) (vertices : List PathVertex) (points points' : List Pt)
-    (run run' text rest : List ℕ) : Type 0 where
-  pub runs : List (List Pt)
+    (heights heights' : List Height) (run run' text rest : List ℕ) : Type 0 where
+  pub runs : List (List Position)
   pub of_vertices : AreRuns tin vertices runs
-  pub points_are : points' ≡ points ++ joined runs
+  pub points_are : points' ≡ points ++ points_of (joined runs)
+  pub heights_are : heights' ≡ heights ++ heights_of (joined runs)
   pub run_are : run' ≡ run ++ begins_from (length points) runs
   pub lists : List (List ℕ)
   pub are_lists : AllByRecursion IsList lists
@@ -91,12 +117,12 @@ IsTriangleWith tin t p = (t < length tin.triangles) × IsInTriangle tin Source t
 
 -- ---- one segment
 -- its line is read, its list is right, and its run stands behind the images before
-pub record IsSegmentImaged (tin : Triangulation) (a b : Pt) (points points' : List Pt)
-    (run run' text rest : List ℕ) : Type 0 where
+pub record IsSegmentImaged (tin : Triangulation) (a b : Pt) (ends : Ends Height) (points points' : List Pt)
+    (heights heights' : List Height) (run run' text rest : List ℕ) : Type 0 where
   pub list : List ℕ
   pub line : IsLine text list rest
   pub right : IsRightList tin a b list
-  pub behind : IsRunBehind tin a b points points'
+  pub behind : IsRunBehind tin a b ends points points' heights heights'
   pub run_are : run' ≡ run ++ length points ∷ []
 
 -- the text begins with the line of a list that is not right

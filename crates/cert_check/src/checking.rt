@@ -14,7 +14,7 @@ use crate::lines::{behind_head, list_count};
 use crate::paths::{Gathered, pass_path};
 use crate::ways::Track;
 use affine_image::segment_total;
-use sheet_base::{How, Images, Layer, LayerFault, Listed, Sheet};
+use sheet_base::{Heights, How, Images, Layer, LayerFault, Listed, Sheet};
 use std::alloc::Global;
 use tin_base::SoundTin;
 
@@ -27,14 +27,16 @@ fn pass_paths<'a>(
 ) -> Result<Gathered<'a>, CertFault>
     requires lines { HasLines lines.now (length (sheet_segments sheet.now)) }
     requires few { length lines.now < 2 ^ 32 }
-    ensures imaged { IfOk result (λ gathered. AreImaged tin.now (sheet_vertices sheet.now) [] gathered.points.items [] gathered.run.items lines.now gathered.rest.now) }
+    ensures imaged { IfOk result (λ gathered. AreImaged tin.now (sheet_vertices sheet.now) [] gathered.points.items [] gathered.heights [] gathered.run.items lines.now gathered.rest.now) }
     ensures few { IfOk result (λ gathered. vec_len gathered.points < 2 ^ 32) }
     ensures cause { IfErr result (λ fault. IsStopCause tin.now (sheet_segments sheet.now) lines.now fault) }
 {
     let points = sheet.points();
+    let heights = sheet.heights();
     let mut numbers = Vec::new(alloc);
     let mut gathered = Gathered {
         points: Vec::with_capacity(alloc, points.len())?,
+        heights: Heights::none(alloc, 0),
         run: Vec::with_capacity(alloc, points.len())?,
         rest: lines,
     };
@@ -43,7 +45,7 @@ fn pass_paths<'a>(
             row: *row,
             path: path as u32,
         };
-        pass_path(tin, points, track, &mut numbers, &mut gathered)?;
+        pass_path(tin, points, heights, track, &mut numbers, &mut gathered)?;
     }
     Ok(gathered)
 }
@@ -70,7 +72,11 @@ fn images_by(alloc: Global, tin: &SoundTin, sheet: &Sheet, cert: &[u8]) -> Resul
         return Err(CertFault::Form { line: 1 });
     };
     match pass_paths(alloc, tin, sheet, lines) {
-        Ok(gathered) => Ok(Images::of(Listed::of(gathered.points), Listed::of(gathered.run))),
+        Ok(gathered) => Ok(Images::of(
+            Listed::of(gathered.points),
+            gathered.heights,
+            Listed::of(gathered.run),
+        )),
         Err(fault) => Err(fault),
     }
 }

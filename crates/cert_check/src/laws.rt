@@ -2,7 +2,7 @@
 
 ghost use Rattle.cert_check.specs.Laws.{CertificatesAreOne, CertificatesHaveNoBadLine, PieceTrianglesAreRight};
 ghost use Rattle.cert_check.specs.Laws.{PiecesAreAccepted, PiecesAreRightlyCertified, RightListsAreInside};
-ghost use Rattle.cert_check.specs.Laws.{CertificatesEndOnce, TextOutcomeExists};
+ghost use Rattle.cert_check.specs.Laws.{CertificatesEndOnce, CertificateEndExists, TextOutcomeExists};
 
 use sheet_base::Layer;
 
@@ -49,4 +49,14 @@ pub fn certificates_end_once<L: Layer>()
     ensures { CertificatesEndOnce L.reads L.refuses L.text }
 {
     L::outcome_is_one();
+}
+
+/// A law: the check of a certificate ends: the layer is certified, or there is a first fault.
+pub fn certificate_end_exists<L: Layer>()
+    ensures { CertificateEndExists L.reads L.refuses L.text }
+{
+    text_outcome_exists();
+    L::outcome_exists();
+    L::memory_is_no_fault();
+    L::sheets_are_of_bytes();
 }

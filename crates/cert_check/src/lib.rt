@@ -18,9 +18,9 @@ mod writing;
 pub use checking::check_cert;
 pub use faults::CertFault;
 pub use laws::{
-    certificates_are_one, certificates_end_once, certificates_have_no_bad_line,
-    piece_triangles_are_right, pieces_are_accepted, pieces_are_rightly_certified,
-    right_lists_are_inside, text_outcome_exists,
+    certificate_end_exists, certificates_are_one, certificates_end_once,
+    certificates_have_no_bad_line, piece_triangles_are_right, pieces_are_accepted,
+    pieces_are_rightly_certified, right_lists_are_inside, text_outcome_exists,
 };
 pub use lines::list_count;
 pub use right_lists::is_right;

@@ -1,57 +1,67 @@
-//! The images of a vertex and of the crossings behind it, by the list of a segment.
+//! The images of a vertex and of the crossings behind it with their heights, by the list of a segment.
 
-ghost use Rattle.std.specs.Prelude.{◌≡◌, ◌+◌, ◌∷◌, [], ◌++◌, length, vec_len, IfOk, OnOk};
-ghost use Rattle.plane_base.specs.declared.shapes.Pt.{Pt};
+ghost use Rattle.std.specs.Prelude.{◌≡◌, ◌+◌, ◌<◌, ◌^◌, length, vec_len, IfOk, OnOk};
+ghost use Rattle.sheet_base.specs.PointHeights.{IsHeightWithinReach};
 ghost use Rattle.tin_base.specs.Segments.{IsInside};
 ghost use Rattle.cert_check.specs.RightLists.{IsRightList};
-ghost use Rattle.cert_check.specs.SheetLists.{HasPart, IsEndImage, IsRunBehind, IsTriangleWith};
+ghost use Rattle.cert_check.specs.SheetLists.{HasPart, IsEndBehind, IsRunBehind, IsTriangleWith};
 
 use crate::parts::stretch_in;
-use affine_image::{end_image, image_of};
+use crate::ways::Way;
+use affine_image::{end_image, height_between, image_of};
 use plane_base::Pt;
+use sheet_base::Heights;
 use std::alloc::AllocError;
 use tin_base::SoundTin;
 
-/// Appends the image of the last point of a triangle's part.
+/// Appends the image of the last point of a triangle's part, and its height.
 fn push_end(
     tin: &SoundTin,
     triangle: u32,
-    a: Pt,
-    b: Pt,
+    way: Way,
     points: &mut Vec<Pt>,
+    heights: &mut Heights,
 ) -> Result<(), AllocError>
-    requires inside { IsInside tin.now a b }
-    requires part { HasPart tin.now a b triangle }
-    ensures { OnOk result ((image : Pt) × (points.new.items ≡ points.old.items ++ image ∷ []) × IsEndImage tin.now a b triangle image) }
+    requires inside { IsInside tin.now way.a way.b }
+    requires part { HasPart tin.now way.a way.b triangle }
+    requires from { IsHeightWithinReach way.ends.from }
+    requires to { IsHeightWithinReach way.ends.to }
+    requires few { length heights.old < 2 ^ 32 }
+    ensures { OnOk result (IsEndBehind tin.now way.a way.b (record { from = way.ends.from; to = way.ends.to }) triangle points.old.items points.new.items heights.old heights.new) }
 {
     tin.known();
-    if let Some(stretch) = stretch_in(tin, triangle, a, b) {
-        points.push(end_image(tin, triangle, a, b, stretch))?;
+    if let Some(stretch) = stretch_in(tin, triangle, way.a, way.b) {
+        points.push(end_image(tin, triangle, way.a, way.b, stretch))?;
+        heights.push(height_between(way.ends, stretch.hi))?;
     }
     Ok(())
 }
 
-/// Appends the image of a segment's first end and those of the ends of all its parts but the last. Answers the triangle
-/// of the last part, which has the segment's last end.
+/// Appends the image of a segment's first end and those of the ends of all its parts but the last, with their heights.
+/// Answers the triangle of the last part, which has the segment's last end.
 pub(crate) fn push_run(
     tin: &SoundTin,
-    a: Pt,
-    b: Pt,
+    way: Way,
     numbers: &[u32],
     points: &mut Vec<Pt>,
+    heights: &mut Heights,
 ) -> Result<u32, AllocError>
-    requires right { IsRightList tin.now a b numbers.now }
-    ensures run { OnOk result (IsRunBehind tin.now a b points.old.items points.new.items) }
+    requires right { IsRightList tin.now way.a way.b numbers.now }
+    requires from { IsHeightWithinReach way.ends.from }
+    requires to { IsHeightWithinReach way.ends.to }
+    requires few { length heights.old + length numbers.now < 2 ^ 32 }
+    ensures run { OnOk result (IsRunBehind tin.now way.a way.b (record { from = way.ends.from; to = way.ends.to }) points.old.items points.new.items heights.old heights.new) }
     ensures count { OnOk result (vec_len points.new ≡ vec_len points.old + length numbers.now) }
-    ensures last { IfOk result (λ triangle. IsTriangleWith tin.now triangle b) }
+    ensures last { IfOk result (λ triangle. IsTriangleWith tin.now triangle way.b) }
 {
     tin.known();
     let [front @ .., last] = numbers else {
         return Ok(0);
     };
-    points.push(image_of(tin, numbers[0], a))?;
+    points.push(image_of(tin, numbers[0], way.a))?;
+    heights.push(way.ends.from)?;
     for triangle in front {
-        push_end(tin, *triangle, a, b, points)?;
+        push_end(tin, *triangle, way, points, heights)?;
     }
     Ok(*last)
 }

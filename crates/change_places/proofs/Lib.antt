@@ -9,3 +9,4 @@ mod PlacesJson
 mod Firsts
 mod LineCounts
 mod MorePaths
+pub mod KnownPlaces

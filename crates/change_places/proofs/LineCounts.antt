@@ -9,17 +9,7 @@ use Rattle.sheet_base.specs.declared.edits.Edit.{Edit}
 use Rattle.sheet_base.specs.Splices.{AreInOrder}
 use Rattle.change_places.specs.PathPlaces.{line_of, edit_in_lines}
 use Rattle.change_places.proofs.Elements.{element}
-
-pub order_within : (from : ℕ) (edits : List Edit) (past : ℕ) → AreInOrder from edits past → from ≤ past
-order_within from [] past are = are
-order_within from (edit ∷ edits) past (first, second, rest) = let later =
-    order_within edit.end edits past rest in omega (arith, first, second, later)
-
-order_earlier : (before from : ℕ) (edits : List Edit) (past : ℕ) → before ≤ from → AreInOrder from edits past
-    → AreInOrder before edits past
-order_earlier before from [] past earlier are = omega (arith, earlier, are)
-order_earlier before from (edit ∷ edits) past earlier (first, second, rest) =
-    (omega (arith, earlier, first), second, rest)
+use Rattle.sheet_base.proofs.Splicing.{by_the_end, order_earlier}
 
 -- the edit at the front of those that are left
 pub record IsNextInOrder (at start : ℕ) (edits : List Edit) (next past : ℕ) : Type 0 where
@@ -32,7 +22,7 @@ pub next_in_order : (at : ℕ) (edits : List Edit) (i : ℕ) (edit : Edit) (past
 next_in_order at edits i edit past within is are =
     let (first, second, rest) = subst (λ (es : List Edit). AreInOrder at es past)
     (drop_more edits i edit within ∙ ap (λ (e : Edit). e ∷ drop (i + 1) edits) (sym is)) are in
-    let later = order_within edit.end (drop (i + 1) edits) past rest in
+    let later = by_the_end edit.end (drop (i + 1) edits) past rest in
     record {
       from = first;
       within = omega (arith, second, later);

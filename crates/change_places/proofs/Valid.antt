@@ -1,17 +1,17 @@
 -- The value of changes on the map is one that the grammar of JSON wants.
 use Rattle.std.proofs.Common.{◌≡◌, ◌≢◌, ◌⊎◌, ℕ, zero, suc, ◌+◌, ◌/◌, ◌^◌, ◌<◌, ◌≤◌, inl, inr, Bool, true, false, ◌==◌}
 use Rattle.std.proofs.Common.{◌&&◌, ◌||◌, List, [], ◌∷◌, ◌++◌, map, length, codes, decimal, Option, None, Some, ℤ, pos}
-use Rattle.std.proofs.Common.{negsuc, refl, sym, ap, subst, arith, append-nil, nat_le}
+use Rattle.std.proofs.Common.{negsuc, refl, sym, subst, arith, nat_le}
 use Rattle.std.specs.Prelude.{if◌then◌else◌, unsigned_abs}
 use Rattle.std.specs.List.{AllByRecursion}
 use Rattle.std.proofs.lemmas.Bool.{and_parts, cases_lt, leb-true, lt-ltb, le-ltb, eqb-true, eqb-false}
-use Rattle.std.proofs.lemmas.Fmt.{decimal_by_steps}
 use Rattle.std.proofs.lemmas.Str.{encode_ascii, encodes-chars, scalars-chars, chars-nil}
 use lib.Utf8.{scalar, scalars, scalar_cases, encode, encodes, next}
 use Rattle.std.specs.Str.{chars}
 use Rattle.plain_laws.proofs.Lists.{all_append}
-use Rattle.mm_decimal.specs.Writing.{written, metres_text, digit_text}
-use Rattle.jtext.specs.Numbers.{IsDigit, IsInt, IsMinus, IsNumber}
+use Rattle.mm_decimal.specs.Writing.{written}
+use Rattle.jtext.specs.Numbers.{IsDigit, IsNumber}
+use Rattle.jtext.proofs.DecimalTexts.{decimal_written, decimal_number, thousandths_number}
 use Rattle.jtext.specs.Characters.{unescaped, escaped, IsChar, AreChars, IsUnescaped, low, middle, high, two}
 use Rattle.jtext.specs.Characters.{three_first, three_lower, three_before, three_upper, four_first, four, four_last}
 use Rattle.jtext.specs.Values.{Json, Members, Elements, no_element, element, AreBlank, IsArrayBlank, IsValue}
@@ -32,92 +32,9 @@ use Rattle.change_places.specs.PlacesValue.{places_value}
 use Rattle.change_places.specs.Laws.{IsPrintedName, IsPointHeld, IsAtHeld, IsSideHeld, IsSpotHeld}
 
 -- ---- numbers
-digits_append : (xs ys : List ℕ) → AllByRecursion IsDigit xs → AllByRecursion IsDigit ys
-    → AllByRecursion IsDigit (xs ++ ys)
-digits_append xs ys are more = all_append IsDigit xs ys are more
-
-digit_is : (n : ℕ) → AllByRecursion IsDigit (digit_text n)
-digit_is n = ((omega arith, omega arith), tt)
-
--- digits, the first of which is no zero where the number is none
-record IsWritten (n : ℕ) (text : List ℕ) : Type 0 where
-  first : ℕ
-  more : List ℕ
-  is : text ≡ first ∷ more
-  digit : IsDigit first
-  digits : AllByRecursion IsDigit more
-  lead : 0 < n → 49 ≤ first
-  int : IsInt (first ∷ more)
-
-one_digit : (n : ℕ) → n < 10 → IsInt ((48 + n) ∷ [])
-one_digit zero small = inl (refl, refl)
-one_digit (suc n) small = inr (omega arith, omega (arith, small), tt)
-
-decimal_written : (n : ℕ) → n < 2 ^ 64 → IsWritten n (decimal n)
-decimal_written = decimal_by_steps (λ n digits. IsWritten n digits)
-    (λ n small. record {
-      first = 48 + n;
-      more = [];
-      is = refl;
-      digit = (omega arith, omega (arith, small));
-      digits =
-          tt;
-      lead = λ some. omega (arith, some);
-      int = one_digit n small;
-    })
-    (λ n digits large h.
-    let all = digits_append h.more (digit_text n) h.digits (digit_is n) in
-    let lead = h.lead (omega (arith, large)) in
-    record {
-      first = h.first;
-      more = h.more ++ digit_text n;
-      is = ap (λ text. text ++ digit_text n) h.is;
-      digit = h.digit;
-      digits = all;
-      lead = λ some. lead;
-      int = inr (lead, h.digit.1, all);
-    })
-
-pub decimal_number : (n : ℕ) → n < 2 ^ 64 → IsNumber (decimal n)
-decimal_number n small =
-    let h = decimal_written n small in
-    record {
-      minus = [];
-      whole = decimal n;
-      fraction = [];
-      exponent = [];
-      minus_is = inl refl;
-      whole_is =
-          subst IsInt (sym h.is) h.int;
-      fraction_is = inl refl;
-      exponent_is = inl refl;
-      all =
-          sym (append-nil (decimal n));
-    }
-
-size_number : (minus : List ℕ) → IsMinus minus → (size : ℕ) → size < 2 ^ 64 → IsNumber (minus ++ metres_text size)
-size_number minus sign size small =
-    let h = decimal_written (size / 1000) (omega (arith, small)) in
-    record {
-      minus = minus;
-      whole = decimal (size / 1000);
-      fraction = 46 ∷ (digit_text (size / 100) ++ (digit_text (size / 10) ++ digit_text size));
-      exponent = [];
-      minus_is = sign;
-      whole_is = subst IsInt (sym h.is) h.int;
-      fraction_is = inr (
-        digit_text (size / 100) ++ (digit_text (size / 10) ++ digit_text size),
-        (((digit_is (size / 100)).0, ((digit_is (size / 10)).0, ((digit_is size).0, tt))), omega arith),
-        refl,
-      );
-      exponent_is = inl refl;
-      all = ap (λ text. minus ++ (decimal (size / 1000) ++ text))
-          (sym (append-nil (46 ∷ (digit_text (size / 100) ++ (digit_text (size / 10) ++ digit_text size)))));
-    }
-
 written_number : (mm : ℤ) → unsigned_abs mm < 2 ^ 64 → IsNumber (written mm)
-written_number (pos size) small = size_number [] (inl refl) size small
-written_number (negsuc size) small = size_number (45 ∷ []) (inr refl) (suc size) small
+written_number (pos size) small = thousandths_number [] (inl refl) size small
+written_number (negsuc size) small = thousandths_number (45 ∷ []) (inr refl) (suc size) small
 
 -- ---- texts of plain characters
 -- a byte that is a character by itself

@@ -1,5 +1,5 @@
 -- Where in a layer's bytes each of its paths is written.
-use Rattle.std.specs.Prelude.{ℕ, ◌+◌, ◌==◌, Bool, true, false, List, [], ◌∷◌, map, take, count_by, find, Option, None}
+use Rattle.std.specs.Prelude.{◌≡◌, ◌⊎◌, ℕ, ◌+◌, ◌==◌, Bool, true, false, List, [], ◌∷◌, map, take, count_by, find, Option, None}
 use Rattle.std.specs.Prelude.{Some}
 use Rattle.std.specs.Option.{option_map, option_or}
 use Rattle.sheet_base.specs.declared.edits.Edit.{Edit}
@@ -57,3 +57,28 @@ places_from edits number (row ∷ rows) = path_start edits number row ∷ places
 -- where each path of a sheet begins, as it is printed
 abbrev pub path_places : Bool → List ℕ → Contents → List (Option ℕ)
 path_places drawing bytes sheet = places_from (printed_edits drawing bytes sheet.edits) 0 sheet.paths
+
+-- ---- which places are known
+-- some edit writes the whole list or the entity of the path of this number, or begins to write the image of this point
+abbrev pub IsBegunBy : ℕ → ℕ → List Edit → Type 0
+IsBegunBy number first [] = ⊥
+IsBegunBy number first (edit ∷ edits) =
+    (path_of edit.what ≡ Some number) ⊎ ((point_of edit.what ≡ Some first) ⊎ IsBegunBy number first edits)
+
+-- so it is of each of some paths and its first point; the first path has this number
+abbrev pub AreBegun : List Edit → ℕ → List PathRow → Type 0
+AreBegun edits number [] = Unit {0}
+AreBegun edits number (row ∷ rows) = IsBegunBy number row.first edits × AreBegun edits (number + 1) rows
+
+-- the place is a number
+abbrev pub IsKnown : Option ℕ → Type 0
+IsKnown place = (at : ℕ) × (place ≡ Some at)
+
+abbrev pub AreKnown : List (Option ℕ) → Type 0
+AreKnown [] = Unit {0}
+AreKnown (place ∷ places) = IsKnown place × AreKnown places
+
+-- a law: where each path of a sheet has an edit with which it begins, each place is known
+abbrev pub PlacesAreKnown : Type 0
+PlacesAreKnown = (drawing : Bool) (bytes : List ℕ) (sheet : Contents) → AreBegun sheet.edits 0 sheet.paths
+    → AreKnown (path_places drawing bytes sheet)

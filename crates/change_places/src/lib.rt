@@ -8,6 +8,6 @@ mod path_starts;
 mod spots;
 
 pub use features::write_places;
-pub use laws::places_are_json;
+pub use laws::{places_are_json, places_are_known};
 pub use path_starts::path_places;
 pub use spots::{ChangeSpot, SideSpot};

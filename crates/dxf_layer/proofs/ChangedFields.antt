@@ -12,7 +12,7 @@ use Rattle.dxf_pairs.specs.declared.pairs.Pair.{Pair}
 use Rattle.dxf_pairs.specs.Groups.{Group, group_in, value_in}
 use Rattle.dxf_layer.specs.Entities.{Entity, has_code}
 use Rattle.dxf_layer.specs.Fields.{fields_of, at_most_one, field, there, wanted}
-use Rattle.dxf_layer.proofs.Members.{went}
+use Rattle.dxf_layer.proofs.Members.{went, some_there}
 use Rattle.dxf_layer.proofs.Telling.{next, filter_mapped, front_mapped}
 use Rattle.std.proofs.lemmas.List.{append-nil}
 use Rattle.dxf_layer.proofs.GroupFields.{is_number, coded, fields_in, itself, one_value, value_at, value_wanted}
@@ -22,8 +22,9 @@ use Rattle.dxf_layer.proofs.WrittenNumbers.{number_written}
 
 -- the codes under which values are changed
 abbrev pub may_change : ℤ → Bool
-may_change code = int_eq code (pos 10) || int_eq code (pos 20) || int_eq code (pos 11) || int_eq code (pos 21) || int_eq
-    code (pos 5) || int_eq code (pos 90)
+may_change code =
+    int_eq code (pos 10) || int_eq code (pos 20) || int_eq code (pos 11) || int_eq code (pos 21) || int_eq code (pos 30)
+    || int_eq code (pos 31) || int_eq code (pos 5) || int_eq code (pos 90)
 
 -- a pair with another value
 abbrev pub with_value : (Pair → List ℕ) → Pair → Group
@@ -67,10 +68,6 @@ pub field_changed : (value : Pair → List ℕ) (code : ℤ) (entity : Entity) (
     ≡ Some (option_map value found)
 field_changed value code entity found is = ap one_value (filter_changed value code (fields_of entity))
     ∙ one_changed value (filter (has_code code) (fields_of entity)) found is
-
-some_there : (entity : Entity) (found : Option Pair) (pair : Pair) → there entity found ≡ Ok pair → found ≡ Some pair
-some_there entity None pair is = absurd (cc)
-some_there entity (Some other) pair is = cc
 
 pub wanted_changed : (value : Pair → List ℕ) (code : ℤ) (entity : Entity) (pair : Pair) → wanted code entity ≡ Ok pair
     → value_wanted code (map (with_value value) (fields_of entity)) ≡ Some (value pair)

@@ -4,6 +4,7 @@ use Rattle.std.proofs.Common.{Bool, true, false, Option, None, Some, Ok, pos}
 use Rattle.std.specs.Prelude.{int_lt}
 use Rattle.std.specs.List.{prefix_len}
 use Rattle.plane_base.specs.declared.shapes.Pt.{Pt}
+use Rattle.sheet_base.specs.PointHeights.{Position}
 use Rattle.dxf_pairs.specs.declared.pairs.Pair.{Pair}
 use Rattle.dxf_pairs.specs.Groups.{Group, group_in, value_in}
 use Rattle.dxf_pairs.specs.Pairs.{drawing}
@@ -14,6 +15,7 @@ use Rattle.dxf_layer.specs.declared.copies.Value.{Value}
 use Rattle.dxf_layer.specs.Entities.{Entity, entity_of}
 use Rattle.dxf_layer.specs.Fields.{fields_of}
 use Rattle.dxf_layer.specs.Rendering.{value_for, new_handle, handle_behind, copy_text, line_copies, vertex_copies}
+use Rattle.dxf_layer.specs.Rendering.{line_copy, vertex_copy}
 use Rattle.dxf_layer.specs.Copies.{IsEntityOf, own_or, field_in_copy, groups_of_copy, line_values, vertex_values}
 use Rattle.dxf_layer.specs.Copies.{CopiesAreOfEntities}
 use Rattle.dxf_layer.proofs.CopiedPairs.{IsFront}
@@ -81,13 +83,13 @@ one_copy follow bytes entity copied lines =
     (groups_same bytes copied (fields_of entity) entity.pairs front)) (copy_added follow bytes entity copied lines)
 
 lines_are : GroupsFollow → (bytes : List ℕ) (entity : Entity) → IsInLines bytes entity
-    → (first : Bool) (next : ℕ) (images : List Pt)
+    → (first : Bool) (next : ℕ) (images : List Position)
     → AddsAs (line_copies bytes entity first next images)
     (flat_map (groups_of_copy bytes entity) (line_values first next images))
 lines_are follow bytes entity lines first next [] = none_added
 lines_are follow bytes entity lines first next (begin ∷ []) = none_added
 lines_are follow bytes entity lines first next (begin ∷ end ∷ images) =
-    let copied : Copied = record { begin = begin; end = Some end; handle = new_handle first next } in
+    let copied = line_copy begin end (new_handle first next) in
     both_added (copy_text bytes copied entity)
     (line_copies bytes entity false (handle_behind first next) (end ∷ images)) (groups_of_copy bytes entity copied)
     (flat_map (groups_of_copy bytes entity) (line_values false (handle_behind first next) (end ∷ images)))
@@ -100,7 +102,7 @@ vertices_are : GroupsFollow → (bytes : List ℕ) (entity : Entity) → IsInLin
     (flat_map (groups_of_copy bytes entity) (vertex_values first next images))
 vertices_are follow bytes entity lines first next [] = none_added
 vertices_are follow bytes entity lines first next (image ∷ images) =
-    let copied : Copied = record { begin = image; end = None; handle = new_handle first next } in
+    let copied = vertex_copy image (new_handle first next) in
     both_added (copy_text bytes copied entity) (vertex_copies bytes entity false (handle_behind first next) images)
     (groups_of_copy bytes entity copied)
     (flat_map (groups_of_copy bytes entity) (vertex_values false (handle_behind first next) images))
@@ -108,11 +110,11 @@ vertices_are follow bytes entity lines first next (image ∷ images) =
     (vertices_are follow bytes entity lines false (handle_behind first next) images)
 
 pub copies_are_of_entities : PairsTile → PairsAreInLines → GroupsFollow → CopiesAreOfEntities
-copies_are_of_entities tile stand follow bytes pairs entity pairs_are is next images =
+copies_are_of_entities tile stand follow bytes pairs entity pairs_are is next positions images =
     let lines = entity_in_lines tile stand bytes pairs entity pairs_are is in (
-      alone_added (line_copies bytes entity true next images)
-          (flat_map (groups_of_copy bytes entity) (line_values true next images))
-          (lines_are follow bytes entity lines true next images),
+      alone_added (line_copies bytes entity true next positions)
+          (flat_map (groups_of_copy bytes entity) (line_values true next positions))
+          (lines_are follow bytes entity lines true next positions),
       alone_added (vertex_copies bytes entity true next images)
           (flat_map (groups_of_copy bytes entity) (vertex_values true next images))
           (vertices_are follow bytes entity lines true next images),

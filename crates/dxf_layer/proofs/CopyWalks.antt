@@ -1,7 +1,9 @@
 -- The walk over copies of a line's entity, and over copies of a vertex's.
-use Rattle.std.proofs.Common.{◌≡◌, ℕ, zero, suc, ◌+◌, ◌-◌, ◌<◌, Bool, true, false, refl, ap, sym, ◌∙◌, subst, List, []}
-use Rattle.std.proofs.Common.{◌∷◌, ◌++◌, map, length, Option, None, Some, codes, arith, max}
-use Rattle.std.specs.Prelude.{⊤, nat_lt}
+use Rattle.std.proofs.Common.{◌≡◌, ℕ, ℤ, zero, suc, ◌+◌, ◌-◌, ◌<◌, Bool, true, false, refl, ap, sym, ◌∙◌, subst, List, []}
+use Rattle.std.proofs.Common.{◌∷◌, ◌++◌, map, length, Option, None, Some, codes, arith, max, cond, ◌≤◌}
+use Rattle.std.specs.Prelude.{⊤, nat_lt, slice_index_or}
+use Rattle.std.specs.Option.{is_some}
+use Rattle.std.specs.Ordering.{int_eq}
 use Rattle.std.specs.List.{range_with_len}
 use Rattle.std.proofs.lemmas.Bool.Decides.{nat_tests}
 use Rattle.std.proofs.lemmas.List.{append-nil, append_assoc}
@@ -10,24 +12,33 @@ use Rattle.sheet_base.specs.declared.flags.How.{How}
 use Rattle.sheet_base.specs.declared.paths.PathKind.{PathKind}
 use Rattle.sheet_base.specs.declared.paths.PathKind.TheVariants as paths
 use Rattle.sheet_base.specs.Fitting.{IsWithinReach}
-use Rattle.sheet_base.specs.ReadBack.{Ends, ends_at, ends_in}
-use Rattle.sheet_base.specs.Segments.{point_at}
+use Rattle.sheet_base.specs.PointHeights.{Height, Position, paired}
+use Rattle.sheet_base.specs.ReadBack.{Ends}
+use Rattle.sheet_base.specs.Segments.{no_point}
 use Rattle.dxf_pairs.specs.declared.pairs.Pair.{Pair}
 use Rattle.dxf_pairs.specs.Groups.{group_in}
 use Rattle.dxf_pairs.specs.InLines.{GroupsFollow}
 use Rattle.dxf_layer.specs.declared.copies.Copied.{Copied}
+use Rattle.dxf_layer.specs.declared.drawing.Rise.{Rise}
 use Rattle.dxf_layer.specs.declared.drawing.Spot.{Spot as Read_point}
+use Rattle.dxf_layer.specs.declared.points.LineEnds.{LineEnds}
 use Rattle.dxf_layer.specs.Entities.{Entity, is_kind}
 use Rattle.dxf_layer.specs.Fields.{fields_of}
 use Rattle.dxf_layer.specs.Points.{line_of}
-use Rattle.dxf_layer.specs.Rendering.{new_handle, handle_behind, line_copies, vertex_copies, copy_text}
+use Rattle.dxf_layer.specs.ReadBack.{level_again}
+use Rattle.dxf_layer.specs.Rendering.{new_handle, handle_behind, line_copies, vertex_copies, copy_text, line_copy}
+use Rattle.dxf_layer.specs.Rendering.{vertex_copy}
 use Rattle.dxf_layer.proofs.Telling.{next}
-use Rattle.dxf_layer.proofs.GroupShapes.{Outline, is_seeded, line_outline}
+use Rattle.dxf_layer.proofs.GroupShapes.{Outline, is_seeded, end_heights, line_outline}
 use Rattle.dxf_layer.proofs.GroupWalks.{Told, alone, open_line, turn_of, outlines_in}
 use Rattle.dxf_layer.proofs.GroupDrawings.{in_front, walk, turn, with_more}
-use Rattle.dxf_layer.proofs.OutlineEnds.{own_row, all_ends}
+use Rattle.dxf_layer.proofs.LineRises.{HasLine}
+use Rattle.dxf_layer.proofs.OutlineEnds.{own_row, both_at, both_in, both_by, no_height, all_ends, all_heights, AreAll}
+use Rattle.dxf_layer.proofs.OutlineEnds.{heights_for, heights_wanted}
+use Rattle.dxf_layer.proofs.LevelOutlines.{AreBack}
 use Rattle.dxf_layer.proofs.CopiedGroups.{AddsAs, none_added, both_added, copy_groups, IsInLines, copy_added}
-use Rattle.dxf_layer.proofs.CopyTurns.{IsLineRead, line_copied, IsVertexRead, vertex_copied, copy_agrees}
+use Rattle.dxf_layer.proofs.CopyTurns.{rise_again, IsGoodPosition, line_copied, IsVertexRead, vertex_copied}
+use Rattle.dxf_layer.proofs.CopyTurns.{copy_agrees}
 use Rattle.dxf_layer.proofs.TurnsKept.{IsReadSo, turn_kept}
 use Rattle.dxf_layer.proofs.EntityTurns.{told_groups, groups_told, none_in_front, both_in_front, turn_walks}
 
@@ -43,20 +54,20 @@ abbrev pub AllWithin : List Pt → Type 0
 AllWithin [] = ⊤
 AllWithin (point ∷ points) = IsWithinReach point × AllWithin points
 
-abbrev pub lines_told : List ℕ → Entity → Bool → ℕ → List Pt → List Told
+abbrev pub lines_told : List ℕ → Entity → Bool → ℕ → List Position → List Told
 lines_told bytes entity first next [] = []
 lines_told bytes entity first next (begin ∷ []) = []
 lines_told bytes entity first next (begin ∷ end ∷ images) =
-    copy_told bytes entity (record { begin = begin; end = Some end; handle = new_handle first next })
+    copy_told bytes entity (line_copy begin end (new_handle first next))
     ∷ lines_told bytes entity false (handle_behind first next) (end ∷ images)
 
 pub lines_added : GroupsFollow → (bytes : List ℕ) (entity : Entity) → IsInLines bytes entity
-    → (first : Bool) (next : ℕ) (images : List Pt)
+    → (first : Bool) (next : ℕ) (images : List Position)
     → AddsAs (line_copies bytes entity first next images) (groups_told (lines_told bytes entity first next images))
 lines_added follow bytes entity lines first next [] = none_added
 lines_added follow bytes entity lines first next (begin ∷ []) = none_added
 lines_added follow bytes entity lines first next (begin ∷ end ∷ images) =
-    let copied : Copied = record { begin = begin; end = Some end; handle = new_handle first next } in
+    let copied = line_copy begin end (new_handle first next) in
     both_added (copy_text bytes copied entity)
     (line_copies bytes entity false (handle_behind first next) (end ∷ images))
     (told_groups (copy_told bytes entity copied))
@@ -64,55 +75,61 @@ lines_added follow bytes entity lines first next (begin ∷ end ∷ images) =
     (copy_added follow bytes entity copied lines)
     (lines_added follow bytes entity lines false (handle_behind first next) (end ∷ images))
 
--- lines from point to point
-abbrev pub line_list : List Pt → List Outline
+-- lines from image to image
+abbrev pub line_list : List Position → List Outline
 line_list [] = []
 line_list (begin ∷ []) = []
-line_list (begin ∷ end ∷ points) = line_outline begin end ∷ line_list (end ∷ points)
+line_list (begin ∷ end ∷ images) = line_outline begin.point end.point (rise_again begin.height end.height)
+    ∷ line_list (end ∷ images)
 
 -- a line's entity that stands by itself
-pub record IsLine (bytes : List ℕ) (how : How) (seed : Option Pair) (entity : Entity) (begin end : Read_point) : Type 0
-  where
-    pub read : IsReadSo bytes how seed entity (line_of entity begin end ∷ [])
-    pub no_point : is_kind bytes (codes "POINT") entity ≡ false
-    pub is_line : is_kind bytes (codes "LINE") entity ≡ true
-    pub line : IsLineRead bytes how.exact seed entity begin end
+pub record IsLine (bytes : List ℕ) (how : How) (seed : Option Pair) (entity : Entity) (ends : LineEnds) : Type 0 where
+  pub read : IsReadSo bytes how seed entity (line_of entity ends.begin ends.end ends.rise ∷ [])
+  pub no_point : is_kind bytes (codes "POINT") entity ≡ false
+  pub is_line : is_kind bytes (codes "LINE") entity ≡ true
+  pub line : HasLine bytes how.exact seed entity ends
 
-one_line : (bytes : List ℕ) (how : How) (seed : Option Pair) (entity : Entity) (begin end : Read_point) (from to : Pt)
-    (given : Option ℕ) → IsLine bytes how seed entity begin end → IsWithinReach from → IsWithinReach to
-    → turn how (is_seeded seed) alone (copy_told bytes entity (record { begin = from; end = Some to; handle = given }))
-    ≡ Some (turn_of (line_outline from to ∷ []))
-one_line bytes how seed entity begin end from to given is near far =
-    let copied : Copied = record { begin = from; end = Some to; handle = given } in
+one_line : (bytes : List ℕ) (how : How) (seed : Option Pair) (entity : Entity) (ends : LineEnds) (from to : Position)
+    (given : Option ℕ) → IsLine bytes how seed entity ends → IsGoodPosition (is_some ends.rise) from
+    → IsGoodPosition (is_some ends.rise) to
+    → turn how (is_seeded seed) alone (copy_told bytes entity (line_copy from to given))
+    ≡ Some (turn_of (line_outline from.point to.point (rise_again from.height to.height) ∷ []))
+one_line bytes how seed entity ends from to given is near far =
+    let copied = line_copy from to given in
+    let line = line_outline from.point to.point (rise_again from.height to.height) in
     let groups = copy_groups bytes copied (fields_of entity) entity.pairs in
     let no_point = is.no_point in
     let is_line = is.is_line in
     let are : outlines_in how (is_seeded seed) (record { head = group_in bytes entity.head; groups = groups })
-    ≡ Some (line_outline from to ∷ []) =
-    rw (no_point, is_line) (line_copied bytes how.exact seed entity begin end copied to is.line refl near far) in
-    turn_kept bytes how seed entity (line_of entity begin end ∷ []) groups (line_outline from to ∷ []) is.read
+    ≡ Some (line ∷ []) =
+    rw (no_point, is_line) (line_copied bytes how.exact seed entity ends from to given is.line near far) in
+    turn_kept bytes how seed entity (line_of entity ends.begin ends.end ends.rise ∷ []) groups (line ∷ []) is.read
     (copy_agrees bytes copied entity) are
 
-pub lines_walk : (bytes : List ℕ) (how : How) (seed : Option Pair) (entity : Entity) (begin end : Read_point)
-    → IsLine bytes how seed entity begin end → (first : Bool) (given : ℕ) (images : List Pt) → AllWithin images
-    → (more : List Told)
+abbrev pub AllGood : Bool → List Position → Type 0
+AllGood some [] = ⊤
+AllGood some (position ∷ positions) = IsGoodPosition some position × AllGood some positions
+
+pub lines_walk : (bytes : List ℕ) (how : How) (seed : Option Pair) (entity : Entity) (ends : LineEnds)
+    → IsLine bytes how seed entity ends → (first : Bool) (given : ℕ) (images : List Position)
+    → AllGood (is_some ends.rise) images → (more : List Told)
     → walk how (is_seeded seed) alone (lines_told bytes entity first given images ++ more)
     ≡ next (in_front (line_list images)) (walk how (is_seeded seed) alone more)
-lines_walk bytes how seed entity begin end is first given [] within more =
+lines_walk bytes how seed entity ends is first given [] good more =
     none_in_front (walk how (is_seeded seed) alone more)
-lines_walk bytes how seed entity begin end is first given (from ∷ []) within more =
+lines_walk bytes how seed entity ends is first given (from ∷ []) good more =
     none_in_front (walk how (is_seeded seed) alone more)
-lines_walk bytes how seed entity begin end is first given (from ∷ to ∷ images) within more =
+lines_walk bytes how seed entity ends is first given (from ∷ to ∷ images) good more =
+    let line = line_outline from.point to.point (rise_again from.height to.height) in
     let rest = lines_told bytes entity false (handle_behind first given) (to ∷ images) in
-    turn_walks how (is_seeded seed) alone (copy_told bytes entity
-    (record { begin = from; end = Some to; handle = new_handle first given })) (turn_of (line_outline from to ∷ []))
-    (rest ++ more)
-    (one_line bytes how seed entity begin end from to (new_handle first given) is within.0 within.1.0)
-    ∙ (ap (next (in_front (line_outline from to ∷ [])))
-    (lines_walk bytes how seed entity begin end is false (handle_behind first given) (to ∷ images) within.1 more)
-    ∙ both_in_front (line_outline from to ∷ []) (line_list (to ∷ images)) (walk how (is_seeded seed) alone more))
+    turn_walks how (is_seeded seed) alone (copy_told bytes entity (line_copy from to (new_handle first given)))
+    (turn_of (line ∷ [])) (rest ++ more)
+    (one_line bytes how seed entity ends from to (new_handle first given) is good.0 good.1.0)
+    ∙ (ap (next (in_front (line ∷ [])))
+    (lines_walk bytes how seed entity ends is false (handle_behind first given) (to ∷ images) good.1 more)
+    ∙ both_in_front (line ∷ []) (line_list (to ∷ images)) (walk how (is_seeded seed) alone more))
 
--- the ends of a path from point to point are those of lines between them
+-- ---- the ends of a path from image to image are those of lines between them
 mapped_on : {B : Type 0} (f g : ℕ → B) (from other count : ℕ) → ((k : ℕ) → k < count → f (from + k) ≡ g (other + k))
     → map f (range_with_len from count) ≡ map g (range_with_len other count)
 mapped_on f g from other zero same = refl
@@ -128,55 +145,117 @@ mapped_on f g from other (suc count) same =
     (subst (λ n. f n ≡ g (other + suc k)) on (same (suc k) (omega arith)))) in
     ap (λ x. x ∷ map f (range_with_len (from + 1) count)) here ∙ ap (λ more. g other ∷ more) rest
 
-abbrev line_ends : List Pt → List Ends
-line_ends points = ends_in points (own_row paths.Line points)
+module _ {X : Type 0} (none : X) where
+  abbrev pub line_ends : List X → List (Ends X)
+  line_ends items = both_in none items (own_row paths.Line (length items))
 
-one_more : (p q r : Pt) (points : List Pt)
-    → line_ends (p ∷ q ∷ r ∷ points) ≡ (record { from = p; to = q }) ∷ line_ends (q ∷ r ∷ points)
-one_more p q r points =
-    let all = p ∷ q ∷ r ∷ points in
-    let rest = q ∷ r ∷ points in
-    let count : max 1 (length all - 0 - 1) ≡ suc (length points + 1) = omega arith in
-    let fewer : max 1 (length rest - 0 - 1) ≡ length points + 1 = omega arith in
-    ap (λ n. map (ends_at all (own_row paths.Line all)) (range_with_len 0 n)) count
-    ∙ (ap (λ (e : Ends). e ∷ map (ends_at all (own_row paths.Line all)) (range_with_len (0 + 1) (length points + 1)))
-    first
-    ∙ (ap (λ more. (record { from = p; to = q }) ∷ more)
-    (mapped_on (ends_at all (own_row paths.Line all)) (ends_at rest (own_row paths.Line rest)) (0 + 1) 0
-    (length points + 1) same)
-    ∙ ap (λ n. (record { from = p; to = q }) ∷ map (ends_at rest (own_row paths.Line rest)) (range_with_len 0 n))
-    (sym fewer)))
+  pub one_more : (p q r : X) (items : List X)
+      → line_ends (p ∷ q ∷ r ∷ items) ≡ (record { from = p; to = q }) ∷ line_ends (q ∷ r ∷ items)
+  one_more p q r items =
+      let all = p ∷ q ∷ r ∷ items in
+      let rest = q ∷ r ∷ items in
+      let count : max 1 (length all - 0 - 1) ≡ suc (length items + 1) = omega arith in
+      let fewer : max 1 (length rest - 0 - 1) ≡ length items + 1 = omega arith in
+      let on_all = both_at none all (own_row paths.Line (length all)) in
+      let on_rest = both_at none rest (own_row paths.Line (length rest)) in
+      let two : Ends X = record { from = p; to = q } in
+      ap (λ n. map on_all (range_with_len 0 n)) count
+      ∙ (ap (λ (e : Ends X). e ∷ map on_all (range_with_len (0 + 1) (length items + 1))) first
+      ∙ (ap (λ (more : List (Ends X)). two ∷ more)
+      (mapped_on on_all on_rest (0 + 1) 0 (length items + 1) same)
+      ∙ ap (λ n. two ∷ map on_rest (range_with_len 0 n)) (sym fewer)))
+    where
+      first : both_at none (p ∷ q ∷ r ∷ items) (own_row paths.Line (length (p ∷ q ∷ r ∷ items))) 0
+          ≡ (record { from = p; to = q })
+      first =
+          let inside : nat_lt (0 + 0 + 1) (length (p ∷ q ∷ r ∷ items)) ≡ true = grind (arith, nat_tests) in
+          rw inside refl
+
+      same : (k : ℕ) → k < length items + 1
+          → both_at none (p ∷ q ∷ r ∷ items) (own_row paths.Line (length (p ∷ q ∷ r ∷ items))) (0 + 1 + k)
+          ≡ both_at none (q ∷ r ∷ items) (own_row paths.Line (length (q ∷ r ∷ items))) (0 + k)
+      same k less =
+          let all = p ∷ q ∷ r ∷ items in
+          let rest = q ∷ r ∷ items in
+          let a : 0 + (0 + 1 + k) ≡ suc (0 + (0 + k)) = omega arith in
+          let inside : nat_lt (0 + (0 + 1 + k) + 1) (length all) ≡ true = grind (arith, nat_tests, less) in
+          let inside_too : nat_lt (0 + (0 + k) + 1) (length rest) ≡ true = grind (arith, nat_tests, less) in
+          let b : 0 + (0 + 1 + k) + 1 ≡ suc (0 + (0 + k) + 1) = omega arith in
+          rw (inside, inside_too) (ap (λ (n : ℕ). record {
+            from = slice_index_or all n none;
+            to = slice_index_or all (0 + (0 + 1 + k) + 1) none;
+          }) a
+          ∙ ap (λ (n : ℕ). record {
+            from = slice_index_or all (suc (0 + (0 + k))) none;
+            to =
+                slice_index_or all n none;
+          })
+          b)
+
+-- the points of lines between images
+line_points : (ps : List Pt) (hs : List Height) (p q : Pt) (y z : Height) → length hs ≡ length ps
+    → all_ends (line_list (paired (p ∷ q ∷ ps) (y ∷ z ∷ hs))) ≡ line_ends no_point (p ∷ q ∷ ps)
+line_points [] [] p q y z each = refl
+line_points [] (x ∷ hs) p q y z each = absurd (omega (arith, each))
+line_points (r ∷ ps) [] p q y z each = absurd (omega (arith, each))
+line_points (r ∷ ps) (x ∷ hs) p q y z each =
+    ap (λ (more : List (Ends Pt)). (record { from = p; to = q }) ∷ more)
+    (line_points ps hs q r z x (omega (arith, each)))
+    ∙ sym (one_more no_point p q r ps)
+
+-- the heights of one
+pair_level : (some : Bool) (y z : Height) → is_some y ≡ some → is_some z ≡ some
+    → both_by no_height (Some paths.Line) (end_heights (rise_again y z))
+    ≡ level_again (record { from = y; to = z }) ∷ []
+pair_level some None None first second = refl
+pair_level some (Some from) (Some to) first second = by_test (int_eq from to)
   where
-    first : ends_at (p ∷ q ∷ r ∷ points) (own_row paths.Line (p ∷ q ∷ r ∷ points)) 0 ≡ (record { from = p; to = q })
-    first =
-        let inside : nat_lt (0 + 0 + 1) (length (p ∷ q ∷ r ∷ points)) ≡ true = grind (arith, nat_tests) in
-        rw inside refl
+    by_test : (same : Bool) → both_by no_height (Some paths.Line)
+        (end_heights (cond {A = Option (Ends ℤ)} same None (Some (record { from = from; to = to }))))
+        ≡ cond {A = Ends Height} same (record { from = None; to = None }) (record { from = Some from; to = Some to })
+        ∷ []
+    by_test true = refl
+    by_test false = refl
+pair_level some None (Some to) first second = absurd (let both : false ≡ true = first ∙ sym second in cc)
+pair_level some (Some from) None first second = absurd (let both : true ≡ false = first ∙ sym second in cc)
 
-    same : (k : ℕ) → k < length points + 1 → ends_at (p ∷ q ∷ r ∷ points) (own_row paths.Line (p ∷ q ∷ r ∷ points))
-        (0 + 1 + k) ≡ ends_at (q ∷ r ∷ points) (own_row paths.Line (q ∷ r ∷ points)) (0 + k)
-    same k less =
-        let all = p ∷ q ∷ r ∷ points in
-        let rest = q ∷ r ∷ points in
-        let a : 0 + (0 + 1 + k) ≡ suc (0 + (0 + k)) = omega arith in
-        let inside : nat_lt (0 + (0 + 1 + k) + 1) (length all) ≡ true = grind (arith, nat_tests, less) in
-        let inside_too : nat_lt (0 + (0 + k) + 1) (length rest) ≡ true = grind (arith, nat_tests, less) in
-        let b : 0 + (0 + 1 + k) + 1 ≡ suc (0 + (0 + k) + 1) = omega arith in
-        rw (inside, inside_too) (ap (λ (n : ℕ). record {
-          from = point_at all n;
-          to =
-              point_at all (0 + (0 + 1 + k) + 1);
-        }) a
-        ∙ ap (λ (n : ℕ). record { from = point_at all (suc (0 + (0 + k))); to = point_at all n }) b)
+-- and of all
+line_levels : (some : Bool) (ps : List Pt) (hs : List Height) (p q : Pt) (y z : Height) → length hs ≡ length ps
+    → AreAll some (y ∷ z ∷ hs)
+    → all_heights (line_list (paired (p ∷ q ∷ ps) (y ∷ z ∷ hs))) ≡ map level_again (line_ends no_height (y ∷ z ∷ hs))
+line_levels some [] [] p q y z each all =
+    ap (λ (e : List (Ends Height)). e ++ []) (pair_level some y z all.0 all.1.0)
+line_levels some [] (x ∷ hs) p q y z each all = absurd (omega (arith, each))
+line_levels some (r ∷ ps) [] p q y z each all = absurd (omega (arith, each))
+line_levels some (r ∷ ps) (x ∷ hs) p q y z each all =
+    let rest = all_heights (line_list (paired (q ∷ r ∷ ps) (z ∷ x ∷ hs))) in
+    ap (λ (e : List (Ends Height)). e ++ rest) (pair_level some y z all.0 all.1.0)
+    ∙ (ap (λ (more : List (Ends Height)). level_again (record { from = y; to = z }) ∷ more)
+    (line_levels some ps hs q r z x (omega (arith, each)) all.1)
+    ∙ ap (map level_again) (sym (one_more no_height y z x hs)))
 
-pub line_list_ends : (p q : Pt) (points : List Pt) → all_ends (line_list (p ∷ q ∷ points)) ≡ line_ends (p ∷ q ∷ points)
-line_list_ends p q [] = refl
-line_list_ends p q (r ∷ points) = ap (λ more. (record { from = p; to = q }) ∷ more) (line_list_ends q r points)
-    ∙ sym (one_more p q r points)
+-- lines between images are read in the place of the path of these images
+pub lines_back : (rise : Option Rise) (ps : List Pt) (hs : List Height) → length hs ≡ length ps → 2 ≤ length ps
+    → AreAll (is_some rise) hs
+    → AreBack (line_list (paired ps hs))
+    (record { kind = Some paths.Line; points = ps; heights = heights_for rise ps hs } ∷ [])
+lines_back rise [] hs each long all = absurd (omega (arith, long))
+lines_back rise (p ∷ []) hs each long all = absurd (omega (arith, long))
+lines_back rise (p ∷ q ∷ ps) [] each long all = absurd (omega (arith, each))
+lines_back rise (p ∷ q ∷ ps) (y ∷ []) each long all = absurd (omega (arith, each))
+lines_back rise (p ∷ q ∷ ps) (y ∷ z ∷ hs) each long all =
+    let own = heights_wanted rise (p ∷ q ∷ ps) (y ∷ z ∷ hs) each all in
+    record {
+      ends = line_points ps hs p q y z (omega (arith, each)) ∙ sym (append-nil (line_ends no_point (p ∷ q ∷ ps)));
+      heights = line_levels (is_some rise) ps hs p q y z (omega (arith, each)) all
+          ∙ ap (map level_again) (ap (both_by no_height (Some paths.Line)) own
+          ∙ sym (append-nil (both_by no_height (Some paths.Line) (heights_for rise (p ∷ q ∷ ps) (y ∷ z ∷ hs)))));
+    }
 
 abbrev pub vertices_copied : List ℕ → Entity → Bool → ℕ → List Pt → List Told
 vertices_copied bytes entity first next [] = []
 vertices_copied bytes entity first next (image ∷ images) =
-    copy_told bytes entity (record { begin = image; end = None; handle = new_handle first next })
+    copy_told bytes entity (vertex_copy image (new_handle first next))
     ∷ vertices_copied bytes entity false (handle_behind first next) images
 
 pub vertices_added : GroupsFollow → (bytes : List ℕ) (entity : Entity) → IsInLines bytes entity
@@ -185,7 +264,7 @@ pub vertices_added : GroupsFollow → (bytes : List ℕ) (entity : Entity) → I
     (groups_told (vertices_copied bytes entity first next images))
 vertices_added follow bytes entity lines first next [] = none_added
 vertices_added follow bytes entity lines first next (image ∷ images) =
-    let copied : Copied = record { begin = image; end = None; handle = new_handle first next } in
+    let copied = vertex_copy image (new_handle first next) in
     both_added (copy_text bytes copied entity) (vertex_copies bytes entity false (handle_behind first next) images)
     (told_groups (copy_told bytes entity copied))
     (groups_told (vertices_copied bytes entity false (handle_behind first next) images))
@@ -201,7 +280,7 @@ pub vertices_walk : (bytes : List ℕ) (how : How) (seed : Option Pair) (entity 
 vertices_walk bytes how seed entity spot is_vertex is kind points first given [] within more =
     ap (λ (ps : List Pt). walk how (is_seeded seed) (open_line kind ps) more) (sym (append-nil points))
 vertices_walk bytes how seed entity spot is_vertex is kind points first given (image ∷ images) within more =
-    let copied : Copied = record { begin = image; end = None; handle = new_handle first given } in
+    let copied = vertex_copy image (new_handle first given) in
     let point = vertex_copied bytes how.exact seed entity spot copied is within.0 in
     let here : turn how (is_seeded seed) (open_line kind points) (copy_told bytes entity copied)
     ≡ with_more kind points image = rw (is_vertex, point) refl in

@@ -24,7 +24,7 @@ use Rattle.dxf_layer.proofs.Members.{IsIn, Follow, wanted_is, in_taken, lies}
 use Rattle.dxf_layer.proofs.Telling.{told}
 use Rattle.dxf_layer.proofs.GroupFields.{fields_in, groups_in, fields_told, itself, value_wanted, point_at, zero_in}
 use Rattle.dxf_layer.proofs.GroupFields.{zero_told}
-use Rattle.dxf_layer.proofs.GroupShapes.{Outline, is_seeded, dot_outline}
+use Rattle.dxf_layer.proofs.GroupShapes.{Outline, flat_outline, is_seeded, dot_outline}
 use Rattle.dxf_layer.proofs.GroupWalks.{Told, alone, turn_of, outlines_in, ends_sections}
 use Rattle.dxf_layer.proofs.ChangedFields.{may_change, with_value, changed_fields, Agree, value_same, wanted_changed}
 use Rattle.dxf_layer.proofs.ChangedFields.{point_changed, agree_by}
@@ -36,7 +36,8 @@ use Rattle.dxf_layer.proofs.CopiedGroups.{IsInLines}
 use Rattle.dxf_layer.proofs.CopyTurns.{HasWanted, spot_wanted}
 use Rattle.dxf_layer.proofs.TurnsKept.{IsReadSo, turn_kept}
 use Rattle.dxf_layer.proofs.EntityTurns.{HaveNoHead, IsWritten, one_written, told_groups}
-use Rattle.dxf_layer.proofs.OutlineEnds.{all_ends, imaged_outlines}
+use Rattle.dxf_layer.proofs.OutlineEnds.{imaged_outlines}
+use Rattle.dxf_layer.proofs.LevelOutlines.{AreBack, flat_back}
 
 -- an entity among the pairs of the drawing
 pub record IsSet (bytes : List ℕ) (entity : Entity) : Type 0 where
@@ -92,10 +93,10 @@ pub values_written : (read : Reading) (how : How) (seed : Option Pair) (entity :
     (own : List Edit) (outs wanted : List Outline) → IsSet read.bytes entity
     → ends_sections (group_in read.bytes entity.head) ≡ false
     → AreValueEdits entity.pairs own → IsReadSo read.bytes how seed entity shapes
-    → outlines_in how (is_seeded seed) (valued read own entity) ≡ Some outs → all_ends outs ≡ all_ends wanted
+    → outlines_in how (is_seeded seed) (valued read own entity) ≡ Some outs → AreBack outs wanted
     → IsWritten (group_in read.bytes entity.head) how (is_seeded seed) alone alone wanted
     (flat_map (stand read own) (entity.head ∷ entity.pairs))
-values_written read how seed entity shapes own outs wanted set goes_on are is made same =
+values_written read how seed entity shapes own outs wanted set goes_on are is made back =
     let turn = turn_kept read.bytes how seed entity shapes (valued read own entity).groups outs is
     (valued_agree read entity set own are) made in
     let head : stand read own entity.head ≡ group_in read.bytes entity.head ∷ [] =
@@ -113,7 +114,7 @@ values_written read how seed entity shapes own outs wanted set goes_on are is ma
       goes_on = goes_on;
       body =
           no_heads read.bytes (own_value read own) entity.pairs set.lines.body;
-    }) turn same)
+    }) turn back)
 
 -- an edit of a wanted field
 pub wanted_edit : (entity : Entity) (code : ℤ) (what : What) (pair : Pair) → wanted code entity ≡ Ok pair
@@ -162,8 +163,15 @@ twenty_ten is = cc
 pub dot_wanted : (images : Runs) (count n : ℕ) → AreGoodImages images count → n < count → IsAlone images n
     → (spot : Read_point) → imaged_outlines images n (dot_of spot ∷ []) ≡ dot_outline (image_of images n) ∷ []
 dot_wanted images count n good inside lone spot =
-    ap (λ (points : List Pt). (record { kind = Some paths.Dot; points = points }) ∷ [])
+    ap (λ (points : List Pt). flat_outline (Some paths.Dot) points ∷ [])
     (alone_image images count n good inside lone)
+
+pub one_back : (images : Runs) (count n : ℕ) → AreGoodImages images count → n < count → IsAlone images n
+    → (spot : Read_point)
+    → AreBack (dot_outline (image_of images n) ∷ []) (imaged_outlines images n (dot_of spot ∷ []))
+one_back images count n good inside lone spot =
+    flat_back (dot_outline (image_of images n) ∷ []) (imaged_outlines images n (dot_of spot ∷ [])) (refl, tt)
+    (dot_wanted images count n good inside lone spot)
 
 -- the point of an entity with one spot
 pub one_spot : (read : Reading) (exact : Bool) (entity : Entity) (spot : Read_point) (count n : ℕ)
@@ -205,7 +213,7 @@ point_written read how seed entity spot count n set goes_on is kind spot_is good
     values_written read how seed entity (dot_of spot ∷ []) (spot_edits n spot)
     (dot_outline (image_of read.images n) ∷ []) (imaged_outlines read.images n (dot_of spot ∷ [])) set goes_on are
     is
-    (rw (kind, point) refl) (ap all_ends (sym (dot_wanted read.images count n good inside lone spot)))
+    (rw (kind, point) refl) (one_back read.images count n good inside lone spot)
 
 -- which kind an entity is not
 pub record IsInsert (bytes : List ℕ) (entity : Entity) : Type 0 where
@@ -239,4 +247,4 @@ insert_written read how seed entity spot count n set goes_on is kind none spot_i
     values_written read how seed entity (dot_of spot ∷ []) (spot_edits n spot)
     (dot_outline (image_of read.images n) ∷ []) (imaged_outlines read.images n (dot_of spot ∷ [])) set goes_on are
     is
-    (rw (a, b, c, d, attribs, point) refl) (ap all_ends (sym (dot_wanted read.images count n good inside lone spot)))
+    (rw (a, b, c, d, attribs, point) refl) (one_back read.images count n good inside lone spot)

@@ -67,11 +67,6 @@ feed_behind bytes pair (first, before, behind, is) =
     length-append behind (LINE_FEED ∷ []) in
     omega (arith, simp length-take at size)
 
-pub order_earlier : (less from : ℕ) (edits : List Edit) (past : ℕ) → less ≤ from → AreInOrder from edits past
-    → AreInOrder less edits past
-order_earlier less from [] past below order = omega (arith, order)
-order_earlier less from (edit ∷ edits) past below order = (omega (arith, order.0), order.1, order.2)
-
 -- an edit of pairs from this place on starts there or later
 pub starts_behind : (read : Reading) (start line past : ℕ) (pairs : List Pair) (edit : Edit)
     → AreTiles start line pairs past → StandsOn read pairs edit → start ≤ edit.start

@@ -12,6 +12,7 @@ use Rattle.sheet_base.specs.declared.faults.LayerFault.{LayerFault}
 use Rattle.sheet_base.specs.declared.faults.LayerFault.TheVariants.{Attribs, Count, Flags}
 use Rattle.dxf_pairs.specs.declared.pairs.Pair.{Pair}
 use Rattle.dxf_layer.specs.declared.drawing.Spot.{Spot}
+use Rattle.dxf_layer.specs.declared.points.LineEnds.{LineEnds}
 use Rattle.dxf_layer.specs.declared.drawing.Vertex.{Vertex}
 use Rattle.dxf_layer.specs.Entities.{Entity, entity_end}
 use Rattle.dxf_layer.specs.Fields.{and_then, fields_of, field, wanted, zero_at, equals, is_not_zero}
@@ -24,6 +25,7 @@ use Rattle.dxf_layer.proofs.Apart.{IsApart, IsApartFromAll, AreApart, AreWithin,
 use Rattle.dxf_layer.proofs.Members.{went, Follow, Lies, lies, one_before, IsField, wanted_is, spot_fields}
 use Rattle.dxf_layer.proofs.VertexOrder.{AreOff, ordered}
 use Rattle.dxf_layer.proofs.Shaped.{IsWholeBy, IsClear, within_clear, AreGood, all_good, one_good}
+use Rattle.dxf_layer.proofs.LineRises.{rise_within, line_parts}
 
 -- two choices, both of which have a property
 pub either : {A : Type 0} (P : A → Type 0) (test : Bool) (one other : A) → P one → P other → P (cond test one other)
@@ -146,7 +148,7 @@ one_dot low high entity spot laid clear has =
     let edits : (path first : ℕ) → StandApart at (spot_edits first spot) past =
     λ path first. wider entity.head.end past at past (spot_edits first spot)
     (dot_apart first spot entity.head.end past (fields_of entity) laid.fields has) laid.forth (omega arith) in
-    one_good low high at past (dot_of spot) laid.order refl edits
+    one_good low high at past (dot_of spot) laid.order refl tt edits
     (λ path first. within_clear low high at past (spot_edits first spot) clear (edits path first).within)
 
 pub point_good : (low high : ℕ) (bytes : List ℕ) (exact : Bool) (entity : Entity) → IsLaid entity
@@ -201,7 +203,7 @@ text_good low high bytes exact entity laid clear shapes is =
       by_second spot has None second_is = one_dot low high entity spot laid clear has
       by_second spot has (Some other) second_is =
           all_good low high entity.head.start (entity_end entity) (dot_of spot ∷ dot_of other ∷ []) laid.order clear
-          (refl, (refl, tt))
+          (refl, (refl, tt)) (tt, (tt, tt))
           (λ path n. wider entity.head.end (entity_end entity) entity.head.start (entity_end entity) _
           (two_apart n (n + 1) spot other entity.head.end (entity_end entity) (fields_of entity) laid.fields has
           (second_has bytes exact entity other second_is)) laid.forth (omega arith))
@@ -216,12 +218,15 @@ pub line_good : (low high : ℕ) (bytes : List ℕ) (exact : Bool) (seed : Optio
     → IsClear low high entity.head.start (entity_end entity)
     → IsGood low high entity (line_shapes bytes exact seed entity)
 line_good low high bytes exact seed entity laid clear shapes is =
-    let found = went (λ (ends : Spot × Spot). Ok (line_of entity ends.0 ends.1 ∷ []))
+    let found = went (λ (ends : LineEnds). Ok (line_of entity ends.begin ends.end ends.rise ∷ []))
     (line_ends bytes exact seed entity) shapes is in
-    let made : line_of entity found.value.0 found.value.1 ∷ [] ≡ shapes = cc in
+    let ends = found.value in
+    let made : line_of entity ends.begin ends.end ends.rise ∷ [] ≡ shapes = cc in
+    let parts = line_parts bytes exact seed entity ends found.is in
     subst (λ ss. AreGood low high entity.head.start ss (entity_end entity)) made
-    (one_good low high entity.head.start (entity_end entity) (line_of entity found.value.0 found.value.1) laid.order
-    (omega arith) (λ path first. whole_edit (Lines path) entity laid)
+    (one_good low high entity.head.start (entity_end entity) (line_of entity ends.begin ends.end ends.rise) laid.order
+    (omega arith) (rise_within bytes exact entity ends.rise parts.rise_is)
+    (λ path first. whole_edit (Lines path) entity laid)
     (λ path first. (clear, tt)))
 
 -- a line or a loop has any number of points from one on
@@ -319,7 +324,7 @@ light_good low high bytes exact entity laid clear shapes is =
     }) laid.forth (omega arith) in
     subst (λ ss. AreGood low high entity.head.start ss past) made
     (one_good low high entity.head.start past (light_shape kind.value vertices.value count.value) laid.order
-    (vertices_whole kind.value vertices.value (long_kind bytes entity kind.value kind.is)) edits
+    (vertices_whole kind.value vertices.value (long_kind bytes entity kind.value kind.is)) tt edits
     (λ path first. within_clear low high entity.head.start past
     (vertex_edits first vertices.value ++ value_edit (Tally first (first + length vertices.value)) count.value ∷ [])
     clear (edits path first).within))

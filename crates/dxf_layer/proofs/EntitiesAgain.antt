@@ -26,13 +26,12 @@ use Rattle.dxf_layer.proofs.Shaped.{paths_past, points_past}
 use Rattle.dxf_layer.proofs.StandingEdits.{stand}
 use Rattle.dxf_layer.proofs.ValueTurns.{AreGoodImages}
 use Rattle.dxf_layer.proofs.WalkTrails.{walked_on, trail}
-use Rattle.dxf_layer.proofs.OutlineEnds.{all_ends, imaged_outlines, rows_behind, points_of}
+use Rattle.dxf_layer.proofs.OutlineEnds.{imaged_outlines, rows_behind, points_of}
+use Rattle.dxf_layer.proofs.LevelOutlines.{AreBack, back_both}
 use Rattle.dxf_layer.proofs.EntityCases.{DotsAlone, LightsAreWritten}
 use Rattle.dxf_layer.proofs.StepWritten.{IsNear}
 use Rattle.dxf_layer.proofs.WalkJoins.{IsHeaded}
-use Rattle.sheet_base.specs.ReadBack.{Ends}
 use Rattle.dxf_layer.proofs.WalkJoins.{entities_front, headed_front, imaged_both}
-use Rattle.dxf_layer.proofs.EntityTurns.{ends_both}
 use Rattle.dxf_layer.proofs.EntityWritten.{written_for, imaged_spot}
 use Rattle.dxf_layer.proofs.EntityCases.{IsFound, IsNumbered}
 use Rattle.dxf_layer.specs.Entities.{past_pairs}
@@ -221,14 +220,11 @@ module _ (read : Reading) (how : How) (seed : Option Pair) (count : ℕ) (follow
                         ∙ (wr.walks (entities_told Entities
                         (made path_too first_too w.here.next Entities (other ∷ others)))
                         ∙ ap (next (in_front wr.outs)) a.walk_is));
-                    same = ends_both wr.outs a.outs
-                        ∙ (ap (λ (e : List Ends). e ++ all_ends a.outs) wr.same
-                        ∙ (ap (λ (e : List Ends). all_ends (imaged_outlines read.images first w.here.shapes) ++ e)
-                        a.same
-                        ∙ (sym (ends_both (imaged_outlines read.images first w.here.shapes)
-                        (imaged_outlines read.images first_too w.more))
-                        ∙ ap all_ends (sym (imaged_both read.images first w.here.shapes w.more)
-                        ∙ ap (imaged_outlines read.images first) (sym w.shapes_are)))));
+                    same = subst (AreBack (wr.outs ++ a.outs))
+                        (sym (imaged_both read.images first w.here.shapes w.more)
+                        ∙ ap (imaged_outlines read.images first) (sym w.shapes_are))
+                        (back_both wr.outs a.outs (imaged_outlines read.images first w.here.shapes)
+                        (imaged_outlines read.images first_too w.more) wr.same a.same);
                   };
               headed = λ begins.
                   let ns = near_spot read.images first place in

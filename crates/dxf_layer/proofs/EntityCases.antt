@@ -2,6 +2,7 @@
 use Rattle.std.proofs.Common.{◌≡◌, ℕ, ◌+◌, ◌<◌, ◌≤◌, pos, Bool, true, false, cond, refl, ap, sym, ◌∙◌, subst, List, []}
 use Rattle.std.proofs.Common.{◌∷◌, ◌++◌, map, filter, flat_map, length, Option, None, Some, Ok, arith, codes}
 use Rattle.std.specs.Prelude.{⊤, ◌||◌}
+use Rattle.std.specs.Option.{is_some}
 use Rattle.std.proofs.lemmas.Bool.Decides.{nat_tests}
 use Rattle.sheet_base.specs.declared.flags.How.{How}
 use Rattle.sheet_base.specs.declared.edits.Edit.{Edit}
@@ -22,7 +23,9 @@ use Rattle.std.proofs.lemmas.List.{length-append}
 use Rattle.dxf_layer.specs.Handles.{handle}
 use Rattle.dxf_layer.specs.Shapes.{Shape, point_of, spot_edits}
 use Rattle.dxf_layer.specs.Points.{spot_at, dot_of, point_shapes, insert_shapes, second_spot, dots_of, text_shapes}
-use Rattle.dxf_layer.specs.Points.{level, line_of, line_ends, line_shapes}
+use Rattle.dxf_layer.specs.declared.points.LineEnds.{LineEnds}
+use Rattle.dxf_layer.specs.Points.{line_of, line_ends, line_shapes}
+use Rattle.dxf_layer.proofs.LineRises.{line_parts}
 use Rattle.dxf_layer.specs.Polylines.{kind_of, vertices_in, count_of, light_shape, light_shapes}
 use Rattle.dxf_layer.specs.Rendering.{Reading, entity_at}
 use Rattle.dxf_layer.proofs.Members.{Follow, went, lies, by_past}
@@ -37,11 +40,11 @@ use Rattle.dxf_layer.proofs.DotTurns.{IsSet, spot_value_edits, point_written, in
 use Rattle.dxf_layer.proofs.TextTurns.{IsSecond, is_second, text_written, text_both}
 use Rattle.dxf_layer.proofs.WholeTurns.{whole_of, line_written}
 use Rattle.dxf_layer.proofs.Shaped.{edits_with}
-use Rattle.dxf_layer.proofs.OutlineEnds.{imaged_outlines, rows_behind, points_of}
+use Rattle.dxf_layer.proofs.OutlineEnds.{imaged_outlines, rows_behind, points_of, run_heights, AreAll}
 use Rattle.dxf_layer.proofs.EntityTurns.{IsWritten}
-use Rattle.dxf_layer.proofs.EntityWritten.{is_at, written_for, behind_whole, images_found, length_mapped}
+use Rattle.dxf_layer.proofs.EntityWritten.{is_at, written_for, behind_whole, positions_found, length_mapped}
 
--- each dot's image is alone
+-- each dot's image is alone, and the images of a line that has heights have some, all others none
 abbrev pub AloneFor : Option PathKind → Runs → ℕ → Type 0
 AloneFor None images first = ⊤
 AloneFor (Some paths.Dot) images first = IsAlone images first
@@ -50,7 +53,9 @@ AloneFor (Some paths.Loop) images first = ⊤
 
 abbrev pub DotsAlone : Runs → ℕ → List Shape → Type 0
 DotsAlone images first [] = ⊤
-DotsAlone images first (shape ∷ shapes) = AloneFor shape.kind images first
+DotsAlone images first (shape ∷ shapes) =
+    (AloneFor shape.kind images first
+    × AreAll (is_some shape.rise) (run_heights images first (first + length shape.points)))
     × DotsAlone images (first + length shape.points) shapes
 
 -- where the entity stands among all pairs, and what is found there
@@ -160,7 +165,7 @@ module _ (read : Reading) (how : How) (seed : Option Pair) (count : ℕ) (follow
       (imaged_outlines read.images first (dot_of spot.value ∷ [])))
       (sym (values_end read entity at.set (spot_edits first spot.value) are))
       (point_written read how seed entity spot.value count first at.set at.goes_on is_too kind spot.is good
-      (omega (arith, numbered_too.inside)) numbered_too.lone.0))
+      (omega (arith, numbered_too.inside)) numbered_too.lone.0.0))
 
   insert_case : (shapes : List Shape) → IsReadSo read.bytes how seed entity shapes
       → IsNumbered read count path first shapes → is_kind read.bytes (codes "POINT") entity ≡ false
@@ -183,7 +188,7 @@ module _ (read : Reading) (how : How) (seed : Option Pair) (count : ℕ) (follow
       (sym (values_end read entity at.set (spot_edits first spot.value) are))
       (insert_written read how seed entity spot.value count first at.set at.goes_on is_too
       (record { no_point = no_point; no_line = no_line; no_light = no_light; no_text = no_text }) none.is spot.is
-      good (omega (arith, numbered_too.inside)) numbered_too.lone.0))
+      good (omega (arith, numbered_too.inside)) numbered_too.lone.0.0))
 
   text_case : (shapes : List Shape) → IsReadSo read.bytes how seed entity shapes
       → IsNumbered read count path first shapes → is_kind read.bytes (codes "POINT") entity ≡ false
@@ -217,7 +222,7 @@ module _ (read : Reading) (how : How) (seed : Option Pair) (count : ℕ) (follow
           (imaged_outlines read.images first (dot_of spot ∷ [])))
           (sym (values_end read entity at.set (spot_edits first spot) are))
           (text_written read how seed entity spot count first at.set at.goes_on is (no_point, (no_line, no_light)) kind
-          spot_is seconds good (omega (arith, numbered.inside)) numbered.lone.0)
+          spot_is seconds good (omega (arith, numbered.inside)) numbered.lone.0.0)
       by_second spot spot_is (Some other) second_is seconds is numbered =
           let other_is = spot_found other seconds in
           let has = spot_wanted read.bytes how.exact (pos 10) (pos 20) entity spot spot_is in
@@ -229,7 +234,7 @@ module _ (read : Reading) (how : How) (seed : Option Pair) (count : ℕ) (follow
           (imaged_outlines read.images first (dot_of spot ∷ dot_of other ∷ [])))
           (sym (values_end read entity at.set (spot_edits first spot ++ spot_edits (first + 1) other) are))
           (text_both read how seed entity spot other count first at.set at.goes_on is (no_point, (no_line, no_light))
-          kind spot_is other_is seconds good (omega (arith, numbered.inside)) numbered.lone.0 numbered.lone.1.0)
+          kind spot_is other_is seconds good (omega (arith, numbered.inside)) numbered.lone.0.0 numbered.lone.1.0.0)
         where
           spot_found : (other : Read_point) → IsSecond read.bytes how.exact entity (Some other)
               → spot_at read.bytes how.exact (pos 11) (pos 21) entity ≡ Ok other
@@ -240,41 +245,28 @@ module _ (read : Reading) (how : How) (seed : Option Pair) (count : ℕ) (follow
       → is_kind read.bytes (codes "LINE") entity ≡ true
       → line_shapes read.bytes how.exact seed entity ≡ Ok shapes → Goal read how seed entity path first shapes
   line_case shapes is numbered no_point kind made =
-      let ends = went (λ (e : Read_point × Read_point). Ok (line_of entity e.0 e.1 ∷ []))
+      let found = went (λ (e : LineEnds). Ok (line_of entity e.begin e.end e.rise ∷ []))
       (line_ends read.bytes how.exact seed entity) shapes made in
-      let own = went (λ (o : Unit {0}). and_then
-      (λ (begin : Read_point). and_then (λ (end : Read_point). and_then (λ (l : Unit {0}). Ok (begin, end))
-      (level read.bytes entity)) (spot_at read.bytes how.exact (pos 11) (pos 21) entity))
-      (spot_at read.bytes how.exact (pos 10) (pos 20) entity))
-      (handle seed entity) ends.value ends.is in
-      let begin = went (λ (b : Read_point). and_then
-      (λ (end : Read_point). and_then (λ (l : Unit {0}). Ok (b, end)) (level read.bytes entity))
-      (spot_at read.bytes how.exact (pos 11) (pos 21) entity))
-      (spot_at read.bytes how.exact (pos 10) (pos 20) entity) ends.value own.gives in
-      let end = went (λ (e : Read_point). and_then (λ (l : Unit {0}). Ok (begin.value, e)) (level read.bytes entity))
-      (spot_at read.bytes how.exact (pos 11) (pos 21) entity) ends.value begin.gives in
-      let flat = went (λ (l : Unit {0}). Ok (begin.value, end.value)) (level read.bytes entity) ends.value end.gives in
-      let pair : ends.value ≡ (begin.value, end.value) = cc in
-      let made_is : shapes ≡ line_of entity ends.value.0 ends.value.1 ∷ [] = cc in
-      let same : shapes ≡ line_of entity begin.value end.value ∷ [] = made_is
-      ∙ ap (λ (e : Read_point × Read_point). line_of entity e.0 e.1 ∷ []) pair in
+      let ends = found.value in
+      let own_line = line_parts read.bytes how.exact seed entity ends found.is in
+      let same : shapes ≡ line_of entity ends.begin ends.end ends.rise ∷ [] = cc in
       let is_too = subst (IsReadSo read.bytes how seed entity) same is in
       let numbered_too = subst (IsNumbered read count path first) same numbered in
-      let line : IsLine read.bytes how seed entity begin.value end.value = record {
+      let line : IsLine read.bytes how seed entity ends = record {
         read = is_too;
         no_point = no_point;
         is_line = kind;
-        line = record { own = own.is; begin_is = begin.is; end_is = end.is; level_is = flat.is };
+        line = own_line;
       } in
       let row : PathRow = record { kind = paths.Line; first = first; past = first + 2 } in
-      let images = images_found read.sheet.paths numbered_too.before (rows_behind (first + 2) numbered_too.more) path
-      read.images row numbered_too.rows numbered_too.before_is in
+      let positions = positions_found read.sheet.paths numbered_too.before (rows_behind (first + 2) numbered_too.more)
+      path read.images row numbered_too.rows numbered_too.before_is in
       subst (Goal read how seed entity path first) (sym same)
       (subst (IsWritten (group_in read.bytes entity.head) how (is_seeded seed) alone alone
-      (imaged_outlines read.images first (line_of entity begin.value end.value ∷ [])))
+      (imaged_outlines read.images first (line_of entity ends.begin ends.end ends.rise ∷ [])))
       (sym (whole_end read entity at.set (whole_of entity (edits.Lines path)) refl))
-      (line_written follow read how seed entity begin.value end.value count path first at.set at.goes_on line at.found
-      images good numbered_too.inside))
+      (line_written follow read how seed entity ends count path first at.set at.goes_on line at.found
+      positions good numbered_too.inside numbered_too.lone.0.1))
 
   light_case : (shapes : List Shape) → IsReadSo read.bytes how seed entity shapes
       → IsNumbered read count path first shapes → is_kind read.bytes (codes "POINT") entity ≡ false

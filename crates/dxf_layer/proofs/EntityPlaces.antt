@@ -13,7 +13,8 @@ use Rattle.dxf_pairs.specs.declared.pairs.Pair.{Pair}
 use Rattle.dxf_pairs.specs.Lines.{between}
 use Rattle.dxf_pairs.specs.Laws.{AreTiles}
 use Rattle.dxf_pairs.specs.InLines.{IsValue, EndsDrawing, AreInLines, GroupsFollow}
-use Rattle.sheet_base.specs.Fitting.{path_images}
+use Rattle.sheet_base.specs.PointHeights.{Position}
+use Rattle.sheet_base.specs.Fitting.{path_positions}
 use Rattle.dxf_layer.specs.declared.copies.Copied.{Copied}
 use Rattle.dxf_layer.specs.declared.drawing.Vertex.{Vertex}
 use Rattle.dxf_layer.specs.declared.entities.Where.{Where}
@@ -24,6 +25,7 @@ use Rattle.dxf_layer.specs.Shapes.{value_edit}
 use Rattle.dxf_layer.specs.Polylines.{vertices_in, vertex_edits}
 use Rattle.dxf_layer.specs.Rendering.{Reading, entity_at, copy_text, copied_from, new_handle, handle_behind}
 use Rattle.dxf_layer.specs.Rendering.{line_copies, vertex_copies, line_text, vertex_text, next_at, run_of, text_of}
+use Rattle.dxf_layer.specs.Rendering.{line_copy, vertex_copy}
 use Rattle.dxf_layer.proofs.Members.{IsIn}
 use Rattle.dxf_layer.proofs.EditedPairs.{AddsGroups, IsOfValue, StartsAt, StandsOn, StandOn}
 use Rattle.dxf_layer.proofs.SplicedPairs.{no_end}
@@ -136,15 +138,15 @@ pub record IsSource (read : Reading) (entity : Entity) : Type 0 where
       → vertices_in read.bytes exact (fields_of entity) ≡ Ok read_vertices → (n : ℕ)
       → StandOn read read.pairs (vertex_edits n read_vertices)
 
-lines_add : (bytes : List ℕ) (entity : Entity) (first : Bool) (next : ℕ) (images : List Pt)
+lines_add : (bytes : List ℕ) (entity : Entity) (first : Bool) (next : ℕ) (images : List Position)
     → ((copied : Copied) → AddsGroups (copy_text bytes copied entity))
     → AddsGroups (line_copies bytes entity first next images)
 lines_add bytes entity first next [] each = nothing_adds
 lines_add bytes entity first next (begin ∷ []) each = nothing_adds
 lines_add bytes entity first next (begin ∷ end ∷ images) each =
-    both_add (copy_text bytes (record { begin = begin; end = Some end; handle = new_handle first next }) entity)
+    both_add (copy_text bytes (line_copy begin end (new_handle first next)) entity)
     (line_copies bytes entity false (handle_behind first next) (end ∷ images))
-    (each (record { begin = begin; end = Some end; handle = new_handle first next }))
+    (each (line_copy begin end (new_handle first next)))
     (lines_add bytes entity false (handle_behind first next) (end ∷ images) each)
 
 vertices_add : (bytes : List ℕ) (entity : Entity) (first : Bool) (next : ℕ) (images : List Pt)
@@ -152,9 +154,9 @@ vertices_add : (bytes : List ℕ) (entity : Entity) (first : Bool) (next : ℕ) 
     → AddsGroups (vertex_copies bytes entity first next images)
 vertices_add bytes entity first next [] each = nothing_adds
 vertices_add bytes entity first next (image ∷ images) each =
-    both_add (copy_text bytes (record { begin = image; end = None; handle = new_handle first next }) entity)
+    both_add (copy_text bytes (vertex_copy image (new_handle first next)) entity)
     (vertex_copies bytes entity false (handle_behind first next) images)
-    (each (record { begin = image; end = None; handle = new_handle first next }))
+    (each (vertex_copy image (new_handle first next)))
     (vertices_add bytes entity false (handle_behind first next) images each)
 
 pub source_of : GroupsFollow → (read : Reading) (past : ℕ) → AreTiles 0 1 read.pairs past
@@ -163,7 +165,7 @@ pub source_of : GroupsFollow → (read : Reading) (past : ℕ) → AreTiles 0 1 
 source_of follow read past tiles lines front head next pairs are = record {
   lines = λ path. whole (record { start = head.start; end = entity_end entity; what = edits.Lines path }) refl refl
       (subst (λ (found : Option Entity). AddsGroups (line_text read (next_at read head.start) found path)) (sym found)
-      (lines_add read.bytes entity true (next_at read head.start) (path_images read.sheet.paths read.images path)
+      (lines_add read.bytes entity true (next_at read head.start) (path_positions read.sheet.paths read.images path)
       copy_adds));
   vertex = λ point. whole (record { start = head.start; end = entity_end entity; what = edits.Vertex point }) refl refl
       (subst (λ (found : Option Entity). AddsGroups (vertex_text read (next_at read head.start) found point))

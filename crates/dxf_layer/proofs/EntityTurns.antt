@@ -10,7 +10,7 @@ use Rattle.dxf_layer.proofs.GroupFields.{coded}
 use Rattle.dxf_layer.proofs.GroupShapes.{Outline}
 use Rattle.dxf_layer.proofs.GroupWalks.{Told, Spot, Turn, ends_sections}
 use Rattle.dxf_layer.proofs.GroupDrawings.{in_front, walk, turn}
-use Rattle.dxf_layer.proofs.OutlineEnds.{all_ends, outline_ends}
+use Rattle.dxf_layer.proofs.LevelOutlines.{AreBack}
 
 abbrev pub told_groups : Told → List Group
 told_groups entity = entity.head ∷ entity.groups
@@ -53,7 +53,7 @@ pub record IsWritten (head : Group) (how : How) (seeded : Bool) (from to : Spot)
   pub outs : List Outline
   pub walks : (more : List Told) → walk how seeded from (entities ++ more)
       ≡ next (in_front outs) (walk how seeded to more)
-  pub same : all_ends outs ≡ all_ends wanted
+  pub same : AreBack outs wanted
 
 pub none_in_front : (more : Option (List Outline)) → more ≡ next (in_front []) more
 none_in_front None = refl
@@ -73,22 +73,17 @@ turn_walks how seeded from entity here more is =
 
 -- one entity in the place of one
 pub one_written : (how : How) (seeded : Bool) (from : Spot) (entity : Told) (here : Turn) (wanted : List Outline)
-    → IsWhole entity → turn how seeded from entity ≡ Some here → all_ends here.shapes ≡ all_ends wanted
+    → IsWhole entity → turn how seeded from entity ≡ Some here → AreBack here.shapes wanted
     → IsWritten entity.head how seeded from here.next wanted (told_groups entity)
-one_written how seeded from entity here wanted whole is ends = record {
+one_written how seeded from entity here wanted whole is back = record {
   entities = entity ∷ [];
   are = sym (append_nil_groups (told_groups entity));
   whole = (whole, tt);
   heads = (refl, tt);
   outs = here.shapes;
   walks = λ more. turn_walks how seeded from entity here more is;
-  same = ends;
+  same = back;
 } where
   append_nil_groups : (groups : List Group) → groups ++ [] ≡ groups
   append_nil_groups [] = refl
   append_nil_groups (group ∷ groups) = ap (λ (rest : List Group). group ∷ rest) (append_nil_groups groups)
-
-pub ends_both : (first second : List Outline) → all_ends (first ++ second) ≡ all_ends first ++ all_ends second
-ends_both [] second = refl
-ends_both (o ∷ first) second = ap (λ more. outline_ends o ++ more) (ends_both first second)
-    ∙ sym (append_assoc (outline_ends o) (all_ends first) (all_ends second))

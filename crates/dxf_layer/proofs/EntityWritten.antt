@@ -8,7 +8,7 @@ use Rattle.sheet_base.specs.declared.flags.How.{How}
 use Rattle.sheet_base.specs.declared.edits.Edit.{Edit}
 use Rattle.sheet_base.specs.declared.paths.PathKind.{PathKind}
 use Rattle.sheet_base.specs.declared.paths.PathRow.{PathRow}
-use Rattle.sheet_base.specs.Fitting.{Runs, run_begin, images_of, path_images, no_path}
+use Rattle.sheet_base.specs.Fitting.{Runs, run_begin, images_of, positions_of, path_positions, no_path}
 use Rattle.dxf_pairs.specs.declared.pairs.Pair.{Pair}
 use Rattle.dxf_pairs.specs.Groups.{Group, group_in}
 use Rattle.dxf_layer.specs.declared.drawing.Vertex.{Vertex}
@@ -17,7 +17,7 @@ use Rattle.dxf_layer.specs.Shapes.{point_of}
 use Rattle.dxf_layer.specs.Polylines.{kind_with, heavy_shape}
 use Rattle.dxf_layer.specs.Rendering.{Reading}
 use Rattle.dxf_layer.specs.Walks.{Place, free, staying, reading}
-use Rattle.dxf_layer.proofs.GroupShapes.{Outline, is_seeded}
+use Rattle.dxf_layer.proofs.GroupShapes.{Outline, flat_outline, is_seeded}
 use Rattle.dxf_layer.proofs.GroupPolylines.{kind_of_points, light_outline}
 use Rattle.dxf_layer.proofs.GroupWalks.{entity_told, Spot, alone, kept, open_line, Turn, turn_of, ends_sections}
 use Rattle.dxf_layer.proofs.GroupDrawings.{turn}
@@ -25,7 +25,8 @@ use Rattle.dxf_layer.proofs.StandingEdits.{stand, texts_in}
 use Rattle.dxf_layer.proofs.ValueTurns.{AreGoodImages}
 use Rattle.dxf_layer.proofs.DotTurns.{IsSet}
 use Rattle.dxf_layer.proofs.WholeTurns.{grouped_no_head}
-use Rattle.dxf_layer.proofs.OutlineEnds.{all_ends, imaged_outlines}
+use Rattle.dxf_layer.proofs.OutlineEnds.{imaged_outlines}
+use Rattle.dxf_layer.proofs.LevelOutlines.{AreBack, flat_back}
 use Rattle.dxf_layer.proofs.EntityTurns.{IsWritten, one_written, told_groups}
 
 -- the spot of the images
@@ -107,9 +108,9 @@ each_stays read (pair ∷ pairs) = ap (λ (more : List Group). group_in read.byt
 
 pub stays_written : (read : Reading) (how : How) (seeded : Bool) (from : Spot) (entity : Entity) (here : Turn)
     (wanted : List Outline) → IsSet read.bytes entity → ends_sections (group_in read.bytes entity.head) ≡ false
-    → turn how seeded from (entity_told read.bytes entity) ≡ Some here → all_ends here.shapes ≡ all_ends wanted
+    → turn how seeded from (entity_told read.bytes entity) ≡ Some here → AreBack here.shapes wanted
     → IsWritten (group_in read.bytes entity.head) how seeded from here.next wanted (written_for read [] entity)
-stays_written read how seeded from entity here wanted set goes_on is ends =
+stays_written read how seeded from entity here wanted set goes_on is back =
     let groups : written_for read [] entity ≡ told_groups (entity_told read.bytes entity) =
     append-nil (flat_map (stand read []) (entity.head ∷ entity.pairs))
     ∙ each_stays read (entity.head ∷ entity.pairs) in
@@ -120,7 +121,7 @@ stays_written read how seeded from entity here wanted set goes_on is ends =
       goes_on = goes_on;
       body =
           grouped_no_head read.bytes entity.pairs set.lines.body;
-    }) is ends)
+    }) is back)
 
 -- the end of a polyline
 pub kinds_same : (images : Runs) (count first : ℕ) (kind : PathKind) (vertices : List Vertex)
@@ -160,12 +161,14 @@ end_written read how seed entity kind vertices count first set goes_on no_vertex
     let same_count : length (map (λ (vertex : Vertex). point_of vertex.spot) vertices) ≡ length vertices =
     length_mapped (λ (vertex : Vertex). point_of vertex.spot) vertices in
     let image : imaged_outlines read.images first (heavy_shape kind vertices ∷ []) ≡ light_outline kind points ∷ [] =
-    ap (λ (n : ℕ). (record { kind = kind_with kind vertices; points = images_of read.images first (first + n) }) ∷ [])
+    ap (λ (n : ℕ). flat_outline (kind_with kind vertices) (images_of read.images first (first + n)) ∷ [])
     same_count
-    ∙ ap (λ (k : Option PathKind). (record { kind = k; points = points }) ∷ [])
+    ∙ ap (λ (k : Option PathKind). flat_outline k points ∷ [])
     (sym (kinds_same read.images count first kind vertices good inside)) in
     stays_written read how (is_seeded seed) (open_line kind points) entity (turn_of (light_outline kind points ∷ []))
-    (imaged_outlines read.images first (heavy_shape kind vertices ∷ [])) set goes_on here (ap all_ends (sym image))
+    (imaged_outlines read.images first (heavy_shape kind vertices ∷ [])) set goes_on here
+    (flat_back (light_outline kind points ∷ []) (imaged_outlines read.images first (heavy_shape kind vertices ∷ []))
+    (refl, tt) image)
 
 -- nothing is written behind an entity of which values, or all pairs, are replaced
 pub behind_whole : (read : Reading) (own : List Edit) (entity : Entity) → filter (is_at (entity_end entity)) own ≡ []
@@ -173,15 +176,15 @@ pub behind_whole : (read : Reading) (own : List Edit) (entity : Entity) → filt
 behind_whole read own entity none = ap (λ (e : List Edit). flat_map (stand read own) (entity.head ∷ entity.pairs)
     ++ texts_in read e) none ∙ append-nil (flat_map (stand read own) (entity.head ∷ entity.pairs))
 
--- the images of the path that stands first behind so many
-pub images_found : (rows before more : List PathRow) (path : ℕ) (images : Runs) (row : PathRow)
+-- the images of the path that stands first behind so many, with their heights
+pub positions_found : (rows before more : List PathRow) (path : ℕ) (images : Runs) (row : PathRow)
     → rows ≡ before ++ row ∷ more → length before ≡ path
-    → path_images rows images path ≡ images_of images row.first row.past
-images_found rows before more path images row are count =
+    → path_positions rows images path ≡ positions_of images row.first row.past
+positions_found rows before more path images row are count =
     let none : length before + 0 ≡ length before = omega arith in
     let at : get_or (before ++ row ∷ more) (length before) no_path ≡ row =
     ap (λ n. get_or (before ++ row ∷ more) n no_path) (sym none)
     ∙ get_or-append-add before (row ∷ more) 0 no_path in
-    ap (λ (list : List PathRow). path_images list images path) are
-    ∙ (ap (λ n. path_images (before ++ row ∷ more) images n) (sym count)
-    ∙ ap (λ (found : PathRow). images_of images found.first found.past) at)
+    ap (λ (list : List PathRow). path_positions list images path) are
+    ∙ (ap (λ n. path_positions (before ++ row ∷ more) images n) (sym count)
+    ∙ ap (λ (found : PathRow). positions_of images found.first found.past) at)

@@ -13,7 +13,8 @@ use Rattle.plane_base.specs.declared.shapes.Pt.{Pt}
 use Rattle.sheet_base.specs.declared.edits.Edit.{Edit}
 use Rattle.sheet_base.specs.declared.edits.What.{What}
 use Rattle.sheet_base.specs.declared.edits.What.TheVariants as edits
-use Rattle.sheet_base.specs.Fitting.{path_images}
+use Rattle.sheet_base.specs.PointHeights.{Position}
+use Rattle.sheet_base.specs.Fitting.{path_positions}
 use Rattle.sheet_base.specs.Splices.{AreInOrder}
 use Rattle.sheet_base.proofs.Splicing.{no_edit}
 use Rattle.dxf_pairs.specs.Laws.{PairsTile}
@@ -27,7 +28,7 @@ use Rattle.dxf_layer.proofs.Whole.{sheet_in_order}
 use Rattle.plain_laws.proofs.Lists.{take_front}
 
 -- ---- the handles of the copies of one entity
-lines_behind : (next : ℕ) (images : List Pt)
+lines_behind : (next : ℕ) (images : List Position)
     → handles_in (line_values false next images) ≡ range_with_len next (length images - 1)
 lines_behind next [] = refl
 lines_behind next (begin ∷ []) = refl
@@ -35,7 +36,7 @@ lines_behind next (begin ∷ end ∷ images) =
     let count : suc (length (end ∷ images) - 1) ≡ length (begin ∷ end ∷ images) - 1 = omega arith in
     ap (λ (rest : List ℕ). next ∷ rest) (lines_behind (next + 1) (end ∷ images)) ∙ ap (range_with_len next) count
 
-line_handles : (next : ℕ) (images : List Pt)
+line_handles : (next : ℕ) (images : List Position)
     → handles_in (line_values true next images) ≡ range_with_len next ((length images - 1) - 1)
 line_handles next [] = refl
 line_handles next (begin ∷ []) = refl
@@ -55,7 +56,7 @@ vertex_handles next (image ∷ images) =
     let count : length images ≡ length (image ∷ images) - 1 = omega arith in
     vertices_behind next images ∙ ap (range_with_len next) count
 
-given_line : (next : ℕ) (images : List Pt) (found : Option Entity)
+given_line : (next : ℕ) (images : List Position) (found : Option Entity)
     → given_to found (line_values true next images) ≡ range_with_len next (taken_by found (length images - 1))
 given_line next images None = refl
 given_line next images (Some entity) = by_test (has_handle entity)
@@ -86,7 +87,8 @@ given_none next (Some entity) = by_test (has_handle entity)
 given_as : (read : Reading) (place : ℕ) (what : What)
     → given_to (entity_at read place) (values_as read place what)
     ≡ range_with_len (next_at read place) (taken_as read place what)
-given_as read place (edits.Lines path) = given_line (next_at read place) (path_images read.sheet.paths read.images path)
+given_as read place (edits.Lines path) = given_line (next_at read place)
+    (path_positions read.sheet.paths read.images path)
     (entity_at read place)
 given_as read place (edits.Vertex point) =
     given_vertex (next_at read place) (run_of read.images point) (entity_at read place)

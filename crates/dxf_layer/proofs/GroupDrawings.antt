@@ -21,7 +21,7 @@ use Rattle.dxf_layer.specs.Walks.{Place, free, staying, reading, Step, shapes_re
 use Rattle.dxf_layer.specs.Walks.{walked}
 use Rattle.dxf_layer.proofs.Telling.{next, told, chain, either_told, front_mapped}
 use Rattle.dxf_layer.proofs.GroupFields.{coded, fields_in, groups_in}
-use Rattle.dxf_layer.proofs.GroupShapes.{Outline, outline, outlines, is_seeded}
+use Rattle.dxf_layer.proofs.GroupShapes.{Outline, outline, flat_outline, outlines, is_seeded}
 use Rattle.dxf_layer.proofs.GroupPolylines.{kind_with_told, spots_of, spot_point, light_outline, own_point, own_told}
 use Rattle.dxf_layer.proofs.GroupWalks.{Told, entity_told, has_kind, Spot, alone, kept, open_line, spot_told, Turn}
 use Rattle.dxf_layer.proofs.GroupWalks.{turn_told, turn_of, ends_sections, free_turn, free_told, kept_turn, kept_told}
@@ -44,7 +44,7 @@ spots_behind (first ∷ vertices) vertex = ap (λ more. spot_point first ∷ mor
 
 heavy_told : (kind : PathKind) (vertices : List Vertex)
     → outline (heavy_shape kind vertices) ≡ light_outline kind (spots_of vertices)
-heavy_told kind vertices = ap (λ (k : Option PathKind). record { kind = k; points = spots_of vertices })
+heavy_told kind vertices = ap (λ (k : Option PathKind). flat_outline k (spots_of vertices))
     (kind_with_told kind vertices)
 
 open_told : (bytes : List ℕ) (how : How) (seed : Option Pair) (kind : PathKind) (vertices : List Vertex)

@@ -60,7 +60,7 @@ field_told bytes code entity =
     ∙ (ap one_value (filter_mapped (has_code code) (coded code) (group_in bytes) (λ pair. refl) (fields_of entity))
     ∙ ap (value_at code) (fields_told bytes entity))
 
-there_told : (bytes : List ℕ) (entity : Entity) (found : Option Pair)
+pub there_told : (bytes : List ℕ) (entity : Entity) (found : Option Pair)
     → told (value_in bytes) (there entity found) ≡ option_map (value_in bytes) found
 there_told bytes entity None = refl
 there_told bytes entity (Some pair) = refl

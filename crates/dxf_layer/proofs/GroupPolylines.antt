@@ -1,5 +1,5 @@
 -- What is read of the groups of polylines and their vertices, without places.
-use Rattle.std.proofs.Common.{◌≡◌, ℕ, suc, ℤ, pos, Bool, true, false, cond, refl, ap, ◌∙◌, List, [], ◌∷◌, map, length}
+use Rattle.std.proofs.Common.{◌≡◌, ℕ, suc, ℤ, pos, Bool, true, false, cond, refl, ap, sym, ◌∙◌, List, [], ◌∷◌, map, length}
 use Rattle.std.proofs.Common.{option_map, Option, None, Some, Result, Ok, Err}
 use Rattle.std.specs.Prelude.{◌&&◌, ◌||◌, not, if◌then◌else◌}
 use Rattle.plane_base.specs.declared.shapes.Pt.{Pt}
@@ -24,7 +24,7 @@ use Rattle.dxf_layer.proofs.Telling.{next, told, chain, either_told}
 use Rattle.dxf_layer.proofs.GroupFields.{coded, groups_in, fields_told, itself, value_at, field_told, value_wanted}
 use Rattle.dxf_layer.proofs.GroupFields.{wanted_told, number_in, mm_of, coordinate_told, point_at, point_told}
 use Rattle.dxf_layer.proofs.GroupFields.{is_number, zero_in, zero_told, done_unless}
-use Rattle.dxf_layer.proofs.GroupShapes.{Outline, outlines, is_seeded, handle_in, handle_told}
+use Rattle.dxf_layer.proofs.GroupShapes.{Outline, flat_outline, outlines, is_seeded, handle_in, handle_told}
 
 -- the kind of a polyline by its flags
 abbrev pub kind_from : Option (List ℕ) → Option PathKind
@@ -216,7 +216,7 @@ count_told bytes number entity = wanted_chain bytes no_pair (as_count bytes numb
       by_test pair false = refl
 
 abbrev pub light_outline : PathKind → List Pt → Outline
-light_outline kind points = record { kind = kind_of_points kind points; points = points }
+light_outline kind points = flat_outline (kind_of_points kind points) points
 
 abbrev pub light_with : List Group → PathKind → List Pt → Option (List Outline)
 light_with fields kind points = next (λ (count : Unit {0}). Some (light_outline kind points ∷ []))
@@ -236,11 +236,15 @@ light_is : (bytes : List ℕ) (entity : Entity) (kind : PathKind) (vertices : Li
     → told outlines (and_then (λ (count : Pair). Ok (light_shape kind vertices count ∷ []))
     (count_of bytes (length vertices) entity)) ≡ light_with (groups_in bytes entity) kind (spots_of vertices)
 light_is bytes entity kind vertices =
-    rw (length_mapped (λ (vertex : Vertex). point_of vertex.spot) vertices, ← kind_with_told kind vertices)
-    (chain no_pair outlines (λ (count : Pair). Ok (light_shape kind vertices count ∷ []))
-    (λ (count : Unit {0}). Some ((record { kind = kind_with kind vertices; points = spots_of vertices }) ∷ []))
-    (count_of bytes (length vertices) entity) (count_in (length vertices) (groups_in bytes entity))
-    (count_told bytes (length vertices) entity) (λ count. refl))
+    let fields = groups_in bytes entity in
+    chain no_pair outlines (λ (count : Pair). Ok (light_shape kind vertices count ∷ []))
+    (λ (count : Unit {0}). Some (flat_outline (kind_with kind vertices) (spots_of vertices) ∷ []))
+    (count_of bytes (length vertices) entity) (count_in (length vertices) fields)
+    (count_told bytes (length vertices) entity) (λ count. refl)
+    ∙ (ap (λ (k : Option PathKind). next (λ (count : Unit {0}). Some (flat_outline k (spots_of vertices) ∷ []))
+    (count_in (length vertices) fields)) (kind_with_told kind vertices)
+    ∙ ap (λ (n : ℕ). next (λ (count : Unit {0}). Some (light_outline kind (spots_of vertices) ∷ []))
+    (count_in n fields)) (sym (length_mapped (λ (vertex : Vertex). point_of vertex.spot) vertices)))
 
 pub lights_told : (bytes : List ℕ) (exact : Bool) (entity : Entity)
     → told outlines (light_shapes bytes exact entity) ≡ light_outlines exact (groups_in bytes entity)

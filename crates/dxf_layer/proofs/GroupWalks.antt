@@ -21,7 +21,8 @@ use Rattle.dxf_layer.specs.Walks.{stays, polyline_step, alone_step, by_kind, ste
 use Rattle.dxf_layer.proofs.Telling.{next, told, chain, either_told, any_mapped, all_mapped}
 use Rattle.dxf_layer.proofs.GroupFields.{coded, fields_in, groups_in, fields_told, itself, value_at, field_told}
 use Rattle.dxf_layer.proofs.GroupFields.{is_number, is_value, there_as_told}
-use Rattle.dxf_layer.proofs.GroupShapes.{Outline, outlines, is_seeded, point_outlines, points_told, insert_outlines}
+use Rattle.dxf_layer.proofs.GroupShapes.{Outline, flat_outline, outlines, is_seeded, point_outlines, points_told}
+use Rattle.dxf_layer.proofs.GroupShapes.{insert_outlines}
 use Rattle.dxf_layer.proofs.GroupShapes.{inserts_told, text_outlines, texts_told, line_outlines, lines_told}
 use Rattle.dxf_layer.proofs.GroupPolylines.{kind_in, kind_told, spots_of, light_outlines, lights_told}
 
@@ -114,7 +115,7 @@ some_turn shapes = Some (turn_of shapes)
 
 -- an entity of another kind has no path
 abbrev pub left_out : Outline
-left_out = record { kind = None; points = [] }
+left_out = flat_outline None []
 
 abbrev pub other_turn : How → Option Turn
 other_turn how = if how.drop_other then Some (turn_of (left_out ∷ [])) else None
@@ -125,6 +126,7 @@ other_told how entity = by_test how.drop_other where
       (cond dropped (Ok (shapes_read (record {
         kind = None;
         points = [];
+        rise = None;
         lost = 0;
         dropped = 1;
         edits =

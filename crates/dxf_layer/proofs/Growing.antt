@@ -12,6 +12,7 @@ pub holds_more : (few many : ℕ) (contents : Contents) → HoldsAtMost few cont
     → HoldsAtMost many contents
 holds_more few many contents room more = record {
   points = omega (arith, room.points);
+  heights = omega (arith, room.heights);
   paths =
       omega (arith, room.paths);
   inexact = omega (arith, room.inexact);
@@ -38,6 +39,7 @@ pub edited_holds : (count : ℕ) (contents : Contents) (edits : List Edit) → H
     → HoldsAtMost count (with_edits contents edits)
 edited_holds count contents edits room = record {
   points = room.points;
+  heights = room.heights;
   paths = room.paths;
   inexact =
       room.inexact;

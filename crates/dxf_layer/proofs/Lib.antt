@@ -10,6 +10,7 @@ pub mod Visits
 pub mod Apart
 pub mod Members
 pub mod Shaped
+pub mod LineRises
 pub mod VertexOrder
 pub mod Entered
 pub mod Ordered
@@ -29,6 +30,7 @@ pub mod GroupDrawings
 pub mod WrittenGroups
 pub mod WrittenNumbers
 pub mod OutlineEnds
+pub mod LevelOutlines
 pub mod StandingEdits
 pub mod ChangedFields
 pub mod TurnsKept
@@ -80,3 +82,6 @@ pub mod CopyLaws
 pub mod GivenHandles
 pub mod OwnFields
 mod DrawingOutcomes
+pub mod FewPoints
+mod ReadSheets
+mod MemoryFaults

@@ -71,8 +71,8 @@ finishes kind count before vertices =
     ≡ before.edits ++ (vertex_edits n vertices ++ value_edit (Tally n (n + length vertices)) count ∷ []) =
     append_assoc before.edits (vertex_edits n vertices) (value_edit (Tally n (length mid.points)) count ∷ [])
     ∙ ap (λ m. before.edits ++ (vertex_edits n vertices ++ value_edit (Tally n m) count ∷ [])) past in
-    same_contents (finished kind count n mid) (with_shape before (light_shape kind vertices count)) paths refl edits
-    refl (omega arith)
+    same_contents (finished kind count n mid) (with_shape before (light_shape kind vertices count)) paths refl refl
+    edits refl (omega arith)
 
 with_read : (bytes : List ℕ) (entity : Entity) (kind : PathKind) (count : Pair) (before mid : Contents)
     (read : Result (List Vertex) LayerFault) → AddsVertices before read mid

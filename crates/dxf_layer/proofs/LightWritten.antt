@@ -27,7 +27,7 @@ use Rattle.dxf_layer.proofs.Members.{IsIn, Follow, went, wanted_is, lies}
 use Rattle.dxf_layer.proofs.Telling.{next, told}
 use Rattle.dxf_layer.proofs.Sections.{front_follows}
 use Rattle.dxf_layer.proofs.GroupFields.{coded, fields_in, groups_in, fields_told, itself, one_value, value_wanted}
-use Rattle.dxf_layer.proofs.GroupShapes.{is_seeded}
+use Rattle.dxf_layer.proofs.GroupShapes.{flat_outline, is_seeded}
 use Rattle.dxf_layer.proofs.GroupPolylines.{kind_from, kind_in, kind_told, points_in, count_in, light_outline}
 use Rattle.dxf_layer.proofs.GroupPolylines.{light_outlines}
 use Rattle.dxf_layer.proofs.GroupWalks.{Told, alone, turn_of}
@@ -40,7 +40,8 @@ use Rattle.dxf_layer.proofs.ValueTurns.{AreValueEdits, own_value, others_stay, o
 use Rattle.dxf_layer.proofs.ValueTurns.{AreGoodImages}
 use Rattle.dxf_layer.proofs.TurnsKept.{IsReadSo, turn_kept}
 use Rattle.dxf_layer.proofs.EntityTurns.{HaveNoHead, no_head_both, IsWritten, one_written, told_groups}
-use Rattle.dxf_layer.proofs.OutlineEnds.{all_ends, imaged_outlines}
+use Rattle.dxf_layer.proofs.OutlineEnds.{imaged_outlines}
+use Rattle.dxf_layer.proofs.LevelOutlines.{flat_back}
 use Rattle.dxf_layer.proofs.DotTurns.{IsSet, in_body, wanted_edit}
 use Rattle.dxf_layer.proofs.Shaped.{edits_with}
 use Rattle.dxf_layer.proofs.EntityWritten.{written_for, texts_at, is_at, no_images, images_both, kinds_same}
@@ -324,9 +325,9 @@ module _ (follow : GroupsFollow) (read : Reading) (how : How) (seed : Option Pai
 
       image : imaged_outlines read.images first (light_shape kind vertices number ∷ []) ≡ light_outline kind points ∷ []
       image =
-          ap (λ (n : ℕ). (record { kind = kind_with kind vertices; points = images_of read.images first (first + n) })
-          ∷ []) (length_mapped (λ (vertex : Vertex). point_of vertex.spot) vertices)
-          ∙ ap (λ (k : Option PathKind). (record { kind = k; points = points }) ∷ [])
+          ap (λ (n : ℕ). flat_outline (kind_with kind vertices) (images_of read.images first (first + n)) ∷ [])
+          (length_mapped (λ (vertex : Vertex). point_of vertex.spot) vertices)
+          ∙ ap (λ (k : Option PathKind). flat_outline k points ∷ [])
           (sym (kinds_same read.images count first kind vertices good inside))
 
       light_written : IsReadSo read.bytes how seed entity (light_shape kind vertices number ∷ [])
@@ -355,7 +356,8 @@ module _ (follow : GroupsFollow) (read : Reading) (how : How) (seed : Option Pai
             body =
                 made_no_head read.bytes value texts numbers entity.head.end entity.pairs at.set.lines.body;
           }) turn
-          (ap all_ends (sym image)))
+          (flat_back (light_outline kind points ∷ [])
+          (imaged_outlines read.images first (light_shape kind vertices number ∷ [])) (refl, tt) image))
 
   pub lights_written : LightsAreWritten read how seed count
   lights_written entity path first kind vertices number at is no_point no_line light kind_is vertices_is number_is

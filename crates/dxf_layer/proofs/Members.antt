@@ -138,7 +138,8 @@ pub field_is : (code : ℤ) (entity : Entity) (pair : Pair) → field code entit
 field_is code entity pair is = in_filter code pair (fields_of entity)
     (one_is (filter (has_code code) (fields_of entity)) pair is)
 
-some_there : (entity : Entity) (found : Option Pair) (pair : Pair) → there entity found ≡ Ok pair → found ≡ Some pair
+pub some_there : (entity : Entity) (found : Option Pair) (pair : Pair) → there entity found ≡ Ok pair
+    → found ≡ Some pair
 some_there entity None pair is = absurd (cc)
 some_there entity (Some other) pair is = cc
 

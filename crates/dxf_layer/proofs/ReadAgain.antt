@@ -5,7 +5,7 @@ use Rattle.sheet_base.specs.declared.edits.Edit.{Edit}
 use Rattle.sheet_base.specs.declared.flags.How.{How}
 use Rattle.sheet_base.specs.declared.paths.PathRow.{PathRow}
 use Rattle.sheet_base.specs.Sheets.{Contents}
-use Rattle.sheet_base.specs.Fitting.{EndsAlone, DoFit}
+use Rattle.sheet_base.specs.Fitting.{EndsAlone, HaveCrossingHeights, DoFit}
 use Rattle.dxf_pairs.specs.declared.pairs.Pair.{Pair}
 use Rattle.dxf_pairs.specs.Groups.{Group}
 use Rattle.dxf_pairs.specs.Laws.{AreTiles}
@@ -27,9 +27,10 @@ use Rattle.dxf_layer.proofs.Ordered.{walk_good}
 use Rattle.dxf_layer.proofs.Whole.{entities_spread}
 use Rattle.dxf_layer.proofs.StandingEdits.{stand, stands_for, stand_in_order}
 use Rattle.dxf_layer.proofs.WalkTrails.{trail, trail_edits}
-use Rattle.dxf_layer.proofs.OutlineEnds.{imaged_outlines, rows_behind, points_of, rows_are, points_are}
+use Rattle.dxf_layer.proofs.OutlineEnds.{imaged_outlines, rows_behind, points_of, heights_of, rows_are, points_are}
+use Rattle.dxf_layer.proofs.OutlineEnds.{heights_are}
 use Rattle.dxf_layer.proofs.LightWritten.{lights_written}
-use Rattle.dxf_layer.proofs.FittingImages.{good_images, dots_alone}
+use Rattle.dxf_layer.proofs.FittingImages.{good_images, rises_fit, dots_alone}
 use Rattle.dxf_layer.proofs.SeedSilent.{pairs_some, seed_silent, seed_no_harm}
 use Rattle.dxf_layer.proofs.WrittenWalks.{AreAgain, each_same}
 use Rattle.dxf_layer.proofs.EntitiesAgain.{all_again}
@@ -79,6 +80,11 @@ groups_again follow read how past tiles lines seed seed_is shapes walk sheet_is 
     let whole = shapes_whole read.bytes how read.pairs past follows seed shapes walk in
     let alone : All (EndsAlone read.images) (rows_behind 0 shapes) =
     subst (λ (r : List PathRow). All (EndsAlone read.images) r) rows fits.alone in
+    let heights : read.sheet.heights ≡ heights_of shapes = ap (λ (s : Contents). s.heights) sheet_is
+    ∙ heights_are (begun seed) shapes in
+    let rises = rises_fit read.sheet read.images fits [] 0 shapes refl heights (omega (arith, ap length points))
+    (subst (λ (r : List PathRow). All (HaveCrossingHeights read.sheet read.images) r) rows fits.crossing_heights)
+    whole in
     let again = all_again read how seed count follow good
     (lights_written follow read how seed count good fits.few past tiles) past tiles lines (seed_edits seed)
     (seed_no_harm read past follows some few seed seed_is)
@@ -89,7 +95,7 @@ groups_again follow read how past tiles lines seed seed_is shapes walk sheet_is 
       rows = rows;
       before_is = refl;
       inside = omega (arith, ap length points);
-      lone = dots_alone read.images 0 shapes whole alone;
+      lone = dots_alone read.images 0 shapes whole rises alone;
     }) in
     subst (λ (g : List Group). AreAgain read.bytes how (is_seeded seed) read.images 0 free Outside read.pairs
     (imaged_outlines read.images 0 shapes) g) (sym (edits_same read how seed shapes walk sheet_is)) again

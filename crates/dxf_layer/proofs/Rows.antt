@@ -1,6 +1,6 @@
 -- Worked rows, by computing.
 use Rattle.std.proofs.Common.{◌≡◌, [], ◌∷◌, true, false, refl, pos}
-use Rattle.std.specs.Prelude.{codes, Err, Ok}
+use Rattle.std.specs.Prelude.{codes, Err, None, Ok, Some}
 use Rattle.sheet_base.specs.declared.flags.How.{How}
 use Rattle.sheet_base.specs.declared.faults.LayerFault.TheVariants as faults
 use Rattle.sheet_base.specs.declared.edits.What.TheVariants as edits
@@ -37,7 +37,14 @@ row2 = refl
 -- LINE, 10 0, 20 0, 30 0, 11 1, 21 1, 31 2
 row3 : drawing_sheet plain
     (codes "0\nSECTION\n2\nENTITIES\n0\nLINE\n10\n0\n20\n0\n30\n0\n11\n1\n21\n1\n31\n2\n0\nENDSEC\n0\nEOF")
-    ≡ Err (faults.Slope 5)
+    ≡ Ok (record {
+      paths = record { kind = paths.Line; first = 0; past = 2 } ∷ [];
+      points = record { x = pos 0; y = pos 0 } ∷ record { x = pos 1000; y = pos 1000 } ∷ [];
+      heights = Some (pos 0) ∷ Some (pos 2000) ∷ [];
+      edits = record { start = 21; end = 58; what = edits.Lines 0 } ∷ [];
+      inexact = 0;
+      dropped = 0;
+    })
 unfolding measured
 row3 = refl
 
@@ -76,7 +83,7 @@ row8 = refl
 -- a line that is split, and one on paper
 line : drawing_sheet plain
     (codes
-    "0\nSECTION\n2\nHEADER\n9\n$HANDSEED\n5\n2F\n0\nENDSEC\n0\nSECTION\n2\nTABLES\n0\nENDSEC\n0\nSECTION\n2\nBLOCKS\n0\nENDSEC\n0\nSECTION\n2\nENTITIES\n0\nLINE\n5\n2E\n8\nPARCEL\n10\n10.0\n20\n0.0\n30\n0.0\n11\n0.0\n21\n10.0\n31\n0.0\n0\nLINE\n67\n1\n8\nSHEET\n10\n-500.0\n20\n0.0\n11\n-400.0\n21\n0.0\n0\nENDSEC\n0\nEOF") ≡ Ok (record { paths = record { kind = paths.Line; first = 0; past = 2 } ∷ []; points = record { x = pos 10000; y = pos 0 } ∷ record { x = pos 0; y = pos 10000 } ∷ []; edits = record { start = 33; end = 35; what = edits.NextHandle } ∷ record { start = 122; end = 187; what = edits.Lines 0 } ∷ []; inexact = 0; dropped = 0 })
+    "0\nSECTION\n2\nHEADER\n9\n$HANDSEED\n5\n2F\n0\nENDSEC\n0\nSECTION\n2\nTABLES\n0\nENDSEC\n0\nSECTION\n2\nBLOCKS\n0\nENDSEC\n0\nSECTION\n2\nENTITIES\n0\nLINE\n5\n2E\n8\nPARCEL\n10\n10.0\n20\n0.0\n30\n0.0\n11\n0.0\n21\n10.0\n31\n0.0\n0\nLINE\n67\n1\n8\nSHEET\n10\n-500.0\n20\n0.0\n11\n-400.0\n21\n0.0\n0\nENDSEC\n0\nEOF") ≡ Ok (record { paths = record { kind = paths.Line; first = 0; past = 2 } ∷ []; points = record { x = pos 10000; y = pos 0 } ∷ record { x = pos 0; y = pos 10000 } ∷ []; heights = None ∷ None ∷ []; edits = record { start = 33; end = 35; what = edits.NextHandle } ∷ record { start = 122; end = 187; what = edits.Lines 0 } ∷ []; inexact = 0; dropped = 0 })
 unfolding measured
 line = refl
 
@@ -89,7 +96,7 @@ arc = refl
 
 dropped : drawing_sheet dropping
     (codes
-    "0\nSECTION\n2\nHEADER\n9\n$HANDSEED\n5\n2F\n0\nENDSEC\n0\nSECTION\n2\nTABLES\n0\nENDSEC\n0\nSECTION\n2\nBLOCKS\n0\nENDSEC\n0\nSECTION\n2\nENTITIES\n0\nLINE\n5\n2E\n8\nPARCEL\n10\n10.0\n20\n0.0\n30\n0.0\n11\n0.0\n21\n10.0\n31\n0.0\n0\nLINE\n67\n1\n8\nSHEET\n10\n-500.0\n20\n0.0\n11\n-400.0\n21\n0.0\n0\nARC\n10\n5.0\n20\n5.0\n40\n1.0\n0\nENDSEC\n0\nEOF") ≡ Ok (record { paths = record { kind = paths.Line; first = 0; past = 2 } ∷ []; points = record { x = pos 10000; y = pos 0 } ∷ record { x = pos 0; y = pos 10000 } ∷ []; edits = record { start = 33; end = 35; what = edits.NextHandle } ∷ record { start = 122; end = 187; what = edits.Lines 0 } ∷ record { start = 241; end = 268; what = edits.Drop } ∷ []; inexact = 0; dropped = 1 })
+    "0\nSECTION\n2\nHEADER\n9\n$HANDSEED\n5\n2F\n0\nENDSEC\n0\nSECTION\n2\nTABLES\n0\nENDSEC\n0\nSECTION\n2\nBLOCKS\n0\nENDSEC\n0\nSECTION\n2\nENTITIES\n0\nLINE\n5\n2E\n8\nPARCEL\n10\n10.0\n20\n0.0\n30\n0.0\n11\n0.0\n21\n10.0\n31\n0.0\n0\nLINE\n67\n1\n8\nSHEET\n10\n-500.0\n20\n0.0\n11\n-400.0\n21\n0.0\n0\nARC\n10\n5.0\n20\n5.0\n40\n1.0\n0\nENDSEC\n0\nEOF") ≡ Ok (record { paths = record { kind = paths.Line; first = 0; past = 2 } ∷ []; points = record { x = pos 10000; y = pos 0 } ∷ record { x = pos 0; y = pos 10000 } ∷ []; heights = None ∷ None ∷ []; edits = record { start = 33; end = 35; what = edits.NextHandle } ∷ record { start = 122; end = 187; what = edits.Lines 0 } ∷ record { start = 241; end = 268; what = edits.Drop } ∷ []; inexact = 0; dropped = 1 })
 unfolding measured
 dropped = refl
 
@@ -100,6 +107,7 @@ polyline : drawing_sheet plain
       paths = record { kind = paths.Loop; first = 0; past = 2 } ∷ [];
       points =
           record { x = pos 10000; y = pos 0 } ∷ record { x = pos 0; y = pos 10000 } ∷ [];
+      heights = None ∷ None ∷ [];
       edits =
           record { start = 37; end = 38; what = edits.Tally 0 2 } ∷ record { start = 47; end = 49; what = edits.X 0 }
           ∷ record { start = 53; end = 54; what = edits.Y 0 } ∷ record { start = 55; end = 55; what = edits.Vertices 0 }
@@ -114,6 +122,6 @@ polyline = refl
 -- a closed polyline with vertices of their own, and a text with two points
 entities : drawing_sheet plain
     (codes
-    "0\nSECTION\n2\nENTITIES\n0\nPOLYLINE\n70\n1\n10\n0\n0\nVERTEX\n10\n1\n20\n2\n0\nVERTEX\n10\n3.0005\n20\n4\n0\nSEQEND\n0\nTEXT\n11\n7\n21\n8\n20\n6\n10\n5\n72\n1\n0\nENDSEC\n0\nEOF") ≡ Ok (record { paths = record { kind = paths.Loop; first = 0; past = 2 } ∷ record { kind = paths.Dot; first = 2; past = 3 } ∷ record { kind = paths.Dot; first = 3; past = 4 } ∷ []; points = record { x = pos 1000; y = pos 2000 } ∷ record { x = pos 3001; y = pos 4000 } ∷ record { x = pos 5000; y = pos 6000 } ∷ record { x = pos 7000; y = pos 8000 } ∷ []; edits = record { start = 42; end = 61; what = edits.Vertex 0 } ∷ record { start = 61; end = 85; what = edits.Vertex 1 } ∷ record { start = 104; end = 105; what = edits.X 3 } ∷ record { start = 109; end = 110; what = edits.Y 3 } ∷ record { start = 114; end = 115; what = edits.Y 2 } ∷ record { start = 119; end = 120; what = edits.X 2 } ∷ []; inexact = 1; dropped = 0 })
+    "0\nSECTION\n2\nENTITIES\n0\nPOLYLINE\n70\n1\n10\n0\n0\nVERTEX\n10\n1\n20\n2\n0\nVERTEX\n10\n3.0005\n20\n4\n0\nSEQEND\n0\nTEXT\n11\n7\n21\n8\n20\n6\n10\n5\n72\n1\n0\nENDSEC\n0\nEOF") ≡ Ok (record { paths = record { kind = paths.Loop; first = 0; past = 2 } ∷ record { kind = paths.Dot; first = 2; past = 3 } ∷ record { kind = paths.Dot; first = 3; past = 4 } ∷ []; points = record { x = pos 1000; y = pos 2000 } ∷ record { x = pos 3001; y = pos 4000 } ∷ record { x = pos 5000; y = pos 6000 } ∷ record { x = pos 7000; y = pos 8000 } ∷ []; heights = None ∷ None ∷ None ∷ None ∷ []; edits = record { start = 42; end = 61; what = edits.Vertex 0 } ∷ record { start = 61; end = 85; what = edits.Vertex 1 } ∷ record { start = 104; end = 105; what = edits.X 3 } ∷ record { start = 109; end = 110; what = edits.Y 3 } ∷ record { start = 114; end = 115; what = edits.Y 2 } ∷ record { start = 119; end = 120; what = edits.X 2 } ∷ []; inexact = 1; dropped = 0 })
 unfolding measured
 entities = refl

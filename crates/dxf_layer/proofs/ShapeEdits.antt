@@ -12,6 +12,7 @@ use Rattle.mm_decimal.specs.Measured.{measured}
 use Rattle.dxf_pairs.specs.declared.pairs.Pair.{Pair}
 use Rattle.dxf_layer.specs.declared.fields.Read.{Read}
 use Rattle.dxf_layer.specs.declared.drawing.Spot.{Spot}
+use Rattle.dxf_layer.specs.declared.points.LineEnds.{LineEnds}
 use Rattle.dxf_layer.specs.declared.drawing.Vertex.{Vertex}
 use Rattle.dxf_layer.specs.Entities.{Entity, is_kind}
 use Rattle.dxf_layer.specs.Fields.{and_then, fields_of, field, wanted, coordinate, coordinate_at, zero_at, is_exactly}
@@ -147,9 +148,9 @@ text_stands read exact entity source shapes is =
 line_stands : (read : Reading) (exact : Bool) (seed : Option Pair) (entity : Entity) → IsSource read entity
     → DoStand read (line_shapes read.bytes exact seed entity)
 line_stands read exact seed entity source shapes is =
-    let found = went (λ (ends : Spot × Spot). Ok (line_of entity ends.0 ends.1 ∷ []))
+    let found = went (λ (ends : LineEnds). Ok (line_of entity ends.begin ends.end ends.rise ∷ []))
     (line_ends read.bytes exact seed entity) shapes is in
-    let made : line_of entity found.value.0 found.value.1 ∷ [] ≡ shapes = cc in
+    let made : line_of entity found.value.begin found.value.end found.value.rise ∷ [] ≡ shapes = cc in
     subst (AreStanding read) made ((λ path first. (source.lines path, tt)), tt)
 
 -- a value that equals a number is not empty

@@ -1,13 +1,15 @@
 -- Shapes whose paths are whole, and whose edits lie between two places, apart from each other and clear of a span.
 use Rattle.std.proofs.Common.{◌≡◌, ℕ, ◌+◌, ◌≤◌, ◌<◌, List, [], ◌∷◌, ◌++◌, length, refl, ap, sym, ◌∙◌, subst, arith, inl}
 use Rattle.std.proofs.Common.{inr, Option, None, Some}
-use Rattle.std.specs.Prelude.{◌⊎◌, ⊤}
+use Rattle.std.specs.Prelude.{◌⊎◌, ⊤, unsigned_abs}
 use Rattle.std.proofs.lemmas.List.{append-nil, append_assoc, length-append}
+use Rattle.mm_decimal.specs.declared.limits.TheConstants.{LIMIT}
 use Rattle.sheet_base.specs.declared.edits.Edit.{Edit}
 use Rattle.sheet_base.specs.declared.paths.PathKind.{PathKind}
 use Rattle.sheet_base.specs.declared.paths.PathKind.TheVariants.{Dot, Line, Loop}
 use Rattle.sheet_base.specs.declared.paths.PathRow.{PathRow}
 use Rattle.sheet_base.specs.Sheets.{Contents, AreTiled}
+use Rattle.dxf_layer.specs.declared.drawing.Rise.{Rise}
 use Rattle.dxf_layer.specs.Shapes.{Shape, rows_of, with_shape, with_shapes}
 use Rattle.dxf_layer.proofs.Apart.{AreWithin, StandApart, wider, no_edits, both_apart}
 
@@ -21,6 +23,15 @@ IsWholeBy (Some Loop) count = 0 < count
 abbrev pub AreWhole : List Shape → Type 0
 AreWhole [] = ⊤
 AreWhole (shape ∷ shapes) = IsWholeBy shape.kind (length shape.points) × AreWhole shapes
+
+-- the heights of a line's two ends are within reach
+abbrev pub IsRiseWithin : Option Rise → Type 0
+IsRiseWithin None = ⊤
+IsRiseWithin (Some rise) = (unsigned_abs rise.begin.mm ≤ LIMIT) × (unsigned_abs rise.end.mm ≤ LIMIT)
+
+abbrev pub AreRisesWithin : List Shape → Type 0
+AreRisesWithin [] = ⊤
+AreRisesWithin (shape ∷ shapes) = IsRiseWithin shape.rise × AreRisesWithin shapes
 
 tiles_on : (paths more : List PathRow) (first middle past : ℕ) → AreTiled paths first middle → AreTiled more middle past
     → AreTiled (paths ++ more) first past
@@ -151,6 +162,7 @@ clear_both low high (edit ∷ edits) more first second = (first.0, clear_both lo
 pub record AreGood (low high from : ℕ) (shapes : List Shape) (past : ℕ) : Type 0 where
   pub order : from ≤ past
   pub whole : AreWhole shapes
+  pub rises : AreRisesWithin shapes
   pub apart : (path first : ℕ) → StandApart from (edits_with path first shapes) past
   pub clear : (path first : ℕ) → AreClear low high (edits_with path first shapes)
 
@@ -158,28 +170,32 @@ pub none_good : (low high from past : ℕ) → from ≤ past → AreGood low hig
 none_good low high from past order = record {
   order = order;
   whole = tt;
+  rises = tt;
   apart =
       λ path first. no_edits from past;
   clear = λ path first. tt;
 }
 
 pub all_good : (low high from past : ℕ) (shapes : List Shape) → from ≤ past → IsClear low high from past
-    → AreWhole shapes → ((path first : ℕ) → StandApart from (edits_with path first shapes) past)
+    → AreWhole shapes → AreRisesWithin shapes
+    → ((path first : ℕ) → StandApart from (edits_with path first shapes) past)
     → AreGood low high from shapes past
-all_good low high from past shapes order clear whole apart = record {
+all_good low high from past shapes order clear whole rises apart = record {
   order = order;
   whole = whole;
+  rises = rises;
   apart = apart;
   clear = λ path first. within_clear low high from past (edits_with path first shapes) clear (apart path first).within;
 }
 
 -- one shape, by its edits
 pub one_good : (low high from past : ℕ) (shape : Shape) → from ≤ past → IsWholeBy shape.kind (length shape.points)
-    → ((path first : ℕ) → StandApart from (shape.edits path first) past)
+    → IsRiseWithin shape.rise → ((path first : ℕ) → StandApart from (shape.edits path first) past)
     → ((path first : ℕ) → AreClear low high (shape.edits path first)) → AreGood low high from (shape ∷ []) past
-one_good low high from past shape order whole apart clear = record {
+one_good low high from past shape order whole rise apart clear = record {
   order = order;
   whole = (whole, tt);
+  rises = (rise, tt);
   apart = λ path first. subst (λ edits. StandApart from edits past) (sym (append-nil (shape.edits path first)))
       (apart path first);
   clear = λ path first. subst (λ edits. AreClear low high edits) (sym (append-nil (shape.edits path first)))
@@ -190,11 +206,17 @@ whole_both : (shapes more : List Shape) → AreWhole shapes → AreWhole more �
 whole_both [] more first second = second
 whole_both (shape ∷ shapes) more first second = (first.0, whole_both shapes more first.1 second)
 
+rises_both : (shapes more : List Shape) → AreRisesWithin shapes → AreRisesWithin more
+    → AreRisesWithin (shapes ++ more)
+rises_both [] more first second = second
+rises_both (shape ∷ shapes) more first second = (first.0, rises_both shapes more first.1 second)
+
 pub good_both : (low high from middle past : ℕ) (shapes more : List Shape) → AreGood low high from shapes middle
     → AreGood low high middle more past → AreGood low high from (shapes ++ more) past
 good_both low high from middle past shapes more first second = record {
   order = omega (arith, first.order, second.order);
   whole = whole_both shapes more first.whole second.whole;
+  rises = rises_both shapes more first.rises second.rises;
   apart = λ path point. subst (λ edits. StandApart from edits past) (sym (edits_both path point shapes more))
       (both_apart from middle past (edits_with path point shapes)
       (edits_with (paths_past path point shapes) (points_past point shapes) more) first.order second.order
@@ -210,6 +232,7 @@ pub good_wider : (low high from past less more : ℕ) (shapes : List Shape) → 
 good_wider low high from past less more shapes good below above = record {
   order = omega (arith, good.order);
   whole = good.whole;
+  rises = good.rises;
   apart = λ path first. wider from past less more (edits_with path first shapes) (good.apart path first) below above;
   clear = good.clear;
 }

@@ -17,9 +17,10 @@ use Rattle.dxf_pairs.specs.InLines.{IsValue, StandsInLines, EndsDrawing, AreInLi
 use Rattle.dxf_layer.specs.Entities.{has_code}
 use Rattle.dxf_layer.specs.Rendering.{Reading, text_of}
 use Rattle.dxf_layer.proofs.EditedPairs.{AddsGroups, IsOfValue, StartsAt, StandsOn, StandOn, groups_in, feed_behind}
-use Rattle.dxf_layer.proofs.EditedPairs.{order_earlier, starts_behind, stand_later, kept, passed, covered_first}
+use Rattle.dxf_layer.proofs.EditedPairs.{starts_behind, stand_later, kept, passed, covered_first}
 use Rattle.dxf_layer.proofs.EditedPairs.{covered_later, inserted, replaced}
 use Rattle.plain_laws.proofs.Booleans.{and_first}
+use Rattle.sheet_base.proofs.Splicing.{order_earlier}
 
 -- bytes from one place to another, by a place between them
 pub between_both : (bytes : List ℕ) (from middle past : ℕ) → from ≤ middle → middle ≤ past

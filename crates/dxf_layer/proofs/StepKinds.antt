@@ -47,6 +47,7 @@ abbrev pub dropped : Entity → Shape
 dropped entity = record {
   kind = None;
   points = [];
+  rise = None;
   lost = 0;
   dropped = 1;
   edits =

@@ -32,7 +32,8 @@ use Rattle.dxf_layer.proofs.StepKinds.{kept_vertex, kept_end, as_free, kept_step
 use Rattle.dxf_layer.proofs.WalkTrails.{own_edits, ReadingStep, one_vertex, the_end, reading_step}
 use Rattle.dxf_layer.proofs.Shaped.{points_past}
 use Rattle.dxf_layer.proofs.WholeTurns.{whole_of, vertex_written, dropped_written}
-use Rattle.dxf_layer.proofs.OutlineEnds.{all_ends, imaged_outlines}
+use Rattle.dxf_layer.proofs.OutlineEnds.{imaged_outlines}
+use Rattle.dxf_layer.proofs.LevelOutlines.{AreBack, none_back}
 use Rattle.dxf_layer.proofs.EntityTurns.{groups_told, AreOf, AreWholeTold, IsWritten, none_in_front}
 use Rattle.dxf_layer.proofs.EntityWritten.{written_for, imaged_spot, no_images, images_both, stays_written, end_written}
 use Rattle.dxf_layer.proofs.EntityCases.{IsFound, IsNumbered, LightsAreWritten, alone_case, whole_end}
@@ -102,7 +103,7 @@ lifted head how seeded images first wanted groups no_vertex no_end written =
               outs = [];
               walks =
                   λ more. none_in_front (walk how seeded kept more);
-              same = sym (ap all_ends none) ∙ written.same;
+              same = subst (λ (list : List Outline). AreBack list wanted) none written.same;
             };
           }
       by_entities (entity ∷ entities) are whole heads walks =
@@ -147,7 +148,7 @@ module _ (read : Reading) (how : How) (seed : Option Pair) (count : ℕ) (follow
     near = near;
     written =
         stays_written read how (is_seeded seed) from entity (record { shapes = []; next = to }) [] at.set at.goes_on is
-        refl;
+        none_back;
   }
 
   free_told_turn : (here : Step) → step read.bytes how seed free entity ≡ Ok here
@@ -245,7 +246,8 @@ module _ (read : Reading) (how : How) (seed : Option Pair) (count : ℕ) (follow
               (imaged_outlines read.images first (dropped entity ∷ [])))
               (sym (whole_end read entity at.set (whole_of entity edits.Drop) refl))
               (dropped_written read how (is_seeded seed) spot entity
-              (imaged_outlines read.images first (dropped entity ∷ [])) at.set refl);
+              (imaged_outlines read.images first (dropped entity ∷ [])) at.set
+              (record { ends = refl; heights = refl }));
         })
 
   pub kept_written : (here : Step) → step read.bytes how seed staying entity ≡ Ok here

@@ -14,7 +14,7 @@ use Rattle.dxf_layer.specs.Shapes.{Shape, with_shape}
 use Rattle.dxf_layer.specs.Polylines.{copy_edits, own_shape}
 use Rattle.dxf_layer.specs.Walks.{shapes_read}
 use Rattle.dxf_layer.specs.Held.{with_own_vertex, AddsAs, RefusesBy, Reads, GoesTo}
-use Rattle.dxf_layer.proofs.Vertices.{same_contents, point_in, lost_in}
+use Rattle.dxf_layer.proofs.Vertices.{same_contents, none_behind, point_in, lost_in}
 
 -- a fault that is handed on is the one of what is read
 pub handed_on : (wanted : Result (List Shape) LayerFault) (before now : Contents) (fault : LayerFault)
@@ -66,4 +66,6 @@ own_behind before done vertex =
     let lost : (before.inexact + sum_by lost_in done) + lost_in vertex ≡ before.inexact
     + sum_by lost_in (done ++ vertex ∷ []) = omega (arith, sum_by-append lost_in done (vertex ∷ [])) in
     same_contents (with_own_vertex (with_shape before (own_shape None done)) vertex)
-    (with_shape before (own_shape None (done ++ vertex ∷ []))) refl points edits lost refl
+    (with_shape before (own_shape None (done ++ vertex ∷ []))) refl points
+    (none_behind before.heights (map point_in done) (point_in vertex ∷ []) (map point_in (done ++ vertex ∷ []))
+    (map-append point_in done (vertex ∷ []))) edits lost refl

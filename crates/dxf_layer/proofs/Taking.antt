@@ -1,6 +1,6 @@
 -- How many handles edits in order take.
 use Rattle.std.proofs.Common.{◌≡◌, ℕ, suc, zero, ◌+◌, ◌*◌, ◌-◌, ◌^◌, ◌≤◌, ◌<◌, List, [], ◌∷◌, length, take, drop, Bool}
-use Rattle.std.proofs.Common.{true, false, cond, arith, add-zero, refl, subst, Option, None, Some}
+use Rattle.std.proofs.Common.{true, false, cond, arith, add-zero, ap, min, refl, subst, Option, None, Some}
 use Rattle.std.specs.Prelude.{filter, sum_by, nat_lt, slice_index_or}
 use Rattle.std.specs.List.{prefix_len}
 use Rattle.std.proofs.lemmas.Bool.Decides.{nat_tests}
@@ -10,7 +10,10 @@ use Rattle.sheet_base.specs.declared.edits.Edit.{Edit}
 use Rattle.sheet_base.specs.declared.edits.What.{What}
 use Rattle.sheet_base.specs.declared.edits.What.TheVariants as edits
 use Rattle.sheet_base.specs.declared.paths.PathRow.{PathRow}
-use Rattle.sheet_base.specs.Fitting.{Runs, images_of, no_path, path_images}
+use Rattle.plane_base.specs.declared.shapes.Pt.{Pt}
+use Rattle.sheet_base.specs.PointHeights.{Height, paired}
+use Rattle.sheet_base.specs.Fitting.{Runs, HaveHeights, run_begin, images_of, no_path, path_images, positions_of}
+use Rattle.sheet_base.specs.Fitting.{path_positions}
 use Rattle.sheet_base.specs.Splices.{AreInOrder}
 use Rattle.sheet_base.proofs.Splicing.{no_edit, next_edit}
 use Rattle.dxf_pairs.specs.declared.pairs.Pair.{Pair}
@@ -41,6 +44,30 @@ number_within read place = prefix_len-le-length (starts_before place) read.pairs
 few_images : (images : Runs) (first past : ℕ) → length (images_of images first past) ≤ length images.points
 few_images images first past = simp (length-take, length-drop) (omega arith)
 
+few_paired : (points : List Pt) (heights : List Height) → length (paired points heights) ≤ length points
+few_paired [] heights = omega arith
+few_paired (point ∷ points) [] = omega arith
+few_paired (point ∷ points) (height ∷ heights) = let few = few_paired points heights in omega (arith, few)
+
+few_positions : (images : Runs) (first past : ℕ) → length (positions_of images first past) ≤ length images.points
+few_positions images first past =
+    let few = few_paired images.points images.heights in simp (length-take, length-drop) (omega (arith, few))
+
+paired_count : (points : List Pt) (heights : List Height) → length heights ≡ length points
+    → length (paired points heights) ≡ length points
+paired_count [] heights each = refl
+paired_count (point ∷ points) [] each = absurd (omega (arith, each))
+paired_count (point ∷ points) (height ∷ heights) each = ap suc (paired_count points heights (omega (arith, each)))
+
+-- there are as many images with their heights
+pub positions_count : (images : Runs) → HaveHeights images → (paths : List PathRow) (path : ℕ)
+    → length (path_positions paths images path) ≡ length (path_images paths images path)
+positions_count images kept paths path =
+    let row : PathRow = slice_index_or paths path no_path in
+    let first = run_begin images row.first in
+    let all = paired_count images.points images.heights kept.each in
+    simp (length-take, length-drop) (ap (λ (n : ℕ). min (run_begin images row.past - first) (n - first)) all)
+
 few_taken : (found : Option Entity) (copies : ℕ) → taken_by found copies ≤ copies
 few_taken None copies = omega arith
 few_taken (Some entity) copies = by_test (has_handle entity) where
@@ -62,8 +89,8 @@ as_few read place (edits.Lines path) =
     let row : PathRow = slice_index_or read.sheet.paths path no_path in
     omega (
       arith,
-      few_taken (entity_at read place) (length (path_images read.sheet.paths read.images path) - 1),
-      few_images read.images row.first row.past,
+      few_taken (entity_at read place) (length (path_positions read.sheet.paths read.images path) - 1),
+      few_positions read.images row.first row.past,
     )
 as_few read place (edits.Vertex point) = omega (
   arith,

@@ -18,7 +18,7 @@ use Rattle.dxf_layer.specs.Rendering.{Reading, image_of}
 use Rattle.dxf_layer.proofs.Members.{went}
 use Rattle.dxf_layer.proofs.Telling.{next, told}
 use Rattle.dxf_layer.proofs.GroupFields.{fields_in, groups_in, value_at, field_told, point_at, not_zero_told}
-use Rattle.dxf_layer.proofs.GroupShapes.{Outline, is_seeded, dot_outline, some_point, second_in}
+use Rattle.dxf_layer.proofs.GroupShapes.{Outline, flat_outline, is_seeded, dot_outline, some_point, second_in}
 use Rattle.dxf_layer.proofs.GroupWalks.{alone, ends_sections}
 use Rattle.dxf_layer.proofs.ChangedFields.{Agree, value_same}
 use Rattle.dxf_layer.proofs.StandingEdits.{stand}
@@ -27,9 +27,10 @@ use Rattle.dxf_layer.proofs.ValueTurns.{alone_image}
 use Rattle.dxf_layer.proofs.CopyTurns.{spot_wanted}
 use Rattle.dxf_layer.proofs.TurnsKept.{IsReadSo}
 use Rattle.dxf_layer.proofs.EntityTurns.{IsWritten}
-use Rattle.dxf_layer.proofs.OutlineEnds.{all_ends, imaged_outlines}
+use Rattle.dxf_layer.proofs.OutlineEnds.{imaged_outlines}
+use Rattle.dxf_layer.proofs.LevelOutlines.{flat_back}
 use Rattle.dxf_layer.proofs.DotTurns.{IsSet, valued, valued_agree, values_written, wanted_apart, point_valued, one_spot}
-use Rattle.dxf_layer.proofs.DotTurns.{spot_value_edits, dot_wanted}
+use Rattle.dxf_layer.proofs.DotTurns.{spot_value_edits, dot_wanted, one_back}
 
 -- the second point of a text, as it was looked up
 pub record IsSecond (bytes : List ℕ) (exact : Bool) (entity : Entity) (second : Option Read_point) : Type 0 where
@@ -121,7 +122,7 @@ text_written read how seed entity spot count n set goes_on is kinds kind spot_is
     values_written read how seed entity (dot_of spot ∷ []) (spot_edits n spot)
     (dot_outline (image_of read.images n) ∷ []) (imaged_outlines read.images n (dot_of spot ∷ [])) set goes_on are
     is
-    (rw (a, b, c, kind, point, none) refl) (ap all_ends (sym (dot_wanted read.images count n good inside lone spot)))
+    (rw (a, b, c, kind, point, none) refl) (one_back read.images count n good inside lone spot)
 
 -- a text with two points
 pub text_both : (read : Reading) (how : How) (seed : Option Pair) (entity : Entity) (spot second : Read_point)
@@ -186,7 +187,7 @@ text_both read how seed entity spot second count n set goes_on is kinds kind spo
     let c = kinds.1.1 in
     let image : imaged_outlines read.images n (dot_of spot ∷ dot_of second ∷ []) ≡ dot_outline (image_of read.images n)
     ∷ dot_outline (image_of read.images (n + 1)) ∷ [] =
-    ap (λ (points : List Pt). (record { kind = Some paths.Dot; points = points })
+    ap (λ (points : List Pt). flat_outline (Some paths.Dot) points
     ∷ imaged_outlines read.images (n + 1) (dot_of second ∷ []))
     (alone_image read.images count n good (omega arith) lone)
     ∙ ap (λ (more : List Outline). dot_outline (image_of read.images n) ∷ more)
@@ -194,4 +195,6 @@ text_both read how seed entity spot second count n set goes_on is kinds kind spo
     values_written read how seed entity (dot_of spot ∷ dot_of second ∷ []) own
     (dot_outline (image_of read.images n) ∷ dot_outline (image_of read.images (n + 1)) ∷ [])
     (imaged_outlines read.images n (dot_of spot ∷ dot_of second ∷ [])) set goes_on are is
-    (rw (a, b, c, kind, point, both) refl) (ap all_ends (sym image))
+    (rw (a, b, c, kind, point, both) refl) (flat_back
+    (dot_outline (image_of read.images n) ∷ dot_outline (image_of read.images (n + 1)) ∷ [])
+    (imaged_outlines read.images n (dot_of spot ∷ dot_of second ∷ [])) (refl, (refl, tt)) image)

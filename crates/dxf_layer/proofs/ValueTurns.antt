@@ -7,6 +7,7 @@ use Rattle.std.proofs.lemmas.Bool.Decides.{nat_tests}
 use Rattle.plane_base.specs.declared.shapes.Pt.{Pt}
 use Rattle.sheet_base.specs.declared.edits.Edit.{Edit}
 use Rattle.sheet_base.specs.declared.edits.What.{What}
+use Rattle.sheet_base.specs.PointHeights.{IsHeightWithinReach}
 use Rattle.sheet_base.specs.Fitting.{Runs, run_begin, IsAlone, IsWithinReach, images_of}
 use Rattle.sheet_base.specs.Segments.{no_point}
 use Rattle.dxf_pairs.specs.declared.pairs.Pair.{Pair}
@@ -188,6 +189,8 @@ later_value read what pair other edits apart = rw apart refl
 pub record AreGoodImages (images : Runs) (count : ℕ) : Type 0 where
   pub runs : AreRuns images count
   pub reach : All IsWithinReach images.points
+  pub height_each : length images.heights ≡ length images.points
+  pub heights_reach : All IsHeightWithinReach images.heights
 
 pub image_within : (images : Runs) (count point : ℕ) → AreGoodImages images count → point < count
     → IsWithinReach (image_of images point)

@@ -1,6 +1,6 @@
 -- Vertices in fields, read so far.
-use Rattle.std.proofs.Common.{◌≡◌, ℕ, ◌+◌, ◌≤◌, ◌<◌, ◌-◌, List, [], ◌∷◌, ◌++◌, length, map, take, drop, subst, Bool}
-use Rattle.std.proofs.Common.{refl, ap, sym, ◌∙◌, arith, Result, Ok, Err, Option, None, Some}
+use Rattle.std.proofs.Common.{◌≡◌, ℕ, zero, suc, ◌+◌, ◌≤◌, ◌<◌, ◌-◌, List, [], ◌∷◌, ◌++◌, length, map, take, drop}
+use Rattle.std.proofs.Common.{subst, Bool, refl, ap, sym, ◌∙◌, arith, Result, Ok, Err, Option, None, Some}
 use Rattle.std.specs.Prelude.{sum_by, IfSome}
 use Rattle.std.proofs.lemmas.List.{append-nil, append_assoc, drop-drop, length-append, length-map, length-drop}
 use Rattle.std.proofs.lemmas.List.{map-append}
@@ -8,6 +8,7 @@ use Rattle.std.proofs.Math.Seq.{take-length}
 use Rattle.std.proofs.lemmas.List.Sums.{sum_by-append}
 use Rattle.plane_base.specs.declared.shapes.Pt.{Pt}
 use Rattle.dxf_layer.proofs.Growing.{holds_more, grows_more}
+use Rattle.sheet_base.specs.PointHeights.{Height, no_heights}
 use Rattle.sheet_base.specs.Sheets.{Contents}
 use Rattle.sheet_base.specs.declared.faults.LayerFault.{LayerFault}
 use Rattle.dxf_pairs.specs.declared.pairs.Pair.{Pair}
@@ -38,12 +39,18 @@ one_done : (done : List Vertex) (vertex : Vertex) (r : Result (List Vertex) Laye
 one_done done vertex (Ok vs) = ap Ok (sym (append_assoc done (vertex ∷ []) vs))
 one_done done vertex (Err fault) = refl
 
+pub same_contents : (a b : Contents) → a.paths ≡ b.paths → a.points ≡ b.points → a.heights ≡ b.heights
+    → a.edits ≡ b.edits → a.inexact ≡ b.inexact → a.dropped ≡ b.dropped → a ≡ b
+same_contents a b p q h r s t =
+    λ i. record { paths = p i; points = q i; heights = h i; edits = r i; inexact = s i; dropped = t i }
+
 pub no_vertices : (before : Contents) → before ≡ with_vertices before []
 no_vertices before =
     let points : before.points ++ [] ≡ before.points = append-nil before.points in
     let edits : before.edits ++ [] ≡ before.edits = append-nil before.edits in
     let lost : before.inexact + 0 ≡ before.inexact = omega arith in
-    rw (points, edits, lost) refl
+    same_contents before (with_vertices before []) refl (sym points) (sym (append-nil before.heights)) (sym edits)
+    (sym lost) refl
 
 pub nothing_read : (bytes : List ℕ) (exact : Bool) (fields : List Pair) (before : Contents)
     → AreReadTo bytes exact fields 0 before before
@@ -54,6 +61,7 @@ nothing_read bytes exact fields before = record {
   inside = omega arith;
   grown = λ count room. record {
     points = omega arith;
+    heights = omega arith;
     paths = omega arith;
     inexact = omega arith;
     dropped =
@@ -69,15 +77,26 @@ edits_behind point (vertex ∷ done) more =
     let at : point + length (vertex ∷ done) ≡ (point + 1) + length done = omega arith in
     rw (at, edits_behind (point + 1) done more) refl
 
-pub same_contents : (a b : Contents) → a.paths ≡ b.paths → a.points ≡ b.points → a.edits ≡ b.edits
-    → a.inexact ≡ b.inexact → a.dropped ≡ b.dropped → a ≡ b
-same_contents a b p q r s t = λ i. record { paths = p i; points = q i; edits = r i; inexact = s i; dropped = t i }
-
 abbrev pub point_in : Vertex → Pt
 point_in vertex = point_of vertex.spot
 
 abbrev pub lost_in : Vertex → ℕ
 lost_in vertex = lost_of vertex.spot
+
+-- points without heights behind others
+pub none_both : (m n : ℕ) → no_heights m ++ no_heights n ≡ no_heights (m + n)
+none_both zero n = let same : n ≡ 0 + n = omega arith in ap no_heights same
+none_both (suc m) n =
+    let more : suc (m + n) ≡ suc m + n = omega arith in
+    ap (λ (hs : List Height). None ∷ hs) (none_both m n) ∙ ap no_heights more
+
+pub none_behind : (heights : List Height) (points more all : List Pt) → all ≡ points ++ more
+    → (heights ++ no_heights (length points)) ++ no_heights (length more) ≡ heights ++ no_heights (length all)
+none_behind heights points more all are =
+    let count : length points + length more ≡ length all = sym (ap length are ∙ length-append points more) in
+    append_assoc heights (no_heights (length points)) (no_heights (length more))
+    ∙ (ap (λ (hs : List Height). heights ++ hs) (none_both (length points) (length more))
+    ∙ ap (λ (n : ℕ). heights ++ no_heights n) count)
 
 pub vertices_behind : (before : Contents) (done more : List Vertex)
     → with_vertices (with_vertices before done) more ≡ with_vertices before (done ++ more)
@@ -103,7 +122,8 @@ vertices_behind before done more =
     let lost : (before.inexact + sum_by lost_in done) + sum_by lost_in more ≡ before.inexact
     + sum_by lost_in (done ++ more) = omega (arith, sum_by-append lost_in done more) in
     same_contents (with_vertices (with_vertices before done) more) (with_vertices before (done ++ more)) refl points
-    edits lost refl
+    (none_behind before.heights (map point_in done) (map point_in more) (map point_in (done ++ more))
+    (map-append point_in done more)) edits lost refl
 
 pub rest_is : (fields : List Pair) (at : ℕ) → take (length fields - at) (drop at fields) ≡ drop at fields
 rest_is fields at = rw (← length-drop at fields) (take-length (drop at fields))

@@ -43,6 +43,7 @@ nothing_walked bytes how seed pairs before room = record {
   whole = sym (none_done (walked bytes how seed free (entities_of bytes pairs)));
   room = record {
     points = omega (arith, room.points);
+    heights = omega (arith, room.heights);
     paths = omega (arith, room.paths);
     inexact =
         omega (arith, room.inexact);

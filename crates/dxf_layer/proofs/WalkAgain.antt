@@ -28,7 +28,8 @@ use Rattle.dxf_layer.proofs.Shaped.{paths_past, points_past}
 use Rattle.dxf_layer.proofs.StandingEdits.{stand, IsPlaced, silent_behind, all_behind}
 use Rattle.dxf_layer.proofs.ValueTurns.{AreGoodImages}
 use Rattle.dxf_layer.proofs.WalkTrails.{ReadingStep, one_vertex, the_end, reading_step, walked_on, trail}
-use Rattle.dxf_layer.proofs.OutlineEnds.{all_ends, imaged_outlines, rows_behind, points_of}
+use Rattle.dxf_layer.proofs.OutlineEnds.{imaged_outlines, rows_behind, points_of}
+use Rattle.dxf_layer.proofs.LevelOutlines.{AreBack, none_back}
 use Rattle.dxf_layer.proofs.EntityCases.{DotsAlone, LightsAreWritten}
 use Rattle.dxf_layer.proofs.StepWritten.{IsNear}
 use Rattle.dxf_layer.proofs.WalkJoins.{IsHeaded}
@@ -136,7 +137,7 @@ module _ (read : Reading) (how : How) (seed : Option Pair) (count : ℕ) (follow
           outs = [];
           walk_is = by_near spot near;
           same =
-              ap (λ (s : List Shape). all_ends (imaged_outlines read.images first s)) (sym none);
+              subst (λ (s : List Shape). AreBack [] (imaged_outlines read.images first s)) (sym none) none_back;
         };
         headed =
             λ begins. tt;
@@ -153,7 +154,7 @@ module _ (read : Reading) (how : How) (seed : Option Pair) (count : ℕ) (follow
           walk_is =
               ap (λ (s : Spot). walk how (is_seeded seed) s []) near;
           same =
-              ap (λ (s : List Shape). all_ends (imaged_outlines read.images first s)) (sym none);
+              subst (λ (s : List Shape). AreBack [] (imaged_outlines read.images first s)) (sym none) none_back;
         };
         headed =
             λ begins. tt;

@@ -3,7 +3,7 @@ use Rattle.std.proofs.Common.{◌≡◌, ℕ, ◌+◌, pos, true, false, refl, a
 use Rattle.std.specs.Prelude.{⊤}
 use Rattle.std.proofs.lemmas.List.{append_assoc}
 use Rattle.std.proofs.lemmas.List.Sums.{take_while-cons}
-use Rattle.sheet_base.specs.Fitting.{Runs, images_of}
+use Rattle.sheet_base.specs.Fitting.{Runs}
 use Rattle.dxf_pairs.specs.Groups.{Group}
 use Rattle.dxf_layer.specs.declared.entities.Where.TheVariants.{Entities}
 use Rattle.dxf_layer.specs.Shapes.{Shape}
@@ -13,7 +13,7 @@ use Rattle.dxf_layer.proofs.GroupWalks.{Told, ends_sections}
 use Rattle.dxf_layer.proofs.GroupDrawings.{not_head, entities_told}
 use Rattle.dxf_layer.proofs.Shaped.{points_past}
 use Rattle.dxf_layer.proofs.EntityTurns.{groups_told, HaveNoHead, AreWholeTold}
-use Rattle.dxf_layer.proofs.OutlineEnds.{imaged_outlines}
+use Rattle.dxf_layer.proofs.OutlineEnds.{imaged_outline, imaged_outlines}
 
 -- nothing, or what begins with a head
 abbrev pub IsHeaded : List Group → Type 0
@@ -69,9 +69,5 @@ pub imaged_both : (images : Runs) (first : ℕ) (shapes more : List Shape)
     ++ imaged_outlines images (points_past first shapes) more
 imaged_both images first [] more = refl
 imaged_both images first (shape ∷ shapes) more =
-    ap (λ (rest : List Outline). (record {
-      kind = shape.kind;
-      points =
-          images_of images first (first + length shape.points);
-    }) ∷ rest)
+    ap (λ (rest : List Outline). imaged_outline images first shape ∷ rest)
     (imaged_both images (first + length shape.points) shapes more)

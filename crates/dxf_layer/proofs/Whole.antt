@@ -1,11 +1,15 @@
 -- What is read of a drawing makes a sheet whose edits are in order.
 use Rattle.std.proofs.Common.{◌≡◌, ℕ, ◌+◌, ◌≤◌, List, [], ◌∷◌, length, refl, ap, sym, ◌∙◌, subst, arith, inl, inr}
-use Rattle.std.proofs.Common.{Result, Ok, Err, Option, None, Some}
-use Rattle.std.specs.Prelude.{take_while}
+use Rattle.std.proofs.Common.{zero, suc, All, Result, Ok, Err, Option, None, Some}
+use Rattle.std.specs.Prelude.{take_while, map, ◌++◌}
+use Rattle.std.specs.List.{AllByRecursion}
+use Rattle.std.proofs.lemmas.List.{length-append}
 use Rattle.sheet_base.specs.declared.edits.Edit.{Edit}
 use Rattle.sheet_base.specs.declared.edits.What.TheVariants.{NextHandle}
 use Rattle.sheet_base.specs.declared.flags.How.{How}
 use Rattle.sheet_base.specs.declared.faults.LayerFault.{LayerFault}
+use Rattle.plane_base.specs.declared.shapes.Pt.{Pt}
+use Rattle.sheet_base.specs.PointHeights.{Height, IsHeightWithinReach}
 use Rattle.sheet_base.specs.Sheets.{Contents}
 use Rattle.sheet_base.specs.Splices.{AreInOrder}
 use Rattle.dxf_pairs.specs.declared.pairs.Pair.{Pair}
@@ -15,13 +19,16 @@ use Rattle.dxf_layer.specs.declared.entities.Where.TheVariants.{Outside}
 use Rattle.dxf_layer.specs.Entities.{Entity, is_no_head, entities_of, past_pairs}
 use Rattle.dxf_layer.specs.Fields.{and_then}
 use Rattle.dxf_layer.specs.Handles.{seed_of}
-use Rattle.dxf_layer.specs.Shapes.{Shape, value_edit, in_order, with_shapes}
+use Rattle.dxf_layer.specs.declared.drawing.Rise.{Rise}
+use Rattle.dxf_layer.specs.Shapes.{Shape, value_edit, heights_by, in_order, with_shapes}
 use Rattle.dxf_layer.specs.Walks.{free, walked}
 use Rattle.dxf_layer.specs.Drawings.{begun, sheet_of, from_pairs, drawing_sheet}
 use Rattle.dxf_layer.specs.Held.{AddsAs}
 use Rattle.dxf_layer.proofs.Apart.{IsApart, IsApartFromAll, AreWithin, StandApart, sorted_in_order}
 use Rattle.dxf_layer.proofs.Members.{Follow, tiles_follow, Lies, lies}
-use Rattle.dxf_layer.proofs.Shaped.{IsClear, AreClear, AreGood, IsTiled, whole_tiles, edits_with, edits_are}
+use Rattle.dxf_layer.proofs.Shaped.{IsClear, AreClear, AreGood, IsRiseWithin, AreRisesWithin, IsTiled, whole_tiles}
+use Rattle.dxf_layer.proofs.Shaped.{edits_with, edits_are}
+use Rattle.dxf_layer.proofs.OutlineEnds.{points_of, heights_in, heights_of, one_each, points_are, heights_are}
 use Rattle.dxf_layer.proofs.Sections.{AreSpread, spread, all_aside, seed_in, seed_aside}
 use Rattle.dxf_layer.proofs.Ordered.{walk_good}
 
@@ -60,9 +67,58 @@ off_seed seed low high (edit ∷ edits) at within clear =
       by_side (inl before) = inr (omega (arith, at.code), omega (arith, at.code, within.1))
       by_side (inr behind) = inl (omega (arith, at.inside))
 
+-- each point has a height within reach, or none
+pub record HasHeights (contents : Contents) : Type 0 where
+  pub each : length contents.heights ≡ length contents.points
+  pub reached : AllByRecursion IsHeightWithinReach contents.heights
+
+-- a property of each member, by its number
+pub all_indexed : {X : Type 0} (P : X → Type 0) (xs : List X) → AllByRecursion P xs → All P xs
+all_indexed P [] all i d within = absurd (omega (arith, within))
+all_indexed P (x ∷ xs) all zero d within = all.0
+all_indexed P (x ∷ xs) all (suc i) d within = all_indexed P xs all.1 i d (omega (arith, within))
+
+reached_both : (heights more : List Height) → AllByRecursion IsHeightWithinReach heights
+    → AllByRecursion IsHeightWithinReach more → AllByRecursion IsHeightWithinReach (heights ++ more)
+reached_both [] more first second = second
+reached_both (height ∷ heights) more first second = (first.0, reached_both heights more first.1 second)
+
+shape_reached : (rise : Option Rise) (points : List Pt) → IsRiseWithin rise
+    → AllByRecursion IsHeightWithinReach (heights_by rise points)
+shape_reached None [] within = tt
+shape_reached None (point ∷ points) within = (tt, shape_reached None points within)
+shape_reached (Some rise) [] within = tt
+shape_reached (Some rise) (begin ∷ points) within = (within.0, ends points)
+  where
+    ends : (points : List Pt)
+        → AllByRecursion IsHeightWithinReach (map (λ (end : Pt). Some rise.end.mm) points)
+    ends [] = tt
+    ends (point ∷ points) = (within.1, ends points)
+
+all_reached : (shapes : List Shape) → AreRisesWithin shapes → AllByRecursion IsHeightWithinReach (heights_of shapes)
+all_reached [] within = tt
+all_reached (shape ∷ shapes) within =
+    reached_both (heights_in shape) (heights_of shapes) (shape_reached shape.rise shape.points within.0)
+    (all_reached shapes within.1)
+
+counts_same : (shapes : List Shape) → length (heights_of shapes) ≡ length (points_of shapes)
+counts_same [] = refl
+counts_same (shape ∷ shapes) =
+    length-append (heights_in shape) (heights_of shapes)
+    ∙ (omega (arith, one_each shape, counts_same shapes) ∙ sym (length-append shape.points (points_of shapes)))
+
+heights_made : (seed : Option Pair) (shapes : List Shape) → AreRisesWithin shapes
+    → HasHeights (with_shapes (begun seed) shapes)
+heights_made seed shapes within = record {
+  each = ap length (heights_are (begun seed) shapes) ∙ (counts_same shapes
+      ∙ sym (ap length (points_are (begun seed) shapes)));
+  reached = subst (AllByRecursion IsHeightWithinReach) (sym (heights_are (begun seed) shapes))
+      (all_reached shapes within);
+}
+
 -- what is read of the bytes, with the edit of the next handle
 abbrev IsMade : ℕ → Contents → Type 0
-IsMade size contents = IsTiled contents × StandApart 0 contents.edits size
+IsMade size contents = IsTiled contents × StandApart 0 contents.edits size × HasHeights contents
 
 made_without : (low high size : ℕ) (shapes : List Shape) → AreGood low high 0 shapes size
     → IsMade size (with_shapes (begun None) shapes)
@@ -70,6 +126,7 @@ made_without low high size shapes good = (
   whole_tiles (begun None) shapes refl good.whole,
   subst (λ edits. StandApart 0 edits size)
       (sym (edits_are (begun None) shapes)) (good.apart 0 0),
+  heights_made None shapes good.rises,
 )
 
 made_with : (seed : Pair) (size : ℕ) (shapes : List Shape) → Lies 0 seed size
@@ -81,6 +138,7 @@ made_with seed size shapes at good =
         within = (omega arith, at.value, omega (arith, at.inside, at.ends), own.within);
         apart = (off_seed seed 0 size (edits_with 0 0 shapes) at own.within (good.clear 0 0), own.apart);
       }),
+      heights_made (Some seed) shapes good.rises,
     )
 
 shapes_made : (bytes : List ℕ) (how : How) (pairs : List Pair) (size : ℕ) (shapes : List Shape) → Follow 0 pairs size
@@ -97,26 +155,29 @@ shapes_made bytes how pairs size shapes follow (Some seed) seed_is is =
 -- what was read makes a sheet whose edits are in order
 pub read_made : (bytes : List ℕ) (how : How) (pairs : List Pair) (now : Contents) → Tile bytes pairs
     → AddsAs (begun (seed_of bytes pairs)) (walked bytes how (seed_of bytes pairs) free (entities_of bytes pairs)) now
-    → IsTiled now × AreInOrder 0 (in_order now.edits) (length bytes)
+    → IsTiled now × AreInOrder 0 (in_order now.edits) (length bytes) × HasHeights now
 read_made bytes how pairs now tile added =
     by_read (walked bytes how (seed_of bytes pairs) free (entities_of bytes pairs)) refl added where
       by_read : (read : Result (List Shape) LayerFault)
           → walked bytes how (seed_of bytes pairs) free (entities_of bytes pairs) ≡ read
           → AddsAs (begun (seed_of bytes pairs)) read now
-          → IsTiled now × AreInOrder 0 (in_order now.edits) (length bytes)
+          → IsTiled now × AreInOrder 0 (in_order now.edits) (length bytes) × HasHeights now
       by_read (Ok shapes) is made =
           let good = shapes_made bytes how pairs (length bytes) shapes (pairs_follow bytes pairs tile)
           (seed_of bytes pairs)
           refl is in
-          subst (λ (c : Contents). IsTiled c × AreInOrder 0 (in_order c.edits) (length bytes)) (sym made)
-          (good.0, sorted_in_order (length bytes) (with_shapes (begun (seed_of bytes pairs)) shapes).edits good.1)
+          subst (λ (c : Contents). IsTiled c × AreInOrder 0 (in_order c.edits) (length bytes) × HasHeights c) (sym made) (
+            good.0,
+            sorted_in_order (length bytes) (with_shapes (begun (seed_of bytes pairs)) shapes).edits good.1,
+            good.2,
+          )
       by_read (Err fault) is made = absurd made
 
 -- the same by what the code hands on
 pub read_whole : (bytes : List ℕ) (how : How) (pairs first left : List Pair) (seed : Option Pair) (start now : Contents)
     → Tile bytes pairs → first ≡ pairs → left ≡ pairs → seed ≡ seed_of bytes first → start ≡ begun seed
     → AddsAs start (walked bytes how seed free (entities_of bytes left)) now
-    → IsTiled now × AreInOrder 0 (in_order now.edits) (length bytes)
+    → IsTiled now × AreInOrder 0 (in_order now.edits) (length bytes) × HasHeights now
 read_whole bytes how pairs first left seed start now tile first_is left_is seed_is start_is added =
     let known : seed ≡ seed_of bytes pairs = seed_is ∙ ap (seed_of bytes) first_is in
     let one : AddsAs (begun seed) (walked bytes how seed free (entities_of bytes left)) now =
@@ -143,3 +204,11 @@ sheet_in_order bytes how pairs sheet tile pairs_are is =
           subst (λ (s : Contents). AreInOrder 0 s.edits (length bytes)) (sym same)
           (sorted_in_order (length bytes) (with_shapes (begun (seed_of bytes pairs)) shapes).edits good.1)
       by_read (Err fault) walk made = absurd (cc)
+
+-- and its paths follow each other without a gap
+pub sheet_tiled : (bytes : List ℕ) (how : How) (pairs : List Pair) (shapes : List Shape) → Tile bytes pairs
+    → walked bytes how (seed_of bytes pairs) free (entities_of bytes pairs) ≡ Ok shapes
+    → IsTiled (sheet_of (seed_of bytes pairs) shapes)
+sheet_tiled bytes how pairs shapes tile walk =
+    let good = shapes_made bytes how pairs (length bytes) shapes (pairs_follow bytes pairs tile) (seed_of bytes pairs)
+    refl walk in good.0

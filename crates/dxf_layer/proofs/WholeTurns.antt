@@ -1,6 +1,9 @@
 -- Entities in whose place copies stand, or nothing.
 use Rattle.std.proofs.Common.{◌≡◌, ℕ, zero, suc, ◌+◌, ◌-◌, ◌<◌, ◌≤◌, Bool, true, false, refl, ap, sym, ◌∙◌, subst, List}
-use Rattle.std.proofs.Common.{[], ◌∷◌, ◌++◌, map, flat_map, length, drop, get_or, Option, None, Some, arith, codes}
+use Rattle.std.proofs.Common.{[], ◌∷◌, ◌++◌, map, flat_map, length, take, drop, get_or, Option, None, Some, arith}
+use Rattle.std.proofs.Common.{codes}
+use Rattle.std.specs.List.{AllByRecursion}
+use Rattle.std.specs.Option.{is_some}
 use Rattle.std.proofs.lemmas.List.{append-nil, length-take-le, length-drop, get_or-take, get_or-drop}
 use Rattle.std.proofs.lemmas.Bool.Decides.{nat_tests}
 use Rattle.plane_base.specs.declared.shapes.Pt.{Pt}
@@ -10,19 +13,22 @@ use Rattle.sheet_base.specs.declared.edits.What.{What}
 use Rattle.sheet_base.specs.declared.edits.What.TheVariants as edits
 use Rattle.sheet_base.specs.declared.paths.PathKind.{PathKind}
 use Rattle.sheet_base.specs.declared.paths.PathKind.TheVariants as paths
-use Rattle.sheet_base.specs.Fitting.{Runs, run_begin, IsWithinReach, images_of, path_images}
+use Rattle.sheet_base.specs.PointHeights.{Height, Position, paired, IsHeightWithinReach}
+use Rattle.sheet_base.specs.Fitting.{Runs, run_begin, IsWithinReach, images_of, positions_of, path_positions}
+use Rattle.sheet_base.proofs.ListParts.{all_listed, all_parts}
 use Rattle.sheet_base.specs.Segments.{no_point}
 use Rattle.dxf_pairs.specs.declared.pairs.Pair.{Pair}
 use Rattle.dxf_pairs.specs.Groups.{groups_of, group_in}
 use Rattle.dxf_pairs.specs.InLines.{GroupsFollow}
 use Rattle.dxf_layer.specs.declared.copies.Copied.{Copied}
 use Rattle.dxf_layer.specs.declared.drawing.Spot.{Spot as Read_point}
+use Rattle.dxf_layer.specs.declared.points.LineEnds.{LineEnds}
 use Rattle.dxf_layer.specs.Entities.{Entity, is_kind, entity_end}
 use Rattle.dxf_layer.specs.Fields.{fields_of}
 use Rattle.dxf_layer.specs.Points.{line_of}
 use Rattle.dxf_layer.specs.ReadBack.{begins_at, covers}
 use Rattle.dxf_layer.specs.Rendering.{Reading, text_of, entity_at, run_of, next_at, line_text, vertex_text, new_handle}
-use Rattle.dxf_layer.specs.Rendering.{handle_behind, line_copies, vertex_copies}
+use Rattle.dxf_layer.specs.Rendering.{handle_behind, line_copies, vertex_copies, line_copy, vertex_copy}
 use Rattle.dxf_layer.proofs.Members.{Follow, by_past}
 use Rattle.dxf_layer.proofs.GroupShapes.{Outline, is_seeded}
 use Rattle.dxf_layer.proofs.GroupWalks.{Spot, alone, open_line, ends_sections}
@@ -32,12 +38,13 @@ use Rattle.dxf_layer.proofs.CopiedPairs.{AreBody}
 use Rattle.dxf_layer.proofs.CopiedGroups.{copy_groups, alone_added}
 use Rattle.dxf_layer.proofs.ValueTurns.{AreGoodImages}
 use Rattle.dxf_layer.proofs.DotTurns.{IsSet}
-use Rattle.dxf_layer.proofs.OutlineEnds.{all_ends, ends_by, imaged_outlines}
+use Rattle.dxf_layer.proofs.OutlineEnds.{imaged_outlines, run_heights, part_length, AreAll}
+use Rattle.dxf_layer.proofs.LevelOutlines.{AreBack, none_back}
 use Rattle.dxf_layer.proofs.EntityTurns.{HaveNoHead, AreOf, IsWhole, AreWholeTold, IsWritten, groups_told}
 use Rattle.dxf_layer.proofs.EntityTurns.{none_in_front}
 use Rattle.dxf_layer.proofs.CopyTurns.{IsVertexRead}
 use Rattle.dxf_layer.proofs.CopyWalks.{copy_told, AllWithin, lines_told, lines_added, line_list, IsLine, lines_walk}
-use Rattle.dxf_layer.proofs.CopyWalks.{line_list_ends, vertices_copied, vertices_added, vertices_walk}
+use Rattle.dxf_layer.proofs.CopyWalks.{AllGood, lines_back, vertices_copied, vertices_added, vertices_walk}
 
 -- an edit of the whole entity
 abbrev pub whole_of : Entity → What → Edit
@@ -98,12 +105,12 @@ copy_whole bytes entity copied set goes_on =
     }
 
 lines_whole : (bytes : List ℕ) (entity : Entity) → IsSet bytes entity
-    → ends_sections (group_in bytes entity.head) ≡ false → (first : Bool) (given : ℕ) (images : List Pt)
+    → ends_sections (group_in bytes entity.head) ≡ false → (first : Bool) (given : ℕ) (images : List Position)
     → AreWholeTold (lines_told bytes entity first given images)
 lines_whole bytes entity set goes_on first given [] = tt
 lines_whole bytes entity set goes_on first given (from ∷ []) = tt
 lines_whole bytes entity set goes_on first given (from ∷ to ∷ images) = (
-  copy_whole bytes entity (record { begin = from; end = Some to; handle = new_handle first given }) set goes_on,
+  copy_whole bytes entity (line_copy from to (new_handle first given)) set goes_on,
   lines_whole bytes entity set goes_on false (handle_behind first given) (to ∷ images),
 )
 
@@ -112,11 +119,11 @@ vertices_whole : (bytes : List ℕ) (entity : Entity) → IsSet bytes entity
     → AreWholeTold (vertices_copied bytes entity first given images)
 vertices_whole bytes entity set goes_on first given [] = tt
 vertices_whole bytes entity set goes_on first given (image ∷ images) = (
-  copy_whole bytes entity (record { begin = image; end = None; handle = new_handle first given }) set goes_on,
+  copy_whole bytes entity (vertex_copy image (new_handle first given)) set goes_on,
   vertices_whole bytes entity set goes_on false (handle_behind first given) images,
 )
 
-lines_of_head : (bytes : List ℕ) (entity : Entity) (first : Bool) (given : ℕ) (images : List Pt)
+lines_of_head : (bytes : List ℕ) (entity : Entity) (first : Bool) (given : ℕ) (images : List Position)
     → AreOf (group_in bytes entity.head) (lines_told bytes entity first given images)
 lines_of_head bytes entity first given [] = tt
 lines_of_head bytes entity first given (from ∷ []) = tt
@@ -166,27 +173,71 @@ range_long images count first past (suc more) good is inside =
           ap (run_begin images) same in omega arith
       by_more (suc more) rest last = omega arith
 
-long_ends : (points : List Pt) → 2 ≤ length points → all_ends (line_list points) ≡ ends_by (Some paths.Line) points
-long_ends [] long = absurd (omega arith)
-long_ends (p ∷ []) long = absurd (omega arith)
-long_ends (p ∷ q ∷ points) long = line_list_ends p q points
+-- ---- images with their heights
+paired_none : (ps : List Pt) → paired ps [] ≡ []
+paired_none [] = refl
+paired_none (p ∷ ps) = refl
+
+paired_taken : (n : ℕ) (ps : List Pt) (hs : List Height) → take n (paired ps hs) ≡ paired (take n ps) (take n hs)
+paired_taken zero ps hs = refl
+paired_taken (suc n) [] hs = refl
+paired_taken (suc n) (p ∷ ps) [] = refl
+paired_taken (suc n) (p ∷ ps) (h ∷ hs) =
+    ap (λ (more : List Position). (record { point = p; height = h }) ∷ more) (paired_taken n ps hs)
+
+paired_dropped : (n : ℕ) (ps : List Pt) (hs : List Height) → drop n (paired ps hs) ≡ paired (drop n ps) (drop n hs)
+paired_dropped zero ps hs = refl
+paired_dropped (suc n) [] hs = refl
+paired_dropped (suc n) (p ∷ ps) [] = sym (paired_none (drop n ps))
+paired_dropped (suc n) (p ∷ ps) (h ∷ hs) = paired_dropped n ps hs
+
+-- those of a range are its images with their heights
+positions_are : (images : Runs) (first past : ℕ)
+    → positions_of images first past ≡ paired (images_of images first past) (run_heights images first past)
+positions_are images first past =
+    let count = run_begin images past - run_begin images first in
+    ap (take count) (paired_dropped (run_begin images first) images.points images.heights)
+    ∙ paired_taken count (drop (run_begin images first) images.points) (drop (run_begin images first) images.heights)
+
+abbrev AllReached : List Height → Type 0
+AllReached heights = AllByRecursion IsHeightWithinReach heights
+
+paired_good : (some : Bool) (ps : List Pt) (hs : List Height) → length hs ≡ length ps → AllWithin ps
+    → AreAll some hs → AllReached hs → AllGood some (paired ps hs)
+paired_good some [] hs each within all reached = tt
+paired_good some (p ∷ ps) [] each within all reached = absurd (omega (arith, each))
+paired_good some (p ∷ ps) (h ∷ hs) each within all reached = (
+  record { within = within.0; height_is = all.0; height_within = reached.0 },
+  paired_good some ps hs (omega (arith, each)) within.1 all.1 reached.1,
+)
+
+heights_reached : (images : Runs) (count first past : ℕ) → AreGoodImages images count
+    → AllReached (run_heights images first past)
+heights_reached images count first past good =
+    let begins = run_begin images first in
+    let behind = all_parts IsHeightWithinReach begins images.heights
+    (all_listed IsHeightWithinReach images.heights good.heights_reach) in
+    (all_parts IsHeightWithinReach (run_begin images past - begins) (drop begins images.heights) behind.1).0
 
 -- a line, of which copies are made
 pub line_written : GroupsFollow → (read : Reading) (how : How) (seed : Option Pair) (entity : Entity)
-    (begin end : Read_point) (count path n : ℕ) → IsSet read.bytes entity
+    (ends : LineEnds) (count path n : ℕ) → IsSet read.bytes entity
     → ends_sections (group_in read.bytes entity.head) ≡ false
-    → IsLine read.bytes how seed entity begin end → entity_at read entity.head.start ≡ Some entity
-    → path_images read.sheet.paths read.images path ≡ images_of read.images n (n + 2) → AreGoodImages read.images count
-    → n + 2 ≤ count
+    → IsLine read.bytes how seed entity ends → entity_at read entity.head.start ≡ Some entity
+    → path_positions read.sheet.paths read.images path ≡ positions_of read.images n (n + 2)
+    → AreGoodImages read.images count → n + 2 ≤ count
+    → AreAll (is_some ends.rise) (run_heights read.images n (n + 2))
     → IsWritten (group_in read.bytes entity.head) how (is_seeded seed) alone alone
-    (imaged_outlines read.images n (line_of entity begin end ∷ []))
+    (imaged_outlines read.images n (line_of entity ends.begin ends.end ends.rise ∷ []))
     (flat_map (stand read (whole_of entity (edits.Lines path) ∷ [])) (entity.head ∷ entity.pairs))
-line_written follow read how seed entity begin end count path n set goes_on is found images_are good inside =
+line_written follow read how seed entity ends count path n set goes_on is found are good inside all =
     let given = next_at read entity.head.start in
-    let images = images_of read.images n (n + 2) in
+    let points = images_of read.images n (n + 2) in
+    let heights = run_heights read.images n (n + 2) in
+    let images = paired points heights in
     let text : text_of read (whole_of entity (edits.Lines path)) ≡ line_copies read.bytes entity true given images =
     ap (λ (e : Option Entity). line_text read given e path) found
-    ∙ ap (line_copies read.bytes entity true given) images_are in
+    ∙ ap (line_copies read.bytes entity true given) (are ∙ positions_are read.images n (n + 2)) in
     let groups : flat_map (stand read (whole_of entity (edits.Lines path) ∷ [])) (entity.head ∷ entity.pairs)
     ≡ groups_told (lines_told read.bytes entity true given images) =
     whole_stand read entity (edits.Lines path) set
@@ -195,34 +246,38 @@ line_written follow read how seed entity begin end count path n set goes_on is f
     (lines_added follow read.bytes entity set.lines true given images)) in
     let rest = length-drop (run_begin read.images n) read.images.points in
     let room = good.runs.inside (n + 2) inside in
-    let size : length images ≡ run_begin read.images (n + 2) - run_begin read.images n =
+    let size : length points ≡ run_begin read.images (n + 2) - run_begin read.images n =
     length-take-le (run_begin read.images (n + 2) - run_begin read.images n)
     (drop (run_begin read.images n) read.images.points) (omega arith) in
-    let long : 2 ≤ length images = omega (arith, range_long read.images count n (n + 2) 2 good refl inside) in
+    let long : 2 ≤ length points = omega (arith, size, range_long read.images count n (n + 2) 2 good refl inside) in
+    let each = part_length read.images.heights read.images.points (run_begin read.images n)
+    (run_begin read.images (n + 2)) good.height_each in
     record {
       entities = lines_told read.bytes entity true given images;
       are = groups;
       whole = lines_whole read.bytes entity set goes_on true given images;
       heads = lines_of_head read.bytes entity true given images;
       outs = line_list images;
-      walks = lines_walk read.bytes how seed entity begin end is true given images
-          (range_within read.images count n (n + 2) good (omega arith) inside);
-      same = long_ends images long ∙ sym (append-nil (ends_by (Some paths.Line) images));
+      walks = lines_walk read.bytes how seed entity ends is true given images
+          (paired_good (is_some ends.rise) points heights each
+          (range_within read.images count n (n + 2) good (omega arith) inside) all
+          (heights_reached read.images count n (n + 2) good));
+      same = lines_back ends.rise points heights each long all;
     }
 
 -- an entity that is left out
 pub dropped_written : (read : Reading) (how : How) (seeded : Bool) (spot : Spot) (entity : Entity)
-    (wanted : List Outline) → IsSet read.bytes entity → all_ends wanted ≡ []
+    (wanted : List Outline) → IsSet read.bytes entity → AreBack [] wanted
     → IsWritten (group_in read.bytes entity.head) how seeded spot spot wanted
     (flat_map (stand read (whole_of entity edits.Drop ∷ [])) (entity.head ∷ entity.pairs))
-dropped_written read how seeded spot entity wanted set none = record {
+dropped_written read how seeded spot entity wanted set back = record {
   entities = [];
   are = whole_stand read entity edits.Drop set;
   whole = tt;
   heads = tt;
   outs = [];
   walks = λ more. none_in_front (walk how seeded spot more);
-  same = sym none;
+  same = back;
 }
 
 -- the vertex of a polyline, of which copies are made
@@ -254,5 +309,5 @@ vertex_written follow read how seed entity spot kind points count n set goes_on 
       walks = λ more. vertices_walk read.bytes how seed entity spot is_vertex is kind points true given images
           (range_within read.images count n (n + 1) good (omega arith) (omega arith)) more
           ∙ none_in_front (walk how (is_seeded seed) (open_line kind (points ++ images)) more);
-      same = refl;
+      same = none_back;
     }

@@ -26,10 +26,10 @@ use Rattle.dxf_layer.specs.Fields.{is_exactly}
 use Rattle.dxf_layer.proofs.GroupFields.{number_by, number_in, is_number}
 use Rattle.plain_laws.proofs.Booleans.{and_three}
 
-abbrev exact_read : ℤ → MmRead
+abbrev pub exact_read : ℤ → MmRead
 exact_read mm = record { mm = mm; exact = true }
 
-measured_written : (mm : ℤ) → unsigned_abs mm ≤ LIMIT → measured (written mm) ≡ Ok (exact_read mm)
+pub measured_written : (mm : ℤ) → unsigned_abs mm ≤ LIMIT → measured (written mm) ≡ Ok (exact_read mm)
 measured_written mm within = sym (answer_is_measured (written mm) (Ok (exact_read mm)) (written_reads mm within))
 
 kept_always : (exact : Bool) (mm : ℤ) → number_by exact (Ok (exact_read mm)) ≡ Some mm

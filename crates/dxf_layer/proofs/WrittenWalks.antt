@@ -26,7 +26,8 @@ use Rattle.dxf_layer.proofs.GroupDrawings.{walk, entities_told, behind_group, be
 use Rattle.dxf_layer.proofs.Shaped.{path_behind, paths_past, points_past}
 use Rattle.dxf_layer.proofs.StandingEdits.{stand, AreSilent}
 use Rattle.dxf_layer.proofs.WalkTrails.{ReadingStep, one_vertex, the_end, reading_step, walked_on}
-use Rattle.dxf_layer.proofs.OutlineEnds.{all_ends, rows_behind, points_of}
+use Rattle.dxf_layer.proofs.OutlineEnds.{rows_behind, points_of}
+use Rattle.dxf_layer.proofs.LevelOutlines.{AreBack}
 use Rattle.dxf_layer.proofs.EntityWritten.{length_mapped}
 use Rattle.dxf_layer.proofs.EntityCases.{DotsAlone}
 use Rattle.dxf_layer.proofs.StepWritten.{IsNear}
@@ -154,7 +155,7 @@ pub record IsAgain (how : How) (seeded : Bool) (spot : Spot) (place : Where) (wa
     (groups : List Group) : Type 0 where
   pub outs : List Outline
   pub walk_is : walk how seeded spot (entities_told place groups) ≡ Some outs
-  pub same : all_ends outs ≡ all_ends wanted
+  pub same : AreBack outs wanted
 
 abbrev pub BeginsWith : Where → List Pair → Type 0
 BeginsWith place [] = ⊤

@@ -11,7 +11,8 @@ use Rattle.sheet_base.specs.declared.edits.What.{What}
 use Rattle.sheet_base.specs.declared.edits.What.TheVariants as edits
 use Rattle.sheet_base.specs.declared.flags.How.{How}
 use Rattle.sheet_base.specs.Sheets.{Contents}
-use Rattle.sheet_base.specs.Fitting.{Runs, DoFit, path_images}
+use Rattle.sheet_base.specs.PointHeights.{Position}
+use Rattle.sheet_base.specs.Fitting.{Runs, DoFit, path_positions}
 use Rattle.sheet_base.specs.Splices.{spliced}
 use Rattle.dxf_pairs.specs.declared.pairs.Pair.{Pair}
 use Rattle.dxf_pairs.specs.Groups.{Group, groups_of, group_in, value_in}
@@ -24,6 +25,7 @@ use Rattle.dxf_layer.specs.Entities.{Entity, entity_of}
 use Rattle.dxf_layer.specs.Fields.{fields_of}
 use Rattle.dxf_layer.specs.Polylines.{vertices_in}
 use Rattle.dxf_layer.specs.Rendering.{Reading, run_of, value_for, value_text, new_handle, handle_behind, line_copies}
+use Rattle.dxf_layer.specs.Rendering.{line_copy, vertex_copy}
 use Rattle.dxf_layer.specs.Rendering.{vertex_copies, coded_before, entity_at, has_handle, first_handle, next_at}
 use Rattle.dxf_layer.specs.Rendering.{next_behind, text_of, drawing_text}
 
@@ -49,7 +51,7 @@ abbrev pub own_or : List ℕ → Option Value → List ℕ
 own_or same None = same
 own_or same (Some value) = value_text value
 
--- a field in a copy: under 10, 20, 11, 21 and 5 with the copy's value, where it has one
+-- a field in a copy: under 10, 20, 11, 21, 30, 31 and 5 with the copy's value, where it has one
 abbrev pub field_in_copy : List ℕ → Copied → Pair → Group
 field_in_copy bytes copied pair = record {
   code = pair.code;
@@ -63,28 +65,29 @@ groups_of_copy bytes entity copied =
     group_in bytes entity.head ∷ (map (field_in_copy bytes copied) (fields_of entity)
     ++ map (group_in bytes) (drop (length (fields_of entity)) entity.pairs))
 
--- what the copies of a line have of their own: two images that follow each other, and a handle behind the first copy
-abbrev pub line_values : Bool → ℕ → List Pt → List Copied
+-- what the copies of a line have of their own: two images that follow each other, with their heights, and a handle
+-- behind the first copy
+abbrev pub line_values : Bool → ℕ → List Position → List Copied
 line_values first next [] = []
 line_values first next (begin ∷ []) = []
 line_values first next (begin ∷ end ∷ images) =
-    record { begin = begin; end = Some end; handle = new_handle first next }
+    line_copy begin end (new_handle first next)
     ∷ line_values false (handle_behind first next) (end ∷ images)
 
 -- and those of a vertex: an image, and a handle behind the first copy
 abbrev pub vertex_values : Bool → ℕ → List Pt → List Copied
 vertex_values first next [] = []
 vertex_values first next (image ∷ images) =
-    record { begin = image; end = None; handle = new_handle first next }
+    vertex_copy image (new_handle first next)
     ∷ vertex_values false (handle_behind first next) images
 
 -- the groups of the texts that take the place of a line and of a vertex are those of copies of its entity
 abbrev pub CopiesAreOfEntities : Type 0
 CopiesAreOfEntities =
     (bytes : List ℕ) (pairs : List Pair) (entity : Entity) → drawing bytes ≡ Ok pairs → IsEntityOf pairs entity
-    → (next : ℕ) (images : List Pt)
-    → (groups_of (line_copies bytes entity true next images)
-    ≡ flat_map (groups_of_copy bytes entity) (line_values true next images))
+    → (next : ℕ) (positions : List Position) (images : List Pt)
+    → (groups_of (line_copies bytes entity true next positions)
+    ≡ flat_map (groups_of_copy bytes entity) (line_values true next positions))
     × (groups_of (vertex_copies bytes entity true next images)
     ≡ flat_map (groups_of_copy bytes entity) (vertex_values true next images))
 
@@ -94,7 +97,7 @@ handles_in copies = filter_map (λ (copied : Copied). copied.handle) copies
 
 abbrev pub values_as : Reading → ℕ → What → List Copied
 values_as read place (edits.Lines path) = line_values true (next_at read place)
-    (path_images read.sheet.paths read.images path)
+    (path_positions read.sheet.paths read.images path)
 values_as read place (edits.Vertex point) = vertex_values true (next_at read place) (run_of read.images point)
 values_as read place what = []
 

@@ -24,13 +24,21 @@ refused pairs.NoMemory = faults.NoMemory
 
 -- what is read before the first entity: the next handle
 abbrev pub begun : Option Pair → Contents
-begun seed = record { paths = []; points = []; edits = seed_edits seed; inexact = 0; dropped = 0 }
+begun seed = record {
+  paths = [];
+  points = [];
+  heights = [];
+  edits = seed_edits seed;
+  inexact = 0;
+  dropped = 0;
+}
 
 -- the sheet of what is read: all edits are in order of the text
 abbrev pub ordered : Contents → Contents
 ordered whole = record {
   paths = whole.paths;
   points = whole.points;
+  heights = whole.heights;
   edits = in_order whole.edits;
   inexact =
       whole.inexact;

@@ -6,17 +6,20 @@ use Rattle.sheet_base.specs.declared.edits.Edit.{Edit}
 use Rattle.sheet_base.specs.declared.paths.PathRow.{PathRow}
 use Rattle.sheet_base.specs.declared.faults.LayerFault.{LayerFault}
 use Rattle.sheet_base.specs.declared.faults.LayerFault.TheVariants.{NoMemory}
+use Rattle.sheet_base.specs.PointHeights.{no_heights}
 use Rattle.sheet_base.specs.Sheets.{Contents}
 use Rattle.dxf_pairs.specs.declared.pairs.Pair.{Pair}
 use Rattle.dxf_layer.specs.Entities.{is_no_head}
 use Rattle.dxf_layer.specs.Fields.{and_then}
 use Rattle.dxf_layer.specs.declared.drawing.Drawing.{Drawing}
 use Rattle.dxf_layer.specs.declared.drawing.Spot.{Spot}
+use Rattle.dxf_layer.specs.declared.drawing.Rise.{Rise}
+use Rattle.dxf_layer.specs.declared.fields.Read.{Read}
 use Rattle.dxf_layer.specs.declared.drawing.Vertex.{Vertex}
 use Rattle.sheet_base.specs.declared.edits.What.TheVariants as edits
 use Rattle.dxf_layer.specs.declared.walking.Place.{Place as Held}
 use Rattle.dxf_layer.specs.declared.walking.Place.TheVariants as held
-use Rattle.dxf_layer.specs.Shapes.{Shape, point_of, lost_of, with_shape, with_shapes}
+use Rattle.dxf_layer.specs.Shapes.{Shape, point_of, lost_count, lost_of, with_shape, with_shapes}
 use Rattle.dxf_layer.specs.Polylines.{vertices_in, vertex_edits, own_shape}
 use Rattle.dxf_layer.specs.Walks.{Place, free, staying, reading, Step}
 
@@ -24,26 +27,46 @@ abbrev pub seen : Drawing → Contents
 seen drawing = record {
   paths = drawing.paths.items;
   points = drawing.points.items;
+  heights = drawing.heights;
   edits =
       drawing.edits.items;
   inexact = drawing.inexact;
   dropped = drawing.dropped;
 }
 
+-- a point without a height
 abbrev pub with_point : Contents → Spot → Contents
 with_point before spot = record {
   paths = before.paths;
   points = before.points ++ point_of spot ∷ [];
+  heights = before.heights ++ None ∷ [];
   edits =
       before.edits;
   inexact = before.inexact + lost_of spot;
   dropped = before.dropped;
 }
 
+-- a point with a height
+abbrev pub with_raised : Contents → Spot → Read → Contents
+with_raised before spot height = record {
+  paths = before.paths;
+  points = before.points ++ point_of spot ∷ [];
+  heights = before.heights ++ Some height.mm ∷ [];
+  edits = before.edits;
+  inexact = before.inexact + (lost_of spot + lost_count height.lost);
+  dropped = before.dropped;
+}
+
+-- the two ends of a line
+abbrev pub with_ends : Contents → Spot → Spot → Option Rise → Contents
+with_ends before begin end None = with_point (with_point before begin) end
+with_ends before begin end (Some rise) = with_raised (with_raised before begin rise.begin) end rise.end
+
 abbrev pub with_edits : Contents → List Edit → Contents
 with_edits before edits = record {
   paths = before.paths;
   points = before.points;
+  heights = before.heights;
   edits =
       before.edits ++ edits;
   inexact = before.inexact;
@@ -54,6 +77,7 @@ abbrev pub with_rows : Contents → List PathRow → Contents
 with_rows before rows = record {
   paths = before.paths ++ rows;
   points = before.points;
+  heights = before.heights;
   edits = before.edits;
   inexact =
       before.inexact;
@@ -65,6 +89,7 @@ abbrev pub with_vertices : Contents → List Vertex → Contents
 with_vertices before vertices = record {
   paths = before.paths;
   points = before.points ++ map (λ vertex. point_of vertex.spot) vertices;
+  heights = before.heights ++ no_heights (length (map (λ vertex. point_of vertex.spot) vertices));
   edits = before.edits ++ vertex_edits (length before.points) vertices;
   inexact = before.inexact + sum_by (λ vertex. lost_of vertex.spot) vertices;
   dropped = before.dropped;
@@ -73,8 +98,9 @@ with_vertices before vertices = record {
 -- the lists and counts are no longer than so
 pub record HoldsAtMost (count : ℕ) (contents : Contents) : Type 0 where
   pub points : length contents.points ≤ count
+  pub heights : length contents.heights ≤ count
   pub paths : length contents.paths ≤ count
-  pub inexact : contents.inexact ≤ 2 * count
+  pub inexact : contents.inexact ≤ 3 * count
   pub dropped : contents.dropped ≤ count
 
 -- and grow by no more than that

@@ -8,14 +8,16 @@ use Rattle.mm_decimal.specs.declared.reading.NumFault.{NumFault}
 use Rattle.sheet_base.specs.declared.edits.What.TheVariants.{Lines}
 use Rattle.sheet_base.specs.declared.paths.PathKind.TheVariants as paths
 use Rattle.sheet_base.specs.declared.faults.LayerFault.{LayerFault}
-use Rattle.sheet_base.specs.declared.faults.LayerFault.TheVariants.{Attribs, Slope}
+use Rattle.sheet_base.specs.declared.faults.LayerFault.TheVariants.{Attribs}
 use Rattle.dxf_pairs.specs.declared.pairs.Pair.{Pair}
 use Rattle.dxf_pairs.specs.Groups.{value_in}
 use Rattle.dxf_layer.specs.Entities.{Entity, entity_end}
-use Rattle.dxf_layer.specs.Fields.{and_then, field, coordinate_at, is_not_zero, zero_at}
+use Rattle.dxf_layer.specs.Fields.{and_then, field, there, coordinate, coordinate_at, is_not_zero, zero_at}
 use Rattle.dxf_layer.specs.Handles.{handle}
 use Rattle.dxf_layer.specs.declared.drawing.Spot.{Spot}
-use Rattle.dxf_layer.specs.Shapes.{Shape, point_of, lost_of, spot_edits}
+use Rattle.dxf_layer.specs.declared.drawing.Rise.{Rise}
+use Rattle.dxf_layer.specs.declared.points.LineEnds.{LineEnds}
+use Rattle.dxf_layer.specs.Shapes.{Shape, point_of, lost_of, lost_by, spot_edits}
 
 -- the point of the wanted fields of two codes, the first read before the second
 abbrev pub spot_at : List ℕ → Bool → ℤ → ℤ → Entity → Result Spot LayerFault
@@ -28,6 +30,7 @@ abbrev pub dot_of : Spot → Shape
 dot_of spot = record {
   kind = Some paths.Dot;
   points = point_of spot ∷ [];
+  rise = None;
   lost = lost_of spot;
   dropped = 0;
   edits =
@@ -78,30 +81,43 @@ abbrev pub are_level : Option ℤ → Option ℤ → Bool
 are_level (Some first) (Some second) = int_eq first second
 are_level first second = false
 
--- both ends of a line have one height
-abbrev pub level : List ℕ → Entity → Result (Unit {0}) LayerFault
-level bytes entity =
-    and_then (λ first. and_then (λ second. if are_level (height bytes first) (height bytes second) then Ok tt else Err
-    (Slope entity.head.line)) (field (pos 31) entity))
+-- the heights of a line's two ends, whose fields both have to be there
+abbrev pub both_heights : List ℕ → Bool → Entity → Option Pair → Option Pair → Result Rise LayerFault
+both_heights bytes exact entity first second =
+    and_then (λ low. and_then (λ high. and_then (λ begin. and_then (λ end. Ok (record { begin = begin; end = end }))
+    (coordinate bytes exact high)) (coordinate bytes exact low)) (there entity second)) (there entity first)
+
+-- where both ends of a line have one height, it has none to carry
+abbrev pub unless_level : List ℕ → Bool → Entity → Option Pair → Option Pair → Result (Option Rise) LayerFault
+unless_level bytes exact entity first second =
+    if are_level (height bytes first) (height bytes second) then Ok None
+    else and_then (λ rise. Ok (Some rise)) (both_heights bytes exact entity first second)
+
+-- the heights of a line's two ends, where they differ
+abbrev pub rise_of : List ℕ → Bool → Entity → Result (Option Rise) LayerFault
+rise_of bytes exact entity =
+    and_then (λ first. and_then (λ second. unless_level bytes exact entity first second) (field (pos 31) entity))
     (field (pos 30) entity)
 
 -- a line between two points; copies of the entity take its place
-abbrev pub line_of : Entity → Spot → Spot → Shape
-line_of entity begin end = record {
+abbrev pub line_of : Entity → Spot → Spot → Option Rise → Shape
+line_of entity begin end rise = record {
   kind = Some paths.Line;
   points = point_of begin ∷ point_of end ∷ [];
-  lost = lost_of begin + lost_of end;
+  rise = rise;
+  lost = lost_of begin + lost_of end + lost_by rise;
   dropped = 0;
   edits = λ path first. record { start = entity.head.start; end = entity_end entity; what = Lines path } ∷ [];
 }
 
--- the ends of a line that is level
-abbrev pub line_ends : List ℕ → Bool → Option Pair → Entity → Result (Spot × Spot) LayerFault
+-- the ends of a line, and their heights, where it has some
+abbrev pub line_ends : List ℕ → Bool → Option Pair → Entity → Result LineEnds LayerFault
 line_ends bytes exact seed entity =
-    and_then (λ own. and_then (λ begin. and_then (λ end. and_then (λ is. Ok (begin, end)) (level bytes entity))
+    and_then (λ own. and_then (λ begin. and_then
+    (λ end. and_then (λ rise. Ok (record { begin = begin; end = end; rise = rise })) (rise_of bytes exact entity))
     (spot_at bytes exact (pos 11) (pos 21) entity)) (spot_at bytes exact (pos 10) (pos 20) entity)) (handle seed entity)
 
 -- a line
 abbrev pub line_shapes : List ℕ → Bool → Option Pair → Entity → Result (List Shape) LayerFault
-line_shapes bytes exact seed entity = and_then (λ ends. Ok (line_of entity ends.0 ends.1 ∷ []))
+line_shapes bytes exact seed entity = and_then (λ ends. Ok (line_of entity ends.begin ends.end ends.rise ∷ []))
     (line_ends bytes exact seed entity)

@@ -102,6 +102,7 @@ abbrev pub light_shape : PathKind → List Vertex → Pair → Shape
 light_shape kind vertices count = record {
   kind = kind_with kind vertices;
   points = map (λ vertex. point_of vertex.spot) vertices;
+  rise = None;
   lost = sum_by (λ vertex. lost_of vertex.spot) vertices;
   dropped = 0;
   edits = λ path first. vertex_edits first vertices ++ value_edit (edits.Tally first (first + length vertices)) count
@@ -138,6 +139,7 @@ abbrev pub own_shape : Option PathKind → List Vertex → Shape
 own_shape kind vertices = record {
   kind = kind;
   points = map (λ vertex. point_of vertex.spot) vertices;
+  rise = None;
   lost = sum_by (λ vertex. lost_of vertex.spot) vertices;
   dropped = 0;
   edits = λ path first. copy_edits first vertices;

@@ -2,12 +2,14 @@
 use Rattle.std.specs.Prelude.{◌≡◌, ℕ, ◌<◌, ◌^◌, Bool, ◌&&◌, ◌==◌, nat_lt, nat_le, if◌then◌else◌, List, [], ◌∷◌, ◌++◌}
 use Rattle.std.specs.Prelude.{flat_map, filter, Option, None, Some, Result, Ok, Err}
 use Rattle.std.specs.List.{find, list_any}
+use Rattle.std.specs.Ordering.{int_eq}
 use Rattle.sheet_base.specs.declared.edits.Edit.{Edit}
 use Rattle.sheet_base.specs.declared.flags.How.{How}
 use Rattle.sheet_base.specs.Sheets.{Contents}
 use Rattle.sheet_base.specs.Fitting.{Runs, DoFit}
 use Rattle.sheet_base.specs.Splices.{spliced}
-use Rattle.sheet_base.specs.ReadBack.{IsReadBack}
+use Rattle.sheet_base.specs.PointHeights.{Height}
+use Rattle.sheet_base.specs.ReadBack.{Ends, IsReadBack}
 use Rattle.dxf_pairs.specs.declared.pairs.Pair.{Pair}
 use Rattle.dxf_pairs.specs.declared.faults.PairFault.{PairFault}
 use Rattle.dxf_pairs.specs.Pairs.{drawing}
@@ -61,11 +63,23 @@ GroupsAreWritten =
     → groups_of (spliced bytes (drawing_text bytes sheet images) sheet.edits)
     ≡ flat_map (groups_for (record { bytes = bytes; pairs = pairs; sheet = sheet; images = images })) pairs
 
+-- A line whose two ends have one height is read without heights, all others as they are written.
+abbrev pub level_by : Height → Height → Ends Height
+level_by (Some from) (Some to) = if int_eq from to then record { from = None; to = None } else
+    record { from = Some from; to = Some to }
+level_by from to = record { from = from; to = to }
+
+abbrev pub level_again : Ends Height → Ends Height
+level_again ends = level_by ends.from ends.to
+
+abbrev pub AreReadAgain : Ends Height → Ends Height → Type 0
+AreReadAgain written again = again ≡ level_again written
+
 -- A law: what is written of a drawing is read again, where the next handle is short, and its segments are those between
--- the images.
+-- the images, with the heights of these, but for those of a line whose two ends have one height.
 abbrev pub DrawingsReadBack : Type 0
 DrawingsReadBack =
     (how : How) (bytes : List ℕ) (sheet : Contents) (images : Runs) → drawing_sheet how bytes ≡ Ok sheet
     → DoFit sheet images → DoesReadBack how bytes sheet images
-    → IsReadBack (λ text back. drawing_sheet how text ≡ Ok back) sheet images
+    → IsReadBack (λ text back. drawing_sheet how text ≡ Ok back) AreReadAgain sheet images
     (spliced bytes (drawing_text bytes sheet images) sheet.edits)

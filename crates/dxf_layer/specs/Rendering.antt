@@ -13,7 +13,8 @@ use Rattle.sheet_base.specs.declared.edits.What.{What}
 use Rattle.sheet_base.specs.declared.edits.What.TheVariants as edits
 use Rattle.sheet_base.specs.Sheets.{Contents}
 use Rattle.sheet_base.specs.Segments.{point_at}
-use Rattle.sheet_base.specs.Fitting.{Runs, run_begin, images_of, path_images}
+use Rattle.sheet_base.specs.PointHeights.{Position}
+use Rattle.sheet_base.specs.Fitting.{Runs, run_begin, images_of, path_positions}
 use Rattle.dxf_pairs.specs.declared.pairs.Pair.{Pair}
 use Rattle.dxf_pairs.specs.declared.faults.PairFault.{PairFault}
 use Rattle.dxf_pairs.specs.Pairs.{drawing}
@@ -38,13 +39,16 @@ crossings_of images point = drop 1 (run_of images point)
 abbrev pub image_of : Runs → ℕ → Pt
 image_of images point = point_at images.points (run_begin images point)
 
--- what stands in a copy under a code: numbers of its first point, and of its second and a handle, where it has them
+-- what stands in a copy under a code: numbers of its first point, and of its second, the heights of both and a handle,
+-- where it has them
 abbrev pub value_for : Copied → ℤ → Option Value
 value_for copied code =
     if int_eq code (pos 10) then Some (values.Metres copied.begin.x)
     else if int_eq code (pos 20) then Some (values.Metres copied.begin.y)
     else if int_eq code (pos 11) then option_map (λ (end : Pt). values.Metres end.x) copied.end
     else if int_eq code (pos 21) then option_map (λ (end : Pt). values.Metres end.y) copied.end
+    else if int_eq code (pos 30) then option_map values.Metres copied.begin_height
+    else if int_eq code (pos 31) then option_map values.Metres copied.end_height
     else if int_eq code (pos 5) then option_map values.Handle copied.handle
     else None
 
@@ -75,19 +79,39 @@ new_handle first next = if first then None else Some next
 abbrev pub handle_behind : Bool → ℕ → ℕ
 handle_behind first next = if first then next else next + 1
 
+-- what a copy of a line's entity has of its own: two images that follow each other, with their heights, and a handle
+abbrev pub line_copy : Position → Position → Option ℕ → Copied
+line_copy begin end handle = record {
+  begin = begin.point;
+  end = Some end.point;
+  begin_height = begin.height;
+  end_height = end.height;
+  handle = handle;
+}
+
+-- and one of a vertex's: an image, and a handle
+abbrev pub vertex_copy : Pt → Option ℕ → Copied
+vertex_copy image handle = record {
+  begin = image;
+  end = None;
+  begin_height = None;
+  end_height = None;
+  handle = handle;
+}
+
 -- copies of a line's entity, one between each two images that follow each other
-abbrev pub line_copies : List ℕ → Entity → Bool → ℕ → List Pt → List ℕ
+abbrev pub line_copies : List ℕ → Entity → Bool → ℕ → List Position → List ℕ
 line_copies bytes entity first next [] = []
 line_copies bytes entity first next (begin ∷ []) = []
 line_copies bytes entity first next (begin ∷ end ∷ images) =
-    copy_text bytes (record { begin = begin; end = Some end; handle = new_handle first next }) entity
+    copy_text bytes (line_copy begin end (new_handle first next)) entity
     ++ line_copies bytes entity false (handle_behind first next) (end ∷ images)
 
 -- copies of a vertex's entity, one for each image
 abbrev pub vertex_copies : List ℕ → Entity → Bool → ℕ → List Pt → List ℕ
 vertex_copies bytes entity first next [] = []
 vertex_copies bytes entity first next (image ∷ images) =
-    copy_text bytes (record { begin = image; end = None; handle = new_handle first next }) entity
+    copy_text bytes (vertex_copy image (new_handle first next)) entity
     ++ vertex_copies bytes entity false (handle_behind first next) images
 
 -- the two fields of a vertex with other values, their other bytes as they stand
@@ -140,7 +164,7 @@ taken_by (Some entity) copies = if has_handle entity then copies - 1 else 0
 
 abbrev pub taken_as : Reading → ℕ → What → ℕ
 taken_as read place (edits.Lines path) = taken_by (entity_at read place)
-    (length (path_images read.sheet.paths read.images path) - 1)
+    (length (path_positions read.sheet.paths read.images path) - 1)
 taken_as read place (edits.Vertex point) = taken_by (entity_at read place) (length (run_of read.images point))
 taken_as read place what = 0
 
@@ -180,7 +204,7 @@ seed_text read edit = if next_behind read == first_handle read then between edit
 abbrev pub line_text : Reading → ℕ → Option Entity → ℕ → List ℕ
 line_text read next None path = []
 line_text read next (Some entity) path = line_copies read.bytes entity true next
-    (path_images read.sheet.paths read.images path)
+    (path_positions read.sheet.paths read.images path)
 
 abbrev pub vertex_text : Reading → ℕ → Option Entity → ℕ → List ℕ
 vertex_text read next None point = []

@@ -64,6 +64,7 @@ other_kind how entity =
     then Ok (shapes_read (record {
       kind = None;
       points = [];
+      rise = None;
       lost = 0;
       dropped = 1;
       edits =

@@ -14,11 +14,13 @@ use plane_base::Pt;
 use sheet_base::{between, push_mm};
 use std::alloc::{AllocError, Global};
 
-/// What a copy has of its own: its first point, its second one and a handle, where it has them.
+/// What a copy has of its own: its first point, its second one, the heights of both and a handle, where it has them.
 #[derive(Clone, Copy)]
 pub struct Copied {
     pub begin: Pt,
     pub end: Option<Pt>,
+    pub begin_height: Option<i64>,
+    pub end_height: Option<i64>,
     pub handle: Option<u64>,
 }
 
@@ -39,6 +41,8 @@ impl Copied {
             20 => Some(Value::Metres(self.begin.y)),
             11 => self.end.map(|end| Value::Metres(end.x)),
             21 => self.end.map(|end| Value::Metres(end.y)),
+            30 => self.begin_height.map(Value::Metres),
+            31 => self.end_height.map(Value::Metres),
             5 => self.handle.map(Value::Handle),
             _ => None,
         }

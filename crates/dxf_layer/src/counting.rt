@@ -2,6 +2,7 @@
 
 ghost use Rattle.std.specs.Prelude.{◌≡◌, ◌<◌, ◌≤◌, ◌^◌, length, true};
 ghost use Rattle.sheet_base.specs.Splices.{AreInOrder};
+ghost use Rattle.sheet_base.specs.Fitting.{path_positions};
 ghost use Rattle.dxf_layer.specs.Handles.{is_handle};
 ghost use Rattle.dxf_layer.specs.Told.{told};
 ghost use Rattle.dxf_layer.specs.Paged.{read_of};
@@ -57,6 +58,14 @@ fn has_handle(entity: &Entity) -> bool
     has_field(5, fields_of(entity))
 }
 
+/// How many images a path has.
+fn images_of_line(page: &Page, path: u32) -> usize
+    ensures { result ≡ length (path_positions page.now.sheet.now.paths page.now.images.now path) }
+{
+    let _ = page.images.heights();
+    page.images.of_path(page.sheet.paths(), path).len()
+}
+
 /// How many copies an edit makes of the entity whose place it takes; none where it takes no place, or
 /// another's.
 fn copies_of(page: &Page, edit: Edit) -> usize
@@ -66,11 +75,7 @@ fn copies_of(page: &Page, edit: Edit) -> usize
         return 0;
     }
     match edit.what {
-        What::Lines { path } => page
-            .images
-            .of_path(page.sheet.paths(), path)
-            .len()
-            .saturating_sub(1),
+        What::Lines { path } => images_of_line(page, path).saturating_sub(1),
         What::Vertex { point } => run_of(page.images, point).len(),
         _ => 0,
     }

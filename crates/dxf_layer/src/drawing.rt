@@ -1,13 +1,13 @@
 //! The sheet of a drawing, as far as it is read.
 
 ghost use Rattle.std.specs.Prelude.{◌≡◌, ◌≤◌, ◌^◌, [], ◌∷◌, length, OnOk};
-ghost use Rattle.dxf_layer.specs.Shapes.{value_edit, lost_count, spot_edits};
-ghost use Rattle.dxf_layer.specs.Held.{seen, with_point, with_edits, with_rows, HoldsAtMost};
+ghost use Rattle.dxf_layer.specs.Shapes.{value_edit, lost_count, lost_of, spot_edits};
+ghost use Rattle.dxf_layer.specs.Held.{seen, with_point, with_raised, with_edits, with_rows, HoldsAtMost};
 
 use crate::fields::Read;
 use dxf_pairs::Pair;
 use plane_base::Pt;
-use sheet_base::{Edit, PathKind, PathRow, What};
+use sheet_base::{Edit, Heights, PathKind, PathRow, What};
 use std::alloc::{AllocError, Global};
 
 /// A point's two coordinates.
@@ -15,6 +15,13 @@ use std::alloc::{AllocError, Global};
 pub struct Spot {
     pub x: Read,
     pub y: Read,
+}
+
+/// The heights of a line's two ends.
+#[derive(Clone, Copy)]
+pub struct Rise {
+    pub begin: Read,
+    pub end: Read,
 }
 
 /// A vertex of a polyline: its point, where what tells of it starts, and the place past that.
@@ -25,11 +32,12 @@ pub struct Vertex {
     pub past: u32,
 }
 
-/// Paths, points and edits so far; the edits are in order of the entities.
+/// Paths, points with their heights, and edits so far; the edits are in order of the entities.
 #[derive(Drop)]
 pub struct Drawing {
     pub paths: Vec<PathRow>,
     pub points: Vec<Pt>,
+    pub heights: Heights,
     pub edits: Vec<Edit>,
     pub inexact: u64,
     pub dropped: u64,
@@ -54,14 +62,23 @@ fn lost_count(lost: bool) -> u64
     if lost { 1 } else { 0 }
 }
 
+/// How many numbers of a point lost digits.
+fn lost_of(spot: &Spot) -> u64
+    ensures count { result ≡ lost_of spot.now }
+    ensures few { result ≤ 2 }
+{
+    lost_count(spot.x.lost) + lost_count(spot.y.lost)
+}
+
 impl Drawing {
     /// Nothing is read yet.
     pub fn new(alloc: Global) -> Self
-        ensures { seen result ≡ record { paths = []; points = []; edits = []; inexact = 0; dropped = 0 } }
+        ensures { seen result ≡ record { paths = []; points = []; heights = []; edits = []; inexact = 0; dropped = 0 } }
     {
         Drawing {
             paths: Vec::new(alloc),
             points: Vec::new(alloc),
+            heights: Heights::none(alloc, 0),
             edits: Vec::new(alloc),
             inexact: 0,
             dropped: 0,
@@ -84,7 +101,7 @@ impl Drawing {
         self.paths.len() as u32
     }
 
-    /// Adds a point.
+    /// Adds a point without a height.
     pub fn add_point(&mut self, spot: &Spot) -> Result<(), AllocError>
         requires { HoldsAtMost (2 ^ 31) (seen self.old) }
         ensures { OnOk result (seen self.new ≡ with_point (seen self.old) spot.now) }
@@ -93,7 +110,22 @@ impl Drawing {
             x: spot.x.mm,
             y: spot.y.mm,
         })?;
-        self.inexact += lost_count(spot.x.lost) + lost_count(spot.y.lost);
+        self.heights.push(None)?;
+        self.inexact += lost_of(spot);
+        Ok(())
+    }
+
+    /// Adds a point with a height.
+    pub fn add_raised(&mut self, spot: &Spot, height: &Read) -> Result<(), AllocError>
+        requires { HoldsAtMost (2 ^ 31) (seen self.old) }
+        ensures { OnOk result (seen self.new ≡ with_raised (seen self.old) spot.now height.now) }
+    {
+        self.points.push(Pt {
+            x: spot.x.mm,
+            y: spot.y.mm,
+        })?;
+        self.heights.push(Some(height.mm))?;
+        self.inexact += lost_of(spot) + lost_count(height.lost);
         Ok(())
     }
 

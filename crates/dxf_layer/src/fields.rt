@@ -2,7 +2,7 @@
 
 ghost use Rattle.std.specs.Prelude.{◌≡◌};
 ghost use Rattle.dxf_layer.specs.Told.{told};
-ghost use Rattle.dxf_layer.specs.Fields.{fields_of as fields, field as field_at, wanted as wanted_at};
+ghost use Rattle.dxf_layer.specs.Fields.{fields_of as fields, field as field_at, there as is_there, wanted as wanted_at};
 ghost use Rattle.dxf_layer.specs.Fields.{coordinate as coordinate_of, coordinate_at as coordinate_read};
 ghost use Rattle.dxf_layer.specs.Fields.{equals as is_number, is_there_as as there_as, is_not_zero as not_zero};
 ghost use Rattle.dxf_layer.specs.Fields.{not_zero_at as not_zero_line};
@@ -58,16 +58,24 @@ pub fn field(code: i32, entity: &Entity) -> Result<Option<Pair>, LayerFault>
     Ok(found)
 }
 
-/// The field of the code, which has to be there.
-pub fn wanted(code: i32, entity: &Entity) -> Result<Pair, LayerFault>
-    ensures { result ≡ wanted_at code (told entity.now) }
+/// The field that was found, which has to be there.
+pub fn there(entity: &Entity, found: Option<Pair>) -> Result<Pair, LayerFault>
+    ensures { result ≡ is_there (told entity.now) found }
 {
-    match field(code, entity)? {
+    match found {
         Some(pair) => Ok(pair),
         None => Err(LayerFault::Count {
             line: u64::from(entity.head.line),
         }),
     }
+}
+
+/// The field of the code, which has to be there.
+pub fn wanted(code: i32, entity: &Entity) -> Result<Pair, LayerFault>
+    ensures { result ≡ wanted_at code (told entity.now) }
+{
+    let found = field(code, entity)?;
+    there(entity, found)
 }
 
 /// The coordinate of a field.

@@ -1,8 +1,12 @@
 //! Laws of the definitions.
 
-ghost use Rattle.std.specs.Prelude.{◌≡◌};
+ghost use Rattle.std.specs.Prelude.{◌≡◌, ℕ, List, Ok};
+ghost use Rattle.sheet_base.specs.declared.flags.How.{How};
+ghost use Rattle.sheet_base.specs.Sheets.{Contents};
+ghost use Rattle.sheet_base.specs.ReadSheets.{IsSheetOf};
 ghost use Rattle.dxf_layer.specs.declared.handles.TheConstants.{MOST_DIGITS};
 ghost use Rattle.dxf_layer.specs.Copies.{WrittenIsADrawing, CopiesAreOfEntities, HandlesAreNew, VerticesCopyOwnFields};
+ghost use Rattle.dxf_layer.specs.Drawings.{drawing_sheet};
 ghost use Rattle.dxf_layer.specs.ReadBack.{GroupsAreWritten, DrawingsReadBack};
 
 /// The pairs of a written drawing are those of the drawing that was read, except for their places: the
@@ -16,7 +20,8 @@ pub fn written_pairs()
 }
 
 /// What is written of a drawing, with images that fit its sheet, is a drawing again, and its segments
-/// in order are those from image to image, unless the next handle gets more digits than are read.
+/// in order are those from image to image, with the heights of these, but for those of a line whose two ends have one
+/// height, unless the next handle gets more digits than are read.
 pub fn drawings_read_back()
     ensures { DrawingsReadBack }
 {
@@ -34,8 +39,8 @@ pub fn written_is_a_drawing()
     dxf_pairs::pairs_are_in_lines();
 }
 
-/// A copy that takes the place of a line or of a vertex is its entity, pair by pair: the values under 10, 20, 11, 21
-/// and 5 are those of the copy, where it has them, and all other pairs are the entity's own.
+/// A copy that takes the place of a line or of a vertex is its entity, pair by pair: the values under 10, 20, 11, 21,
+/// 30, 31 and 5 are those of the copy, where it has them, and all other pairs are the entity's own.
 pub fn copies_are_of_entities()
     ensures { CopiesAreOfEntities }
 {
@@ -58,6 +63,14 @@ pub fn vertices_copy_own_fields()
 {
     dxf_pairs::pairs_tile();
     dxf_pairs::pairs_are_in_lines();
+}
+
+/// What is read of a drawing has paths that follow each other without a gap, no more points than the drawing has bytes,
+/// for each point a height within reach or none, and edits that are in order inside the bytes.
+pub fn read_sheets_are_sheets()
+    ensures { (how : How) → (bytes : List ℕ) → (sheet : Contents) → drawing_sheet how bytes ≡ Ok sheet → IsSheetOf bytes sheet }
+{
+    dxf_pairs::pairs_tile();
 }
 
 /// A law: a next handle that is read has at most so many digits.

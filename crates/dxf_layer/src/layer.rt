@@ -1,6 +1,6 @@
 //! The format.
 
-use crate::laws::drawings_read_back;
+use crate::laws::{drawings_read_back, read_sheets_are_sheets};
 use crate::reading::read_drawing;
 use crate::rendering::render_drawing;
 use sheet_base::{How, Images, Layer, LayerFault, Sheet};
@@ -12,7 +12,7 @@ pub struct Dxf;
 impl Layer for Dxf {
     ghost use Rattle.std.specs.Prelude.{◌≡◌, Ok, Err};
     ghost use Rattle.dxf_layer.specs.Drawings.{drawing_sheet};
-    ghost use Rattle.dxf_layer.specs.ReadBack.{DoesReadBack};
+    ghost use Rattle.dxf_layer.specs.ReadBack.{DoesReadBack, AreReadAgain};
     ghost use Rattle.dxf_layer.specs.Rendering.{drawing_text};
 
     ghost reads = { λ how bytes sheet. drawing_sheet how bytes ≡ Ok sheet };
@@ -23,6 +23,8 @@ impl Layer for Dxf {
 
     ghost reads_back = { λ how bytes sheet images. DoesReadBack how bytes sheet images };
 
+    ghost reads_heights = { AreReadAgain };
+
     fn read(alloc: Global, bytes: &[u8], how: How) -> Result<Sheet, LayerFault> {
         read_drawing(alloc, bytes, how)
     }
@@ -30,6 +32,13 @@ impl Layer for Dxf {
     fn outcome_is_one() {}
 
     fn outcome_exists() {}
+
+    fn memory_is_no_fault() {}
+
+    fn sheets_are_of_bytes() {
+        read_sheets_are_sheets();
+        drawings_read_back();
+    }
 
     fn render(
         alloc: Global,

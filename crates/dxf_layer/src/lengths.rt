@@ -6,8 +6,7 @@ use crate::pages::Page;
 use crate::texts::{crossings_of, last_coded, run_of};
 use dxf_pairs::Pair;
 use mm_decimal::write_mm;
-use plane_base::Pt;
-use sheet_base::{Edit, What};
+use sheet_base::{Edit, Images, What};
 
 /// How many digits a handle or a count has at most.
 const MOST_DIGITS: u64 = 16;
@@ -18,13 +17,14 @@ fn length_of(mm: i64) -> u64 {
     write_mm(mm, &mut text) as u64
 }
 
-/// The length of the longest coordinate of these points, in bytes.
-fn longest(points: &[Pt]) -> u64 {
+/// The length of the longest coordinate and height of these images, in bytes.
+fn longest(images: &Images) -> u64 {
     let mut least = 0;
     let mut greatest = 0;
-    for point in points {
-        least = point.x.min(point.y).min(least);
-        greatest = point.x.max(point.y).max(greatest);
+    for (number, point) in images.points().iter().enumerate() {
+        let height = images.heights().at(number).unwrap_or(0);
+        least = point.x.min(point.y).min(height).min(least);
+        greatest = point.x.max(point.y).max(height).max(greatest);
     }
     length_of(least).max(length_of(greatest))
 }
@@ -35,7 +35,7 @@ fn span(edit: Edit) -> u64 {
 }
 
 /// The length of so many copies of the entity in whose place they are, in bytes: each has at most so
-/// many coordinates and a handle of its own.
+/// many coordinates and heights and a handle of its own.
 fn copies_length(edit: Edit, copies: usize, coordinates: u64, longest: u64) -> u64 {
     let own = coordinates
         .saturating_mul(longest)
@@ -64,7 +64,7 @@ fn text_length(page: &Page, before: &[Pair], edit: Edit, longest: u64) -> u64 {
         }
         What::Lines { path } => {
             let images = page.images.of_path(page.sheet.paths(), path);
-            copies_length(edit, images.len().saturating_sub(1), 4, longest)
+            copies_length(edit, images.len().saturating_sub(1), 6, longest)
         }
         What::Vertex { point } => {
             copies_length(edit, run_of(page.images, point).len(), 2, longest)
@@ -89,7 +89,7 @@ fn pairs_before(pairs: &[Pair], place: u32, known: usize) -> usize
 
 /// The length of the written drawing at most, in bytes, up to the last u64.
 pub fn written_length(page: &Page) -> u64 {
-    let longest = longest(page.images.points());
+    let longest = longest(page.images);
     let mut length = page.bytes.len() as u64;
     let mut number = 0;
     for edit in page.sheet.edits() {

@@ -23,7 +23,7 @@ mod walking;
 
 pub use laws::{
     copies_are_of_entities, drawings_read_back, handles_are_new, limits_are_stated,
-    vertices_copy_own_fields, written_is_a_drawing, written_pairs,
+    read_sheets_are_sheets, vertices_copy_own_fields, written_is_a_drawing, written_pairs,
 };
 pub use layer::Dxf;
 pub use reading::read_drawing;

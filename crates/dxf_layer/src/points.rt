@@ -4,17 +4,26 @@ ghost use Rattle.std.specs.Prelude.{◌≡◌, ◌+◌, ◌^◌, OnOk, ◌∷◌
 ghost use Rattle.dxf_layer.specs.Told.{told};
 ghost use Rattle.dxf_layer.specs.Shapes.{with_shape, with_shapes};
 ghost use Rattle.dxf_layer.specs.Points.{spot_at, dot_of, dots_of, point_shapes, insert_shapes, second_spot};
-ghost use Rattle.dxf_layer.specs.Points.{text_shapes, height, level, line_of, line_ends, line_shapes};
-ghost use Rattle.dxf_layer.specs.Held.{seen, HoldsAtMost, GrowsBy, Reads};
+ghost use Rattle.dxf_layer.specs.Points.{text_shapes, height, both_heights, unless_level, rise_of, line_of, line_ends};
+ghost use Rattle.dxf_layer.specs.Points.{line_shapes};
+ghost use Rattle.dxf_layer.specs.Held.{seen, with_ends, HoldsAtMost, GrowsBy, Reads};
 
-use crate::drawing::{Drawing, Spot};
+use crate::drawing::{Drawing, Rise, Spot};
 use crate::entities::{Entity, value_in};
-use crate::fields::{coordinate_at, field, is_not_zero, not_zero_at};
+use crate::fields::{coordinate, coordinate_at, field, is_not_zero, not_zero_at, there};
 use crate::handles::check_handle;
 use dxf_pairs::Pair;
 use mm_decimal::read_mm;
 use sheet_base::{Edit, LayerFault, PathKind, What};
 use std::alloc::AllocError;
+
+/// The two ends of a line, and their heights, where it has some.
+#[derive(Clone, Copy)]
+pub struct LineEnds {
+    pub begin: Spot,
+    pub end: Spot,
+    pub rise: Option<Rise>,
+}
 
 /// The point of the fields of two codes.
 pub fn spot_at(
@@ -134,45 +143,90 @@ fn height(bytes: &[u8], pair: Option<Pair>) -> Option<i64>
     }
 }
 
-/// Refuses a line whose ends have different heights.
-fn check_level(bytes: &[u8], entity: &Entity) -> Result<(), LayerFault>
-    ensures { result ≡ level bytes.now (told entity.now) }
+/// The heights of a line's two ends, whose fields both have to be there.
+fn both_heights(
+    bytes: &[u8],
+    exact: bool,
+    entity: &Entity,
+    first: Option<Pair>,
+    second: Option<Pair>,
+) -> Result<Rise, LayerFault>
+    ensures { result ≡ both_heights bytes.now exact (told entity.now) first second }
 {
-    let first = field(30, entity)?;
-    let second = field(31, entity)?;
+    let low = there(entity, first)?;
+    let high = there(entity, second)?;
+    let begin = coordinate(bytes, exact, &low)?;
+    let end = coordinate(bytes, exact, &high)?;
+    Ok(Rise { begin, end })
+}
+
+/// The heights of a line's two ends, of these fields, unless both are one height.
+fn unless_level(
+    bytes: &[u8],
+    exact: bool,
+    entity: &Entity,
+    first: Option<Pair>,
+    second: Option<Pair>,
+) -> Result<Option<Rise>, LayerFault>
+    ensures { result ≡ unless_level bytes.now exact (told entity.now) first second }
+{
     match (height(bytes, first), height(bytes, second)) {
-        (Some(low), Some(high)) if low == high => Ok(()),
-        _ => Err(LayerFault::Slope {
-            line: u64::from(entity.head.line),
-        }),
+        (Some(low), Some(high)) if low == high => Ok(None),
+        _ => {
+            let rise = both_heights(bytes, exact, entity, first, second)?;
+            Ok(Some(rise))
+        }
     }
 }
 
-/// The ends of a line that is level, and has a next handle where it has one.
+/// The heights of a line's two ends, where they differ. A missing one counts as 0 there; of two that differ none may be
+/// missing.
+fn rise_of(bytes: &[u8], exact: bool, entity: &Entity) -> Result<Option<Rise>, LayerFault>
+    ensures { result ≡ rise_of bytes.now exact (told entity.now) }
+{
+    let first = field(30, entity)?;
+    let second = field(31, entity)?;
+    unless_level(bytes, exact, entity, first, second)
+}
+
+/// The ends of a line, which has a next handle where it has one, and their heights, where they differ.
 fn line_ends(
     bytes: &[u8],
     exact: bool,
     seed: Option<Pair>,
     entity: &Entity,
-) -> Result<(Spot, Spot), LayerFault>
+) -> Result<LineEnds, LayerFault>
     ensures { result ≡ line_ends bytes.now exact seed (told entity.now) }
 {
     check_handle(seed, entity)?;
     let begin = spot_at(bytes, exact, 10, 20, entity)?;
     let end = spot_at(bytes, exact, 11, 21, entity)?;
-    check_level(bytes, entity)?;
-    Ok((begin, end))
+    let rise = rise_of(bytes, exact, entity)?;
+    Ok(LineEnds { begin, end, rise })
+}
+
+/// Adds the points of a line's two ends, with their heights, where it has some.
+fn add_ends(drawing: &mut Drawing, ends: &LineEnds) -> Result<(), AllocError>
+    requires { HoldsAtMost (2 ^ 30) (seen drawing.old) }
+    ensures added { OnOk result (seen drawing.new ≡ with_ends (seen drawing.old) ends.now.begin ends.now.end ends.now.rise) }
+{
+    match ends.rise {
+        Some(rise) => {
+            drawing.add_raised(&ends.begin, &rise.begin)?;
+            drawing.add_raised(&ends.end, &rise.end)?;
+        }
+        None => {
+            drawing.add_point(&ends.begin)?;
+            drawing.add_point(&ends.end)?;
+        }
+    }
+    Ok(())
 }
 
 /// Adds a line between two points, whose entity is replaced.
-fn add_line(
-    drawing: &mut Drawing,
-    entity: &Entity,
-    begin: &Spot,
-    end: &Spot,
-) -> Result<(), AllocError>
+fn add_line(drawing: &mut Drawing, entity: &Entity, ends: &LineEnds) -> Result<(), AllocError>
     requires { HoldsAtMost (2 ^ 30) (seen drawing.old) }
-    ensures added { OnOk result (seen drawing.new ≡ with_shape (seen drawing.old) (line_of (told entity.now) begin.now end.now)) }
+    ensures added { OnOk result (seen drawing.new ≡ with_shape (seen drawing.old) (line_of (told entity.now) ends.now.begin ends.now.end ends.now.rise)) }
     ensures grown { OnOk result (GrowsBy 2 (seen drawing.old) (seen drawing.new)) }
 {
     let first = drawing.point();
@@ -182,8 +236,7 @@ fn add_line(
         end: entity.end(),
         what: What::Lines { path },
     })?;
-    drawing.add_point(begin)?;
-    drawing.add_point(end)?;
+    add_ends(drawing, ends)?;
     drawing.add_path(PathKind::Line, first, first + 2)?;
     Ok(())
 }
@@ -200,7 +253,7 @@ pub fn read_line(
     ensures reads { Reads (line_shapes bytes.now exact seed (told entity.now)) (seen drawing.old) result (seen drawing.new) }
     ensures grown { OnOk result (GrowsBy 2 (seen drawing.old) (seen drawing.new)) }
 {
-    let (begin, end) = line_ends(bytes, exact, seed, entity)?;
-    add_line(drawing, entity, &begin, &end)?;
+    let ends = line_ends(bytes, exact, seed, entity)?;
+    add_line(drawing, entity, &ends)?;
     Ok(())
 }

@@ -116,6 +116,7 @@ pub fn read_drawing(alloc: Global, bytes: &[u8], how: How) -> Result<Sheet, Laye
     let Drawing {
         paths,
         points,
+        heights,
         edits,
         inexact,
         dropped,
@@ -124,6 +125,7 @@ pub fn read_drawing(alloc: Global, bytes: &[u8], how: How) -> Result<Sheet, Laye
     Ok(Sheet::of(
         Listed::of(paths),
         Listed::of(points),
+        heights,
         Listed::of(edits),
         inexact,
         dropped,

@@ -85,14 +85,7 @@ fn push_text(
             Ok(())
         }
         What::Lines { path } => match first_entity(edit.start, &page.pairs[number..]) {
-            Some(entity) => push_lines(
-                alloc,
-                out,
-                page.bytes,
-                &entity,
-                handles.next,
-                page.images.of_path(page.sheet.paths(), path),
-            ),
+            Some(entity) => push_lines(alloc, out, page, &entity, handles.next, path),
             None => Ok(()),
         },
         What::Vertex { point } => match first_entity(edit.start, &page.pairs[number..]) {

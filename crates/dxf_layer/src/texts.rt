@@ -1,15 +1,17 @@
 //! The texts that take the place of edits.
 
-ghost use Rattle.std.specs.Prelude.{◌≡◌, ◌++◌, ◌+◌, ◌<◌, ◌^◌, None, true, OnOk, length};
+ghost use Rattle.std.specs.Prelude.{◌≡◌, ◌++◌, ◌+◌, ◌-◌, ◌<◌, ◌≤◌, ◌^◌, None, true, OnOk, length, take, drop};
+ghost use Rattle.sheet_base.specs.Fitting.{positions_in, path_positions};
 ghost use Rattle.dxf_layer.specs.Told.{told, told_of};
 ghost use Rattle.dxf_layer.specs.Rendering.{run_of, crossings_of, image_of, line_copies, vertex_copies, last_coded};
 ghost use Rattle.dxf_layer.specs.Rendering.{first_entity};
 
 use crate::copies::{Copied, push_copy};
 use crate::entities::{Entity, has_code, pairs_before_head};
+use crate::pages::Page;
 use dxf_pairs::Pair;
 use plane_base::Pt;
-use sheet_base::{Images, between};
+use sheet_base::{Images, between, image_range};
 use std::alloc::{AllocError, Global};
 
 /// A point's image and those of the crossings behind it.
@@ -69,35 +71,63 @@ pub fn last_coded(code: i32, pairs: &[Pair]) -> Option<Pair>
     None
 }
 
-/// Appends copies of a line's entity, one between each two images that follow each other.
-pub fn push_lines(
+/// Appends copies of a line's entity, one between each two images that follow each other, of those from one number to
+/// before another.
+fn push_between(
     alloc: Global,
     out: &mut Vec<u8>,
     bytes: &[u8],
     entity: &Entity,
     next: u64,
-    images: &[Pt],
+    images: &Images,
+    first: usize,
+    past: usize,
 ) -> Result<(), AllocError>
-    requires { next + length images.now < 2 ^ 64 }
-    ensures { OnOk result (out.new.items ≡ out.old.items ++ line_copies bytes.now (told entity.now) true next images.now) }
+    requires few { next + length images.now.points < 2 ^ 64 }
+    requires past { past ≤ length images.now.points }
+    ensures { OnOk result (out.new.items ≡ out.old.items ++ line_copies bytes.now (told entity.now) true next (take (past - first) (drop first (positions_in images.now)))) }
 {
     let mut next = next;
     let mut handle = None;
-    let mut begun: Option<Pt> = None;
-    for image in images {
-        if let Some(begin) = begun {
-            let copied = Copied {
-                begin,
-                end: Some(*image),
-                handle,
-            };
-            push_copy(alloc, out, bytes, entity, &copied)?;
-            handle = Some(next);
-            next += 1;
-        }
-        begun = Some(*image);
+    for number in first..past.saturating_sub(1) {
+        let copied = Copied {
+            begin: images.points()[number],
+            end: Some(images.points()[number + 1]),
+            begin_height: images.heights().at(number),
+            end_height: images.heights().at(number + 1),
+            handle,
+        };
+        push_copy(alloc, out, bytes, entity, &copied)?;
+        handle = Some(next);
+        next += 1;
     }
     Ok(())
+}
+
+/// Appends copies of the entity of a line, which is the path of this number: one between each two images that follow
+/// each other, with their heights.
+pub fn push_lines(
+    alloc: Global,
+    out: &mut Vec<u8>,
+    page: &Page,
+    entity: &Entity,
+    next: u64,
+    path: u32,
+) -> Result<(), AllocError>
+    requires few { next + length page.now.images.now.points < 2 ^ 64 }
+    ensures { OnOk result (out.new.items ≡ out.old.items ++ line_copies page.now.bytes.now (told entity.now) true next (path_positions page.now.sheet.now.paths page.now.images.now path)) }
+{
+    let (first, past) = image_range(page.images, page.sheet.paths(), path);
+    push_between(
+        alloc,
+        out,
+        page.bytes,
+        entity,
+        next,
+        page.images,
+        first,
+        past,
+    )
 }
 
 /// Appends copies of a vertex's entity, one for each image.
@@ -118,6 +148,8 @@ pub fn push_vertices(
         let copied = Copied {
             begin: *image,
             end: None,
+            begin_height: None,
+            end_height: None,
             handle,
         };
         push_copy(alloc, out, bytes, entity, &copied)?;

@@ -1,10 +1,11 @@
 -- A whole document, from its value on.
 use Rattle.std.proofs.Common.{◌≡◌, ℕ, ◌+◌, ◌<◌, ◌^◌, List, [], ◌∷◌, ◌++◌, length, refl, sym, ap, ◌∙◌, subst, arith}
 use Rattle.std.proofs.Common.{append-nil, length-append, Bool}
-use Rattle.std.specs.Prelude.{Some, None, Result, Ok, Err, IfOk, slice_get, flat_map}
+use Rattle.std.specs.Prelude.{Some, None, Result, Ok, Err, IfOk, slice_get}
 use Rattle.jtext.specs.Texts.{Whole, IsWhole, mark_text}
 use Rattle.jtext.specs.Values.{spelling}
 use Rattle.jtext.specs.declared.reading.TheConstants.{DEEPEST}
+use Rattle.sheet_base.specs.PointHeights.{points_of, heights_of}
 use Rattle.sheet_base.specs.Splices.{AreInOrder}
 use Rattle.jtext.specs.Places.{IsReading, Stands, whole_start}
 use Rattle.jtext.specs.Nodes.{node_count}
@@ -16,7 +17,7 @@ use Rattle.sheet_base.specs.Sheets.{Contents, IsSheet}
 use Rattle.gj_layer.specs.declared.forms.Holder.TheVariants as holders
 use Rattle.gj_layer.specs.declared.forms.Form.TheVariants as forms
 use Rattle.gj_layer.specs.declared.pass.Pass.{Pass}
-use Rattle.gj_layer.specs.Paths.{Part, nothing, rows_from, points_in, sheet_of}
+use Rattle.gj_layer.specs.Paths.{Part, nothing, vertices_of, sheet_of}
 use Rattle.gj_layer.specs.Layers.{layer_reading, IsReadAs}
 use Rattle.gj_layer.specs.Standing.{Gives, Holds}
 use Rattle.gj_layer.specs.Opening.{Going}
@@ -60,65 +61,33 @@ begins doc bytes exact whole node pass reading got held =
     )
 
 -- what is held is the sheet
-pub held_sheet : (pass : Pass) (part : Part) → Holds pass part
-    → (let sheet : Contents = record {
-      paths = pass.paths.items;
-      points = pass.points.items;
-      edits =
-          pass.edits.items;
-      inexact = pass.inexact;
-      dropped = 0;
-    } in sheet) ≡ sheet_of part
+abbrev pub sheet_held : Pass → Contents
+sheet_held pass = record {
+  paths = pass.paths.items;
+  points = pass.points.items;
+  heights = pass.heights;
+  edits = pass.edits.items;
+  inexact = pass.inexact;
+  dropped = 0;
+}
+
+pub held_sheet : (pass : Pass) (part : Part) → Holds pass part → sheet_held pass ≡ sheet_of part
 held_sheet pass part held =
-    let points : pass.points.items ≡ flat_map points_in part.paths = held.points_are
-    ∙ append-nil (flat_map points_in part.paths) in
-    ap (λ x. let c : Contents = record {
-      paths = x;
-      points = pass.points.items;
-      edits = pass.edits.items;
-      inexact =
-          pass.inexact;
-      dropped = 0;
-    } in c) held.paths
-    ∙ ap (λ x. let c : Contents = record {
-      paths = rows_from 0 part.paths;
-      points = x;
-      edits =
-          pass.edits.items;
-      inexact = pass.inexact;
-      dropped = 0;
-    } in c) points
-    ∙ ap (λ x. let c : Contents = record {
-      paths = rows_from 0 part.paths;
-      points =
-          flat_map points_in part.paths;
-      edits = x;
-      inexact = pass.inexact;
-      dropped = 0;
-    } in c) held.edits
-    ∙ ap (λ x. let c : Contents = record {
-      paths = rows_from 0 part.paths;
-      points =
-          flat_map points_in part.paths;
-      edits = part.edits;
-      inexact = x;
-      dropped = 0;
-    } in c) held.inexact
+    let all = append-nil (vertices_of part.paths) in
+    rw (
+      held.paths,
+      held.points_are ∙ ap points_of all,
+      held.heights_are ∙ ap heights_of all,
+      held.edits,
+      held.inexact,
+    ) refl
 
 pub held_is_sheet : (pass : Pass) (part : Part) (exact : Bool) (whole : Whole) → Holds pass part
-    → layer_reading exact whole ≡ Ok part → length pass.points.items < 2 ^ 32
-    → (let sheet : Contents = record {
-      paths = pass.paths.items;
-      points = pass.points.items;
-      edits =
-          pass.edits.items;
-      inexact = pass.inexact;
-      dropped = 0;
-    } in IsSheet sheet)
+    → layer_reading exact whole ≡ Ok part → length pass.points.items < 2 ^ 32 → IsSheet (sheet_held pass)
 held_is_sheet pass part exact whole held read few =
     let fine = value_fine whole.value exact (forms.Object holders.Layer) 0 (whole_start whole) part read in
-    let points : pass.points.items ≡ flat_map points_in part.paths = held.points_are
-    ∙ append-nil (flat_map points_in part.paths) in
+    let points : pass.points.items ≡ (sheet_of part).points = held.points_are
+    ∙ ap points_of (append-nil (vertices_of part.paths)) in
     subst IsSheet (sym (held_sheet pass part held))
     (part_is_sheet part fine.sound (subst (λ ps. length ps < 2 ^ 32) points few))
 

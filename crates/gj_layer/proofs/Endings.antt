@@ -63,13 +63,15 @@ module _ (old new : Pass) (ending : Ending) (own : Own) (before done : Part)
   own_so : listed one ++ listed other ≡ own_edits ending bounds
   own_so = ordered ∙ ap (λ es. in_order es (listed crs)) bbox_is ∙ ap (in_order (edit_at ending.bbox bounds)) crs_is
 
-  pub end_holds : new.paths.items ≡ old.paths.items → new.points.items ≡ old.points.items → new.inexact ≡ old.inexact
+  pub end_holds : new.paths.items ≡ old.paths.items → new.points.items ≡ old.points.items
+      → new.heights ≡ old.heights → new.inexact ≡ old.inexact
       → new.edits.items ≡ ((before.edits ++ fronts ending.content (listed one)) ++ fronts ending.content (listed other))
       ++ ((done.edits ++ behinds ending.content (listed one)) ++ behinds ending.content (listed other))
       → Holds new (joined before (object_part own.holder own.type (length before.paths) own.members done))
-  end_holds paths points inexact edits = record {
+  end_holds paths points heights inexact edits = record {
     paths = paths ∙ held.paths;
     points_are = points ∙ held.points_are;
+    heights_are = heights ∙ held.heights_are;
     edits = edits ∙ two_puts ending.content before.edits done.edits (listed one) (listed other)
         ∙ ap (λ es. before.edits ++ (fronts ending.content es ++ (done.edits ++ behinds ending.content es))) own_so
         ∙ ap (λ es. before.edits ++ es) (sym (is.laid_so bounds done.edits bare))

@@ -3,7 +3,10 @@ use Rattle.std.proofs.Common.{◌≡◌, ℕ, ◌+◌, ◌-◌, ◌<◌, ◌≤�
 use Rattle.std.proofs.Common.{sym, ap, ◌∙◌, subst, arith, length-append, Bool, true, false, ◌^◌}
 use Rattle.std.specs.Prelude.{Option, Some, None, Result, Ok, Err, flat_map, codes, if◌then◌else◌}
 use Rattle.std.specs.List.{AllByRecursion}
+use Rattle.std.proofs.Common.{All}
+use Rattle.std.proofs.lemmas.Bool.{and_parts}
 use Rattle.std.proofs.lemmas.List.{length-map, length-take}
+use Rattle.std.proofs.lemmas.List.Elements.{All-cons}
 use Rattle.jtext.specs.Characters.{Char, units_of}
 use Rattle.jtext.specs.Values.{Json, Elements, Members, null, truth, numeral, quoted, array, object, no_element}
 use Rattle.jtext.specs.Values.{element, no_member, member, spelling, elements_text, elements_behind, members_text}
@@ -11,7 +14,9 @@ use Rattle.jtext.specs.Values.{members_behind, quoted_text}
 use Rattle.jtext.specs.Nodes.{inner_place, element_start, member_start, next_place}
 use Rattle.jtext.specs.Lookups.{are_same}
 use Rattle.mm_decimal.specs.declared.reading.MmRead.{MmRead}
-use Rattle.plane_base.specs.declared.shapes.Pt.{Pt}
+use Rattle.sheet_base.specs.PointHeights.{Position, points_of, heights_of, IsHeightWithinReach}
+use Rattle.sheet_base.proofs.ListParts.{all_parts}
+use Rattle.plain_laws.proofs.Lists.{all_append}
 use Rattle.sheet_base.specs.declared.faults.LayerFault.{LayerFault}
 use Rattle.sheet_base.specs.declared.faults.LayerFault.TheVariants.{Ring as RingFault}
 use Rattle.sheet_base.specs.declared.paths.PathKind.{PathKind}
@@ -27,19 +32,21 @@ use Rattle.gj_layer.specs.declared.forms.Trace.{Trace}
 use Rattle.gj_layer.specs.declared.forms.Trace.TheVariants as traces
 use Rattle.gj_layer.specs.declared.forms.Form.{Form}
 use Rattle.gj_layer.specs.declared.forms.Form.TheVariants as forms
-use Rattle.gj_layer.specs.declared.positions.Position.{Position}
+use Rattle.gj_layer.specs.declared.positions.PositionRead.{PositionRead}
 use Rattle.gj_layer.specs.Faults.{and_then}
 use Rattle.gj_layer.specs.Members.{Member, members_at, all_named, find_member}
-use Rattle.gj_layer.specs.Positions.{position_from, number, pair, position, positions, in_front, point_of}
+use Rattle.gj_layer.specs.Positions.{position_from, number, some_height, with_height, array_position, position}
+use Rattle.gj_layer.specs.Positions.{positions, in_front, position_of}
 use Rattle.sheet_base.specs.Rings.{is_closed}
 use Rattle.sheet_base.proofs.RingLemmas.{closed_many}
 use Rattle.gj_layer.specs.Paths.{Path, Part, nothing, joined, path_of, end_of, dot_of, line_of, ring_of, traced}
-use Rattle.gj_layer.specs.Paths.{part_of, edits_from, rows_from, points_in, sheet_of}
+use Rattle.gj_layer.specs.Paths.{part_of, edits_from, rows_from, vertices_of, sheet_of, has_one_end, is_ring}
 use Rattle.gj_layer.specs.Objects.{content_key, content_form, find_crs, type_in, object_type, with_content}
 use Rattle.gj_layer.specs.Objects.{member_edits, object_part}
 use Rattle.gj_layer.specs.Reading.{item_form, null_part, part_in, reading, readings, content_reading}
 use Rattle.gj_layer.proofs.Laying.{MembersFine}
 use Rattle.gj_layer.proofs.Looking.{kept_type}
+use Rattle.gj_layer.proofs.ReadHeights.{position_reach}
 use Rattle.gj_layer.proofs.Opened.{no_content_read, fits_content, fits_without, at_most_is, at_most_none}
 
 -- a step that came to a value
@@ -48,18 +55,18 @@ pub split_then : {A B : Type 0} (f : A → Result B LayerFault) (r : Result A La
 split_then f (Ok value) made h = (value, refl, h)
 split_then f (Err fault) made h = cc
 
--- the path has points, and just one where it is a dot
+-- the height of a point is within reach
+abbrev pub IsLevel : Position → Type 0
+IsLevel vertex = IsHeightWithinReach vertex.height
+
+-- the path has points, just one where it is a dot, and their heights are within reach
 abbrev pub IsSound : Path → Type 0
-IsSound path = (0 < length path.points) × (path.kind ≡ kinds.Dot → length path.points ≡ 1)
+IsSound path = (0 < length path.positions) × (path.kind ≡ kinds.Dot → length path.positions ≡ 1)
+    × AllByRecursion IsLevel path.positions
 
 pub record IsFine (from past : ℕ) (part : Part) : Type 0 where
   pub sound : AllByRecursion IsSound part.paths
   pub order : AreInOrder from part.edits past
-
-all_append : (xs ys : List Path) → AllByRecursion IsSound xs → AllByRecursion IsSound ys
-    → AllByRecursion IsSound (xs ++ ys)
-all_append [] ys are more = more
-all_append (x ∷ xs) ys are more = (are.0, all_append xs ys are.1 more)
 
 pub order_wider : (from past : ℕ) (edits : List Edit) (earlier later : ℕ) → earlier ≤ from → past ≤ later
     → AreInOrder from edits past → AreInOrder earlier edits later
@@ -81,7 +88,7 @@ fine_wider from past part earlier later a b fine =
 pub fine_joined : (from middle past : ℕ) (one next : Part) → IsFine from middle one → IsFine middle past next
     → IsFine from past (joined one next)
 fine_joined from middle past one next first second = record {
-  sound = all_append one.paths next.paths first.sound second.sound;
+  sound = all_append IsSound one.paths next.paths first.sound second.sound;
   order = order_append from one.edits middle next.edits past first.order second.order;
 }
 
@@ -89,43 +96,50 @@ pub fine_nothing : (from past : ℕ) → from ≤ past → IsFine from past noth
 fine_nothing from past le = record { sound = tt; order = le }
 
 -- positions stand one behind the other
-abbrev AreSpanned : ℕ → List Position → ℕ → Type 0
+abbrev AreSpanned : ℕ → List PositionRead → ℕ → Type 0
 AreSpanned from [] past = from ≤ past
 AreSpanned from (one ∷ more) past = (from ≤ one.start) × (one.start ≤ one.end) × AreSpanned one.end more past
 
-spanned_wider : (from past : ℕ) (all : List Position) (earlier later : ℕ) → earlier ≤ from → past ≤ later
+spanned_wider : (from past : ℕ) (all : List PositionRead) (earlier later : ℕ) → earlier ≤ from → past ≤ later
     → AreSpanned from all past → AreSpanned earlier all later
 spanned_wider from past [] earlier later a b are = omega (arith, a, b, are)
 spanned_wider from past (one ∷ more) earlier later a b are =
     (omega (arith, a, are.0), are.1, spanned_wider one.end past more one.end later (omega arith) b are.2)
 
-spanned_end : (one : Position) (more : List Position) (past : ℕ) → AreSpanned one.end more past
+spanned_end : (one : PositionRead) (more : List PositionRead) (past : ℕ) → AreSpanned one.end more past
     → (one.end ≤ end_of one more) × (end_of one more ≤ past)
 spanned_end one [] past are = (omega arith, are)
 spanned_end one (next ∷ more) past are = let later =
     spanned_end next more past are.2 in (omega (arith, are.0, are.1, later.0), later.1)
 
-from_is : (start end : ℕ) (x y : Result MmRead LayerFault) (one : Position) → position_from start end x y ≡ Ok one
+from_is : (start end : ℕ) (x y : Result MmRead LayerFault) (z : Result (Option MmRead) LayerFault) (one : PositionRead)
+    → position_from start end x y z ≡ Ok one → (one.start ≡ start) × (one.end ≡ end)
+from_is start end (Ok x) (Ok y) (Ok z) one is = let same : (let p : PositionRead =
+    record { x = x; y = y; z = z; start = start; end = end } in p) ≡ one =
+    cc in (sym (ap (λ (p : PositionRead). p.start) same), sym (ap (λ (p : PositionRead). p.end) same))
+from_is start end (Err fault) y z one is = cc
+from_is start end (Ok x) (Err fault) z one is = cc
+from_is start end (Ok x) (Ok y) (Err fault) one is = cc
+
+with_is : (exact : Bool) (place : ℕ) (elements : Elements) (start end : ℕ) (x y : Result MmRead LayerFault)
+    (one : PositionRead) → with_height exact place elements (position_from start end x y) ≡ Ok one
     → (one.start ≡ start) × (one.end ≡ end)
-from_is start end (Ok x) (Ok y) one is = let same : (let p : Position =
-    record { x = x; y = y; start = start; end = end } in p) ≡ one =
-    cc in (sym (ap (λ (p : Position). p.start) same), sym (ap (λ (p : Position). p.end) same))
-from_is start end (Err fault) y one is = cc
-from_is start end (Ok x) (Err fault) one is = cc
+with_is exact place no_element start end x y one is = from_is start end x y (Ok None) one is
+with_is exact place (element before z after no_element) start end x y one is =
+    from_is start end x y (some_height (number exact _ z)) one is
+with_is exact place (element before z after (element blank fourth more rest)) start end x y one is = cc
 
-pair_is : (exact : Bool) (start end place : ℕ) (elements : Elements) (one : Position)
-    → pair exact start end place elements ≡ Ok one → (one.start ≡ start) × (one.end ≡ end)
-pair_is exact start end place (element before x behind (element ahead y after no_element)) one is =
-    from_is start end (number exact _ x) (number exact _ y) one is
-pair_is exact start end place (element before x behind (element ahead y after (element blank third more rest))) one is =
-    cc
-pair_is exact start end place (element before x behind no_element) one is = cc
-pair_is exact start end place no_element one is = cc
+array_is : (exact : Bool) (start end place : ℕ) (elements : Elements) (one : PositionRead)
+    → array_position exact start end place elements ≡ Ok one → (one.start ≡ start) × (one.end ≡ end)
+array_is exact start end place (element before x behind (element ahead y after rest)) one is =
+    with_is exact _ rest start end (number exact _ x) (number exact _ y) one is
+array_is exact start end place (element before x behind no_element) one is = cc
+array_is exact start end place no_element one is = cc
 
-pub position_is : (exact : Bool) (start : ℕ) (value : Json) (one : Position) → position exact start value ≡ Ok one
+pub position_is : (exact : Bool) (start : ℕ) (value : Json) (one : PositionRead) → position exact start value ≡ Ok one
     → (one.start ≡ start) × (one.end ≡ start + length (spelling value))
 position_is exact start (array blank elements) one is =
-    pair_is exact start (start + length (spelling (array blank elements))) (inner_place start blank) elements one is
+    array_is exact start (start + length (spelling (array blank elements))) (inner_place start blank) elements one is
 position_is exact start null one is = cc
 position_is exact start (truth b) one is = cc
 position_is exact start (numeral text) one is = cc
@@ -141,10 +155,10 @@ text_length before value after rest place =
     let b = length-append (spelling value) (after ++ elements_behind rest) in
     let c = length-append after (elements_behind rest) in omega (arith, a, b, c)
 
-pub positions_spanned : (exact : Bool) (place : ℕ) (elements : Elements) (all : List Position)
+pub positions_spanned : (exact : Bool) (place : ℕ) (elements : Elements) (all : List PositionRead)
     → positions exact place elements ≡ Ok all → AreSpanned place all (place + length (elements_text elements))
 positions_spanned exact place no_element all is = let none : [] ≡ all =
-    cc in subst (λ (ps : List Position). AreSpanned place ps (place + length (elements_text no_element))) none
+    cc in subst (λ (ps : List PositionRead). AreSpanned place ps (place + length (elements_text no_element))) none
     (omega arith)
 positions_spanned exact place (element before value after rest) all is =
     let start = element_start place before in
@@ -156,7 +170,7 @@ positions_spanned exact place (element before value after rest) all is =
     let ends = position_is exact start value one one_is in
     let here = text_length before value after rest place in
     let others = positions_spanned exact (next_place start value after) rest more more_is in
-    subst (λ (ps : List Position). AreSpanned place ps
+    subst (λ (ps : List PositionRead). AreSpanned place ps
     (place + length (elements_text (element before value after rest)))) same (
       omega (arith, ends.0),
       omega (arith, ends.0, ends.1),
@@ -165,31 +179,50 @@ positions_spanned exact place (element before value after rest) all is =
           (omega (arith, ends.1)) (omega (arith, ends.1, here)) (λ some. omega (arith, here, some)) others,
     )
   where
-    rest_spanned : (rest : Elements) (from next past : ℕ) (more : List Position) → positions exact next rest ≡ Ok more
+    rest_spanned : (rest : Elements) (from next past : ℕ) (more : List PositionRead)
+        → positions exact next rest ≡ Ok more
         → from ≤ next → from ≤ past
         → (length (elements_behind rest) ≡ 1 + length (elements_text rest) → next + length (elements_text rest) ≤ past)
         → AreSpanned next more (next + length (elements_text rest)) → AreSpanned from more past
     rest_spanned no_element from next past more is a b fits are = let none : [] ≡ more =
-        cc in subst (λ (ps : List Position). AreSpanned from ps past) none b
+        cc in subst (λ (ps : List PositionRead). AreSpanned from ps past) none b
     rest_spanned (element before value after rest) from next past more is a b fits are =
         spanned_wider next (next + length (elements_text (element before value after rest))) more from past a
         (fits (omega arith)) are
 
+-- their heights are within reach
+positions_reach : (exact : Bool) (place : ℕ) (elements : Elements) (all : List PositionRead)
+    → positions exact place elements ≡ Ok all → AllByRecursion IsLevel (map position_of all)
+positions_reach exact place no_element all is = let none : [] ≡ all =
+    cc in subst (λ (ps : List PositionRead). AllByRecursion IsLevel (map position_of ps)) none tt
+positions_reach exact place (element before value after rest) all is =
+    let start = element_start place before in
+    let (one, one_is, onward) = split_then (λ one. and_then (in_front one)
+    (positions exact (next_place start value after) rest)) (position exact start value) all is in
+    let (more, more_is, made) = split_then (in_front one) (positions exact (next_place start value after) rest) all
+    onward in
+    let same : one ∷ more ≡ all = cc in
+    subst (λ (ps : List PositionRead). AllByRecursion IsLevel (map position_of ps)) same (
+      position_reach exact start value one one_is,
+      positions_reach exact (next_place start value after) rest more
+          more_is,
+    )
+
 -- one path of positions that stand there
-path_fine : (number from past : ℕ) (kind : PathKind) (points : List Pt) (all : List Position) (part : Part)
-    → AreSpanned from all past → (0 < length all → (0 < length points) × (kind ≡ kinds.Dot → length points ≡ 1))
-    → part_of number (path_of kind points all) ≡ Ok part → IsFine from past part
-path_fine number from past kind points [] part are sound is =
+path_fine : (number from past : ℕ) (kind : PathKind) (vertices : List Position) (all : List PositionRead) (part : Part)
+    → AreSpanned from all past → (0 < length all → (0 < length vertices) × (kind ≡ kinds.Dot → length vertices ≡ 1))
+    → AllByRecursion IsLevel vertices → part_of number (path_of kind vertices all) ≡ Ok part → IsFine from past part
+path_fine number from past kind vertices [] part are sound reach is =
     let none : nothing ≡ part = cc in subst (IsFine from past) none (fine_nothing from past are)
-path_fine number from past kind points (one ∷ more) part are sound is =
+path_fine number from past kind vertices (one ∷ more) part are sound reach is =
     let same : (let p : Part = record {
-      paths = path_of kind points (one ∷ more);
-      edits =
-          edits_from number (path_of kind points (one ∷ more));
+      paths = path_of kind vertices (one ∷ more);
+      edits = edits_from number (path_of kind vertices (one ∷ more));
     } in p) ≡ part = cc in
     let ends = spanned_end one more past are.2 in
+    let some = sound (omega arith) in
     subst (IsFine from past) same (record {
-      sound = (sound (omega arith), tt);
+      sound = ((some.0, some.1, reach), tt);
       order =
           (are.0, omega (arith, are.1, ends.0), ends.1);
     })
@@ -200,13 +233,14 @@ dot_fine : (exact : Bool) (number start : ℕ) (value : Json) (part : Part)
 dot_fine exact number start value part is =
     let (paths, read, made) = split_then (part_of number) (and_then dot_of (position exact start value)) part is in
     let (one, one_is, dot) = split_then dot_of (position exact start value) paths read in
-    let same : path_of kinds.Dot (point_of one ∷ []) (one ∷ []) ≡ paths = cc in
+    let same : path_of kinds.Dot (position_of one ∷ []) (one ∷ []) ≡ paths = cc in
     let ends = position_is exact start value one one_is in
-    path_fine number start (start + length (spelling value)) kinds.Dot (point_of one ∷ []) (one ∷ []) part
+    path_fine number start (start + length (spelling value)) kinds.Dot (position_of one ∷ []) (one ∷ []) part
     (omega (arith, ends.0), omega (arith, ends.0, ends.1), omega (arith, ends.1))
-    (λ some. (omega arith, λ dot. refl)) (ap (part_of number) same ∙ made)
+    (λ some. (omega arith, λ dot. refl)) (position_reach exact start value one one_is, tt)
+    (ap (part_of number) same ∙ made)
 
-array_spanned : (exact : Bool) (start : ℕ) (blank : List ℕ) (elements : Elements) (all : List Position)
+array_spanned : (exact : Bool) (start : ℕ) (blank : List ℕ) (elements : Elements) (all : List PositionRead)
     → positions exact (inner_place start blank) elements ≡ Ok all
     → AreSpanned start all (start + length (spelling (array blank elements)))
 array_spanned exact start blank elements all is =
@@ -216,18 +250,24 @@ array_spanned exact start blank elements all is =
     (start + length (spelling (array blank elements))) (omega arith) (omega (arith, text, inner))
     (positions_spanned exact (inner_place start blank) elements all is)
 
-pub closed_ring : (start : ℕ) (all : List Position) (paths : List Path) → ring_of start all ≡ Ok paths
-    → (is_closed (map point_of all) ≡ true) × (path_of kinds.Loop
-    (take (length (map point_of all) - 1) (map point_of all)) all ≡ paths)
-closed_ring start all paths is = by (is_closed (map point_of all)) refl is
+pub closed_ring : (start : ℕ) (all : List PositionRead) (paths : List Path) → ring_of start all ≡ Ok paths
+    → (is_ring (map position_of all) ≡ true) × (path_of kinds.Loop
+    (take (length (map position_of all) - 1) (map position_of all)) all ≡ paths)
+closed_ring start all paths is = by (is_ring (map position_of all)) refl is
   where
-    by : (test : Bool) → is_closed (map point_of all) ≡ test
-        → (if test then Ok (path_of kinds.Loop (take (length (map point_of all) - 1) (map point_of all)) all) else Err
-        (RingFault start)) ≡ Ok paths
-        → (is_closed (map point_of all) ≡ true) × (path_of kinds.Loop
-        (take (length (map point_of all) - 1) (map point_of all)) all ≡ paths)
+    by : (test : Bool) → is_ring (map position_of all) ≡ test
+        → (if test then Ok (path_of kinds.Loop (take (length (map position_of all) - 1) (map position_of all)) all)
+        else Err (RingFault start)) ≡ Ok paths
+        → (is_ring (map position_of all) ≡ true) × (path_of kinds.Loop
+        (take (length (map position_of all) - 1) (map position_of all)) all ≡ paths)
     by true closed is = (closed, cc)
     by false closed is = cc
+
+pub ring_many : (ring : List Position) → is_ring ring ≡ true → 4 ≤ length ring
+ring_many ring closed =
+    let four = closed_many (points_of ring)
+    (and_parts (is_closed (points_of ring)) (has_one_end (heights_of ring)) closed).0 in
+    let size = length-map ring (λ (vertex : Position). vertex.point) in omega (arith, four, size)
 
 traced_fine : (exact : Bool) (trace : Trace) (number start : ℕ) (blank : List ℕ) (elements : Elements) (part : Part)
     → and_then (part_of number) (traced exact trace start (array blank elements)) ≡ Ok part
@@ -243,28 +283,31 @@ traced_fine exact traces.Line number start blank elements part is =
     let (paths, read, made) = split_then (part_of number)
     (and_then line_of (positions exact (inner_place start blank) elements)) part is in
     let (all, all_is, line) = split_then line_of (positions exact (inner_place start blank) elements) paths read in
-    let same : path_of kinds.Line (map point_of all) all ≡ paths = cc in
-    path_fine number start (start + length (spelling (array blank elements))) kinds.Line (map point_of all) all part
+    let same : path_of kinds.Line (map position_of all) all ≡ paths = cc in
+    path_fine number start (start + length (spelling (array blank elements))) kinds.Line (map position_of all) all part
     (array_spanned exact start blank elements all all_is)
-    (λ some. (omega (arith, some, length-map all point_of), λ dot. cc)) (ap (part_of number) same ∙ made)
+    (λ some. (omega (arith, some, length-map all position_of), λ dot. cc))
+    (positions_reach exact (inner_place start blank) elements all all_is) (ap (part_of number) same ∙ made)
 traced_fine exact traces.Ring number start blank elements part is =
     let (paths, read, made) = split_then (part_of number)
     (and_then (ring_of start) (positions exact (inner_place start blank) elements)) part is in
     let (all, all_is, ring) = split_then (ring_of start) (positions exact (inner_place start blank) elements) paths
     read in
-    let points = map point_of all in
+    let vertices = map position_of all in
     let (closed, same) = closed_ring start all paths ring in
-    let four = closed_many points closed in
-    let kept = length-take (length points - 1) points in
+    let four = ring_many vertices closed in
+    let kept = length-take (length vertices - 1) vertices in
     path_fine number start (start + length (spelling (array blank elements))) kinds.Loop
-    (take (length points - 1) points) all part (array_spanned exact start blank elements all all_is)
-    (λ some. (omega (arith, kept, four), λ dot. cc)) (ap (part_of number) same ∙ made)
+    (take (length vertices - 1) vertices) all part (array_spanned exact start blank elements all all_is)
+    (λ some. (omega (arith, kept, four), λ dot. cc))
+    (all_parts IsLevel (length vertices - 1) vertices
+    (positions_reach exact (inner_place start blank) elements all all_is)).0 (ap (part_of number) same ∙ made)
 
 pub tested : (test : Bool) → (test ≡ true) ⊎ (test ≡ false)
 tested true = inl refl
 tested false = inr refl
 
-member_length : (before key_text behind ahead text after rest : List ℕ)
+pub member_length : (before key_text behind ahead text after rest : List ℕ)
     → length (before ++ (key_text ++ (behind ++ 58 ∷ (ahead ++ (text ++ (after ++ rest)))))) ≡ length before
     + length key_text + length behind + 1 + length ahead + length text + length after + length rest
 member_length before key_text behind ahead text after rest = simp length-append (omega arith)
@@ -478,20 +521,61 @@ mutual
             (sym (ap (λ b. if b then here ∷ others else others) t) ∙ only)
       ]
 
-tiled : (first past : ℕ) (paths : List Path) → AllByRecursion IsSound paths
-    → past ≡ first + length (flat_map points_in paths) → AreTiled (rows_from first paths) first past
+pub tiled : (first past : ℕ) (paths : List Path) → AllByRecursion IsSound paths
+    → past ≡ first + length (vertices_of paths) → AreTiled (rows_from first paths) first past
 tiled first past [] are end = omega (arith, end)
 tiled first past (path ∷ paths) are end =
-    let size = length-append path.points (flat_map points_in paths) in
+    let size = length-append path.positions (vertices_of paths) in
     let some = are.0.0 in (
       record { begins = refl; some = omega (arith, some); dot = λ is. let one = are.0.1 is in omega (arith, one) },
-      tiled (first + length path.points) past paths are.1 (omega (arith, end, size)),
+      tiled (first + length path.positions) past paths are.1 (omega (arith, end, size)),
     )
 
-pub part_is_sheet : (part : Part) → AllByRecursion IsSound part.paths → length (flat_map points_in part.paths) < 2 ^ 32
+-- ---- the sheet of a part
+vertices_reach : (paths : List Path) → AllByRecursion IsSound paths → AllByRecursion IsLevel (vertices_of paths)
+vertices_reach [] sound = tt
+vertices_reach (path ∷ paths) sound =
+    all_append IsLevel path.positions (vertices_of paths) sound.0.2 (vertices_reach paths sound.1)
+
+none_listed : All IsHeightWithinReach []
+none_listed k d h = absurd (omega (arith, h))
+
+heights_reach : (vertices : List Position) → AllByRecursion IsLevel vertices
+    → All IsHeightWithinReach (heights_of vertices)
+heights_reach [] reach = none_listed
+heights_reach (vertex ∷ vertices) reach =
+    All-cons IsHeightWithinReach vertex.height (heights_of vertices) reach.0 (heights_reach vertices reach.1)
+
+pub points_count : (vertices : List Position) → length (points_of vertices) ≡ length vertices
+points_count vertices = length-map vertices (λ (vertex : Position). vertex.point)
+
+pub heights_count : (vertices : List Position) → length (heights_of vertices) ≡ length vertices
+heights_count vertices = length-map vertices (λ (vertex : Position). vertex.height)
+
+-- what a sheet keeps of the paths of a part
+pub record IsPartOfSheet (part : Part) : Type 0 where
+  pub tiled : AreTiled (sheet_of part).paths 0 (length (sheet_of part).points)
+  pub one_height_each : length (sheet_of part).heights ≡ length (sheet_of part).points
+  pub heights_in_reach : All IsHeightWithinReach (sheet_of part).heights
+
+pub sheet_kept : (part : Part) → AllByRecursion IsSound part.paths → IsPartOfSheet part
+sheet_kept part sound =
+    let vertices = vertices_of part.paths in
+    let points = points_count vertices in
+    let heights = heights_count vertices in
+    record {
+      tiled = tiled 0 (length (points_of vertices)) part.paths sound (omega (arith, points));
+      one_height_each = omega (arith, points, heights);
+      heights_in_reach = heights_reach vertices (vertices_reach part.paths sound);
+    }
+
+pub part_is_sheet : (part : Part) → AllByRecursion IsSound part.paths → length (sheet_of part).points < 2 ^ 32
     → IsSheet (sheet_of part)
-part_is_sheet part sound few = record {
-  tiled =
-      tiled 0 (length (flat_map points_in part.paths)) part.paths sound (omega arith);
-  few = few;
-}
+part_is_sheet part sound few =
+    let kept = sheet_kept part sound in
+    record {
+      tiled = kept.tiled;
+      few = few;
+      one_height_each = kept.one_height_each;
+      heights_in_reach = kept.heights_in_reach;
+    }

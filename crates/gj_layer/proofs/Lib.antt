@@ -1,7 +1,7 @@
 -- The files of lemmas of gj_layer.
 pub mod There
 pub mod Naming
-pub mod Pairs
+pub mod PositionElements
 pub mod Runs
 pub mod Giving
 pub mod Holding
@@ -13,10 +13,13 @@ pub mod Laying
 pub mod Endings
 pub mod Opened
 pub mod Walking
+mod ReadHeights
 pub mod Fine
 pub mod Documents
 pub mod OneSheet
 mod SomeOutcome
+mod ReadSheets
+mod MemoryFaults
 mod BoxLemmas
 pub mod Redrawing
 pub mod ImageValues

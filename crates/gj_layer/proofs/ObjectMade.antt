@@ -6,7 +6,7 @@ use Rattle.jtext.specs.Characters.{units_of}
 use Rattle.jtext.specs.Values.{Json, Members, object, spelling, members_text, IsValue}
 use Rattle.jtext.specs.Nodes.{inner_place}
 use Rattle.jtext.specs.Lookups.{are_same}
-use Rattle.plane_base.specs.declared.shapes.Pt.{Pt}
+use Rattle.sheet_base.specs.PointHeights.{Position}
 use Rattle.sheet_base.specs.declared.edits.Edit.{Edit}
 use Rattle.sheet_base.specs.declared.edits.What.TheVariants.{Bounds}
 use Rattle.sheet_base.proofs.Swaps.{Swapped}
@@ -29,7 +29,7 @@ use Rattle.gj_layer.proofs.Saying.{says_one}
 use Rattle.gj_layer.proofs.Levels.{HasRoom, has_level}
 
 -- an object's members turn
-pub record ObjectTurned (exact : Bool) (text : Edit → List ℕ) (images : ℕ → List Pt) (holder : Holder)
+pub record ObjectTurned (exact : Bool) (text : Edit → List ℕ) (images : ℕ → List Position) (holder : Holder)
     (number start depth : ℕ) (blank : List ℕ) (members : Members) (part : Part) : Type 0 where
   pub now : Members
   pub swap : Swapped text start (spelling (object blank members)) part.edits (spelling (object blank now))
@@ -48,7 +48,7 @@ none_alike : (news : List Member) → AreLike [] news → news ≡ []
 none_alike [] like = refl
 none_alike (new ∷ news) like = absurd like
 
-module _ (exact : Bool) (text : Edit → List ℕ) (images : ℕ → List Pt) (says : DoesSay text images) where
+module _ (exact : Bool) (text : Edit → List ℕ) (images : ℕ → List Position) (says : DoesSay text images) where
   -- the content is read with images in place of points
   abbrev IsGood : GeoType → ℕ → Part → Json → Type 0
   IsGood type number inside value = (at : ℕ)

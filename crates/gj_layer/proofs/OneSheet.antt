@@ -1,13 +1,11 @@
 -- A layer has one sheet, or one fault.
-use Rattle.std.proofs.Common.{◌≡◌, ℕ, ◌+◌, ◌<◌, ◌≤◌, inl, inr, List, [], ◌∷◌, ◌++◌, length, sym, ap, ◌∙◌, subst, arith}
-use Rattle.std.proofs.Common.{append_assoc, Bool, true, false}
+use Rattle.std.proofs.Common.{◌≡◌, ℕ, inl, inr, List, sym, ap, ◌∙◌}
+use Rattle.std.proofs.Common.{Bool}
 use Rattle.std.specs.Prelude.{Result, Ok, Err}
-use Rattle.jtext.specs.Numbers.{IsNumber, IsMinus, IsInt}
-use Rattle.jtext.specs.Values.{Json, null, truth, numeral, quoted, array, object, spelling, IsBlank, AreBlank, IsValue}
-use Rattle.jtext.specs.Texts.{Whole, IsWhole, mark_text}
+use Rattle.jtext.specs.Texts.{Whole, IsWhole}
 use Rattle.jtext.specs.Places.{whole_start}
 use Rattle.jtext.specs.declared.reading.TheConstants.{DEEPEST}
-use Rattle.jtext.proofs.OneValue.{StopsAt, one_cut, one_value}
+use Rattle.jtext.proofs.OneValue.{one_place, one_value}
 use Rattle.jtext.proofs.Exclusion.{bad_once, deep_once, bad_or_deep}
 use Rattle.sheet_base.specs.declared.faults.LayerFault.{LayerFault}
 use Rattle.sheet_base.specs.declared.faults.LayerFault.TheVariants.{Bad, Deep}
@@ -18,83 +16,11 @@ use Rattle.gj_layer.specs.Paths.{Part, sheet_of}
 use Rattle.gj_layer.specs.Reading.{reading}
 use Rattle.gj_layer.specs.Layers.{Answers, IsReadAs, IsTextFault, IsRefusedBy}
 
--- a value begins with a byte of ASCII that is no white space
-abbrev Begins : List ℕ → Type 0
-Begins [] = ⊥
-Begins (byte ∷ bytes) = (33 ≤ byte) × (byte < 128)
-
-digit_begins : (digit : ℕ) (digits rest : List ℕ) → IsInt (digit ∷ digits) → Begins ((digit ∷ digits) ++ rest)
-digit_begins digit digits rest (inl is) = (omega (arith, is.0), omega (arith, is.0))
-digit_begins digit digits rest (inr is) = (omega (arith, is.0), omega (arith, is.1))
-
-sign_begins : (minus whole rest : List ℕ) → IsMinus minus → IsInt whole → Begins (minus ++ (whole ++ rest))
-sign_begins [] [] rest m w = absurd w
-sign_begins [] (digit ∷ digits) rest m w = digit_begins digit digits rest w
-sign_begins (byte ∷ bytes) whole rest (inl is) w = cc
-sign_begins (byte ∷ bytes) whole rest (inr is) w = let same : byte ≡ 45 =
-    cc in (omega (arith, same), omega (arith, same))
-
-number_begins : (text rest : List ℕ) → IsNumber text → Begins (text ++ rest)
-number_begins text rest is =
-    let tail = is.fraction ++ is.exponent in
-    subst (λ t. Begins (t ++ rest)) (sym is.all)
-    (subst Begins (sym (four is.minus is.whole tail rest))
-    (sign_begins is.minus is.whole (tail ++ rest) is.minus_is is.whole_is))
-  where
-    four : (a b c d : List ℕ) → (a ++ (b ++ c)) ++ d ≡ a ++ (b ++ (c ++ d))
-    four a b c d = simp append_assoc
-
-value_begins : (value : Json) (depth : ℕ) (rest : List ℕ) → IsValue depth value → Begins (spelling value ++ rest)
-value_begins null depth rest is = (omega arith, omega arith)
-value_begins (truth true) depth rest is = (omega arith, omega arith)
-value_begins (truth false) depth rest is = (omega arith, omega arith)
-value_begins (numeral text) depth rest is = number_begins text rest is
-value_begins (quoted chars) depth rest is = (omega arith, omega arith)
-value_begins (array blank elements) depth rest is = (omega arith, omega arith)
-value_begins (object blank members) depth rest is = (omega arith, omega arith)
-
-low : (byte : ℕ) → IsBlank byte → byte < 33
-low byte (inl is) = omega (arith, is)
-low byte (inr (inl is)) = omega (arith, is)
-low byte (inr (inr (inl is))) = omega (arith, is)
-low byte (inr (inr (inr is))) = omega (arith, is)
-
-stops : (text : List ℕ) → Begins text → StopsAt IsBlank text
-stops [] is = tt
-stops (byte ∷ text) is = λ blank. let small = low byte blank in omega (arith, is.0, small)
-
--- no text without a mark begins as the mark does
-no_mark : (before rest tail : List ℕ) → AreBlank before → Begins rest → 0xEF ∷ tail ≡ before ++ rest → ⊥
-no_mark [] [] tail blank begins same = absurd begins
-no_mark [] (byte ∷ rest) tail blank begins same = let e : 0xEF ≡ byte = cc in omega (arith, begins.1, e)
-no_mark (byte ∷ before) rest tail blank begins same = let e : 0xEF ≡ byte = cc in let small =
-    low byte blank.0 in omega (arith, small, e)
-
-same_start : (p q : Bool) (a b x y : List ℕ) → AreBlank a → AreBlank b → Begins x → Begins y
-    → mark_text p ++ (a ++ x) ≡ mark_text q ++ (b ++ y)
-    → length (mark_text p) + length a ≡ length (mark_text q) + length b
-same_start true true a b x y ba bb bx by same =
-    let rest : a ++ x ≡ b ++ y = cc in
-    let cut = (one_cut IsBlank a b x y ba bb (stops x bx) (stops y by) rest).0 in omega (arith, ap length cut)
-same_start true false a b x y ba bb bx by same = absurd (no_mark b y _ bb by same)
-same_start false true a b x y ba bb bx by same = absurd (no_mark a x _ ba bx (sym same))
-same_start false false a b x y ba bb bx by same = let cut =
-    (one_cut IsBlank a b x y ba bb (stops x bx) (stops y by) same).0 in omega (arith, ap length cut)
-
--- the value of a text begins at one place
-start_one : (bytes : List ℕ) (whole other : Whole) → IsWhole DEEPEST whole bytes → IsWhole DEEPEST other bytes
-    → whole_start whole ≡ whole_start other
-start_one bytes whole other x y =
-    same_start whole.marked other.marked whole.before other.before (spelling whole.value ++ whole.after)
-    (spelling other.value ++ other.after) x.before y.before
-    (value_begins whole.value DEEPEST whole.after x.value) (value_begins other.value DEEPEST other.after y.value)
-    (sym x.all ∙ y.all)
-
 answer_one : (exact : Bool) (bytes : List ℕ) (answer other : Result Part LayerFault) → Answers exact bytes answer
     → Answers exact bytes other → answer ≡ other
 answer_one exact bytes answer other (whole, text, read) (second, again, reads) =
     sym read ∙ ap (λ n. reading exact (forms.Object holders.Layer) 0 n whole.value)
-    (start_one bytes whole second text again)
+    (one_place DEEPEST DEEPEST bytes whole second text again).1
     ∙ ap (reading exact (forms.Object holders.Layer) 0 (whole_start second))
     (one_value DEEPEST DEEPEST bytes whole second text again) ∙ reads
 

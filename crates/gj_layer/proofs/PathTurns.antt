@@ -8,21 +8,20 @@ use Rattle.std.proofs.lemmas.List.{length-map}
 use Rattle.jtext.specs.Values.{Json, Elements, null, truth, numeral, quoted, array, object, no_element, element}
 use Rattle.jtext.specs.Values.{spelling, elements_text, AreBlank, IsArrayBlank, IsValue, AreElements}
 use Rattle.jtext.specs.Nodes.{inner_place, element_start, next_place}
-use Rattle.plane_base.specs.declared.shapes.Pt.{Pt}
+use Rattle.sheet_base.specs.PointHeights.{Position}
 use Rattle.sheet_base.specs.declared.paths.PathKind.{PathKind}
 use Rattle.sheet_base.specs.declared.paths.PathKind.TheVariants as kinds
 use Rattle.sheet_base.specs.declared.edits.Edit.{Edit}
-use Rattle.sheet_base.specs.Fitting.{IsWithinReach}
-use Rattle.sheet_base.proofs.Redrawn.{Drawn}
 use Rattle.sheet_base.proofs.Swaps.{Swapped, edit_swapped, front_swapped, behind_swapped}
 use Rattle.gj_layer.specs.declared.forms.Trace.{Trace}
 use Rattle.gj_layer.specs.declared.forms.Form.TheVariants as forms
-use Rattle.gj_layer.specs.declared.positions.Position.{Position}
+use Rattle.gj_layer.specs.declared.positions.PositionRead.{PositionRead}
 use Rattle.gj_layer.specs.Faults.{and_then}
-use Rattle.gj_layer.specs.Positions.{position, positions, in_front, point_of, lost_of}
+use Rattle.gj_layer.specs.Positions.{position, positions, in_front, position_of, lost_of}
 use Rattle.gj_layer.specs.Paths.{Path, Part, path_of, end_of, dot_of, traced, part_of, edit_of, lost_in}
 use Rattle.gj_layer.specs.Texts.{image_text, list_text}
 use Rattle.gj_layer.proofs.Fine.{split_then, position_is}
+use Rattle.sheet_base.proofs.DrawnPaths.{Drawn, IsPositionWithinReach}
 use Rattle.gj_layer.proofs.Redrawing.{kind_text, IsDrawn}
 use Rattle.gj_layer.proofs.ImageValues.{image_value, image_spelled, image_is_value, IsPositionAt, image_read}
 use Rattle.gj_layer.proofs.ImageValues.{image_elements, elements_spelled, elements_are_values, ArePositionsAt}
@@ -31,7 +30,8 @@ use Rattle.gj_layer.proofs.Turns.{DoesSay, ValueTurned, bracketed}
 
 -- ---- where the positions of an array stand
 -- from the first position to the last stand these bytes, and then white space
-record IsSpan (place : ℕ) (before : List ℕ) (elements : Elements) (one : Position) (more : List Position) : Type 0 where
+record IsSpan (place : ℕ) (before : List ℕ) (elements : Elements) (one : PositionRead) (more : List PositionRead) : Type
+    0 where
   middle : List ℕ
   tail : List ℕ
   split : elements_text elements ≡ before ++ (middle ++ tail)
@@ -41,12 +41,13 @@ record IsSpan (place : ℕ) (before : List ℕ) (elements : Elements) (one : Pos
 
 -- what is read of the first element and of the others
 record AreCut (exact : Bool) (place : ℕ) (before : List ℕ) (value : Json) (after : List ℕ) (rest : Elements)
-    (one : Position) (more : List Position) : Type 0 where
+    (one : PositionRead) (more : List PositionRead) : Type 0 where
   first : position exact (element_start place before) value ≡ Ok one
   others : positions exact (next_place (element_start place before) value after) rest ≡ Ok more
 
-cut : (exact : Bool) (place : ℕ) (before : List ℕ) (value : Json) (after : List ℕ) (rest : Elements) (one : Position)
-    (more : List Position) → positions exact place (element before value after rest) ≡ Ok (one ∷ more)
+cut : (exact : Bool) (place : ℕ) (before : List ℕ) (value : Json) (after : List ℕ) (rest : Elements)
+    (one : PositionRead)
+    (more : List PositionRead) → positions exact place (element before value after rest) ≡ Ok (one ∷ more)
     → AreCut exact place before value after rest one more
 cut exact place before value after rest one more is =
     let start = element_start place before in
@@ -61,7 +62,8 @@ cut exact place before value after rest one more is =
     record { first = first_is ∙ ap Ok head; others = others_are ∙ ap Ok tail }
 
 span : (exact : Bool) (depth place : ℕ) (before : List ℕ) (value : Json) (after : List ℕ) (rest : Elements)
-    (one : Position) (more : List Position) → positions exact place (element before value after rest) ≡ Ok (one ∷ more)
+    (one : PositionRead) (more : List PositionRead)
+    → positions exact place (element before value after rest) ≡ Ok (one ∷ more)
     → AreElements depth (element before value after rest)
     → IsSpan place before (element before value after rest) one more
 span exact depth place before value after no_element one [] is valid =
@@ -114,7 +116,7 @@ span exact depth place before value after (element ahead second behind rest) one
         }
 
 -- a position is an array
-position_deep : (exact : Bool) (start : ℕ) (value : Json) (one : Position) → position exact start value ≡ Ok one
+position_deep : (exact : Bool) (start : ℕ) (value : Json) (one : PositionRead) → position exact start value ≡ Ok one
     → IsValue 0 value → ⊥
 position_deep exact start (array blank elements) one is valid = absurd valid
 position_deep exact start null one is valid = cc
@@ -124,14 +126,14 @@ position_deep exact start (quoted chars) one is valid = cc
 position_deep exact start (object blank members) one is valid = absurd valid
 
 -- ---- what is read of the images
-pub path_drawn : (images : ℕ → List Pt) (number : ℕ) (path : Path) (kind : PathKind) (points : List Pt)
-    (all : List Position) → kind ≡ path.kind → points ≡ images number → sum_by lost_of all ≡ 0 → 0 < length all
+pub path_drawn : (images : ℕ → List Position) (number : ℕ) (path : Path) (kind : PathKind) (points : List Position)
+    (all : List PositionRead) → kind ≡ path.kind → points ≡ images number → sum_by lost_of all ≡ 0 → 0 < length all
     → IsDrawn images number (path ∷ []) (part_of number (path_of kind points all))
 path_drawn images number path kind points [] kind_is points_are exact_all some = absurd (omega (arith, some))
 path_drawn images number path kind points (one ∷ more) kind_is points_are exact_all some =
     let new : Path = record {
       kind = kind;
-      points = points;
+      positions = points;
       lost = sum_by lost_of (one ∷ more);
       start = one.start;
       end =
@@ -141,22 +143,22 @@ path_drawn images number path kind points (one ∷ more) kind_is points_are exac
     record {
       part = record { paths = new ∷ []; edits = edit_of number new ∷ [] };
       is = refl;
-      drawn_are = ap (λ k. let d : Drawn = record { kind = k; points = points } in d ∷ []) kind_is
-          ∙ ap (λ ps. let d : Drawn = record { kind = path.kind; points = ps } in d ∷ []) points_are;
+      drawn_are = ap (λ k. let d : Drawn = record { kind = k; positions = points } in d ∷ []) kind_is
+          ∙ ap (λ ps. let d : Drawn = record { kind = path.kind; positions = ps } in d ∷ []) points_are;
       exact_all = sum_by-cons lost_in new [] ∙ omega (arith, exact_all, none);
     }
 
-pub some_read : (images : List Pt) (all : List Position) → map point_of all ≡ images → 0 < length images
+pub some_read : (images : List Position) (all : List PositionRead) → map position_of all ≡ images → 0 < length images
     → 0 < length all
-some_read images all are some = let a = ap length are in let b = length-map all point_of in omega (arith, a, b, some)
+some_read images all are some = let a = ap length are in let b = length-map all position_of in omega (arith, a, b, some)
 
-module _ (exact : Bool) (text : Edit → List ℕ) (images : ℕ → List Pt) (says : DoesSay text images) where
+module _ (exact : Bool) (text : Edit → List ℕ) (images : ℕ → List Position) (says : DoesSay text images) where
   -- the part of one path
   abbrev pub alone : ℕ → Path → Part
   alone number path = record { paths = path ∷ []; edits = edit_of number path ∷ [] }
 
-  dot_read : (number at : ℕ) (path : Path) (image : Pt) → path.kind ≡ kinds.Dot → images number ≡ image ∷ []
-      → IsWithinReach image
+  dot_read : (number at : ℕ) (path : Path) (image : Position) → path.kind ≡ kinds.Dot → images number ≡ image ∷ []
+      → IsPositionWithinReach image
       → IsDrawn images number (path ∷ []) (and_then (part_of number)
       (and_then dot_of (position exact at (image_value image))))
   dot_read number at path image kind_is images_are within = go (image_read exact at image within)
@@ -168,15 +170,15 @@ module _ (exact : Bool) (text : Edit → List ℕ) (images : ℕ → List Pt) (s
           let none : sum_by lost_of [] ≡ 0 = refl in
           let lost = p.exact_all in
           subst (λ r. IsDrawn images number (path ∷ []) (and_then (part_of number) (and_then dot_of r))) (sym p.is)
-          (path_drawn images number path kinds.Dot (point_of p.one ∷ []) (p.one ∷ []) (sym kind_is)
-          (ap (λ q. q ∷ []) p.point ∙ sym images_are) (sum_by-cons lost_of p.one [] ∙ omega (arith, lost, none))
+          (path_drawn images number path kinds.Dot (position_of p.one ∷ []) (p.one ∷ []) (sym kind_is)
+          (ap (λ q. q ∷ []) p.place ∙ sym images_are) (sum_by-cons lost_of p.one [] ∙ omega (arith, lost, none))
           (omega arith))
 
-  pub dot_turned : (trace : Trace) → ((at : ℕ) (image : Pt)
+  pub dot_turned : (trace : Trace) → ((at : ℕ) (image : Position)
       → traced exact trace at (image_value image) ≡ and_then dot_of (position exact at (image_value image)))
-      → (number start depth : ℕ) (blank : List ℕ) (elements : Elements) (path : Path) (image : Pt)
+      → (number start depth : ℕ) (blank : List ℕ) (elements : Elements) (path : Path) (image : Position)
       → path.kind ≡ kinds.Dot → path.start ≡ start → path.end ≡ start + length (spelling (array blank elements))
-      → images number ≡ image ∷ [] → IsWithinReach image → IsValue depth (array blank elements)
+      → images number ≡ image ∷ [] → IsPositionWithinReach image → IsValue depth (array blank elements)
       → ValueTurned exact text images (forms.Path trace) number start depth (array blank elements) (alone number path)
   dot_turned trace is_dot number start zero blank elements path image kind_is start_is end_is images_are within valid =
       absurd valid
@@ -196,12 +198,12 @@ module _ (exact : Bool) (text : Edit → List ℕ) (images : ℕ → List Pt) (s
 
   -- positions in an array, that turn into these images
   pub list_turned : (trace : Trace) (number start depth : ℕ) (blank before : List ℕ) (value : Json) (after : List ℕ)
-      (rest : Elements) (path : Path) (one : Position) (more : List Position)
+      (rest : Elements) (path : Path) (one : PositionRead) (more : List PositionRead)
       → positions exact (inner_place start blank) (element before value after rest) ≡ Ok (one ∷ more)
       → path.start ≡ one.start → path.end ≡ end_of one more
       → IsValue depth (array blank (element before value after rest))
-      → (image : Pt) (others : List Pt) → text (edit_of number path) ≡ list_text (image ∷ others)
-      → AllByRecursion IsWithinReach (image ∷ others)
+      → (image : Position) (others : List Position) → text (edit_of number path) ≡ list_text (image ∷ others)
+      → AllByRecursion IsPositionWithinReach (image ∷ others)
       → ((at : ℕ) (elements : Elements) → ArePositionsAt (image ∷ others)
       (positions exact (inner_place at blank) elements)
       → IsDrawn images number (path ∷ []) (and_then (part_of number) (traced exact trace at (array blank elements))))
@@ -241,6 +243,6 @@ module _ (exact : Bool) (text : Edit → List ℕ) (images : ℕ → List Pt) (s
                 (images_read exact (inner_place at blank) before image others s.tail within);
           }
         where
-          array_blank : (others : List Pt) → IsArrayBlank blank (image_elements before image others s.tail)
+          array_blank : (others : List Position) → IsArrayBlank blank (image_elements before image others s.tail)
           array_blank [] = valid.0
           array_blank (next ∷ others) = valid.0

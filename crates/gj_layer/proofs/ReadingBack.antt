@@ -6,9 +6,9 @@ use Rattle.jtext.specs.Texts.{Whole, IsWhole, mark_text, whole_text}
 use Rattle.jtext.specs.Places.{whole_start}
 use Rattle.jtext.specs.declared.reading.TheConstants.{DEEPEST}
 use Rattle.sheet_base.specs.Sheets.{Contents}
-use Rattle.sheet_base.specs.Fitting.{Runs, DoFit, path_images}
+use Rattle.sheet_base.specs.Fitting.{Runs, DoFit, path_positions}
 use Rattle.sheet_base.specs.Splices.{AreInOrder, spliced}
-use Rattle.sheet_base.specs.ReadBack.{IsReadBack}
+use Rattle.sheet_base.specs.ReadBack.{AreTheSame, IsReadBack}
 use Rattle.sheet_base.proofs.WrittenLayers.{IsReadAgain, read_back}
 use Rattle.sheet_base.proofs.Swaps.{Swapped, spliced_on, on_from, swapped_all, front_swapped, behind_swapped}
 use Rattle.gj_layer.specs.declared.forms.Holder.TheVariants as holders
@@ -21,12 +21,12 @@ use Rattle.gj_layer.proofs.Documents.{read_in_order}
 use Rattle.gj_layer.proofs.Turns.{ValueTurned}
 use Rattle.gj_layer.proofs.EditTexts.{texts_say}
 use Rattle.gj_layer.proofs.ValueTurns.{value_turned}
-use Rattle.gj_layer.proofs.SheetTurns.{sheet_suits, points_again, rows_again}
+use Rattle.gj_layer.proofs.SheetTurns.{sheet_suits, points_again, heights_again, rows_again}
 
 -- the whole text of the value that the layer's value turns into
 whole_again : (exact : Bool) (bytes : List ℕ) (part : Part) (images : Runs) (whole : Whole)
     → IsWhole DEEPEST whole bytes → layer_reading exact whole ≡ Ok part → DoFit (sheet_of part) images
-    → ValueTurned exact (edit_text (sheet_of part) images) (path_images (rows_from 0 part.paths) images)
+    → ValueTurned exact (edit_text (sheet_of part) images) (path_positions (rows_from 0 part.paths) images)
     (forms.Object holders.Layer) 0 (whole_start whole) DEEPEST whole.value part
     → IsReadAgain (IsReadAs exact) (spliced bytes (edit_text (sheet_of part) images) part.edits) (sheet_of part) images
 whole_again exact bytes part images whole is read fit v =
@@ -54,6 +54,7 @@ whole_again exact bytes part images whole is read fit v =
         refl,
       );
       points = points_again part images fit d.part.paths d.drawn_are;
+      heights = heights_again part images fit d.part.paths d.drawn_are;
       paths = rows_again part images fit d.part.paths d.drawn_are;
       exact_all = d.exact_all;
     }
@@ -65,7 +66,7 @@ part_again exact bytes part images whole is read fit =
     let start = whole_start whole in
     let fine = value_fine whole.value exact (forms.Object holders.Layer) 0 start part read in
     whole_again exact bytes part images whole is read fit
-    (value_turned exact (edit_text (sheet_of part) images) (path_images (rows_from 0 part.paths) images)
+    (value_turned exact (edit_text (sheet_of part) images) (path_positions (rows_from 0 part.paths) images)
     (texts_say part images fit) whole.value (forms.Object holders.Layer) 0 start DEEPEST part (omega arith) is.value
     read
     (sheet_suits part images fit fine.sound))
@@ -80,7 +81,8 @@ read_again exact bytes sheet images (part, (whole, text, read), same) fit =
 
 pub reads_back : (exact : Bool) (bytes : List ℕ) (sheet : Contents) (images : Runs) → IsReadAs exact bytes sheet
     → DoFit sheet images
-    → IsReadBack (IsReadAs exact) sheet images (spliced bytes (edit_text sheet images) sheet.edits)
+    → IsReadBack (IsReadAs exact) AreTheSame sheet images
+    (spliced bytes (edit_text sheet images) sheet.edits)
 reads_back exact bytes sheet images is fit =
     read_back (IsReadAs exact) (spliced bytes (edit_text sheet images) sheet.edits) sheet images
     (read_again exact bytes sheet images is fit)

@@ -10,49 +10,53 @@ use Rattle.jtext.specs.Places.{Stands}
 use Rattle.jtext.specs.declared.document.Node.{Node}
 use Rattle.jtext.proofs.Standing.{node_count_positive}
 use Rattle.plane_base.specs.declared.shapes.Pt.{Pt}
+use Rattle.sheet_base.specs.PointHeights.{Height, Position, points_of, heights_of}
 use Rattle.sheet_base.specs.declared.faults.LayerFault.{LayerFault}
-use Rattle.gj_layer.specs.declared.positions.Position.{Position}
+use Rattle.gj_layer.specs.declared.positions.PositionRead.{PositionRead}
 use Rattle.gj_layer.specs.declared.positions.Run.{Run}
 use Rattle.gj_layer.specs.Faults.{and_then}
-use Rattle.gj_layer.specs.Positions.{position, positions, in_front, point_of, lost_of}
+use Rattle.gj_layer.specs.Positions.{position, positions, in_front, point_of, height_of}
+use Rattle.gj_layer.specs.Positions.{position_of, lost_of}
 use Rattle.gj_layer.specs.Paths.{end_of}
 use Rattle.gj_layer.specs.Standing.{AreLeft, AreFrom, IsRun}
 use Rattle.gj_layer.proofs.There.{first_is, left_count}
 
 -- what was passed, with what is read of the rest
-abbrev pub behind_these : List Position → List Position → Result (List Position) LayerFault
+abbrev pub behind_these : List PositionRead → List PositionRead → Result (List PositionRead) LayerFault
 behind_these done more = Ok (done ++ more)
 
 -- none was passed where the walk begins, and some behind that place
-abbrev pub HasBegun : List Position → ℕ → ℕ → Type 0
+abbrev pub HasBegun : List PositionRead → ℕ → ℕ → Type 0
 HasBegun [] first at = at ≡ first
 HasBegun (one ∷ more) first at = first < at
 
 -- these positions were passed, and the rest stands from here on
-pub record IsWalked (nodes : List Node) (bytes : List ℕ) (exact : Bool) (all : Result (List Position) LayerFault)
-    (first at end : ℕ) (old now : List Pt) (run : Run) : Type 0 where
+pub record IsWalked (nodes : List Node) (bytes : List ℕ) (exact : Bool) (all : Result (List PositionRead) LayerFault)
+    (first at end : ℕ) (old now : List Pt) (low high : List Height) (run : Run) : Type 0 where
   pub place : ℕ
   pub rest : Elements
-  pub done : List Position
+  pub done : List PositionRead
   pub left : AreLeft nodes bytes at end place rest
   pub so_far : all ≡ and_then (behind_these done) (positions exact place rest)
-  pub run_is : IsRun old now run done
+  pub run_is : IsRun old now low high run done
   pub begun : HasBegun done first at
 
-ok_same : (r : Result (List Position) LayerFault) → r ≡ and_then (behind_these []) r
+ok_same : (r : Result (List PositionRead) LayerFault) → r ≡ and_then (behind_these []) r
 ok_same (Ok all) = refl
 ok_same (Err fault) = refl
 
-one_behind : (done : List Position) (one : Position) (r : Result (List Position) LayerFault)
+one_behind : (done : List PositionRead) (one : PositionRead) (r : Result (List PositionRead) LayerFault)
     → and_then (behind_these done) (and_then (in_front one) r) ≡ and_then (behind_these (done ++ one ∷ [])) r
 one_behind done one (Ok more) = ap Ok (sym (append_assoc done (one ∷ []) more))
 one_behind done one (Err fault) = refl
 
-end_of_more : (one : Position) (more : List Position) (last : Position) → end_of one (more ++ last ∷ []) ≡ last.end
+end_of_more : (one : PositionRead) (more : List PositionRead) (last : PositionRead)
+    → end_of one (more ++ last ∷ []) ≡ last.end
 end_of_more one [] last = refl
 end_of_more one (next ∷ more) last = end_of_more next more last
 
-from_more : (done : List Position) (last : Position) (start end : ℕ) (now_start : ℕ) (is_first : Bool) (first at : ℕ)
+from_more : (done : List PositionRead) (last : PositionRead) (start end : ℕ) (now_start : ℕ) (is_first : Bool)
+    (first at : ℕ)
     → AreFrom done start end → HasBegun done first at
     → (is_first ≡ true → at ≡ first) → (at ≡ first → is_first ≡ true)
     → now_start ≡ (if is_first then last.start else start)
@@ -64,38 +68,45 @@ from_more (one ∷ more) last start end now_start true first at are begun first_
 from_more (one ∷ more) last start end now_start false first at are begun first_so only is =
     (is ∙ are.0, sym (end_of_more one more last))
 
-begun_more : (done : List Position) (last : Position) (first at next : ℕ) → HasBegun done first at → at < next
+begun_more : (done : List PositionRead) (last : PositionRead) (first at next : ℕ) → HasBegun done first at → at < next
     → HasBegun (done ++ last ∷ []) first next
 begun_more [] last first at next begun on = omega (arith, begun, on)
 begun_more (one ∷ more) last first at next begun on = omega (arith, begun, on)
 
 module _ (nodes : List Node) (bytes : List ℕ) (exact : Bool) where
-  pub walk_begins : (end place : ℕ) (elements : Elements) (first : ℕ) (points : List Pt) (run : Run) → run.lost ≡ 0
-      → AreLeft nodes bytes first end place elements
-      → IsWalked nodes bytes exact (positions exact place elements) first first end points points run
-  walk_begins end place elements first points run none left = record {
+  pub walk_begins : (end place : ℕ) (elements : Elements) (first : ℕ) (points : List Pt) (heights : List Height)
+      (run : Run)
+      → run.lost ≡ 0 → AreLeft nodes bytes first end place elements
+      → IsWalked nodes bytes exact (positions exact place elements) first first end points points heights heights run
+  walk_begins end place elements first points heights run none left = record {
     place = place;
     rest = elements;
     done = [];
     left = left;
     so_far = ok_same (positions exact place elements);
-    run_is = record { points = sym (append-nil points); lost = none; ends = tt };
+    run_is = record {
+      points_are = sym (append-nil points);
+      heights_are = sym (append-nil heights);
+      lost = none;
+      ends = tt;
+    };
     begun = refl;
   }
 
-  module _ (all : Result (List Position) LayerFault) (first at end : ℕ) (old now : List Pt) (run : Run)
-      (w : IsWalked nodes bytes exact all first at end old now run) (more : at < end) where
+  module _ (all : Result (List PositionRead) LayerFault) (first at end : ℕ) (old now : List Pt) (low high : List Height)
+      (run : Run) (w : IsWalked nodes bytes exact all first at end old now low high run) (more : at < end) where
     -- the value that comes next, with what it is read as
-    pub record IsNext (r : Result Position LayerFault) : Type 0 where
+    pub record IsNext (r : Result PositionRead LayerFault) : Type 0 where
       pub fault : (f : LayerFault) → r ≡ Err f → all ≡ Err f
-      pub onward : (one : Position) (node : Node) (longer : Run) (is_first : Bool) → r ≡ Ok one
+      pub onward : (one : PositionRead) (node : Node) (longer : Run) (is_first : Bool) → r ≡ Ok one
           → slice_get nodes at ≡ Some node
           → (is_first ≡ true → at ≡ first) → (at ≡ first → is_first ≡ true)
           → longer.start ≡ (if is_first then one.start else run.start) → longer.end ≡ one.end
           → longer.lost ≡ run.lost + lost_of one
-          → IsWalked nodes bytes exact all first node.next end old (now ++ point_of one ∷ []) longer
+          → IsWalked nodes bytes exact all first node.next end old (now ++ point_of one ∷ []) low
+          (high ++ height_of one ∷ []) longer
 
-    pub next_is : (r : Result Position LayerFault)
+    pub next_is : (r : Result PositionRead LayerFault)
         → ((s : ℕ) (v : Json) → Stands nodes bytes at s v → r ≡ position exact s v) → IsNext r
     next_is r reads = next w.place w.rest w.left w.so_far
       where
@@ -121,9 +132,14 @@ module _ (nodes : List Node) (bytes : List ℕ) (exact : Bool) where
                     so_far = here ∙ ap (λ q. and_then (behind_these w.done)
                         (and_then (λ one. and_then (in_front one) tail) q)) is ∙ one_behind w.done one tail;
                     run_is = record {
-                      points = ap (λ ps. ps ++ point_of one ∷ []) w.run_is.points
-                          ∙ append_assoc old (map point_of w.done) (point_of one ∷ [])
-                          ∙ ap (λ ps. old ++ ps) (sym (map-append point_of w.done (one ∷ [])));
+                      points_are = ap (λ ps. ps ++ point_of one ∷ []) w.run_is.points_are
+                          ∙ append_assoc old (points_of (map position_of w.done)) (point_of one ∷ [])
+                          ∙ ap (λ ps. old ++ ps) (sym (map-append (λ (p : Position). p.point) (map position_of w.done)
+                          (position_of one ∷ [])) ∙ ap points_of (sym (map-append position_of w.done (one ∷ []))));
+                      heights_are = ap (λ hs. hs ++ height_of one ∷ []) w.run_is.heights_are
+                          ∙ append_assoc low (heights_of (map position_of w.done)) (height_of one ∷ [])
+                          ∙ ap (λ hs. low ++ hs) (sym (map-append (λ (p : Position). p.height) (map position_of w.done)
+                          (position_of one ∷ [])) ∙ ap heights_of (sym (map-append position_of w.done (one ∷ []))));
                       lost = lost ∙ ap (λ n. n + lost_of one) w.run_is.lost ∙ sym (sum_by_push lost_of w.done one);
                       ends = subst (AreFrom (w.done ++ one ∷ []) longer.start) (sym ends)
                           (from_more w.done one run.start run.end longer.start is_first first at w.run_is.ends w.begun
@@ -145,14 +161,14 @@ module _ (nodes : List Node) (bytes : List ℕ) (exact : Bool) where
             let count = left_count nodes bytes (at + node_count v) end (next_place (element_start place before) v after)
             rest left.1 in omega (arith, next, count)
 
-  pub walk_ends : (all : Result (List Position) LayerFault) (first at end : ℕ) (old now : List Pt) (run : Run)
-      → IsWalked nodes bytes exact all first at end old now run → end ≤ at
-      → (done : List Position) × (all ≡ Ok done) × IsRun old now run done
-  walk_ends all first at end old now run w here = ends w.place w.rest w.left w.so_far
+  pub walk_ends : (all : Result (List PositionRead) LayerFault) (first at end : ℕ) (old now : List Pt)
+      (low high : List Height) (run : Run) → IsWalked nodes bytes exact all first at end old now low high run → end ≤ at
+      → (done : List PositionRead) × (all ≡ Ok done) × IsRun old now low high run done
+  walk_ends all first at end old now low high run w here = ends w.place w.rest w.left w.so_far
     where
       ends : (place : ℕ) (rest : Elements) → AreLeft nodes bytes at end place rest
           → all ≡ and_then (behind_these w.done) (positions exact place rest)
-          → (done : List Position) × (all ≡ Ok done) × IsRun old now run done
+          → (done : List PositionRead) × (all ≡ Ok done) × IsRun old now low high run done
       ends place no_element left so_far = (w.done, so_far ∙ ap Ok (append-nil w.done), w.run_is)
       ends place (element before v after rest) left so_far =
           absurd (omega (

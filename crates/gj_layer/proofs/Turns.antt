@@ -3,7 +3,7 @@
 use Rattle.std.proofs.Common.{◌≡◌, ℕ, suc, ◌+◌, Bool, List, [], ◌∷◌, ◌++◌, length, refl, arith}
 use Rattle.jtext.specs.Values.{Json, Elements, null, spelling, elements_text, elements_behind, IsValue, AreElements}
 use Rattle.jtext.specs.Values.{IsArrayBlank}
-use Rattle.plane_base.specs.declared.shapes.Pt.{Pt}
+use Rattle.sheet_base.specs.PointHeights.{Position}
 use Rattle.sheet_base.specs.declared.edits.Edit.{Edit}
 use Rattle.sheet_base.specs.declared.edits.What.TheVariants.{Bounds, Null}
 use Rattle.sheet_base.proofs.Swaps.{Swapped, front_swapped, behind_swapped}
@@ -21,14 +21,14 @@ pub record IsFlat (bytes : List ℕ) : Type 0 where
   pub valid : (depth : ℕ) → IsValue (suc depth) value
 
 -- the texts of edits: those of paths are their images, and the others are a box or null
-pub record DoesSay (text : Edit → List ℕ) (images : ℕ → List Pt) : Type 0 where
+pub record DoesSay (text : Edit → List ℕ) (images : ℕ → List Position) : Type 0 where
   pub paths : (number : ℕ) (path : Path) → text (edit_of number path) ≡ kind_text path.kind (images number)
   pub boxes : (one : Member) (first past : ℕ) → IsFlat (text (value_edit one (Bounds first past)))
   pub nulls : (one : Member) → text (value_edit one Null) ≡ spelling null
 
 -- The value, whose text begins at this place, turns into another that nests no deeper. It is read in the same form,
 -- wherever it stands.
-pub record ValueTurned (exact : Bool) (text : Edit → List ℕ) (images : ℕ → List Pt) (form : Form)
+pub record ValueTurned (exact : Bool) (text : Edit → List ℕ) (images : ℕ → List Position) (form : Form)
     (number start depth : ℕ) (value : Json) (part : Part) : Type 0 where
   pub now : Json
   pub swap : Swapped text start (spelling value) part.edits (spelling now)
@@ -36,7 +36,7 @@ pub record ValueTurned (exact : Bool) (text : Edit → List ℕ) (images : ℕ �
   pub reads : (at : ℕ) → IsDrawn images number part.paths (reading exact form number at now)
 
 -- the same for elements
-pub record ElementsTurned (exact : Bool) (text : Edit → List ℕ) (images : ℕ → List Pt) (form : Form)
+pub record ElementsTurned (exact : Bool) (text : Edit → List ℕ) (images : ℕ → List Position) (form : Form)
     (number place depth : ℕ) (elements : Elements) (part : Part) : Type 0 where
   pub now : Elements
   pub swap : Swapped text place (elements_text elements) part.edits (elements_text now)

@@ -10,10 +10,9 @@ use Rattle.jtext.specs.Values.{element, no_member, member, spelling, elements_te
 use Rattle.jtext.specs.Values.{AreElements, AreMembers}
 use Rattle.jtext.specs.Nodes.{inner_place, element_start, member_start, next_place}
 use Rattle.jtext.specs.Lookups.{are_same}
-use Rattle.plane_base.specs.declared.shapes.Pt.{Pt}
+use Rattle.sheet_base.specs.PointHeights.{Position}
 use Rattle.sheet_base.specs.declared.faults.LayerFault.{LayerFault}
 use Rattle.sheet_base.specs.declared.edits.Edit.{Edit}
-use Rattle.sheet_base.proofs.Redrawn.{suit_parts, redrawn_append}
 use Rattle.sheet_base.proofs.Swaps.{Swapped, kept_swapped, both_swapped, front_swapped}
 use Rattle.gj_layer.specs.declared.forms.GeoType.{GeoType}
 use Rattle.gj_layer.specs.declared.forms.Holder.{Holder}
@@ -27,6 +26,7 @@ use Rattle.gj_layer.specs.Paths.{Path, Part, nothing, joined, lost_in}
 use Rattle.gj_layer.specs.Objects.{content_key, content_form}
 use Rattle.gj_layer.specs.Reading.{item_form, null_part, part_in, reading, readings, content_reading}
 use Rattle.gj_layer.proofs.Fine.{split_then, tested}
+use Rattle.sheet_base.proofs.DrawnPaths.{suit_parts, redrawn_append}
 use Rattle.gj_layer.proofs.Redrawing.{drawn, redrawn, AllSuit, IsDrawn, drawn_count}
 use Rattle.gj_layer.proofs.Turns.{DoesSay, ValueTurned, ElementsTurned, bracketed}
 use Rattle.gj_layer.proofs.TraceTurns.{traced_turned}
@@ -34,7 +34,7 @@ use Rattle.gj_layer.proofs.Levels.{HasRoom, content_room, item_room}
 use Rattle.gj_layer.proofs.ObjectMade.{ObjectTurned, object_turned, object_flat}
 
 -- ---- one part behind the other
-join_drawn : (images : ℕ → List Pt) (number : ℕ) (paths more : List Path) (first : Result Part LayerFault)
+join_drawn : (images : ℕ → List Position) (number : ℕ) (paths more : List Path) (first : Result Part LayerFault)
     (rest : ℕ → Result Part LayerFault) → IsDrawn images number paths first
     → IsDrawn images (number + length paths) more (rest (number + length paths))
     → IsDrawn images number (paths ++ more) (and_then
@@ -54,7 +54,7 @@ join_drawn images number paths more first rest a b =
       exact_all = sum_by-append lost_in a.part.paths b.part.paths ∙ omega (arith, x, y);
     }
 
-module _ (exact : Bool) (text : Edit → List ℕ) (images : ℕ → List Pt) (says : DoesSay text images) where
+module _ (exact : Bool) (text : Edit → List ℕ) (images : ℕ → List Position) (says : DoesSay text images) where
   null_turned : (form : Form) (number start depth : ℕ) (part : Part) → null_part form start ≡ Ok part
       → ValueTurned exact text images form number start depth null part
   null_turned forms.Optional number start depth part is =

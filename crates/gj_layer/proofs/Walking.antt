@@ -244,8 +244,8 @@ module _ (exact : Bool) (nodes : List Node) (bytes : List ℕ) (frame : Frame) (
 pub room_less : (pass : Pass) (size less : ℕ) → HasRoom pass size → less ≤ size → HasRoom pass less
 room_less pass size less room le = record {
   points = omega (arith, room.points, le);
-  paths =
-      omega (arith, room.paths, le);
+  heights = omega (arith, room.heights, le);
+  paths = omega (arith, room.paths, le);
   inexact = omega (arith, room.inexact, le);
 }
 
@@ -253,6 +253,7 @@ pub room_grows : (old new : Pass) (more size whole : ℕ) → HasRoom old whole 
     → HasRoom new size
 room_grows old new more size whole room grows le = record {
   points = omega (arith, room.points, grows.points, le);
+  heights = omega (arith, room.heights, grows.heights, le);
   paths = omega (arith, room.paths, grows.paths, le);
   inexact = omega (arith, room.inexact, grows.inexact, le);
 }

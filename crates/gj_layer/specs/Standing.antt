@@ -1,19 +1,20 @@
 -- What stands where in the document that is read, and what the code makes of it. Only private functions speak of it.
-use Rattle.std.specs.Prelude.{◌≡◌, ℕ, ◌+◌, ◌*◌, ◌<◌, ◌≤◌, ◌^◌, List, [], ◌∷◌, ◌++◌, length, map, flat_map, sum_by}
+use Rattle.std.specs.Prelude.{◌≡◌, ℕ, ◌+◌, ◌*◌, ◌<◌, ◌≤◌, ◌^◌, List, [], ◌∷◌, ◌++◌, length, map, sum_by}
 use Rattle.std.specs.Prelude.{Option, Some, None, Result, Ok, Err}
 use Rattle.jtext.specs.Values.{Elements, no_element, element}
 use Rattle.jtext.specs.Nodes.{node_count, element_start, next_place}
 use Rattle.jtext.specs.Places.{Stands}
 use Rattle.jtext.specs.declared.document.Node.{Node}
 use Rattle.plane_base.specs.declared.shapes.Pt.{Pt}
+use Rattle.sheet_base.specs.PointHeights.{Height, Position, points_of, heights_of}
 use Rattle.sheet_base.specs.declared.faults.LayerFault.{LayerFault}
 use Rattle.sheet_base.specs.declared.faults.LayerFault.TheVariants as faults
-use Rattle.gj_layer.specs.declared.positions.Position.{Position}
+use Rattle.gj_layer.specs.declared.positions.PositionRead.{PositionRead}
 use Rattle.gj_layer.specs.declared.positions.Run.{Run}
 use Rattle.gj_layer.specs.declared.pass.Pass.{Pass}
 use Rattle.gj_layer.specs.Members.{Member}
-use Rattle.gj_layer.specs.Positions.{point_of, lost_of}
-use Rattle.gj_layer.specs.Paths.{end_of, Path, Part, joined, rows_from, edit_of, points_in, lost_in}
+use Rattle.gj_layer.specs.Positions.{position_of, lost_of}
+use Rattle.gj_layer.specs.Paths.{end_of, Path, Part, joined, rows_from, edit_of, vertices_of, lost_in}
 
 -- the answer is the value that is wanted, up to the relation, or its fault; memory may always run out
 abbrev pub Gives : {A B : Type 0} → (A → B → Type 0) → Result A LayerFault → Result B LayerFault → Type 0
@@ -47,20 +48,23 @@ AreLeft nodes bytes at end place (element before value after rest) =
     × AreLeft nodes bytes (at + node_count value) end (next_place (element_start place before) value after) rest
 
 -- from where the first position begins to where the last one ends
-abbrev pub AreFrom : List Position → ℕ → ℕ → Type 0
+abbrev pub AreFrom : List PositionRead → ℕ → ℕ → Type 0
 AreFrom [] start end = Unit {0}
 AreFrom (one ∷ more) start end = (start ≡ one.start) × (end ≡ end_of one more)
 
--- the points of the positions were appended, and their run is this
-pub record IsRun (old new : List Pt) (run : Run) (all : List Position) : Type 0 where
-  pub points : new ≡ old ++ map point_of all
+-- the points and heights of the positions were appended, and their run is this
+pub record IsRun (points points' : List Pt) (heights heights' : List Height) (run : Run) (all : List PositionRead)
+    : Type 0 where
+  pub points_are : points' ≡ points ++ points_of (map position_of all)
+  pub heights_are : heights' ≡ heights ++ heights_of (map position_of all)
   pub lost : run.lost ≡ sum_by lost_of all
   pub ends : AreFrom all run.start run.end
 
--- the sheet so far is this part, with these points behind it
-pub record HoldsMore (pass : Pass) (part : Part) (points : List Pt) : Type 0 where
+-- the sheet so far is this part, with these points and their heights behind it
+pub record HoldsMore (pass : Pass) (part : Part) (positions : List Position) : Type 0 where
   pub paths : pass.paths.items ≡ rows_from 0 part.paths
-  pub points_are : pass.points.items ≡ flat_map points_in part.paths ++ points
+  pub points_are : pass.points.items ≡ points_of (vertices_of part.paths ++ positions)
+  pub heights_are : pass.heights ≡ heights_of (vertices_of part.paths ++ positions)
   pub edits : pass.edits.items ≡ part.edits
   pub inexact : pass.inexact ≡ sum_by lost_in part.paths
 
@@ -79,11 +83,13 @@ Joins {A} part new result wanted = Gives {A = A} (λ done more. Holds new (joine
 -- there is room for what stands in so many nodes
 pub record HasRoom (pass : Pass) (size : ℕ) : Type 0 where
   pub points : length pass.points.items + size < 2 ^ 32
+  pub heights : length pass.heights + size < 2 ^ 32
   pub paths : length pass.paths.items + size < 2 ^ 32
-  pub inexact : pass.inexact + 2 * size < 2 ^ 34
+  pub inexact : pass.inexact + 3 * size < 2 ^ 34
 
 -- no more was appended than stands in so many nodes
 pub record Grows (old new : Pass) (size : ℕ) : Type 0 where
   pub points : length new.points.items ≤ length old.points.items + size
+  pub heights : length new.heights ≤ length old.heights + size
   pub paths : length new.paths.items ≤ length old.paths.items + size
-  pub inexact : new.inexact ≤ old.inexact + 2 * size
+  pub inexact : new.inexact ≤ old.inexact + 3 * size

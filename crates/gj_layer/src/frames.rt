@@ -155,6 +155,7 @@ pub fn end_object(pass: &mut Pass, ending: Ending) -> Result<(), AllocError>
         → (own.bare ≡ true → done.edits ≡ []) → Holds pass.old (joined before done)
         → Holds pass.new (joined before (ended (Some own) (length before.paths) done))) }
     ensures points { OnOk result (pass.new.points.items ≡ pass.old.points.items) }
+    ensures heights { OnOk result (pass.new.heights ≡ pass.old.heights) }
     ensures paths { OnOk result (pass.new.paths.items ≡ pass.old.paths.items) }
     ensures inexact { OnOk result (pass.new.inexact ≡ pass.old.inexact) }
 {

@@ -2,6 +2,7 @@
 
 ghost use Rattle.std.specs.Prelude.{◌≡◌, ℕ, List, Bool};
 ghost use Rattle.sheet_base.specs.Sheets.{Contents};
+ghost use Rattle.sheet_base.specs.ReadSheets.{IsSheetOf};
 ghost use Rattle.sheet_base.specs.Outcomes.{HasOutcome};
 ghost use Rattle.sheet_base.specs.declared.faults.LayerFault.{LayerFault};
 ghost use Rattle.gj_layer.specs.Layers.{IsReadAs, IsRefusedBy};
@@ -20,6 +21,12 @@ pub fn text_outcome_exists()
 {
     jtext::outcome_exists();
 }
+
+/// What is read of a text has paths that follow each other without a gap, no more points than the text has bytes, and
+/// edits that are in order inside the text.
+pub fn read_sheets_are_sheets()
+    ensures { (exact : Bool) → (bytes : List ℕ) → (sheet : Contents) → IsReadAs exact bytes sheet → IsSheetOf bytes sheet }
+{}
 
 /// The box that is written of some images has on each axis the least and the greatest of their numbers.
 pub fn boxes_are_least()

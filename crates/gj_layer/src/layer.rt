@@ -1,6 +1,6 @@
 //! The format.
 
-use crate::laws::{sheet_is_one, text_outcome_exists};
+use crate::laws::{read_sheets_are_sheets, sheet_is_one, text_outcome_exists};
 use crate::reading::read;
 use crate::texts::Texts;
 use sheet_base::{How, Images, Layer, LayerFault, Sheet, splice};
@@ -10,6 +10,7 @@ use std::alloc::{AllocError, Global};
 pub struct GeoJson;
 
 impl Layer for GeoJson {
+    ghost use Rattle.sheet_base.specs.ReadBack.{AreTheSame};
     ghost use Rattle.gj_layer.specs.Layers.{IsReadAs, IsRefusedBy};
     ghost use Rattle.gj_layer.specs.Texts.{edit_text};
 
@@ -21,6 +22,8 @@ impl Layer for GeoJson {
 
     ghost reads_back = { λ how bytes sheet images. Unit {0} };
 
+    ghost reads_heights = { AreTheSame };
+
     fn read(alloc: Global, bytes: &[u8], how: How) -> Result<Sheet, LayerFault> {
         read(alloc, bytes, how.exact)
     }
@@ -31,6 +34,12 @@ impl Layer for GeoJson {
 
     fn outcome_exists() {
         text_outcome_exists();
+    }
+
+    fn memory_is_no_fault() {}
+
+    fn sheets_are_of_bytes() {
+        read_sheets_are_sheets();
     }
 
     fn render(

@@ -1,13 +1,13 @@
 //! The sheet so far, while a layer is read.
 
-ghost use Rattle.std.specs.Prelude.{◌≡◌, ◌+◌, ◌<◌, ◌^◌, List, length, flat_map, OnOk, IfOk};
-ghost use Rattle.plane_base.specs.declared.shapes.Pt.{Pt};
-ghost use Rattle.gj_layer.specs.Paths.{Part, nothing, joined, text_for, points_in};
+ghost use Rattle.std.specs.Prelude.{◌≡◌, ◌+◌, ◌<◌, ◌^◌, List, length, OnOk, IfOk};
+ghost use Rattle.sheet_base.specs.PointHeights.{Position};
+ghost use Rattle.gj_layer.specs.Paths.{Part, nothing, joined, text_for, vertices_of};
 ghost use Rattle.gj_layer.specs.Standing.{Holds, HoldsMore, path_part};
 
 use crate::positions::Run;
 use plane_base::Pt;
-use sheet_base::{Edit, PathKind, PathRow, What};
+use sheet_base::{Edit, Heights, PathKind, PathRow, What};
 use std::alloc::{AllocError, Global};
 
 /// What was read so far.
@@ -15,6 +15,7 @@ use std::alloc::{AllocError, Global};
 pub struct Pass {
     pub paths: Vec<PathRow>,
     pub points: Vec<Pt>,
+    pub heights: Heights,
     pub edits: Vec<Edit>,
     pub inexact: u64,
 }
@@ -35,11 +36,12 @@ impl Pass {
     /// for a path in every 16, as in most documents; lists that become longer take more.
     pub fn new(alloc: Global, nodes: usize) -> Result<Pass, AllocError>
         ensures holds { IfOk result (λ pass. Holds pass nothing) }
-        ensures empty { IfOk result (λ pass. (length pass.points.items ≡ 0) × (length pass.paths.items ≡ 0) × (pass.inexact ≡ 0)) }
+        ensures empty { IfOk result (λ pass. (length pass.points.items ≡ 0) × (length pass.heights ≡ 0) × (length pass.paths.items ≡ 0) × (pass.inexact ≡ 0)) }
     {
         Ok(Pass {
             paths: Vec::with_capacity(alloc, nodes / 16)?,
             points: Vec::with_capacity(alloc, nodes / 6)?,
+            heights: Heights::none(alloc, 0),
             edits: Vec::with_capacity(alloc, nodes / 16)?,
             inexact: 0,
         })
@@ -51,11 +53,12 @@ impl Pass {
         requires points { length self.old.points.items < 2 ^ 32 }
         requires first { first < 2 ^ 32 }
         requires inexact { self.old.inexact + run.lost < 2 ^ 64 }
-        ensures holds { OnOk result ((part : Part) → (points : List Pt) → HoldsMore self.old part points
-            → first ≡ length (flat_map points_in part.paths)
+        ensures holds { OnOk result ((part : Part) → (positions : List Position) → HoldsMore self.old part positions
+            → first ≡ length (vertices_of part.paths)
             → Holds self.new (joined part (path_part (length part.paths)
-            (record { kind = kind; points = points; lost = run.lost; start = run.start; end = run.end })))) }
+            (record { kind = kind; positions = positions; lost = run.lost; start = run.start; end = run.end })))) }
         ensures points { OnOk result (self.new.points.items ≡ self.old.points.items) }
+        ensures heights { OnOk result (self.new.heights ≡ self.old.heights) }
         ensures paths { OnOk result (length self.new.paths.items ≡ length self.old.paths.items + 1) }
         ensures inexact { OnOk result (self.new.inexact ≡ self.old.inexact + run.lost) }
     {

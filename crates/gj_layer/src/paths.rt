@@ -1,10 +1,12 @@
 //! Coordinates that are one path at most.
 
-ghost use Rattle.std.specs.Prelude.{◌≡◌, ℕ, ◌-◌, ◌<◌, ◌≤◌, [], ◌∷◌, ◌++◌, List, length, slice_get, Some, OnOk};
+ghost use Rattle.std.specs.Prelude.{◌≡◌, ℕ, ◌-◌, ◌<◌, ◌≤◌, ◌&&◌, [], ◌∷◌, ◌++◌, List, drop, length, slice_get, Some, OnOk};
 ghost use Rattle.jtext.specs.Values.{Json};
 ghost use Rattle.jtext.specs.Places.{IsReadFrom, Stands, HasKind};
 ghost use Rattle.jtext.specs.declared.document.Node.{Node};
 ghost use Rattle.plane_base.specs.declared.shapes.Pt.{Pt};
+ghost use Rattle.sheet_base.specs.PointHeights.{height_in};
+ghost use Rattle.sheet_base.specs.Rings.{is_same_height, is_closed};
 ghost use Rattle.gj_layer.specs.Faults.{and_then};
 ghost use Rattle.gj_layer.specs.Paths.{Part, traced, part_of};
 ghost use Rattle.gj_layer.specs.Standing.{Holds, Joins, HasRoom, Grows};
@@ -12,10 +14,10 @@ ghost use Rattle.gj_layer.specs.Standing.{Holds, Joins, HasRoom, Grows};
 use crate::forms::Trace;
 use crate::nodes::{is_kind, node_at, shape_at};
 use crate::pass::Pass;
-use crate::positions::{Run, lost_of, point_of, read_position, read_positions};
+use crate::positions::{Run, height_of, lost_of, point_of, read_position, read_positions};
 use jtext::{Doc, Kind};
 use plane_base::Pt;
-use sheet_base::{LayerFault, PathKind, is_closed};
+use sheet_base::{Heights, LayerFault, PathKind, are_same_heights, is_closed};
 
 /// Reads a position as a path.
 fn read_dot(
@@ -35,6 +37,7 @@ fn read_dot(
     let position = read_position(doc, bytes, value, exact)?;
     let first = pass.points.len();
     pass.points.push(point_of(position))?;
+    pass.heights.push(height_of(position))?;
     let run = Run {
         start: position.start,
         end: position.end,
@@ -60,11 +63,30 @@ fn read_line(
     ensures grows { OnOk result ((node : Node) → slice_get doc.now.nodes array ≡ Some node → Grows pass.old pass.new (node.next - array)) }
 {
     let first = pass.points.len();
-    let run = read_positions(&mut pass.points, doc, bytes, array, exact)?;
+    let run = read_positions(
+        &mut pass.points,
+        &mut pass.heights,
+        doc,
+        bytes,
+        array,
+        exact,
+    )?;
     if first < pass.points.len() {
         pass.end_path(PathKind::Line, first, run)?;
     }
     Ok(())
+}
+
+/// Whether the points from this number on are those of a closed ring, with one height at both ends or none.
+fn is_ring(points: &[Pt], heights: &Heights, first: usize) -> bool
+    requires { first ≤ length points.now }
+    ensures { result ≡ (is_closed (drop first points.now)
+        && is_same_height (height_in heights.now first) (height_in heights.now (length points.now - 1))) }
+{
+    if !is_closed(&points[first..]) {
+        return false;
+    }
+    are_same_heights(heights.at(first), heights.at(points.len() - 1))
 }
 
 /// Drops the closing point of a ring.
@@ -91,13 +113,21 @@ fn read_ring(
     ensures grows { OnOk result ((node : Node) → slice_get doc.now.nodes array ≡ Some node → Grows pass.old pass.new (node.next - array)) }
 {
     let first = pass.points.len();
-    let run = read_positions(&mut pass.points, doc, bytes, array, exact)?;
-    if !is_closed(&pass.points[first..]) {
+    let run = read_positions(
+        &mut pass.points,
+        &mut pass.heights,
+        doc,
+        bytes,
+        array,
+        exact,
+    )?;
+    if !is_ring(&pass.points, &pass.heights, first) {
         return Err(LayerFault::Ring {
             at: u64::from(node_at(doc, array).start),
         });
     }
     drop_last(&mut pass.points);
+    pass.heights.pop();
     pass.end_path(PathKind::Loop, first, run)?;
     Ok(())
 }

@@ -198,6 +198,7 @@ fn read_document(alloc: Global, doc: &Doc, bytes: &[u8], exact: bool) -> Result<
     Ok(Sheet::of(
         Listed::of(pass.paths),
         Listed::of(pass.points),
+        pass.heights,
         Listed::of(pass.edits),
         pass.inexact,
         0,

@@ -1,19 +1,17 @@
 //! The texts that take the place of edits.
 
-ghost use Rattle.std.specs.Prelude.{◌≡◌, ◌++◌, ◌∷◌, [], Option, codes, flat_map, OnOk};
-ghost use Rattle.plane_base.specs.declared.shapes.Rect.{Rect};
-ghost use Rattle.sheet_base.specs.Fitting.{row_images};
-ghost use Rattle.gj_layer.specs.Texts.{pair_text, box_text, bounds_text, edit_text};
-ghost use Rattle.gj_layer.specs.Boxes.{widened_by, bounded_text};
+ghost use Rattle.std.specs.Prelude.{◌≡◌, ◌++◌, Option, codes, OnOk};
+ghost use Rattle.gj_layer.specs.Texts.{height_text, numbers_text, lowest_of, highest_of, box_text, edit_text};
+ghost use Rattle.gj_layer.specs.Boxes.{bounded_text};
 
-use plane_base::{Pt, Rect};
+use crate::boxes::{BoundingBox, Levels, bounds_of};
+use plane_base::Pt;
 use sheet_base::{
-    Edit, EditTexts, ImageText, Images, PathRow, Sheet, What, between, push_list, push_mm,
-    push_ring,
+    Edit, EditTexts, ImageText, Images, Sheet, What, between, push_list, push_mm, push_ring,
 };
 use std::alloc::AllocError;
 
-/// No image is longer, in bytes, with its brackets and commas.
+/// No image without a height is longer, in bytes, with its brackets and commas, nor is any but a far one with a height.
 const IMAGE_ROOM: usize = 52;
 
 /// The images of a layer, as texts.
@@ -23,13 +21,29 @@ pub struct Texts<'a> {
     pub images: &'a Images,
 }
 
-/// Appends two numbers of millimetres as metres, with a comma between them.
-fn push_pair(out: &mut Vec<u8>, x: i64, y: i64) -> Result<(), AllocError>
-    ensures { OnOk result (out.new.items ≡ out.old.items ++ pair_text x y) }
+/// Appends a comma and the height in metres, where there is one.
+fn push_height(out: &mut Vec<u8>, height: Option<i64>) -> Result<(), AllocError>
+    ensures { OnOk result (out.new.items ≡ out.old.items ++ height_text height) }
+{
+    match height {
+        Some(z) => {
+            out.push(b',')?;
+            push_mm(out, z)?;
+            Ok(())
+        }
+        None => Ok(()),
+    }
+}
+
+/// Appends two numbers of millimetres as metres, and a height where there is one, with commas
+/// between them.
+fn push_numbers(out: &mut Vec<u8>, x: i64, y: i64, height: Option<i64>) -> Result<(), AllocError>
+    ensures { OnOk result (out.new.items ≡ out.old.items ++ numbers_text x y height) }
 {
     push_mm(out, x)?;
     out.push(b',')?;
     push_mm(out, y)?;
+    push_height(out, height)?;
     Ok(())
 }
 
@@ -49,28 +63,49 @@ impl ImageText for PositionText {
         Ok(())
     }
 
-    fn push_image(out: &mut Vec<u8>, image: Pt) -> Result<(), AllocError> {
+    fn push_image(out: &mut Vec<u8>, image: Pt, height: Option<i64>) -> Result<(), AllocError> {
         out.push(b'[')?;
-        push_pair(out, image.x, image.y)?;
+        push_numbers(out, image.x, image.y, height)?;
         out.push(b']')?;
         Ok(())
     }
 }
 
+/// The least height, where there is one.
+fn lowest_of(levels: Option<Levels>) -> Option<i64>
+    ensures { result ≡ lowest_of levels }
+{
+    match levels {
+        Some(levels) => Some(levels.z0),
+        None => None,
+    }
+}
+
+/// The greatest height, where there is one.
+fn highest_of(levels: Option<Levels>) -> Option<i64>
+    ensures { result ≡ highest_of levels }
+{
+    match levels {
+        Some(levels) => Some(levels.z1),
+        None => None,
+    }
+}
+
 /// Appends a box.
-fn push_box(out: &mut Vec<u8>, bounds: Rect) -> Result<(), AllocError>
+fn push_box(out: &mut Vec<u8>, bounds: BoundingBox) -> Result<(), AllocError>
     ensures { OnOk result (out.new.items ≡ out.old.items ++ box_text bounds) }
 {
+    let plane = bounds.plane;
     out.push(b'[')?;
-    push_pair(out, bounds.x0, bounds.y0)?;
+    push_numbers(out, plane.x0, plane.y0, lowest_of(bounds.levels))?;
     out.push(b',')?;
-    push_pair(out, bounds.x1, bounds.y1)?;
+    push_numbers(out, plane.x1, plane.y1, highest_of(bounds.levels))?;
     out.push(b']')?;
     Ok(())
 }
 
 /// Appends a box, or null.
-fn push_bounds(out: &mut Vec<u8>, bounds: Option<Rect>) -> Result<(), AllocError>
+fn push_bounds(out: &mut Vec<u8>, bounds: Option<BoundingBox>) -> Result<(), AllocError>
     ensures { OnOk result (out.new.items ≡ out.old.items ++ bounded_text bounds) }
 {
     match bounds {
@@ -85,38 +120,6 @@ fn push_null(out: &mut Vec<u8>) -> Result<(), AllocError>
 {
     out.extend_from_slice(b"null")?;
     Ok(())
-}
-
-/// The least box with this one, if any, and the image.
-fn widen(bounds: Option<Rect>, image: Pt) -> Rect
-    ensures { Option.Some result ≡ widened_by bounds (image ∷ []) }
-{
-    match bounds {
-        None => Rect::of_point(image),
-        Some(bounds) => bounds.with_point(image),
-    }
-}
-
-/// The least box with this one, if any, and the images.
-fn widen_by(bounds: Option<Rect>, images: &[Pt]) -> Option<Rect>
-    ensures { result ≡ widened_by bounds images.now }
-{
-    let mut bounds = bounds;
-    for image in images {
-        bounds = Some(widen(bounds, *image));
-    }
-    bounds
-}
-
-/// The least box of the images of these paths.
-fn bounds_of(images: &Images, rows: &[PathRow]) -> Option<Rect>
-    ensures { bounded_text result ≡ bounds_text (flat_map (row_images images.now) rows.now) }
-{
-    let mut bounds = None;
-    for row in rows {
-        bounds = widen_by(bounds, images.of_row(*row));
-    }
-    bounds
 }
 
 impl<'a> EditTexts for Texts<'a> {
@@ -135,10 +138,10 @@ impl<'a> EditTexts for Texts<'a> {
     fn push(&self, edit: Edit, out: &mut Vec<u8>) -> Result<(), AllocError> {
         match edit.what {
             What::GeoList { path } => {
-                push_list::<PositionText>(out, self.images.of_path(self.sheet.paths(), path))
+                push_list::<PositionText>(out, self.images, self.sheet.paths(), path)
             }
             What::GeoRing { path } => {
-                push_ring::<PositionText>(out, self.images.of_path(self.sheet.paths(), path))
+                push_ring::<PositionText>(out, self.images, self.sheet.paths(), path)
             }
             What::Bounds { first, past } => push_bounds(
                 out,

@@ -15,13 +15,15 @@ use Rattle.job_words.specs.declared.modes.Mode.{Mode}
 use Rattle.job_words.specs.declared.modes.Mode.TheVariants.{Migrate, Check, Make, Verify}
 use Rattle.job_words.specs.declared.faults.Which.TheVariants.{Tin, Out, Source, Written, Certificate}
 use Rattle.job_words.specs.declared.faults.WordsFault.{WordsFault}
-use Rattle.job_words.specs.declared.faults.WordsFault.TheVariants.{Many, Name, Size}
-use Rattle.job_words.specs.Readings.{text_in, texts_in}
+use Rattle.job_words.specs.declared.faults.WordsFault.TheVariants.{Many, Name, NoMode, Parse, Size}
+use Rattle.job_words.specs.Modes.{mode_of}
+use Rattle.job_words.specs.Readings.{reading_of, text_in, texts_in}
 use Rattle.job_words.specs.Names.{is_name, last_part}
 use Rattle.job_words.specs.Formats.{format_of}
 use Rattle.job_words.specs.Sizes.{is_plain, is_size, size_of}
 use Rattle.job_words.specs.Faults.{IsAnswer, first_fault}
-use Rattle.job_words.specs.Jobs.{how_in, job_in, layer_fault, many_fault, migration_fault, migration_in, name_fault}
+use Rattle.job_words.specs.Jobs.{IsJobOf, answer_in, answer_of, how_in, job_in, layer_fault, many_fault}
+use Rattle.job_words.specs.Jobs.{migration_fault, migration_in, name_fault}
 use Rattle.job_words.specs.Jobs.{same_fault, suffix_fault, unless, verification_fault, verification_in}
 use Rattle.job_words.specs.Kept.{HasFormat, IsKept, IsMigration, IsName, IsVerification}
 use Rattle.job_words.proofs.Distinct.{distinct-texts, nothing-made}
@@ -154,3 +156,19 @@ kept-answer mode rows answer is = elim is [
   | inl memory ↦ rw memory tt
   | inr wanted ↦ subst (λ (given : Result Job WordsFault). IfOk given IsKept) (sym wanted) (kept-in mode rows)
 ]
+
+kept-words : (words : List Text) → IfOk (answer_of words) IsKept
+kept-words [] = tt
+kept-words (word ∷ rest) = by-mode (mode_of word)
+  where
+    by-rows : (mode : Mode) (rows : Option (List Row)) → IfOk (option_map_or (job_in mode) rows (Err Parse)) IsKept
+    by-rows mode None = tt
+    by-rows mode (Some rows) = kept-in mode rows
+
+    by-mode : (mode : Option Mode) → IfOk (option_map_or (answer_in (word ∷ rest)) mode (Err NoMode)) IsKept
+    by-mode None = tt
+    by-mode (Some mode) = by-rows mode (reading_of mode (word ∷ rest))
+
+-- so does each job of words
+pub job-kept : (words : List Text) (wanted : Job) → IsJobOf words wanted → IsKept wanted
+job-kept words wanted is = subst (λ (answer : Result Job WordsFault). IfOk answer IsKept) is (kept-words words)

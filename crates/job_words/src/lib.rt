@@ -17,7 +17,7 @@ mod sizes;
 pub use faults::{Which, WordsFault};
 pub use formats::{Format, format_of};
 pub use jobs::Job;
-pub use laws::words_have_one_answer;
+pub use laws::{jobs_are_kept, words_have_one_answer};
 pub use limits::{MOST_LAYERS, MOST_SIZE, limits_are_stated};
 pub use names::last_part;
 pub use reading::read_words;

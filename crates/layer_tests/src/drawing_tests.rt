@@ -43,8 +43,8 @@ const REFUSED: &[(&[u8], LayerFault)] = &[
         LayerFault::Flags { line: 9 },
     ),
     (
-        b"0\nSECTION\n2\nENTITIES\n0\nLINE\n10\n0\n20\n0\n30\n0\n11\n1\n21\n1\n31\n2\n0\nENDSEC\n0\nEOF",
-        LayerFault::Slope { line: 5 },
+        b"0\nSECTION\n2\nENTITIES\n0\nLINE\n10\n10\n20\n0\n11\n0\n21\n10\n31\n2\n0\nENDSEC\n0\nEOF",
+        LayerFault::Count { line: 5 },
     ),
     (
         b"0\nSECTION\n2\nENTITIES\n0\nLINE\n5\n1A\n10\n0\n20\n0\n11\n1\n21\n1\n0\nENDSEC\n0\nEOF",
@@ -157,12 +157,30 @@ const REFUSED: &[(&[u8], LayerFault)] = &[
         LayerFault::Count { line: 9 },
     ),
     (
-        b"0\nSECTION\n2\nENTITIES\n0\nLINE\n10\n0\n20\n0\n11\n1\n21\n1\n31\n1\n0\nENDSEC\n0\nEOF",
-        LayerFault::Slope { line: 5 },
+        b"0\nSECTION\n2\nENTITIES\n0\nLINE\n10\n0\n20\n0\n11\n1\n21\n1\n30\n1\n0\nENDSEC\n0\nEOF",
+        LayerFault::Count { line: 5 },
     ),
     (
         b"0\nSECTION\n2\nENTITIES\n0\nLINE\n10\n0\n20\n0\n11\n1\n21\n1\n30\nx\n0\nENDSEC\n0\nEOF",
-        LayerFault::Slope { line: 5 },
+        LayerFault::Count { line: 5 },
+    ),
+    (
+        b"0\nSECTION\n2\nENTITIES\n0\nLINE\n10\n0\n20\n0\n11\n1\n21\n1\n30\nx\n31\nx\n0\nENDSEC\n0\nEOF",
+        LayerFault::Number {
+            at: 51,
+            fault: NumFault::Form { at: 0 },
+        },
+    ),
+    (
+        b"0\nSECTION\n2\nENTITIES\n0\nLINE\n10\n0\n20\n0\n11\n1\n21\n1\n31\ny\n30\n1\n0\nENDSEC\n0\nEOF",
+        LayerFault::Number {
+            at: 51,
+            fault: NumFault::Form { at: 0 },
+        },
+    ),
+    (
+        b"0\nSECTION\n2\nENTITIES\n0\nLINE\n10\n0\n20\n0\n11\n1\n21\n1\n30\n1\n31\n1\n31\n1\n0\nENDSEC\n0\nEOF",
+        LayerFault::Count { line: 19 },
     ),
     (
         b"0\nSECTION\n2\nENTITIES\n0\nLINE\n10\n0\n20\n0\n11\n1\n21\n1\n30\n0\n30\n0\n0\nENDSEC\n0\nEOF",

@@ -232,16 +232,39 @@ const BAD_POSITIONS: &[(&str, LayerFault)] = &[
         LayerFault::Shape { at: 30 },
     ),
     (
-        r#"{"type":"Point","coordinates":[5,0,1]}"#,
-        LayerFault::Height { at: 35 },
+        r#"{"type":"Point","coordinates":[5,0,1,1]}"#,
+        LayerFault::Height { at: 37 },
     ),
     (
-        r#"{"type":"Point","coordinates":["a",null, null,4]}"#,
-        LayerFault::Height { at: 41 },
+        r#"{"type":"Point","coordinates":["a",null, null, 4]}"#,
+        LayerFault::Height { at: 47 },
+    ),
+    (
+        r#"{"type":"Point","coordinates":["a",0,1,2,3]}"#,
+        LayerFault::Height { at: 39 },
+    ),
+    (
+        r#"{"type":"LineString","coordinates":[[0,0],[1,2,3,[]]]}"#,
+        LayerFault::Height { at: 49 },
     ),
     (
         r#"{"type":"LineString","coordinates":[[0,0],[1,2,[]]]}"#,
-        LayerFault::Height { at: 47 },
+        LayerFault::Shape { at: 47 },
+    ),
+    (
+        r#"{"type":"Point","coordinates":[5,0,"1"]}"#,
+        LayerFault::Shape { at: 35 },
+    ),
+    (
+        r#"{"type":"Point","coordinates":["a",null, null]}"#,
+        LayerFault::Shape { at: 31 },
+    ),
+    (
+        r#"{"type":"Point","coordinates":[1,2,1e100]}"#,
+        LayerFault::Number {
+            at: 35,
+            fault: NumFault::Range,
+        },
     ),
     (
         r#"{"type":"Point","coordinates":["5",0]}"#,
@@ -301,12 +324,28 @@ const BAD_POSITIONS: &[(&str, LayerFault)] = &[
         LayerFault::Ring { at: 67 },
     ),
     (
-        r#"{"type":"Polygon","coordinates":[[[0,0],[1,0,5]]]}"#,
-        LayerFault::Height { at: 45 },
+        r#"{"type":"Polygon","coordinates":[[[0,0,1],[1,0,1],[1,1,1],[0,0,2]]]}"#,
+        LayerFault::Ring { at: 33 },
     ),
     (
-        r#"{"type":"FeatureCollection","features":[{"type":"Feature","geometry":{"type":"Point","coordinates":[1,2,3]}},{"type":"Arc"}]}"#,
-        LayerFault::Height { at: 104 },
+        r#"{"type":"Polygon","coordinates":[[[0,0],[1,0],[1,1],[0,0,0]]]}"#,
+        LayerFault::Ring { at: 33 },
+    ),
+    (
+        r#"{"type":"Polygon","coordinates":[[[0,0,0],[1,0],[1,1],[0,0]]]}"#,
+        LayerFault::Ring { at: 33 },
+    ),
+    (
+        r#"{"type":"Polygon","coordinates":[[[0,0,5],[1,0],[1,1],[0,0,5]],[[0,0,5],[1,0],[1,1],[0,0,5.001]]]}"#,
+        LayerFault::Ring { at: 63 },
+    ),
+    (
+        r#"{"type":"Polygon","coordinates":[[[0,0],[1,0,5,6]]]}"#,
+        LayerFault::Height { at: 47 },
+    ),
+    (
+        r#"{"type":"FeatureCollection","features":[{"type":"Feature","geometry":{"type":"Point","coordinates":[1,2,3,4]}},{"type":"Arc"}]}"#,
+        LayerFault::Height { at: 106 },
     ),
     (
         r#"{"type":"FeatureCollection","features":[{"type":"Feature","geometry":null},5,{"type":"Arc"}]}"#,
@@ -358,8 +397,16 @@ fn refuses_lost_digits_where_that_is_asked(rt: HostRuntime) {
             LayerFault::Inexact { at: 55 },
         ),
         (
-            r#"{"type":"Point","coordinates":[0.0004,5,6]}"#,
-            LayerFault::Height { at: 40 },
+            r#"{"type":"Point","coordinates":[5,0,0.0004]}"#,
+            LayerFault::Inexact { at: 35 },
+        ),
+        (
+            r#"{"type":"Point","coordinates":[0,0.0004,0.0004]}"#,
+            LayerFault::Inexact { at: 33 },
+        ),
+        (
+            r#"{"type":"Point","coordinates":[0.0004,5,6,7]}"#,
+            LayerFault::Height { at: 42 },
         ),
     ] {
         assert_eq!(rt;
@@ -385,6 +432,14 @@ fn puts_the_image_of_a_point(rt: HostRuntime) {
         (
             r#" {"coordinates": [[ 5 , 0 ] ], "x": [1], "type": "MultiPoint"}"#,
             r#" {"coordinates": [[105.001,100.000] ], "x": [1], "type": "MultiPoint"}"#,
+        ),
+        (
+            r#"{"type":"Point","coordinates":[5,0,1]}"#,
+            r#"{"type":"Point","coordinates":[105.001,100.000,1.000]}"#,
+        ),
+        (
+            r#"{"type":"MultiPoint","coordinates":[[5,0,-0.5], [5,0],[5,0, 2e-3]]}"#,
+            r#"{"type":"MultiPoint","coordinates":[[105.001,100.000,-0.500], [105.001,100.000],[105.001,100.000,0.002]]}"#,
         ),
     ] {
         assert!(rt;
@@ -434,6 +489,52 @@ fn puts_the_images_of_a_ring_over_an_edge(rt: HostRuntime) {
     let wanted =
         r#"{"bbox":[100.000,100.000,109.000,109.000],"type":"Polygon","coordinates":[[[101.000,100.000],[109.000,101.000],[104.766,104.766],[100.000,109.000],[100.900,100.900],[101.000,100.000]]]}"#;
     assert!(rt; is_written_as(rt.alloc(), SQUARE, text, wanted));
+}
+
+/// The line is cut at (5, 5), half way. A box has heights only where each image has one.
+#[test]
+fn puts_heights(rt: HostRuntime) {
+    for (text, wanted) in [
+        (
+            r#"{"type":"LineString","bbox":[0],"coordinates":[[10,0,1],[0,10,2]]}"#,
+            r#"{"type":"LineString","bbox":[100.000,100.000,1.000,110.000,110.000,2.000],"coordinates":[[110.000,100.000,1.000],[105.002,105.002,1.500],[100.000,110.000,2.000]]}"#,
+        ),
+        (
+            r#"{"type":"LineString","bbox":[0],"coordinates":[[10,0,1],[0,10]]}"#,
+            r#"{"type":"LineString","bbox":[100.000,100.000,110.000,110.000],"coordinates":[[110.000,100.000,1.000],[105.002,105.002],[100.000,110.000]]}"#,
+        ),
+        (
+            r#"{"type":"LineString","bbox":[0],"coordinates":[[10,0],[0,10,2]]}"#,
+            r#"{"type":"LineString","bbox":[100.000,100.000,110.000,110.000],"coordinates":[[110.000,100.000],[105.002,105.002],[100.000,110.000,2.000]]}"#,
+        ),
+        (
+            r#"{"type":"LineString","coordinates":[[10,0,0],[0,10,-0.001]]}"#,
+            r#"{"type":"LineString","coordinates":[[110.000,100.000,0.000],[105.002,105.002,0.000],[100.000,110.000,-0.001]]}"#,
+        ),
+        (
+            r#"{"bbox":0,"type":"MultiPoint","coordinates":[[0,0,7],[10,0,-3],[0,10,2]]}"#,
+            r#"{"bbox":[100.000,100.000,-3.000,110.000,110.000,7.000],"type":"MultiPoint","coordinates":[[100.000,100.000,7.000],[110.000,100.000,-3.000],[100.000,110.000,2.000]]}"#,
+        ),
+        (
+            r#"{"bbox":0,"type":"MultiPoint","coordinates":[[0,0,7],[10,0],[0,10,2]]}"#,
+            r#"{"bbox":[100.000,100.000,110.000,110.000],"type":"MultiPoint","coordinates":[[100.000,100.000,7.000],[110.000,100.000],[100.000,110.000,2.000]]}"#,
+        ),
+    ] {
+        assert!(rt;
+            is_written_as(rt.alloc(), SQUARE, text, wanted),
+            "at {text}"
+        );
+    }
+}
+
+/// The ring is closed at the height of its first corner; its first side is cut half way.
+#[test]
+fn puts_the_heights_of_a_ring(rt: HostRuntime) {
+    let text =
+        r#"{"type":"Polygon","coordinates":[[[0,0,4],[1,0,5],[1,1],[0,0,4.0001]]],"bbox":0}"#;
+    let wanted =
+        r#"{"type":"Polygon","coordinates":[[[0.000,0.000,4.000],[0.500,-0.005,4.500],[1.000,0.000,5.000],[1.000,1.000],[0.000,0.000,4.000]]],"bbox":[0.000,-0.005,1.000,1.000]}"#;
+    assert!(rt; is_written_as(rt.alloc(), HINGE, text, wanted));
 }
 
 const PARCELS: &str = r#"{
@@ -519,6 +620,28 @@ fn reads_a_sheet(rt: HostRuntime) {
         edit(273, 274, What::Null),
     ];
     assert!(rt; is_read_as(rt.alloc(), NESTED, &rows, &points, &edits, 0));
+}
+
+/// Whether the text is read, and its points have these heights in order; `None` is none.
+fn has_heights(alloc: Global, text: &str, heights: &[Option<i64>]) -> bool {
+    let Ok(sheet) = read(alloc, text.as_bytes(), false) else {
+        return false;
+    };
+    for (number, height) in heights.iter().enumerate() {
+        if sheet.heights().at(number) != *height {
+            return false;
+        }
+    }
+    sheet.points().len() == heights.len()
+}
+
+/// Dots, a ring whose closing position is dropped, and one more dot.
+#[test]
+fn reads_heights(rt: HostRuntime) {
+    let text =
+        r#"{"type":"GeometryCollection","geometries":[{"type":"MultiPoint","coordinates":[[0,0],[1,0,1.5]]},{"type":"Polygon","coordinates":[[[0,0,2],[1,0],[1,1,-0.0004],[0,0,2]]]},{"type":"Point","coordinates":[3,4,5]}]}"#;
+    let heights = [None, Some(1500), Some(2000), None, Some(0), Some(5000)];
+    assert!(rt; has_heights(rt.alloc(), text, &heights));
 }
 
 /// The closing position of a ring counts, and members that are not read do not.

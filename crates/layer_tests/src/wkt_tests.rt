@@ -31,16 +31,21 @@ const BAD_LINES: &[(&str, LayerFault)] = &[
         LayerFault::Kind { at: 33 },
     ),
     ("POINT (1 2)\n\n  \r\nCIRCLE", LayerFault::Kind { at: 17 }),
-    ("POINT Z (5 0 1)", LayerFault::Height { at: 6 }),
     ("POINT (5 0 1)", LayerFault::Height { at: 11 }),
     ("POINT ZM (1 2 3 4)", LayerFault::Height { at: 6 }),
-    ("POINT M (1 2 3)", LayerFault::Height { at: 6 }),
-    ("POINT z(1 2)", LayerFault::Height { at: 6 }),
+    ("POINT M (5 0 1)", LayerFault::Height { at: 6 }),
+    ("POINT zm(1 2)", LayerFault::Height { at: 6 }),
+    ("POINT Z (1 2 3 4)", LayerFault::Height { at: 15 }),
+    ("POINT Z (1 2 3 4-)", LayerFault::Height { at: 15 }),
     ("LINESTRING (1 2 3 4)", LayerFault::Height { at: 16 }),
     ("LINESTRING (1 2 3x)", LayerFault::Height { at: 16 }),
     ("MULTIPOINT (1 2 3)", LayerFault::Height { at: 16 }),
-    ("MULTIPOINT Z (1 2)", LayerFault::Height { at: 11 }),
-    ("GEOMETRYCOLLECTION Z EMPTY", LayerFault::Height { at: 19 }),
+    ("MULTIPOINT Z (1 2 3 4)", LayerFault::Height { at: 20 }),
+    ("GEOMETRYCOLLECTION M EMPTY", LayerFault::Height { at: 19 }),
+    (
+        "GEOMETRYCOLLECTION Z (POINT (5 0 1))",
+        LayerFault::Height { at: 33 },
+    ),
     ("POINT (1 2 1e)", LayerFault::Height { at: 11 }),
     ("POLYGON ((0 0, 1 0, 0 0))", LayerFault::Ring { at: 9 }),
     ("POLYGON ((0 0, 1 0, 1 1, 0 1))", LayerFault::Ring { at: 9 }),
@@ -51,6 +56,14 @@ const BAD_LINES: &[(&str, LayerFault)] = &[
     (
         "POLYGON ((0 0, 1 0, 1 1, 0 0), (0 0, 1 0, 0 0))",
         LayerFault::Ring { at: 31 },
+    ),
+    (
+        "POLYGON Z ((0 0 1, 1 0 1, 1 1 1, 0 0 2))",
+        LayerFault::Ring { at: 11 },
+    ),
+    (
+        "POLYGON Z ((0 0 1, 1 0 1, 0 0 1))",
+        LayerFault::Ring { at: 11 },
     ),
     (
         "MULTIPOLYGON (((0 0, 1 0, 0 1, 0 0)), ((0 0, 1 0, 0 1)))",
@@ -77,6 +90,8 @@ fn refuses_numbers(rt: HostRuntime) {
         ("POINT 5EMPTY", false, 6, NumFault::Form { at: 2 }),
         ("POINT (5E 0)", false, 7, NumFault::Form { at: 2 }),
         ("POINT (+ 1)", false, 7, NumFault::Form { at: 1 }),
+        ("POINT Z (1 2 3-)", false, 13, NumFault::Form { at: 1 }),
+        ("MULTIPOINT Z (1 2 +)", false, 18, NumFault::Form { at: 1 }),
         ("POINT (1e100 0)", true, 7, NumFault::Range),
         (ZEROS, true, 7, NumFault::Long),
     ] {
@@ -90,6 +105,7 @@ fn refuses_numbers(rt: HostRuntime) {
         ("POINT (5 0.0004)", LayerFault::Inexact { at: 9 }),
         ("POINT 0.0004", LayerFault::Inexact { at: 6 }),
         ("POINT (5 0 0.0004)", LayerFault::Height { at: 11 }),
+        ("POINT Z (5 0 0.0004)", LayerFault::Inexact { at: 13 }),
         ("MULTIPOINT (0.0004 1)", LayerFault::Inexact { at: 12 }),
         (
             "POLYGON ((0 0, 1 0, 1 1, 0 0.0004))",
@@ -119,6 +135,15 @@ const BAD_TOKENS: &[(&str, u64)] = &[
     ("5 0", 0),
     ("POINT 0.0004", 6),
     ("POINT ZZ (1 2)", 6),
+    ("POINT Z", 7),
+    ("POINT Z Z (1 2 3)", 8),
+    ("POINT Z M (1 2 3)", 8),
+    ("POINT Z 1 2 3", 8),
+    ("POINT Z (1 2)", 12),
+    ("POINT (Z 1 2 3)", 7),
+    ("POLYGON Z ((0 0))", 15),
+    ("MULTIPOINT Z (1 2)", 17),
+    ("MULTIPOINT Z ((1 2))", 18),
     ("POINT (1, 2)", 8),
     ("POINT (1 2, 3 4)", 10),
     ("POINT (EMPTY)", 7),
@@ -264,6 +289,45 @@ fn reads_a_ring(rt: HostRuntime) {
     assert!(rt; is_read);
 }
 
+/// Whether a sheet of these points was read, and each has the height of the same place.
+fn has_heights(read: Result<Sheet, LayerFault>, points: &[Pt], heights: &[Option<i64>]) -> bool {
+    match read {
+        Ok(sheet) => {
+            for (number, height) in heights.iter().enumerate() {
+                if sheet.heights().at(number) != *height {
+                    return false;
+                }
+            }
+            sheet.points() == points && heights.len() == points.len()
+        }
+        Err(_) => false,
+    }
+}
+
+#[test]
+fn reads_heights(rt: HostRuntime) {
+    for (text, points, heights) in [
+        (
+            "LINESTRING Z (10 0 1, 0 10 2)",
+            [pt(10000, 0), pt(0, 10000)],
+            [Some(1000), Some(2000)],
+        ),
+        (
+            "MULTIPOINT z(1 2 -0.0016, (3 4 0))",
+            [pt(1000, 2000), pt(3000, 4000)],
+            [Some(-2), Some(0)],
+        ),
+        (
+            "GEOMETRYCOLLECTION Z (POINT (1 2), POINT Z (3 4 5))",
+            [pt(1000, 2000), pt(3000, 4000)],
+            [None, Some(5000)],
+        ),
+    ] {
+        let has = has_heights(read(rt.alloc(), text.as_bytes(), false), &points, &heights);
+        assert!(rt; has, "at {text}");
+    }
+}
+
 #[test]
 fn reads_empty_contents(rt: HostRuntime) {
     for text in [
@@ -272,6 +336,8 @@ fn reads_empty_contents(rt: HostRuntime) {
         "POLYGON (EMPTY, EMPTY)",
         "MultiPolygon ((EMPTY), EMPTY)",
         "MULTILINESTRING(EMPTY)",
+        "GEOMETRYCOLLECTION Z EMPTY",
+        "POINT z EMPTY",
         "GEOMETRYCOLLECTION (POINT EMPTY, MULTIPOINT (EMPTY), GEOMETRYCOLLECTION EMPTY)",
     ] {
         let is_read = is_read_as(rt.alloc(), text, &[], &[], &[]);
@@ -315,6 +381,27 @@ const MOVED: &[(&str, &str, &str)] = &[
         "MULTIPOINT (105.001 100.000, (100.000 100.000), EMPTY)",
     ),
     (TRIANGLE, "Point(5 0)", "Point(105.001 100.000)"),
+    (
+        TRIANGLE,
+        "POINT Z (5 0 1)",
+        "POINT Z (105.001 100.000 1.000)",
+    ),
+    (
+        TRIANGLE,
+        "Multipoint z(5 0 1,  (0 0 -2), EMPTY)",
+        "Multipoint z(105.001 100.000 1.000,  (100.000 100.000 -2.000), EMPTY)",
+    ),
+    (
+        SQUARE,
+        "LINESTRING Z (10 0 1, 0 10 2)",
+        "LINESTRING Z (110.000 100.000 1.000, 105.002 105.002 1.500, 100.000 110.000 2.000)",
+    ),
+    // The middle's height is half a millimetre below zero, and is rounded up.
+    (
+        SQUARE,
+        "LINESTRING Z (10 0 0, 0 10 -0.001)",
+        "LINESTRING Z (110.000 100.000 0.000, 105.002 105.002 0.000, 100.000 110.000 -0.001)",
+    ),
     // The first side is cut where the middle corner stands on it.
     (
         HINGE,
@@ -327,6 +414,12 @@ const MOVED: &[(&str, &str, &str)] = &[
         SQUARE,
         "POLYGON ((1 0, 9 1, 0 9, 1 0))",
         "POLYGON ((101.000 100.000, 109.000 101.000, 104.766 104.766, 100.000 109.000, 100.900 100.900, 101.000 100.000))",
+    ),
+    // The same ring with heights: the sides cross at 8/17 and 9/10 of their lengths, at heights of 1 + 16/17 and 1.2.
+    (
+        SQUARE,
+        "POLYGON Z ((1 0 1, 9 1 1, 0 9 3, 1 0 1))",
+        "POLYGON Z ((101.000 100.000 1.000, 109.000 101.000 1.000, 104.766 104.766 1.941, 100.000 109.000 3.000, 100.900 100.900 1.200, 101.000 100.000 1.000))",
     ),
 ];
 

@@ -10,6 +10,8 @@ mod CertNames
 mod LayerLists
 pub mod OneLayers
 pub mod OneMigration
+mod SomeLayers
+mod SomeMigration
 pub mod MigrationSteps
 pub mod LayerCauses
 pub mod MakerSteps

@@ -1,9 +1,6 @@
 -- A layer is read and carried in one way, and there is one first segment that is outside or passes the limit.
-use Rattle.std.proofs.Common.{◌≡◌, ℕ, ◌+◌, ◌-◌, ◌<◌, ◌≤◌, pos, ◌<ℤ◌, Option, Some, None, List, [], ◌∷◌, ◌++◌, length}
-use Rattle.std.proofs.Common.{length-append, refl, sym, ◌∙◌, ap, ap₂, subst, arith}
-use lib.Signed.{lt_z_yes}
-use Rattle.plane_base.specs.Plane.{whole}
-use Rattle.plane_base.specs.declared.shapes.Pt.{Pt}
+use Rattle.std.proofs.Common.{◌≡◌, ℕ, ◌+◌, ◌-◌, ◌<◌, ◌≤◌, List, [], ◌∷◌, ◌++◌, length}
+use Rattle.std.proofs.Common.{length-append, refl, sym, ◌∙◌, ap, subst, arith}
 use Rattle.sheet_base.specs.Sheets.{Contents}
 use Rattle.sheet_base.specs.Fitting.{Runs}
 use Rattle.sheet_base.specs.Splices.{spliced}
@@ -12,10 +9,10 @@ use Rattle.tin_base.specs.declared.pieces.Piece.{Piece}
 use Rattle.tin_base.specs.Triangulation.{Triangulation}
 use Rattle.tin_base.specs.Soundness.{IsSound}
 use Rattle.tin_base.specs.Segments.{Part, IsInside, ArePiecesOf}
-use Rattle.affine_image.specs.SheetSegments.{Segment, PathVertex, sheet_vertices, sheet_segments}
+use Rattle.affine_image.specs.SheetSegments.{Segment, sheet_segments}
 use Rattle.affine_image.specs.SheetPieces.{first_place, ArePiecesOfAll, AreInside}
-use Rattle.affine_image.specs.SheetImages.{AreCrossings, IsRun, AreRuns, joined, begins_from, AreImagesOf}
-use Rattle.affine_image.proofs.Rounding.{rounded_images_agree}
+use Rattle.affine_image.specs.SheetImages.{AreImagesOf}
+use Rattle.affine_image.proofs.OneSheet.{images_same}
 use Rattle.affine_image.proofs.Told.{told_length}
 use Rattle.carry_map.specs.Causes.{IsFirstOutside, IsFirstTooMany}
 use Rattle.carry_map.specs.declared.layers.Carried.{Carried}
@@ -26,7 +23,7 @@ use Rattle.layer_formats.specs.LayerTexts.{text_of}
 use Rattle.layer_formats.specs.LayerOutcomes.{LayerTextsAreOne, LacksLayerText}
 use Rattle.migrate.specs.LayerOutcomes.{IsCarried, IsOutside, HasTooMany}
 use Rattle.migrate.proofs.OnePieces.{pieces_one}
-use Rattle.affine_image.proofs.OneCut.{cut_alike, alike_length, ends_one}
+use Rattle.affine_image.proofs.OneCut.{cut_alike, alike_length}
 
 -- ---- how many pieces segments have
 abbrev HasSize : Triangulation → Segment → ℕ → Type 0
@@ -130,47 +127,6 @@ total_up tin [] behind segment n size total p one (k, rest, here, q, is) =
 total_up tin (also ∷ before) behind segment n size total (k, left, here, p, is) one (k', rest, here', q, is') =
     over_more n size k k' left rest total is (size_one tin also k k' here here') is'
     (total_up tin before behind segment left size rest p one q)
-
--- ---- the images
-one : pos 0 <ℤ pos 1
-one = lt_z_yes tt
-
-crossings_one : (tin : Triangulation) (segment : Option Segment) (images pictures : List Pt) → IsSound tin
-    → AreCrossings tin segment images → AreCrossings tin segment pictures → images ≡ pictures
-crossings_one tin None images pictures sound is too = is ∙ sym too
-crossings_one tin (Some segment) images pictures sound (parts, cut, ends) (others, cut_too, ends_too) =
-    ends_one tin segment.a segment.b parts others images pictures sound
-    (cut_alike tin segment.a segment.b parts others cut cut_too) ends ends_too
-
-run_one : (tin : Triangulation) (vertex : PathVertex) (run other : List Pt) → IsSound tin → IsRun tin vertex run
-    → IsRun tin vertex other → run ≡ other
-run_one tin vertex [] other sound is too = absurd is
-run_one tin vertex (image ∷ images) [] sound is too = absurd too
-run_one tin vertex (image ∷ images) (picture ∷ pictures) sound is too =
-    ap₂ (λ (p : Pt) (ps : List Pt). p ∷ ps) (rounded_images_agree tin (whole vertex.point) image picture sound one is.0
-    too.0)
-    (crossings_one tin vertex.segment images pictures sound is.1 too.1)
-
-runs_one : (tin : Triangulation) (vertices : List PathVertex) (runs others : List (List Pt)) → IsSound tin
-    → AreRuns tin vertices runs → AreRuns tin vertices others → runs ≡ others
-runs_one tin [] [] [] sound is too = refl
-runs_one tin [] [] (other ∷ others) sound is too = absurd too
-runs_one tin [] (run ∷ runs) others sound is too = absurd is
-runs_one tin (vertex ∷ vertices) [] others sound is too = absurd is
-runs_one tin (vertex ∷ vertices) (run ∷ runs) [] sound is too = absurd too
-runs_one tin (vertex ∷ vertices) (run ∷ runs) (other ∷ others) sound is too =
-    ap₂ (λ (r : List Pt) (rs : List (List Pt)). r ∷ rs) (run_one tin vertex run other sound is.0 too.0)
-    (runs_one tin vertices runs others sound is.1 too.1)
-
-abbrev runs_of : List Pt → List ℕ → Runs
-runs_of points run = record { points = points; run = run }
-
-images_one : (tin : Triangulation) (sheet : Contents) (images pictures : Runs) → IsSound tin
-    → AreImagesOf tin sheet images → AreImagesOf tin sheet pictures → images ≡ pictures
-images_one tin sheet images pictures sound is too =
-    let same : is.runs ≡ too.runs = runs_one tin (sheet_vertices sheet) is.runs too.runs sound is.of_vertices
-    too.of_vertices in
-    ap₂ runs_of (is.points ∙ (ap joined same ∙ sym too.points)) (is.run ∙ (ap (begins_from 0) same ∙ sym too.run))
 
 -- ---- the layer
 module _ (texts : LayerTextsAreOne) (how : How) (tin : Triangulation) (format : Format) (text : List ℕ) (layer : ℕ)
@@ -321,7 +277,7 @@ pub carried_one : (texts : LayerTextsAreOne) (how : How) (tin : Triangulation) (
 carried_one texts how tin format text number before pieces others carried other sound is too =
     let x = is.layer in let y = too.layer in
     let sheets : x.sheet ≡ y.sheet = (texts how format text).one_sheet x.sheet y.sheet x.read y.read in
-    let images : x.images ≡ y.images = images_one tin y.sheet x.images y.images sound
+    let images : x.images ≡ y.images = images_same tin y.sheet x.images y.images sound
     (subst (λ (s : Contents). AreImagesOf tin s x.images) sheets x.are_images) y.are_images in
     let totals : length x.own ≡ length y.own =
     total_one tin (sheet_segments y.sheet) (length x.own) (length y.own)

@@ -1,7 +1,9 @@
--- A migration ends in one way, and where it is done it keeps the relations of its pieces or lists those that it does
+-- A migration ends, in one way, and where it is done it keeps the relations of its pieces or lists those that it does
 -- not.
 use Rattle.std.specs.Prelude.{◌≡◌, ℕ, Result, Ok, Err, Some}
+use Rattle.std.specs.List.{AllByRecursion}
 use Rattle.shelf_io.specs.Files.{Files}
+use Rattle.job_words.specs.Kept.{HasFormat}
 use Rattle.runs.specs.declared.status.Status.{Status}
 use Rattle.runs.specs.declared.refusal.Refusal.{Refusal}
 use Rattle.migrate.specs.declared.migrations.Migration.{Migration}
@@ -28,6 +30,14 @@ MigrationIsOne = (files : Files) (migration : Migration) (end other : End) → I
 
 abbrev pub MakingIsOne : Type 0
 MakingIsOne = (n : ℕ) (end other : End) → IsMakingEnd n end → IsMakingEnd n other → end ≡ other
+
+-- whatever the files are, where the name of each layer has a format
+abbrev pub MigrationExists : Type 0
+MigrationExists = (files : Files) (migration : Migration) → AllByRecursion HasFormat migration.layers
+    → (end : End) × IsMigrationEnd files migration end
+
+abbrev pub MakingExists : Type 0
+MakingExists = (n : ℕ) → (end : End) × IsMakingEnd n end
 
 abbrev pub MigrationKeepsRelations : Type 0
 MigrationKeepsRelations = (files : Files) (migration : Migration) (status : Status) (made : Files)

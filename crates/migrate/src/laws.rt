@@ -3,9 +3,14 @@
 ghost use Rattle.std.specs.Prelude.{◌≡◌, ◌^◌};
 ghost use Rattle.migrate.specs.declared.change_lists.TheConstants.{MOST_CHANGES};
 ghost use Rattle.migrate.specs.declared.maker_texts.TheConstants.{COMMA};
-ghost use Rattle.migrate.specs.Laws.{MigrationIsOne, MakingIsOne, MigrationKeepsRelations, MakingKeepsRelations};
+ghost use Rattle.migrate.specs.Laws.{MigrationIsOne, MakingIsOne, MigrationExists, MakingExists};
+ghost use Rattle.migrate.specs.Laws.{MigrationKeepsRelations, MakingKeepsRelations};
 
-use layer_formats::layer_texts_are_one;
+use carry_map::layer_end_exists;
+use dxf_layer::Dxf;
+use gj_layer::GeoJson;
+use layer_formats::{layer_outcomes_exist, layer_texts_are_one};
+use wkt_layer::Wkt;
 
 /// A law: a migration of the same files ends in one way.
 pub fn migration_is_one()
@@ -19,6 +24,32 @@ pub fn making_is_one()
     ensures { MakingIsOne }
 {
     layer_texts_are_one();
+}
+
+/// A law: a migration ends, whatever the files are, where the name of each layer has a format.
+pub fn migration_exists()
+    ensures { MigrationExists }
+{
+    runs::tin_end_exists();
+    runs::read_tins_are_within_limits();
+    layer_outcomes_exist();
+    layer_end_exists::<Wkt>();
+    layer_end_exists::<GeoJson>();
+    layer_end_exists::<Dxf>();
+    topo_check::changes_exist();
+}
+
+/// A law: so does what is made of a number of cells.
+pub fn making_exists()
+    ensures { MakingExists }
+{
+    runs::tin_end_exists();
+    runs::read_tins_are_within_limits();
+    layer_outcomes_exist();
+    layer_end_exists::<Wkt>();
+    layer_end_exists::<GeoJson>();
+    layer_end_exists::<Dxf>();
+    topo_check::changes_exist();
 }
 
 /// A law: what a migration that is done makes keeps the relations of its pieces, or lists those that it does not.

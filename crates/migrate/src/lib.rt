@@ -13,8 +13,8 @@ mod report;
 
 pub use change_lists::{MOST_CHANGES, list_changes};
 pub use laws::{
-    limits_are_stated, making_is_one, making_keeps_relations, migration_is_one,
-    migration_keeps_relations,
+    limits_are_stated, making_exists, making_is_one, making_keeps_relations, migration_exists,
+    migration_is_one, migration_keeps_relations,
 };
 pub use layer_runs::{Run, carry_next, cert_name, output_name};
 pub use maker::prepare_making;

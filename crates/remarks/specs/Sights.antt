@@ -6,7 +6,7 @@ use Rattle.std.specs.List.{suffix_len, starts_with, ends_with}
 use Rattle.sheet_base.specs.declared.faults.LayerFault.{LayerFault}
 use Rattle.sheet_base.specs.declared.faults.LayerFault.TheVariants as faults
 use Rattle.remarks.specs.declared.sights.Sight.{Sight}
-use Rattle.remarks.specs.declared.sights.Sight.TheVariants.{Plain, ByteOrderMark, SecondGeometry, ThirdNumber}
+use Rattle.remarks.specs.declared.sights.Sight.TheVariants.{Plain, ByteOrderMark, SecondGeometry, NumberTooMany}
 use Rattle.remarks.specs.LayerTables.{finding_of, cure_of}
 
 -- ---- the bytes at a place
@@ -48,7 +48,7 @@ abbrev pub sight_of_code : List ℕ → ℕ → Sight
 sight_of_code bytes line = if eqb line 1 && begins_with_mark bytes then ByteOrderMark else Plain
 
 abbrev pub sight_of_height : List ℕ → ℕ → Sight
-sight_of_height bytes at = if is_first begins_number (drop at bytes) then ThirdNumber else Plain
+sight_of_height bytes at = if is_first begins_number (drop at bytes) then NumberTooMany else Plain
 
 abbrev pub sight_in : LayerFault → List ℕ → Sight
 sight_in (faults.Bad at) bytes = sight_of_bad bytes at
@@ -65,10 +65,10 @@ abbrev pub seen_finding : LayerFault → Sight → List ℕ
 seen_finding fault Plain = finding_of fault
 seen_finding fault ByteOrderMark = codes "a byte order mark"
 seen_finding fault SecondGeometry = codes "a second geometry on one line"
-seen_finding fault ThirdNumber = codes "a third number, here a height"
+seen_finding fault NumberTooMany = codes "a number too many"
 
 abbrev pub seen_cure : LayerFault → Sight → Option (List ℕ)
 seen_cure fault Plain = cure_of fault
 seen_cure fault ByteOrderMark = Some (codes "save the file without it")
 seen_cure fault SecondGeometry = Some (codes "write one geometry a line")
-seen_cure fault ThirdNumber = cure_of fault
+seen_cure fault NumberTooMany = cure_of fault

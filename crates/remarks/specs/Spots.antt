@@ -66,7 +66,6 @@ layer_spot (layers.Flags line) = Line line
 layer_spot (layers.Count line) = Line line
 layer_spot (layers.Bulge line) = Line line
 layer_spot (layers.Width line) = Line line
-layer_spot (layers.Slope line) = Line line
 layer_spot (layers.Attribs line) = Line line
 layer_spot (layers.Seed line) = Line line
 layer_spot layers.NoMemory = File

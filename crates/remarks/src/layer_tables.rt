@@ -39,7 +39,7 @@ pub fn finding(fault: LayerFault) -> &'static str
         LayerFault::Repeat { .. } => "a member that stands twice",
         LayerFault::Shape { .. } => "a member or a position that is missing or of another type",
         LayerFault::Kind { .. } => "a geometry of another kind",
-        LayerFault::Height { .. } => "a height, or the mark of one",
+        LayerFault::Height { .. } => "a measure, or the mark of one",
         LayerFault::Number { fault, .. } => number_finding(fault),
         LayerFault::Inexact { .. } => "a number with digits past the millimetre",
         LayerFault::Ring { .. } => "a ring that is not closed, or has fewer than four points",
@@ -55,7 +55,6 @@ pub fn finding(fault: LayerFault) -> &'static str
         }
         LayerFault::Bulge { .. } => "a segment of a polyline that is an arc",
         LayerFault::Width { .. } => "a vertex with a width of its own",
-        LayerFault::Slope { .. } => "a line whose ends have different heights",
         LayerFault::Attribs { .. } => "an insert with attributes",
         LayerFault::Seed { .. } => {
             "an entity with a handle in a drawing without a next handle ($HANDSEED)"
@@ -78,7 +77,9 @@ pub fn cure(fault: LayerFault) -> Option<&'static str>
         LayerFault::Kind { .. } => {
             Some("curves are made straight by: ogr2ogr -nlt CONVERT_TO_LINEAR")
         }
-        LayerFault::Height { .. } => Some("heights are left out by: ogr2ogr -dim XY"),
+        LayerFault::Height { .. } => Some(
+            "heights are marked and measures left out by: ogr2ogr -dim XYZ",
+        ),
         LayerFault::Number { fault, .. } => number_cure(fault),
         LayerFault::Inexact { .. } => Some("without --exact such a number is rounded"),
         LayerFault::Ring { .. } => Some("close it; or try: ogr2ogr -makevalid"),
@@ -94,7 +95,6 @@ pub fn cure(fault: LayerFault) -> Option<&'static str>
         LayerFault::Count { .. } => Some("save the drawing again"),
         LayerFault::Bulge { .. } => Some("see recipes/readable_drawing.py"),
         LayerFault::Width { .. } => Some("set the width to 0"),
-        LayerFault::Slope { .. } => Some("see recipes/readable_drawing.py"),
         LayerFault::Attribs { .. } => Some("recipes/readable_drawing.py makes texts of them"),
         LayerFault::Seed { .. } => Some("save the drawing again"),
         LayerFault::NoMemory => Some("carry smaller layers, or one a run"),

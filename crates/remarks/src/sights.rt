@@ -22,8 +22,8 @@ pub enum Sight {
     ByteOrderMark,
     /// A word behind the closing bracket of a geometry on the same line.
     SecondGeometry,
-    /// A digit, sign or point where the position ends.
-    ThirdNumber,
+    /// A digit, sign or point where a position has all its numbers.
+    NumberTooMany,
 }
 
 /// Whether the bytes begin with the byte order mark of UTF-8.
@@ -123,12 +123,12 @@ fn code_sight(bytes: &[u8], line: u64) -> Sight
     }
 }
 
-/// What is seen of a height.
+/// What is seen where a position has all its numbers.
 fn height_sight(bytes: &[u8], at: u64) -> Sight
     ensures { result ≡ sight_of_height bytes.now at }
 {
     if begins_with_number(from_place(bytes, at)) {
-        Sight::ThirdNumber
+        Sight::NumberTooMany
     } else {
         Sight::Plain
     }
@@ -164,7 +164,7 @@ pub(crate) fn seen_finding(fault: LayerFault, seen: Sight) -> &'static str
         Sight::Plain => finding(fault),
         Sight::ByteOrderMark => "a byte order mark",
         Sight::SecondGeometry => "a second geometry on one line",
-        Sight::ThirdNumber => "a third number, here a height",
+        Sight::NumberTooMany => "a number too many",
     }
 }
 
@@ -173,7 +173,7 @@ pub(crate) fn seen_cure(fault: LayerFault, seen: Sight) -> Option<&'static str>
     ensures { option_copied result ≡ seen_cure_of fault seen }
 {
     match seen {
-        Sight::Plain | Sight::ThirdNumber => cure(fault),
+        Sight::Plain | Sight::NumberTooMany => cure(fault),
         Sight::ByteOrderMark => Some("save the file without it"),
         Sight::SecondGeometry => Some("write one geometry a line"),
     }

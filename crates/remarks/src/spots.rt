@@ -99,7 +99,6 @@ fn layer_spot(fault: LayerFault) -> Spot
         LayerFault::Count { line } => Spot::Line(line),
         LayerFault::Bulge { line } => Spot::Line(line),
         LayerFault::Width { line } => Spot::Line(line),
-        LayerFault::Slope { line } => Spot::Line(line),
         LayerFault::Attribs { line } => Spot::Line(line),
         LayerFault::Seed { line } => Spot::Line(line),
     }

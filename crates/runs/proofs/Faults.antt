@@ -90,7 +90,6 @@ of_layer (layers.Flags line) = unread refl
 of_layer (layers.Count line) = unread refl
 of_layer (layers.Bulge line) = unread refl
 of_layer (layers.Width line) = unread refl
-of_layer (layers.Slope line) = unread refl
 of_layer (layers.Attribs line) = unread refl
 of_layer (layers.Seed line) = unread refl
 of_layer layers.NoMemory = without_room refl

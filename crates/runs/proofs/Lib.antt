@@ -5,5 +5,6 @@ pub mod TinRefusals
 pub mod RefusalLines
 pub mod LimitLines
 pub mod OneTin
+pub mod RunEnds
 mod TinEndExists
 mod ReadLimits

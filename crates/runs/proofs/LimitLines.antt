@@ -150,7 +150,6 @@ layer-none layer (layers.Flags line) = a-line _ refl
 layer-none layer (layers.Count line) = a-line _ refl
 layer-none layer (layers.Bulge line) = a-line _ refl
 layer-none layer (layers.Width line) = a-line _ refl
-layer-none layer (layers.Slope line) = a-line _ refl
 layer-none layer (layers.Attribs line) = a-line _ refl
 layer-none layer (layers.Seed line) = a-line _ refl
 layer-none layer layers.NoMemory = at-first _ 110 refl (λ e. omega (arith, e))

@@ -1,9 +1,8 @@
 -- What is read of a triangulation file is within the limits of triangulations.
 use Rattle.std.proofs.Common.{◌≡◌, ℕ, zero, suc, ◌<◌, List, [], ◌∷◌, map, length, get_or, Bool, true, false, All}
-use Rattle.std.proofs.Common.{refl, sym, ◌∙◌, subst, arith}
+use Rattle.std.proofs.Common.{refl, sym, subst, arith}
 use Rattle.std.specs.Prelude.{if◌then◌else◌, Result, Ok, Err, pos, int_lt}
-use Rattle.std.specs.List.{list_any, AllByRecursion}
-use Rattle.std.proofs.lemmas.Bool.{or_right}
+use Rattle.std.specs.List.{AllByRecursion}
 use Rattle.std.proofs.lemmas.List.{length-map}
 use Rattle.jtext.specs.Values.{Json, Members, null, truth, numeral, quoted, array, object}
 use Rattle.sheet_base.specs.declared.flags.How.{How}
@@ -12,7 +11,7 @@ use Rattle.tin_base.specs.declared.frames.Frame.{Frame}
 use Rattle.tin_base.specs.declared.frames.Frame.TheVariants.{Source, Target}
 use Rattle.tin_base.specs.Triangulation.{Triangulation, no_corner}
 use Rattle.tin_base.specs.Limits.{IsCornerInReach, IsWithinLimits}
-use Rattle.tin_file.specs.Corners.{is_same, corners_of, number_of_row, oriented, source_turn, spans}
+use Rattle.tin_file.specs.Corners.{corners_of, number_of_row, oriented, source_turn, spans}
 use Rattle.tin_file.specs.Keys.{checked, and_then}
 use Rattle.tin_file.specs.Headings.{heading}
 use Rattle.tin_file.specs.Vertices.{vertices}
@@ -21,27 +20,14 @@ use Rattle.tin_file.specs.Reading.{made_of, within_spans, rows_of, reading}
 use Rattle.tin_file.specs.Gathered.{corners_in, IsBelow, IsFaceOf, AreFacesOf}
 use Rattle.tin_file.specs.declared.vertices.Vertex.{Vertex}
 use Rattle.tin_file.specs.declared.faults.TinFault.{TinFault}
-use Rattle.tin_file.proofs.Finishing.{narrow, near_all}
-use Rattle.tin_file.proofs.Fresh.{are_different, kept_few, kept_are, number_within}
-use Rattle.tin_file.proofs.Keyed.{corners_have, is_itself}
+use Rattle.tin_file.proofs.Finishing.{face_there, narrow, near_all, row_within}
+use Rattle.tin_file.proofs.Fresh.{are_different, kept_few, kept_are}
 use Rattle.tin_file.proofs.Reaching.{at_of}
 use Rattle.tin_file.proofs.RowsRead.{same_ok}
-use Rattle.tin_file.proofs.Whole.{AreVertices, vertices_are, AreTriangles, triangles_are}
+use Rattle.tin_file.proofs.Whole.{split_then, AreVertices, vertices_are, AreTriangles, triangles_are}
 use Rattle.runs.specs.Laws.{ReadTinsAreWithinLimits}
 
 -- ---- the faces of rows
-same_listed : (rows : List Corner) (i : ℕ) → i < length rows
-    → list_any (is_same (get_or rows i no_corner)) rows ≡ true
-same_listed [] i within = absurd (omega (arith, within))
-same_listed (row ∷ rows) zero within = rw (is_itself row) refl
-same_listed (row ∷ rows) (suc i) within = or_right (is_same (get_or rows i no_corner) row)
-    (list_any (is_same (get_or rows i no_corner)) rows) (same_listed rows i (omega (arith, within)))
-
-number_below : (rows : List Corner) (row : ℕ) → row < length rows → number_of_row rows row < length (corners_of rows)
-number_below rows row within =
-    number_within (corners_of rows) (get_or rows row no_corner)
-    (corners_have (get_or rows row no_corner) rows ∙ same_listed rows row within)
-
 made_face : List Corner → List ℕ → List ℕ
 made_face rows face = oriented (corners_of rows) (map (number_of_row rows) face)
 
@@ -61,8 +47,8 @@ face_below rows (p ∷ q ∷ r ∷ []) h = by_test (int_lt (source_turn (corners
 
     by_test : (test : Bool) → IsFaceOf (corners_of rows) (if test then number_of_row rows p ∷ number_of_row rows r
         ∷ number_of_row rows q ∷ [] else number_of_row rows p ∷ number_of_row rows q ∷ number_of_row rows r ∷ [])
-    by_test true = (number_below rows p h.0, number_below rows r h.2, number_below rows q h.1)
-    by_test false = (number_below rows p h.0, number_below rows q h.1, number_below rows r h.2)
+    by_test true = (row_within rows p h.0, row_within rows r h.2, row_within rows q h.1)
+    by_test false = (row_within rows p h.0, row_within rows q h.1, row_within rows r h.2)
 face_below rows [] h = absurd h
 face_below rows (p ∷ []) h = absurd h
 face_below rows (p ∷ q ∷ []) h = absurd h
@@ -72,12 +58,6 @@ faces_below : (rows : List Corner) (faces : List (List ℕ)) → AllByRecursion 
     → AreFacesOf (corners_of rows) (map (made_face rows) faces)
 faces_below rows [] h = tt
 faces_below rows (face ∷ faces) h = (face_below rows face h.0, faces_below rows faces h.1)
-
-face_at : (corners : List Corner) (faces : List (List ℕ)) (t : ℕ) → AreFacesOf corners faces → t < length faces
-    → IsFaceOf corners (get_or faces t [])
-face_at corners [] t h within = absurd (omega (arith, within))
-face_at corners (face ∷ faces) zero h within = h.0
-face_at corners (face ∷ faces) (suc t) h within = face_at corners faces t h.1 (omega (arith, within))
 
 three_of : (count : ℕ) (face : List ℕ) → IsBelow count face → length face ≡ 3
 three_of count (p ∷ q ∷ r ∷ []) h = refl
@@ -108,9 +88,9 @@ made_within : (rows : List Vertex) (faces : List (List ℕ)) → AreVertices row
 unfolding AreReached made_face
 made_within rows faces h k spanned = record {
   three = λ t within. three_of (length corners) (get_or (map (made_face all) faces) t [])
-      (face_at corners (map (made_face all) faces) t are within);
+      (face_there corners (map (made_face all) faces) t are within);
   in_range = λ t within. each_below (length corners) (get_or (map (made_face all) faces) t [])
-      (face_at corners (map (made_face all) faces) t are within);
+      (face_there corners (map (made_face all) faces) t are within);
   in_reach = λ frame n within. reach_at frame n within;
   near = near_all corners (narrow corners spanned);
   different = are_different all;
@@ -138,11 +118,6 @@ made_within rows faces h k spanned = record {
     reach_at Target n within = (at_of AreReached corners n reached within).1
 
 -- ---- from the text on
-then_of : {A B : Type 0} (f : A → Result B TinFault) (r : Result A TinFault) (made : B) → and_then f r ≡ Ok made
-    → (value : A) × (r ≡ Ok value) × (f value ≡ Ok made)
-then_of f (Ok value) made h = (value, refl, h)
-then_of f (Err fault) made h = cc
-
 spans_of : (rows : List Vertex) (faces : List (List ℕ)) (tin : Triangulation) → within_spans rows faces ≡ Ok tin
     → (Ok tt ≡ spans (corners_of (corners_in rows))) × (made_of rows faces ≡ tin)
 spans_of rows faces tin h = by (spans (corners_of (corners_in rows))) refl h
@@ -156,11 +131,11 @@ spans_of rows faces tin h = by (spans (corners_of (corners_in rows))) refl h
 of_members : (how : How) (members : Members) (tin : Triangulation)
     → and_then (rows_of how members) (heading how members) ≡ Ok tin → IsWithinLimits tin
 of_members how members tin h =
-    let (columns, found, read) = then_of (rows_of how members) (heading how members) tin h in
+    let (columns, found, read) = split_then (rows_of how members) (heading how members) tin h in
     let (rows, listed, made) =
-    then_of (λ rows. and_then (within_spans rows) (triangles columns.triangles (length rows) members))
+    split_then (λ rows. and_then (within_spans rows) (triangles columns.triangles (length rows) members))
     (vertices how columns.vertices members) tin read in
-    let (faces, told, last) = then_of (within_spans rows) (triangles columns.triangles (length rows) members) tin made
+    let (faces, told, last) = split_then (within_spans rows) (triangles columns.triangles (length rows) members) tin made
     in
     let (spanned, is) = spans_of rows faces tin last in
     subst IsWithinLimits is

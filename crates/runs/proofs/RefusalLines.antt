@@ -104,7 +104,6 @@ layer-memory layer (layers.Flags line) is = cc
 layer-memory layer (layers.Count line) is = cc
 layer-memory layer (layers.Bulge line) is = cc
 layer-memory layer (layers.Width line) is = cc
-layer-memory layer (layers.Slope line) is = cc
 layer-memory layer (layers.Attribs line) is = cc
 layer-memory layer (layers.Seed line) is = cc
 layer-memory layer layers.NoMemory is = refl

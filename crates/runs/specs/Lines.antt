@@ -123,7 +123,6 @@ layer_line layer (layers.Flags line) = at_line layer (codes "flags") line
 layer_line layer (layers.Count line) = at_line layer (codes "count") line
 layer_line layer (layers.Bulge line) = at_line layer (codes "bulge") line
 layer_line layer (layers.Width line) = at_line layer (codes "width") line
-layer_line layer (layers.Slope line) = at_line layer (codes "slope") line
 layer_line layer (layers.Attribs line) = at_line layer (codes "attribs") line
 layer_line layer (layers.Seed line) = at_line layer (codes "seed") line
 layer_line layer layers.NoMemory = codes "no memory\n"

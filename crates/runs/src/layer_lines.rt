@@ -92,7 +92,6 @@ pub fn layer_line(layer: u32, fault: LayerFault) -> Line
         LayerFault::Count { line } => drawing_line(layer, "count", line),
         LayerFault::Bulge { line } => drawing_line(layer, "bulge", line),
         LayerFault::Width { line } => drawing_line(layer, "width", line),
-        LayerFault::Slope { line } => drawing_line(layer, "slope", line),
         LayerFault::Attribs { line } => drawing_line(layer, "attribs", line),
         LayerFault::Seed { line } => drawing_line(layer, "seed", line),
         LayerFault::NoMemory => text_line("no memory\n"),

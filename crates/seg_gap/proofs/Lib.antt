@@ -8,3 +8,4 @@ pub mod GapLaws
 pub mod Least
 pub mod Heights
 pub mod Sizes
+pub mod SomeGap

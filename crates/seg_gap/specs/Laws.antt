@@ -8,6 +8,10 @@ use Rattle.seg_gap.specs.Gaps.{IsOfSegment, IsGap}
 abbrev pub GapIsOne : Type 0
 GapIsOne = (a b c d : Pt) (first second : ℕ) → IsGap a b c d first → IsGap a b c d second → first ≡ second
 
+-- and they have one
+abbrev pub GapExists : Type 0
+GapExists = (a b c d : Pt) → (gap : ℕ) × IsGap a b c d gap
+
 -- where they share a point, it is 0
 abbrev pub SegmentsThatShareAPointHaveNoGap : Type 0
 SegmentsThatShareAPointHaveNoGap =

@@ -1,9 +1,14 @@
 //! The laws of the distance of two segments.
-ghost use Rattle.seg_gap.specs.Laws.{GapIsOne, SegmentsThatShareAPointHaveNoGap, GapIsSymmetric};
+ghost use Rattle.seg_gap.specs.Laws.{GapExists, GapIsOne, SegmentsThatShareAPointHaveNoGap, GapIsSymmetric};
 
 /// Two segments have at most one gap, so `gap` has one right answer.
 pub fn gap_is_one()
     ensures { GapIsOne }
+{}
+
+/// Two segments have a gap, however far they are from each other.
+pub fn gap_exists()
+    ensures { GapExists }
 {}
 
 /// The gap of two segments that share a point is 0.

@@ -7,4 +7,4 @@ mod gaps;
 mod laws;
 
 pub use gaps::gap;
-pub use laws::{gap_is_one, gap_is_symmetric, segments_that_share_a_point_have_no_gap};
+pub use laws::{gap_exists, gap_is_one, gap_is_symmetric, segments_that_share_a_point_have_no_gap};

@@ -5,5 +5,7 @@ pub mod RingLemmas
 pub mod WrittenLayers
 pub mod Swaps
 pub mod ImageRuns
-pub mod Redrawn
+pub mod PositionLists
+pub mod HeightLists
+pub mod DrawnPaths
 pub mod HandedOn

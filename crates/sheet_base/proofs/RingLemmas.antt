@@ -1,7 +1,6 @@
 -- When the points of a ring are closed.
-use Rattle.std.proofs.Common.{◌≡◌, ℕ, ◌-◌, ◌≤◌, ℤ, true, List, length, refl, ap, sym}
+use Rattle.std.proofs.Common.{◌≡◌, ◌-◌, ◌≤◌, true, List, length, refl, ap}
 use Rattle.std.specs.Prelude.{nat_le}
-use Rattle.std.specs.Ordering.{int_eq}
 use Rattle.std.proofs.lemmas.Bool.{leb-true, le-leb, and_parts}
 use Rattle.std.proofs.lemmas.Bool.Decides.{Decides-int_eq}
 use Rattle.plane_base.specs.declared.shapes.Pt.{Pt}

@@ -23,9 +23,16 @@ pub record IsSpliced (bytes : List ℕ) (text : Edit → List ℕ) (edits left :
     pub all : out ++ spliced_from bytes text from left ≡ spliced bytes text edits
 
 -- edits in order end by the last place
-by_the_end : (from : ℕ) (edits : List Edit) (past : ℕ) → AreInOrder from edits past → from ≤ past
+pub by_the_end : (from : ℕ) (edits : List Edit) (past : ℕ) → AreInOrder from edits past → from ≤ past
 by_the_end from [] past order = order
 by_the_end from (edit ∷ edits) past order = omega (arith, order.0, order.1, by_the_end edit.end edits past order.2)
+
+-- edits in order from a place are in order from each earlier one
+pub order_earlier : (before from : ℕ) (edits : List Edit) (past : ℕ) → before ≤ from → AreInOrder from edits past
+    → AreInOrder before edits past
+order_earlier before from [] past earlier are = omega (arith, earlier, are)
+order_earlier before from (edit ∷ edits) past earlier (first, second, rest) =
+    (omega (arith, earlier, first), second, rest)
 
 -- what stands at a place that is none of the list's
 abbrev pub no_edit : Edit

@@ -1,11 +1,12 @@
 -- What holds of the bytes that a format writes: the rest is kept, and they are read back.
-use Rattle.std.proofs.Common.{◌≡◌, List, ℕ, ap, ◌∙◌, sym, subst}
-use Rattle.std.specs.Prelude.{map, Result, Ok, Err, IfOk}
+use Rattle.std.proofs.Common.{◌≡◌, List, ℕ, ap, refl, ◌∙◌, sym, subst}
+use Rattle.std.specs.Prelude.{map, Result, IfOk}
 use Rattle.sheet_base.specs.declared.edits.Edit.{Edit}
 use Rattle.sheet_base.specs.Sheets.{Contents}
 use Rattle.sheet_base.specs.Fitting.{Runs}
 use Rattle.sheet_base.specs.Splices.{spliced, DoKeep}
-use Rattle.sheet_base.specs.ReadBack.{ends_of, imaged, IsReadBack}
+use Rattle.sheet_base.specs.ReadBack.{ends_of, height_ends_of, AreTheSame, imaged, IsReadBack}
+use Rattle.sheet_base.proofs.HeightLists.{match_self}
 use Rattle.sheet_base.proofs.Splicing.{if_ok_more, splices_keep}
 
 -- a text is read as a sheet of just these images, with the first sheet's paths over them, and no number lost digits
@@ -14,15 +15,19 @@ pub record IsReadAgain (reads : List ℕ → Contents → Type 0) (text : List �
     pub back : Contents
     pub is_read : reads text back
     pub points : back.points ≡ images.points
+    pub heights : back.heights ≡ images.heights
     pub paths : back.paths ≡ map (imaged images) sheet.paths
     pub exact_all : back.inexact ≡ 0
 
 pub read_back : (reads : List ℕ → Contents → Type 0) (text : List ℕ) (sheet : Contents) (images : Runs)
-    → IsReadAgain reads text sheet images → IsReadBack reads sheet images text
+    → IsReadAgain reads text sheet images → IsReadBack reads AreTheSame sheet images text
 read_back reads text sheet images again = record {
   back = again.back;
   is_read = again.is_read;
   segments = ap (λ points. ends_of points again.back.paths) again.points ∙ ap (ends_of images.points) again.paths;
+  heights =
+      rw (again.heights, again.paths)
+      (match_self AreTheSame (height_ends_of images.heights (map (imaged images) sheet.paths)) (λ ends. refl));
 }
 
 -- ---- where a call splices these bytes at the given edits, which are those of the sheet

@@ -1,19 +1,18 @@
--- The images of a path as text: those of a format, with its separator between them.
+-- The images of a path as text, each by the text that a format has for it, with its separator between them.
 use Rattle.std.specs.Prelude.{ℕ, List, [], ◌∷◌, ◌++◌}
-use Rattle.plane_base.specs.declared.shapes.Pt.{Pt}
 
 -- the texts of images, each behind a separator
-abbrev pub texts_behind : List ℕ → (Pt → List ℕ) → List Pt → List ℕ
+abbrev pub texts_behind : {X : Type 0} → List ℕ → (X → List ℕ) → List X → List ℕ
 texts_behind separator text [] = []
 texts_behind separator text (image ∷ images) = separator ++ (text image ++ texts_behind separator text images)
 
 -- the texts of images with a separator between them
-abbrev pub list_text : List ℕ → (Pt → List ℕ) → List Pt → List ℕ
+abbrev pub list_text : {X : Type 0} → List ℕ → (X → List ℕ) → List X → List ℕ
 list_text separator text [] = []
 list_text separator text (image ∷ images) = text image ++ texts_behind separator text images
 
 -- the same, and the first image again
-abbrev pub ring_text : List ℕ → (Pt → List ℕ) → List Pt → List ℕ
+abbrev pub ring_text : {X : Type 0} → List ℕ → (X → List ℕ) → List X → List ℕ
 ring_text separator text [] = []
 ring_text separator text (image ∷ images) =
     list_text separator text (image ∷ images) ++ texts_behind separator text (image ∷ [])

@@ -6,6 +6,7 @@ abbrev pub seen : Inside → Contents
 seen sheet = record {
   paths = sheet.paths;
   points = sheet.points;
+  heights = sheet.heights;
   edits = sheet.edits;
   inexact =
       sheet.inexact;

@@ -1,6 +1,7 @@
 -- The outcome of a layer's bytes: a sheet or a first fault, one of them, and just one.
 use Rattle.std.specs.Prelude.{◌≡◌, ◌⊎◌, ℕ, List}
 use Rattle.sheet_base.specs.declared.faults.LayerFault.{LayerFault}
+use Rattle.sheet_base.specs.declared.faults.LayerFault.TheVariants.{NoMemory}
 use Rattle.sheet_base.specs.declared.flags.How.{How}
 use Rattle.sheet_base.specs.Sheets.{Contents}
 
@@ -21,3 +22,7 @@ OutcomeIsOne reads refuses = (how : How) (bytes : List ℕ) → HasOneOutcome (r
 
 abbrev pub OutcomeExists : (How → List ℕ → Contents → Type 0) → (How → List ℕ → LayerFault → Type 0) → Type 0
 OutcomeExists reads refuses = (how : How) (bytes : List ℕ) → HasOutcome (reads how bytes) (refuses how bytes)
+
+-- that memory runs out is no fault of any bytes
+abbrev pub MemoryIsNoFault : (How → List ℕ → LayerFault → Type 0) → Type 0
+MemoryIsNoFault refuses = (how : How) (bytes : List ℕ) → refuses how bytes NoMemory → ⊥

@@ -1,15 +1,17 @@
 -- What a sheet holds, and what it keeps: paths over points without a gap.
-use Rattle.std.specs.Prelude.{◌≡◌, ℕ, ◌+◌, ◌<◌, ◌^◌, List, [], ◌∷◌, length}
+use Rattle.std.specs.Prelude.{◌≡◌, ℕ, ◌+◌, ◌<◌, ◌^◌, List, [], ◌∷◌, length, All}
 use Rattle.plane_base.specs.declared.shapes.Pt.{Pt}
 use Rattle.sheet_base.specs.declared.edits.Edit.{Edit}
 use Rattle.sheet_base.specs.declared.paths.PathKind.TheVariants.{Dot}
 use Rattle.sheet_base.specs.declared.paths.PathRow.{PathRow}
+use Rattle.sheet_base.specs.PointHeights.{Height, IsHeightWithinReach}
 
--- the paths, points and edits of a layer in order of its text, how many of its numbers lost digits, and how many
--- entities are left out
+-- the paths, points, their heights and the edits of a layer in order of its text, how many of its numbers lost digits,
+-- and how many entities are left out
 pub record Contents : Type 0 where
   pub paths : List PathRow
   pub points : List Pt
+  pub heights : List Height
   pub edits : List Edit
   pub inexact : ℕ
   pub dropped : ℕ
@@ -30,3 +32,5 @@ pub record IsSheet (sheet : Contents) : Type 0 where
   pub tiled : AreTiled sheet.paths 0 (length sheet.points)
   -- numbers of points are counted in 32 bits
   pub few : length sheet.points < 2 ^ 32
+  pub one_height_each : length sheet.heights ≡ length sheet.points
+  pub heights_in_reach : All IsHeightWithinReach sheet.heights

@@ -66,9 +66,6 @@ pub enum LayerFault {
     /// The segment of the vertex at this line has a width.
     #[error("width at line {line}")]
     Width { line: u64 },
-    /// The ends of the line entity at this line have different heights.
-    #[error("slope at line {line}")]
-    Slope { line: u64 },
     /// The insert at this line has attributes.
     #[error("attribs at line {line}")]
     Attribs { line: u64 },

@@ -1,17 +1,19 @@
 //! The images of a layer's points and crossings.
 
 ghost use Rattle.std.specs.Prelude.{◌≡◌};
-ghost use Rattle.sheet_base.specs.Fitting.{run_begin, images_of, row_images, path_images};
+ghost use Rattle.sheet_base.specs.Fitting.{HaveHeights, run_begin, images_of, row_images, path_images};
 
-use crate::{Listed, PathRow, between};
+use crate::{Heights, Listed, PathRow, between};
 use plane_base::Pt;
 use std::marker::Model;
 
 /// The images of a layer in whole millimetres of the target frame: for each point of its sheet in order the point's
-/// own image and then those of the crossings between it and the next one (of a loop's last point, and the first).
+/// own image and then those of the crossings between it and the next one (of a loop's last point, and the first). Each
+/// image has a height in millimetres, or none.
 #[derive(Debug, Drop)]
 pub struct Images {
     points: Listed<Pt>,
+    heights: Heights,
     run: Listed<u32>,
 }
 
@@ -20,16 +22,27 @@ impl Model for Images {
 
     ghost Value = { Runs };
 
-    ghost view = { λ images. record { points = images.points; run = images.run } };
+    ghost use Rattle.sheet_base.specs.KeptImages.{seen, AreKept};
+
+    ghost view = { seen };
+
+    ghost invariant = { AreKept };
 }
 
 impl Images {
-    /// Images of these points, and the place of each sheet point's own image among them. It takes no memory.
-    pub fn of(points: Listed<Pt>, run: Listed<u32>) -> Self
+    /// Images of these points, their heights, and the place of each sheet point's own image among them. It takes no
+    /// memory.
+    pub fn of(points: Listed<Pt>, heights: Heights, run: Listed<u32>) -> Self
+        requires { HaveHeights (record { points = points; heights = heights; run = run }) }
         ensures points { result.points ≡ points }
+        ensures heights { result.heights ≡ heights }
         ensures run { result.run ≡ run }
     {
-        Images { points, run }
+        Images {
+            points,
+            heights,
+            run,
+        }
     }
 
     /// The images, in order.
@@ -37,6 +50,14 @@ impl Images {
         ensures { result.now ≡ self.now.points }
     {
         self.points.items()
+    }
+
+    /// The heights of the images, in the same order: of each its height, or none.
+    pub fn heights(&self) -> &Heights
+        ensures heights { result.now ≡ self.now.heights }
+        ensures kept { HaveHeights self.now }
+    {
+        &self.heights
     }
 
     /// For each point of the sheet the place of its own image.

@@ -1,7 +1,7 @@
 //! Closed rings, as all formats ask for them.
 
 ghost use Rattle.std.specs.Prelude.{◌≡◌};
-ghost use Rattle.sheet_base.specs.Rings.{is_same, is_closed};
+ghost use Rattle.sheet_base.specs.Rings.{is_same, is_same_height, is_closed};
 
 use plane_base::Pt;
 
@@ -10,6 +10,17 @@ fn are_same(p: Pt, q: Pt) -> bool
     ensures { result ≡ is_same p q }
 {
     p == q
+}
+
+/// Whether the heights of two points are one, to the millimetre, or neither has one.
+pub fn are_same_heights(y: Option<i64>, z: Option<i64>) -> bool
+    ensures { result ≡ is_same_height y z }
+{
+    match (y, z) {
+        (None, None) => true,
+        (Some(y), Some(z)) => y == z,
+        _ => false,
+    }
 }
 
 /// Whether a ring of these points, with its closing point, is closed: it has at least four points, of which the last is

@@ -3,17 +3,19 @@
 ghost use Rattle.std.specs.Prelude.{◌≡◌};
 ghost use Rattle.sheet_base.specs.Sheets.{Contents, IsSheet};
 
-use crate::{Edit, Listed, PathRow};
+use crate::{Edit, Heights, Listed, PathRow};
 use plane_base::Pt;
 use std::marker::Model;
 
-/// What was read of a layer: paths over points in whole millimetres of the source frame, and the edits that put the
-/// images of the points in place of their texts, all in order of the layer's bytes. The paths follow each other without
-/// a gap from the first point to the last; none is empty, and a dot has one point.
+/// What was read of a layer: paths over points in whole millimetres of the source frame, the points' heights in
+/// millimetres, and the edits that put the images of the points in place of their texts, all in order of the layer's
+/// bytes. The paths follow each other without a gap from the first point to the last; none is empty, and a dot has one
+/// point. Each point has a height or none.
 #[derive(Debug, Drop)]
 pub struct Sheet {
     paths: Listed<PathRow>,
     points: Listed<Pt>,
+    heights: Heights,
     edits: Listed<Edit>,
     inexact: u64,
     dropped: u64,
@@ -32,21 +34,23 @@ impl Model for Sheet {
 }
 
 impl Sheet {
-    /// A sheet of these paths, points and edits; `inexact` numbers lost digits, and `dropped` entities are left out.
+    /// A sheet of these paths, points, heights of the points, and edits; `inexact` numbers lost digits, and `dropped` entities are left out.
     /// It takes no memory.
     pub fn of(
         paths: Listed<PathRow>,
         points: Listed<Pt>,
+        heights: Heights,
         edits: Listed<Edit>,
         inexact: u64,
         dropped: u64,
     ) -> Self
-        requires { IsSheet (record { paths = paths; points = points; edits = edits; inexact = inexact; dropped = dropped }) }
-        ensures { result ≡ record { paths = paths; points = points; edits = edits; inexact = inexact; dropped = dropped } }
+        requires { IsSheet (record { paths = paths; points = points; heights = heights; edits = edits; inexact = inexact; dropped = dropped }) }
+        ensures { result ≡ record { paths = paths; points = points; heights = heights; edits = edits; inexact = inexact; dropped = dropped } }
     {
         Sheet {
             paths,
             points,
+            heights,
             edits,
             inexact,
             dropped,
@@ -67,6 +71,14 @@ impl Sheet {
         ensures sheet { IsSheet self.now }
     {
         self.points.items()
+    }
+
+    /// The heights of the points, in the same order: of each its height, or none.
+    pub fn heights(&self) -> &Heights
+        ensures heights { result.now ≡ self.now.heights }
+        ensures sheet { IsSheet self.now }
+    {
+        &self.heights
     }
 
     /// The edits, in order of the layer's bytes.

@@ -57,19 +57,19 @@ fn if_other(
 /// Faults of layers with a name and its bytes, and what is said.
 const OF_LAYERS: &[(LayerFault, &str, &[u8], &str)] = &[
     (
-        LayerFault::Height { at: 43 },
+        LayerFault::Height { at: 51 },
         "com/c3.geojson",
-        b"{\n \"coordinates\": [2600000.125, 1200000.5, 484.91]}",
-        "tinmove: com/c3.geojson:2:42: a third number, here a height: 484.91
-tinmove: nothing was written; heights are left out by: ogr2ogr -dim XY
+        b"{\n \"coordinates\": [2600000.125, 1200000.5, 484.91, 7]}",
+        "tinmove: com/c3.geojson:2:50: a number too many: 7
+tinmove: nothing was written; heights are marked and measures left out by: ogr2ogr -dim XYZ
 ",
     ),
     (
         LayerFault::Height { at: 6 },
         "a.wkt",
-        b"POINT Z (1 2 3)\n",
-        "tinmove: a.wkt:1:7: a height, or the mark of one: Z
-tinmove: nothing was written; heights are left out by: ogr2ogr -dim XY
+        b"POINT M (1 2 3)\n",
+        "tinmove: a.wkt:1:7: a measure, or the mark of one: M
+tinmove: nothing was written; heights are marked and measures left out by: ogr2ogr -dim XYZ
 ",
     ),
     (
@@ -300,10 +300,10 @@ fn says_what_is_wrong_with_runs(rt: HostRuntime) -> Result<(), Fail> {
 #[test]
 fn knows_faults_of_layers(rt: HostRuntime) {
     let height = LayerFault::Height { at: 7 };
-    assert_eq!(rt; finding(height), "a height, or the mark of one");
+    assert_eq!(rt; finding(height), "a measure, or the mark of one");
     assert_eq!(rt;
         cure(height),
-        Some("heights are left out by: ogr2ogr -dim XY")
+        Some("heights are marked and measures left out by: ogr2ogr -dim XYZ")
     );
     assert_eq!(rt; cure(LayerFault::Shape { at: 7 }), None);
 }

@@ -133,14 +133,14 @@ in_places tin a b (i ∷ j ∷ k ∷ []) d x some =
     one one d x some
 
 -- ---- whether a part begins at a spot
-abbrev BeginsAt : Triangulation → Pt → Pt → Spot → ℕ → Type 0
+abbrev pub BeginsAt : Triangulation → Pt → Pt → Spot → ℕ → Type 0
 BeginsAt tin a b x t = (first : Spot) × (last : Spot) × IsPart tin a b t first last × IsSameSpot first x
 
 no_part : (tin : Triangulation) (a b : Pt) (x : Spot) (t : ℕ) → IsSound tin → IsSpot x → (IsShared tin a b t x → ⊥)
     → BeginsAt tin a b x t → ⊥
 no_part tin a b x t sound some none begins = none (begun tin a b t x begins.0 begins.1 sound some begins.2 begins.3)
 
-begins_or : (tin : Triangulation) (a b : Pt) (x : Spot) (t : ℕ) → IsSound tin → IsSpot x → t < length tin.triangles
+pub begins_or : (tin : Triangulation) (a b : Pt) (x : Spot) (t : ℕ) → IsSound tin → IsSpot x → t < length tin.triangles
     → BeginsAt tin a b x t ⊎ (BeginsAt tin a b x t → ⊥)
 begins_or tin a b x t sound some within = by_spot (in_places tin a b (numbers_of tin t) turn x some)
   where
@@ -258,7 +258,7 @@ walk tin a b sound differ (suc most) parts x walked few =
     ]
 
 -- ---- a triangle that has a point
-has_or : (tin : Triangulation) (p : Pt) (t : ℕ) → IsSound tin → t < length tin.triangles
+pub has_or : (tin : Triangulation) (p : Pt) (t : ℕ) → IsSound tin → t < length tin.triangles
     → IsInTriangle tin Source t (whole p) ⊎ (IsInTriangle tin Source t (whole p) → ⊥)
 has_or tin p t sound within =
     elim (in_places tin p p (numbers_of tin t) (sound.positive Source t within) at_a (omega arith)) [

@@ -6,7 +6,7 @@ ghost use Rattle.sheet_base.specs.Sheets.{IsPathFrom, AreTiled};
 use crate::made_tins::{at, notched, six, square};
 use carry_map::{CarryFault, carry};
 use plane_base::Pt;
-use sheet_base::{Images, Listed, PathKind, PathRow, Sheet};
+use sheet_base::{Heights, Images, Listed, PathKind, PathRow, Sheet};
 use std::alloc::Global;
 use std::test::Fail;
 use tin_base::Piece;
@@ -52,9 +52,11 @@ fn tiled(alloc: Global, rows: Vec<PathRow>, points: Vec<Pt>) -> Option<Sheet> {
     if !are_tiled(&rows, past) {
         return None;
     }
+    let count = points.len();
     Some(Sheet::of(
         Listed::of(rows),
         Listed::of(points),
+        Heights::none(alloc, count),
         Listed::of(Vec::new(alloc)),
         0,
         0,

@@ -3,57 +3,108 @@
 use frac128::{Frac, TURN, half_up, order};
 use std::cmp::Ordering;
 
-#[test]
-fn orders_values(rt: HostRuntime) {
-    let half = Frac { num: 1, den: 2 };
-    let third = Frac { num: 1, den: 3 };
-    let below = Frac { num: -3, den: 2 };
-    assert_eq!(rt; order(half, Frac { num: 2, den: 4 }), Ordering::Equal);
-    assert_eq!(rt; order(third, half), Ordering::Less);
-    assert_eq!(rt; order(half, third), Ordering::Greater);
-    assert_eq!(rt; order(below, third), Ordering::Less);
-    assert_eq!(rt; order(below, Frac { num: -4, den: 2 }), Ordering::Greater);
+/// The fraction of these numbers, or none where they are past the limits.
+fn frac(num: i128, den: i128) -> Option<Frac> {
+    if den <= 0 || den >= TURN {
+        return None;
+    }
+    if num <= -TURN || num >= TURN {
+        return None;
+    }
+    Some(Frac { num, den })
 }
 
-#[test]
-fn orders_the_largest(rt: HostRuntime) {
-    let near = Frac {
-        num: TURN - 2,
-        den: TURN - 1,
-    };
-    let nearer = Frac {
-        num: TURN - 1,
-        den: TURN - 1,
-    };
-    assert_eq!(rt; order(near, nearer), Ordering::Less);
-}
+/// Two fractions, and their order.
+type Row = ((i128, i128), (i128, i128), Ordering);
 
-#[test]
-fn rounds_half_up(rt: HostRuntime) {
-    for (num, den, want) in [
-        (5, 2, 3),
-        (-5, 2, -2),
-        (-3, 2, -1),
-        (1, 2, 1),
-        (-1, 2, 0),
-        (7, 3, 2),
-        (8, 3, 3),
-        (-7, 3, -2),
-        (-8, 3, -3),
-        (0, 9, 0),
-        (102_500_500, 1000, 102_501),
-    ] {
-        assert_eq!(rt; half_up(num, den), want, "at {num}/{den}");
+/// Whether the fractions have this order.
+fn are_ordered(row: &Row) -> bool {
+    let (first, second) = (row.0, row.1);
+    match (frac(first.0, first.1), frac(second.0, second.1)) {
+        (Some(first), Some(second)) => order(first, second) == row.2,
+        _ => false,
     }
 }
 
+/// The number of the first row of fractions in another order, or none.
+fn first_other(rows: &[Row]) -> Option<usize> {
+    for (number, row) in rows.iter().enumerate() {
+        if !are_ordered(row) {
+            return Some(number);
+        }
+    }
+    None
+}
+
+const ORDERED: &[Row] = &[
+    ((1, 2), (2, 4), Ordering::Equal),
+    ((1, 3), (1, 2), Ordering::Less),
+    ((1, 2), (1, 3), Ordering::Greater),
+    ((-3, 2), (1, 3), Ordering::Less),
+    ((-3, 2), (-4, 2), Ordering::Greater),
+];
+
+#[test]
+fn orders_values(rt: HostRuntime) {
+    assert_eq!(rt; first_other(ORDERED), None);
+}
+
+const LARGEST: &[Row] = &[((TURN - 2, TURN - 1), (TURN - 1, TURN - 1), Ordering::Less)];
+
+#[test]
+fn orders_the_largest(rt: HostRuntime) {
+    assert_eq!(rt; first_other(LARGEST), None);
+}
+
+/// What the fraction of these numbers is rounded to, or none where they are past the limits.
+fn rounded(num: i128, den: i128) -> Option<i128> {
+    if den <= 0 || den >= 2 * TURN {
+        return None;
+    }
+    if num.unsigned_abs() >= 1 << 120 {
+        return None;
+    }
+    Some(half_up(num, den))
+}
+
+/// The number of the first row that is rounded otherwise, or none.
+fn first_other_rounded(rows: &[(i128, i128, i128)]) -> Option<usize> {
+    for (number, &(num, den, wanted)) in rows.iter().enumerate() {
+        if rounded(num, den) != Some(wanted) {
+            return Some(number);
+        }
+    }
+    None
+}
+
+/// Numerators, denominators, and what their fractions are rounded to.
+const ROUNDED: &[(i128, i128, i128)] = &[
+    (5, 2, 3),
+    (-5, 2, -2),
+    (-3, 2, -1),
+    (1, 2, 1),
+    (-1, 2, 0),
+    (7, 3, 2),
+    (8, 3, 3),
+    (-7, 3, -2),
+    (-8, 3, -3),
+    (0, 9, 0),
+    (102_500_500, 1000, 102_501),
+];
+
+#[test]
+fn rounds_half_up(rt: HostRuntime) {
+    assert_eq!(rt; first_other_rounded(ROUNDED), None);
+}
+
+const MOST: i128 = (1 << 120) - 1;
+
+const LARGEST_ROUNDED: &[(i128, i128, i128)] = &[
+    (MOST, (1 << 64) - 1, 72_057_594_037_927_936),
+    (-MOST, 2, -664_613_997_892_457_936_451_903_530_140_172_287),
+];
+
 #[test]
 fn rounds_the_largest(rt: HostRuntime) {
-    let num = (1 << 120) - 1;
-    let den = (1 << 64) - 1;
-    assert_eq!(rt; half_up(num, den), 72_057_594_037_927_936);
-    assert_eq!(rt;
-        half_up(-num, 2),
-        -664_613_997_892_457_936_451_903_530_140_172_287
-    );
+    assert_eq!(rt; first_other_rounded(LARGEST_ROUNDED), None);
 }

@@ -8,7 +8,6 @@ use affine_image::{image_cut, image_of};
 use frac128::Frac;
 use plane_base::{Pt, holds};
 use std::alloc::Global;
-use std::test::Fail;
 use tin_base::{Frame, SoundTin};
 
 // The image by triangle 0, or none where that does not hold the point.
@@ -128,30 +127,54 @@ fn reaches_the_largest(rt: HostRuntime) {
     assert_eq!(rt; first_other(rt.alloc(), LARGEST, OF_LARGEST), None);
 }
 
-#[test]
-fn gives_points_of_edges(rt: HostRuntime) -> Result<(), Fail> {
-    let alloc = rt.alloc();
-    let corners = vec![in alloc;
-        corner((0, 0), (100_000, 100_000)),
-        corner((10_000, 0), (110_002, 100_000)),
-        corner((0, 10_000), (100_000, 110_000)),
-    ]?;
-    let tin = tin_of(corners, vec![in alloc; [0, 1, 2]]?, 0).expect(&rt, "within the limits");
-    let sound = sound_of(tin).expect(&rt, "positive turns");
-    for (p, q, num, den, x, y) in [
-        (0, 1, 1, 2, 105_001, 100_000),
-        (0, 1, 2_500, 10_000, 102_501, 100_000),
-        (1, 0, 3, 4, 102_501, 100_000),
-        (1, 2, 1, 4, 107_502, 102_500),
-        (2, 1, 0, 7, 100_000, 110_000),
-        (2, 1, 7, 7, 110_002, 100_000),
-        (1, 1, 2, 3, 110_002, 100_000),
-    ] {
-        assert_eq!(rt;
-            image_cut(&sound, p, q, Frac { num, den }),
-            Pt { x, y },
-            "at {num}/{den} from {p} to {q}"
-        );
+/// Two corners, a part of the way from the first to the second as a fraction, and the image there.
+type Cut = (u32, u32, u16, u16, (i64, i64));
+
+/// The image at a fraction of a side, or none where there is no such corner or fraction.
+fn cut_image(tin: &SoundTin, row: &Cut) -> Option<Pt> {
+    let count = tin.corners().len();
+    if row.0 as usize >= count {
+        return None;
     }
-    Ok(())
+    if row.1 as usize >= count {
+        return None;
+    }
+    let num = i128::from(row.2);
+    let den = i128::from(row.3);
+    if den <= 0 {
+        return None;
+    }
+    if num > den {
+        return None;
+    }
+    Some(image_cut(tin, row.0, row.1, Frac { num, den }))
+}
+
+/// The number of the first row with another image by the triangle, or none.
+fn first_other_cut(alloc: Global, corners: [Moved; 3], rows: &[Cut]) -> Option<usize> {
+    let Some(tin) = triangle_of(alloc, corners) else {
+        return Some(rows.len());
+    };
+    for (number, row) in rows.iter().enumerate() {
+        let (x, y) = row.4;
+        if cut_image(&tin, row) != Some(Pt { x, y }) {
+            return Some(number);
+        }
+    }
+    None
+}
+
+const CUTS: &[Cut] = &[
+    (0, 1, 1, 2, (105_001, 100_000)),
+    (0, 1, 2_500, 10_000, (102_501, 100_000)),
+    (1, 0, 3, 4, (102_501, 100_000)),
+    (1, 2, 1, 4, (107_502, 102_500)),
+    (2, 1, 0, 7, (100_000, 110_000)),
+    (2, 1, 7, 7, (110_002, 100_000)),
+    (1, 1, 2, 3, (110_002, 100_000)),
+];
+
+#[test]
+fn gives_points_of_edges(rt: HostRuntime) {
+    assert_eq!(rt; first_other_cut(rt.alloc(), STRETCHED, CUTS), None);
 }

@@ -3,29 +3,53 @@
 use crate::made_tins::{Shape, same, shaped, sound_of, tin_of};
 use plane_base::Pt;
 use std::alloc::Global;
-use std::test::Fail;
 use tin_index::TinIndex;
 
-#[test]
-fn locates_points(rt: HostRuntime) -> Result<(), Fail> {
-    let alloc = rt.alloc();
-    let corners = vec![in alloc; same(0, 0), same(10_000, 0), same(0, 10_000)]?;
-    let triangles = vec![in alloc; [0, 1, 2]]?;
-    let tin = tin_of(corners, triangles, 0).expect(&rt, "within the limits");
-    let sound = sound_of(tin).expect(&rt, "positive turns");
-    let index = TinIndex::build(alloc, sound)?;
-    for (x, y, want) in [
-        (2_500, 2_500, Some(0)),
-        (5_000, 5_000, Some(0)),
-        (0, 10_000, Some(0)),
-        (5_000, 5_001, None),
-        (-1, 0, None),
-        (i64::MAX, i64::MIN, None),
-    ] {
-        assert_eq!(rt; index.locate(Pt { x, y }), want, "at {x} {y}");
+/// One triangle, to be found by points.
+fn one_triangle(alloc: Global) -> Option<TinIndex> {
+    let corners = vec![in alloc; same(0, 0), same(10_000, 0), same(0, 10_000)].ok()?;
+    let triangles = vec![in alloc; [0, 1, 2]].ok()?;
+    let tin = tin_of(corners, triangles, 0)?;
+    TinIndex::build(alloc, sound_of(tin)?).ok()
+}
+
+/// Points, and the triangle that has each.
+const LOCATED: &[(i64, i64, Option<u32>)] = &[
+    (2_500, 2_500, Some(0)),
+    (5_000, 5_000, Some(0)),
+    (0, 10_000, Some(0)),
+    (5_000, 5_001, None),
+    (-1, 0, None),
+    (i64::MAX, i64::MIN, None),
+];
+
+/// Whether this is the triangle of the point.
+fn is_located(index: &TinIndex, &(x, y, wanted): &(i64, i64, Option<u32>)) -> bool {
+    index.locate(Pt { x, y }) == wanted
+}
+
+/// The number of the first point that is found elsewhere, or none.
+fn first_other_place(alloc: Global, rows: &[(i64, i64, Option<u32>)]) -> Option<usize> {
+    let Some(index) = one_triangle(alloc) else {
+        return Some(rows.len());
+    };
+    for (number, row) in rows.iter().enumerate() {
+        if !is_located(&index, row) {
+            return Some(number);
+        }
     }
+    None
+}
+
+#[test]
+fn locates_points(rt: HostRuntime) {
+    assert_eq!(rt; first_other_place(rt.alloc(), LOCATED), None);
+}
+
+#[test]
+fn keeps_the_triangles(rt: HostRuntime) {
+    let index = one_triangle(rt.alloc()).expect(&rt, "sound");
     assert_eq!(rt; index.tin().triangles(), [[0, 1, 2]].as_slice());
-    Ok(())
 }
 
 /// A triangulation, a triangle, and those across its sides.
@@ -100,5 +124,9 @@ const AROUND: &[(Shape, u32, &[u32])] = &[
 #[test]
 fn finds_neighbours(rt: HostRuntime) {
     assert_eq!(rt; first_other_across(rt.alloc(), ACROSS), None);
+}
+
+#[test]
+fn finds_triangles_round_corners(rt: HostRuntime) {
     assert_eq!(rt; first_other_around(rt.alloc(), AROUND), None);
 }

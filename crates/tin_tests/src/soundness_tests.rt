@@ -52,18 +52,6 @@ fn first_other(alloc: Global, rows: &[Row]) -> Result<Option<&'static str>, Allo
     Ok(None)
 }
 
-#[test]
-fn gives_back_what_is_sound(rt: HostRuntime) -> Result<(), Fail> {
-    let triangles = [[0, 1, 2], [0, 2, 3]];
-    let sound = found(rt.alloc(), &square_corners(), &triangles)?;
-    assert_eq!(rt; sound.corners(), square_corners().as_slice());
-    assert_eq!(rt; sound.triangles(), triangles.as_slice());
-    assert_eq!(rt; sound.inexact(), 2);
-    assert!(rt; found(rt.alloc(), &square_corners(), &[]).is_ok());
-    assert!(rt; found(rt.alloc(), &[], &[]).is_ok());
-    Ok(())
-}
-
 /// The square of `square_corners`.
 const SQUARE: &[Moved] = &[
     ((0, 0), (100_000, 100_000)),
@@ -71,6 +59,39 @@ const SQUARE: &[Moved] = &[
     ((10_000, 10_000), (110_003, 110_003)),
     ((0, 10_000), (100_000, 110_000)),
 ];
+
+/// Corners and triangles.
+type Sound = (&'static [Moved], &'static [[u32; 3]]);
+
+/// Whether these corners and triangles are sound, and given back.
+fn is_given_back(alloc: Global, row: &Sound) -> Result<bool, AllocError> {
+    let corners = corners_of(alloc, row.0)?;
+    match found(alloc, &corners, row.1) {
+        Ok(sound) => Ok(
+            sound.corners() == corners.as_slice()
+                && sound.triangles() == row.1
+                && sound.inexact() == 2,
+        ),
+        Err(_) => Ok(false),
+    }
+}
+
+/// The number of the first row that is not given back, or none.
+fn first_lost(alloc: Global, rows: &[Sound]) -> Result<Option<usize>, AllocError> {
+    for (number, row) in rows.iter().enumerate() {
+        if !is_given_back(alloc, row)? {
+            return Ok(Some(number));
+        }
+    }
+    Ok(None)
+}
+
+const SOUND: &[Sound] = &[(SQUARE, &[[0, 1, 2], [0, 2, 3]]), (SQUARE, &[]), (&[], &[])];
+
+#[test]
+fn gives_back_what_is_sound(rt: HostRuntime) {
+    assert_eq!(rt; first_lost(rt.alloc(), SOUND), Ok(None));
+}
 
 /// Faults of one triangle.
 const OF_A_TRIANGLE: &[Row] = &[
@@ -115,9 +136,8 @@ const OF_A_TRIANGLE: &[Row] = &[
 ];
 
 #[test]
-fn names_a_triangle(rt: HostRuntime) -> Result<(), Fail> {
-    assert_eq!(rt; first_other(rt.alloc(), OF_A_TRIANGLE)?, None);
-    Ok(())
+fn names_a_triangle(rt: HostRuntime) {
+    assert_eq!(rt; first_other(rt.alloc(), OF_A_TRIANGLE), Ok(None));
 }
 
 /// Two triangles that are one on the other, with common corners and without.
@@ -203,9 +223,8 @@ const OF_A_PAIR: &[Row] = &[
 ];
 
 #[test]
-fn names_a_pair(rt: HostRuntime) -> Result<(), Fail> {
-    assert_eq!(rt; first_other(rt.alloc(), OF_A_PAIR)?, None);
-    Ok(())
+fn names_a_pair(rt: HostRuntime) {
+    assert_eq!(rt; first_other(rt.alloc(), OF_A_PAIR), Ok(None));
 }
 
 // Many triangles over one another: the first pair is named as soon as it is met.
@@ -266,7 +285,6 @@ const OF_TWO_PAIRS: &[Row] = &[
 ];
 
 #[test]
-fn names_an_earlier_pair(rt: HostRuntime) -> Result<(), Fail> {
-    assert_eq!(rt; first_other(rt.alloc(), OF_TWO_PAIRS)?, None);
-    Ok(())
+fn names_an_earlier_pair(rt: HostRuntime) {
+    assert_eq!(rt; first_other(rt.alloc(), OF_TWO_PAIRS), Ok(None));
 }

@@ -1,5 +1,6 @@
 -- The files of lemmas of tinmove.
 mod OneOutcome
+mod SomeOutcome
 mod RunEnds
 mod ReportLimits
 mod WordsEnd

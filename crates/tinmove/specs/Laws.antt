@@ -1,4 +1,4 @@
--- A run has one outcome, and its end keeps the relations of the pieces that it carried.
+-- A run has an outcome, just one, and its end keeps the relations of the pieces that it carried.
 use Rattle.std.specs.Prelude.{◌≡◌, ℕ, List, Option}
 use Rattle.shelf_io.specs.Count.{Rose}
 use Rattle.shelf_io.specs.Files.{Files}
@@ -16,6 +16,11 @@ OutcomeIsOne =
     (words : List (List ℕ)) (files : Files) (status other : Status) (made others : Files)
     → HasOutcome words files status made → HasOutcome words files other others
     → (status ≡ other) × (made ≡ others)
+
+-- words and files have an outcome
+abbrev pub OutcomeExists : Type 0
+OutcomeExists = (words : List (List ℕ)) (files : Files) → (status : Status) × (made : Files)
+    × HasOutcome words files status made
 
 -- however a run ends whose words ask for a migration, what is said of its relations holds
 abbrev pub EndKeepsRelations : Type 0

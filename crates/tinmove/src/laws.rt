@@ -1,6 +1,6 @@
 //! What is true of the definitions that the contracts cite.
 
-ghost use Rattle.tinmove.specs.Laws.{OutcomeIsOne, EndKeepsRelations, EndKeepsMadeRelations};
+ghost use Rattle.tinmove.specs.Laws.{OutcomeExists, OutcomeIsOne, EndKeepsRelations, EndKeepsMadeRelations};
 
 /// A law: a run has one outcome.
 pub fn outcome_is_one()
@@ -9,6 +9,18 @@ pub fn outcome_is_one()
     migrate::migration_is_one();
     migrate::making_is_one();
     verify_mode::verification_is_one();
+}
+
+/// A law: a run has an outcome, whatever the words and the files are. So with the law above it is one function of them.
+pub fn outcome_exists()
+    ensures { OutcomeExists }
+{
+    job_words::words_have_one_answer();
+    job_words::jobs_are_kept();
+    migrate::migration_exists();
+    migrate::making_exists();
+    check_mode::check_end_exists();
+    verify_mode::verification_exists();
 }
 
 /// A law: however a run ends that is asked for a migration, the segments that it wrote have the relations of their

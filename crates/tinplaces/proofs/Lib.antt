@@ -6,3 +6,4 @@ mod PieceOrder
 mod OneOutcome
 mod RunEnds
 mod TextLimits
+mod SomeOutcome

@@ -6,6 +6,7 @@ use Rattle.std.specs.Prelude.{nat_lt}
 use Rattle.std.specs.List.{cons_option, range_with_len}
 use Rattle.plane_base.specs.declared.shapes.Pt.{Pt}
 use Rattle.sheet_base.specs.declared.paths.PathRow.{PathRow}
+use Rattle.sheet_base.specs.PointHeights.{Height}
 use Rattle.sheet_base.specs.Segments.{points_in, segments_in}
 use Rattle.sheet_base.specs.Sheets.{Contents}
 use Rattle.tin_base.specs.declared.pieces.Piece.{Piece}
@@ -63,14 +64,14 @@ put_in : (path n : ℕ) (b : Bool) (s : Segment) (rest : List Segment) → (s.pa
 put_in path n true s rest is h = (is, h)
 put_in path n false s rest is h = h
 
-begun_in : (points : List Pt) (path : ℕ) (row : PathRow) (n m : ℕ)
-    → InPath path n (segments_begun (map (vertex_at points path row) (range_with_len n m)))
-begun_in points path row n zero = tt
-begun_in points path row n (suc m) =
-    put_in path n (nat_lt n (segments_in row)) (segment_at points path row n)
-    (segments_begun (map (vertex_at points path row) (range_with_len (n + 1) m))) (refl, omega arith)
-    (in_later path n (segments_begun (map (vertex_at points path row) (range_with_len (n + 1) m)))
-    (begun_in points path row (n + 1) m))
+begun_in : (points : List Pt) (heights : List Height) (path : ℕ) (row : PathRow) (n m : ℕ)
+    → InPath path n (segments_begun (map (vertex_at points heights path row) (range_with_len n m)))
+begun_in points heights path row n zero = tt
+begun_in points heights path row n (suc m) =
+    put_in path n (nat_lt n (segments_in row)) (segment_at points heights path row n)
+    (segments_begun (map (vertex_at points heights path row) (range_with_len (n + 1) m))) (refl, omega arith)
+    (in_later path n (segments_begun (map (vertex_at points heights path row) (range_with_len (n + 1) m)))
+    (begun_in points heights path row (n + 1) m))
 
 behind_in : (s : Segment) (rest : List Segment) → InPath s.path (s.number + 1) rest → AllBehind s rest
 behind_in s [] h = tt
@@ -81,13 +82,13 @@ put_ascending : (b : Bool) (s : Segment) (rest : List Segment) → InPath s.path
 put_ascending true s rest h asc = (behind_in s rest h, asc)
 put_ascending false s rest h asc = asc
 
-begun_ascending : (points : List Pt) (path : ℕ) (row : PathRow) (n m : ℕ)
-    → AreAscending (segments_begun (map (vertex_at points path row) (range_with_len n m)))
-begun_ascending points path row n zero = tt
-begun_ascending points path row n (suc m) =
-    put_ascending (nat_lt n (segments_in row)) (segment_at points path row n)
-    (segments_begun (map (vertex_at points path row) (range_with_len (n + 1) m)))
-    (begun_in points path row (n + 1) m) (begun_ascending points path row (n + 1) m)
+begun_ascending : (points : List Pt) (heights : List Height) (path : ℕ) (row : PathRow) (n m : ℕ)
+    → AreAscending (segments_begun (map (vertex_at points heights path row) (range_with_len n m)))
+begun_ascending points heights path row n zero = tt
+begun_ascending points heights path row n (suc m) =
+    put_ascending (nat_lt n (segments_in row)) (segment_at points heights path row n)
+    (segments_begun (map (vertex_at points heights path row) (range_with_len (n + 1) m)))
+    (begun_in points heights path row (n + 1) m) (begun_ascending points heights path row (n + 1) m)
 
 cons_join : (o : Option Segment) (xs ys : List Segment) → cons_option o (xs ++ ys) ≡ cons_option o xs ++ ys
 cons_join None xs ys = refl
@@ -98,16 +99,18 @@ begun_join [] ys = refl
 begun_join (x ∷ xs) ys = ap (λ (ss : List Segment). cons_option x.segment ss) (begun_join xs ys)
     ∙ cons_join x.segment (segments_begun xs) (segments_begun ys)
 
-vertices_in : (points : List Pt) (path : ℕ) (rows : List PathRow)
-    → FromPath path (segments_begun (vertices_from points path rows))
-vertices_in points path [] = tt
-vertices_in points path (row ∷ rows) =
+vertices_in : (points : List Pt) (heights : List Height) (path : ℕ) (rows : List PathRow)
+    → FromPath path (segments_begun (vertices_from points heights path rows))
+vertices_in points heights path [] = tt
+vertices_in points heights path (row ∷ rows) =
     subst (λ (ss : List Segment). FromPath path ss)
-    (sym (begun_join (path_vertices points path row) (vertices_from points (path + 1) rows)))
-    (from_join path (segments_begun (path_vertices points path row))
-    (segments_begun (vertices_from points (path + 1) rows))
-    (in_from path 0 (segments_begun (path_vertices points path row)) (begun_in points path row 0 (points_in row)))
-    (from_later path (segments_begun (vertices_from points (path + 1) rows)) (vertices_in points (path + 1) rows)))
+    (sym (begun_join (path_vertices points heights path row) (vertices_from points heights (path + 1) rows)))
+    (from_join path (segments_begun (path_vertices points heights path row))
+    (segments_begun (vertices_from points heights (path + 1) rows))
+    (in_from path 0 (segments_begun (path_vertices points heights path row))
+    (begun_in points heights path row 0 (points_in row)))
+    (from_later path (segments_begun (vertices_from points heights (path + 1) rows))
+    (vertices_in points heights (path + 1) rows)))
 
 behind_from : (s : Segment) (ys : List Segment) → FromPath (s.path + 1) ys → AllBehind s ys
 behind_from s [] h = tt
@@ -125,16 +128,16 @@ ascending_join path n (x ∷ xs) ys in_xs asc from later = (
   ascending_join path n xs ys in_xs.1 asc.1 from later,
 )
 
-vertices_ascending : (points : List Pt) (path : ℕ) (rows : List PathRow)
-    → AreAscending (segments_begun (vertices_from points path rows))
-vertices_ascending points path [] = tt
-vertices_ascending points path (row ∷ rows) =
+vertices_ascending : (points : List Pt) (heights : List Height) (path : ℕ) (rows : List PathRow)
+    → AreAscending (segments_begun (vertices_from points heights path rows))
+vertices_ascending points heights path [] = tt
+vertices_ascending points heights path (row ∷ rows) =
     subst (λ (ss : List Segment). AreAscending ss)
-    (sym (begun_join (path_vertices points path row) (vertices_from points (path + 1) rows)))
-    (ascending_join path 0 (segments_begun (path_vertices points path row))
-    (segments_begun (vertices_from points (path + 1) rows)) (begun_in points path row 0 (points_in row))
-    (begun_ascending points path row 0 (points_in row))
-    (vertices_in points (path + 1) rows) (vertices_ascending points (path + 1) rows))
+    (sym (begun_join (path_vertices points heights path row) (vertices_from points heights (path + 1) rows)))
+    (ascending_join path 0 (segments_begun (path_vertices points heights path row))
+    (segments_begun (vertices_from points heights (path + 1) rows)) (begun_in points heights path row 0 (points_in row))
+    (begun_ascending points heights path row 0 (points_in row))
+    (vertices_in points heights (path + 1) rows) (vertices_ascending points heights (path + 1) rows))
 
 -- ---- pieces with different places
 -- no piece has this place
@@ -279,7 +282,7 @@ all_apart tin layer (s ∷ segments) ps asc (own, rest, is, here, others) =
 sheet_apart : (tin : Triangulation) (layer : ℕ) (sheet : Contents) (ps : List Piece)
     → ArePiecesOfSheet tin layer sheet ps → AreApart ps
 sheet_apart tin layer sheet ps is = all_apart tin layer (sheet_segments sheet) ps
-    (vertices_ascending sheet.points 0 sheet.paths) is
+    (vertices_ascending sheet.points sheet.heights 0 sheet.paths) is
 
 -- ---- of all layers
 -- each is of a layer before this one

@@ -1,4 +1,4 @@
--- A run has one outcome.
+-- A run has an outcome, and just one.
 use Rattle.std.specs.Prelude.{◌≡◌, ℕ, List}
 use Rattle.shelf_io.specs.Files.{Files}
 use Rattle.runs.specs.declared.status.Status.{Status}
@@ -11,3 +11,8 @@ OutcomeIsOne =
     (words : List (List ℕ)) (files : Files) (status other : Status) (made others : Files)
     → HasOutcome words files status made → HasOutcome words files other others
     → (status ≡ other) × (made ≡ others)
+
+-- words and files have an outcome
+abbrev pub OutcomeExists : Type 0
+OutcomeExists = (words : List (List ℕ)) (files : Files) → (status : Status) × (made : Files)
+    × HasOutcome words files status made

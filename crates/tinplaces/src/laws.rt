@@ -1,6 +1,6 @@
 //! What is true of the definitions that the contracts cite.
 
-ghost use Rattle.tinplaces.specs.Laws.{OutcomeIsOne};
+ghost use Rattle.tinplaces.specs.Laws.{OutcomeExists, OutcomeIsOne};
 
 /// A law: a run has one outcome.
 pub fn outcome_is_one()
@@ -8,4 +8,14 @@ pub fn outcome_is_one()
 {
     layer_formats::layer_texts_are_one();
     migrate::migration_is_one();
+}
+
+/// A law: a run has an outcome, whatever the words and the files are. So with the law above it is one function of them.
+pub fn outcome_exists()
+    ensures { OutcomeExists }
+{
+    job_words::words_have_one_answer();
+    job_words::jobs_are_kept();
+    migrate::migration_exists();
+    seg_gap::gap_exists();
 }

@@ -1,5 +1,5 @@
 -- A verification ends in one way.
-use Rattle.std.proofs.Common.{◌≡◌, ◌≢◌, ℕ, ◌<◌, ◌≤◌, Bool, true, false, List, [], ◌∷◌, length, None, Some, Result, Ok}
+use Rattle.std.proofs.Common.{◌≡◌, ◌≢◌, ℕ, ◌<◌, ◌≤◌, List, [], ◌∷◌, length, None, Some, Result, Ok}
 use Rattle.std.proofs.Common.{Err, refl, sym, ◌∙◌, ap, ap₂, subst, arith}
 use Rattle.std.specs.Prelude.{codes}
 use Rattle.std.proofs.lemmas.Option.{none-some, same_Some}
@@ -9,7 +9,6 @@ use Rattle.tin_base.specs.Triangulation.{Triangulation}
 use Rattle.tin_base.specs.Soundness.{IsSound}
 use Rattle.cert_check.specs.declared.faults.CertFault.{CertFault}
 use Rattle.cert_check.specs.declared.faults.CertFault.TheVariants as certs
-use Rattle.sheet_base.specs.declared.flags.How.{How}
 use Rattle.cert_check.specs.Laws.{IsCertEnd, CertificatesEndOnce}
 use Rattle.job_words.specs.declared.formats.Format.{Format}
 use Rattle.job_words.specs.Formats.{format_of}
@@ -28,8 +27,8 @@ use Rattle.runs.specs.Triangulations.{directed, IsTinRefused}
 use Rattle.runs.specs.Laws.{IsTinEnd, TinEndIsOne}
 use Rattle.runs.proofs.OneTin.{sound_of, sound_way}
 use Rattle.verify_mode.specs.declared.verifications.Verification.{Verification}
-use Rattle.verify_mode.specs.Files.{HasWay, IsFileWithin, IsSourceReached, IsWrittenReached, IsCertReached, HaveTexts}
-use Rattle.verify_mode.specs.Certificates.{IsCauseIn, of_certificate, IsOfCertificate}
+use Rattle.verify_mode.specs.Files.{HasWay, IsFileWithin, IsWrittenReached, IsCertReached, HaveTexts}
+use Rattle.verify_mode.specs.Certificates.{of_certificate, IsOfCertificate}
 use Rattle.verify_mode.specs.Verifications.{IsStoppedBy, IsVerificationRefused, certified_text, IsVerified}
 use Rattle.verify_mode.specs.Laws.{IsVerificationEnd, VerificationIsOne}
 

@@ -1,7 +1,7 @@
 -- What is so of a verification after each of its steps.
-use Rattle.std.proofs.Common.{◌≡◌, ◌≢◌, ◌⊎◌, inl, inr, ℕ, ◌+◌, ◌≤◌, length, List, [], ◌∷◌, Result, Ok, Err, Option}
+use Rattle.std.proofs.Common.{◌≡◌, ◌≢◌, ◌⊎◌, inl, inr, ℕ, ◌+◌, ◌≤◌, length, List, [], ◌∷◌, Option}
 use Rattle.std.proofs.Common.{None, Some, IfSome, refl, sym, ◌∙◌, ap, ap₂, subst, arith, map, ◌++◌}
-use Rattle.std.specs.Prelude.{IfErr, codes}
+use Rattle.std.specs.Prelude.{codes}
 use Rattle.shelf_io.specs.Count.{counted}
 use Rattle.shelf_io.specs.Files.{Files, bytes_of}
 use Rattle.shelf_io.specs.Load.{Loads, LacksName, IsLonger}
@@ -30,7 +30,7 @@ use Rattle.runs.specs.Output.{file_of, files_of, HasForm}
 use Rattle.runs.specs.Refusals.{status_of}
 use Rattle.sheet_base.specs.declared.flags.How.{How}
 use Rattle.runs.specs.Triangulations.{IsTinRefused, IsTextRefused}
-use Rattle.runs.specs.Causes.{MayRefuse, by_the_files, unread, no_room, HasCauses}
+use Rattle.runs.specs.Causes.{by_the_files, unread, no_room, HasCauses}
 use Rattle.runs.specs.Loads.{IsUnloaded, missing, read_failed, too_long, no_memory, IsTinUnready, not_loaded, no_tin}
 use Rattle.runs.proofs.Faults.{unread as unread_layer, without_room as layer_without_room, of_layer}
 use Rattle.runs.proofs.Faults.{IsOfTin, refused as tin_refused_so, limited as tin_limited, wanted as tin_wanted}

@@ -1,6 +1,7 @@
--- A verification ends in one way.
+-- A verification ends, in one way.
 use Rattle.std.specs.Prelude.{◌≡◌, Result, Ok, Err}
 use Rattle.shelf_io.specs.Files.{Files}
+use Rattle.job_words.specs.Kept.{HasFormat}
 use Rattle.runs.specs.declared.status.Status.{Status}
 use Rattle.runs.specs.declared.refusal.Refusal.{Refusal}
 use Rattle.verify_mode.specs.declared.verifications.Verification.{Verification}
@@ -16,3 +17,8 @@ IsVerificationEnd files verification (Err refusal) = IsVerificationRefused files
 abbrev pub VerificationIsOne : Type 0
 VerificationIsOne = (files : Files) (verification : Verification) (end other : Result (Status × Files) Refusal)
     → IsVerificationEnd files verification end → IsVerificationEnd files verification other → end ≡ other
+
+-- and there is one, whatever the files are, where the name of the source has a format
+abbrev pub VerificationExists : Type 0
+VerificationExists = (files : Files) (verification : Verification) → HasFormat verification.source
+    → (end : Result (Status × Files) Refusal) × IsVerificationEnd files verification end

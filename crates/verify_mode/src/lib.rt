@@ -7,5 +7,5 @@ mod laws;
 mod refusals;
 mod verifications;
 
-pub use laws::verification_is_one;
+pub use laws::{verification_exists, verification_is_one};
 pub use verifications::{Verification, prepare_verification};

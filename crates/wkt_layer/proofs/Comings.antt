@@ -1,19 +1,19 @@
 -- What the state of the pass says of the tokens before it.
-use Rattle.std.proofs.Common.{◌≡◌, Bool, true, false, List, [], ◌∷◌, ◌++◌, length, refl, subst}
-use Rattle.std.specs.Prelude.{Some, None, nat_lt, if◌then◌else◌}
+use Rattle.std.proofs.Common.{◌≡◌, Bool, true, false, List, [], ◌∷◌, ◌++◌, refl, sym, ap, ◌∙◌, subst}
+use Rattle.std.specs.Prelude.{Some, None, if◌then◌else◌}
 use Rattle.std.proofs.lemmas.Option.{same_Some}
 use Rattle.mm_decimal.specs.Measured.{measured}
-use Rattle.sheet_base.specs.declared.paths.PathKind.TheVariants.{Dot}
 use Rattle.wkt_layer.specs.Tokens.{Number, Token, opening, closing, comma, word, number, stray}
 use Rattle.wkt_layer.specs.Numbers.{Point, does_fit}
 use Rattle.wkt_layer.specs.Paths.{Path, path_of}
-use Rattle.wkt_layer.specs.States.{Spot, item, content, first, second, whole, bare_second, bare_whole, behind, State}
-use Rattle.wkt_layer.specs.States.{state, innermost, pair, kind_of, step_at, enter_step, tag_step, number_step}
-use Rattle.wkt_layer.specs.States.{item_step, whole_step, behind_step, may_end, content_of}
-use Rattle.wkt_layer.specs.declared.limits.TheConstants.{DEEPEST}
+use Rattle.wkt_layer.specs.States.{Spot, item, tagged, content, first, second, third, whole, bare_second, bare_third}
+use Rattle.wkt_layer.specs.States.{bare_whole, behind, State}
+use Rattle.wkt_layer.specs.States.{state, innermost, point_with, kind_of, content_of, is_raised, may_nest, second_leads}
+use Rattle.wkt_layer.specs.States.{bare_leads, bare_second_leads, step_at, enter_step, tag_step, tagged_step}
+use Rattle.wkt_layer.specs.States.{number_step}
+use Rattle.wkt_layer.specs.States.{item_step, whole_step, behind_step, may_end}
 use Rattle.wkt_layer.specs.declared.words.Kind.{Kind}
-use Rattle.wkt_layer.specs.declared.words.Kind.TheVariants as kinds
-use Rattle.wkt_layer.specs.declared.words.Word.TheVariants.{Tag, Empty, Height, Other}
+use Rattle.wkt_layer.specs.declared.words.Word.TheVariants.{Tag, Empty, Z, Height, Other}
 use Rattle.wkt_layer.specs.declared.places.Content.{Content}
 use Rattle.wkt_layer.specs.declared.places.Content.TheVariants.{Points, Items}
 use Rattle.wkt_layer.specs.declared.places.Listing.{Listing}
@@ -21,26 +21,36 @@ use Rattle.wkt_layer.specs.declared.places.Listing.TheVariants as listings
 use Rattle.wkt_layer.specs.declared.places.Group.{Group}
 use Rattle.wkt_layer.specs.declared.places.Group.TheVariants as groups
 
--- the spot that a token leads to, by what the token is
+-- a tag leads to what stands behind it, and a number to what stands behind one
 abbrev pub IsBehindTag : Spot → Type 0
-IsBehindTag (content inner) = Unit {0}
+IsBehindTag (tagged kind) = Unit {0}
 IsBehindTag spot = ⊥
 
--- A number leads from one spot to another.
-abbrev pub NumberLeads : Spot → List Group → Number → Spot → List Group → Type 0
-NumberLeads item stack n to outer = (to ≡ bare_second n) × (stack ≡ outer) × ((stack ≡ [] → ⊥))
-NumberLeads (first listing read) stack n to outer = (to ≡ second listing read n) × (stack ≡ outer)
-NumberLeads (second listing read x) stack n to outer = (to ≡ whole listing (read ++ pair x n ∷ [])) × (stack ≡ outer)
-NumberLeads (bare_second x) stack n to outer = (to ≡ bare_whole) × (stack ≡ outer)
-NumberLeads spot stack n to outer = ⊥
+abbrev pub IsBehindNumber : Spot → Type 0
+IsBehindNumber (second listing read x) = Unit {0}
+IsBehindNumber (third listing read x y) = Unit {0}
+IsBehindNumber (whole listing read) = Unit {0}
+IsBehindNumber (bare_second raised x) = Unit {0}
+IsBehindNumber (bare_third x y) = Unit {0}
+IsBehindNumber bare_whole = Unit {0}
+IsBehindNumber spot = ⊥
+
+-- a point without brackets stands in a list
+abbrev pub IsInList : Spot → List Group → Type 0
+IsInList (bare_second raised x) stack = stack ≡ [] → ⊥
+IsInList (bare_third x y) stack = stack ≡ [] → ⊥
+IsInList bare_whole stack = stack ≡ [] → ⊥
+IsInList spot stack = Unit {0}
 
 -- what the token before a spot is
 abbrev pub ComesFrom : Spot → Token → Type 0
-ComesFrom (content inner) token = (kind : Kind) × (token ≡ word (Tag kind))
+ComesFrom (tagged kind) token = token ≡ word (Tag kind)
 ComesFrom (second listing read x) token = token ≡ number x
-ComesFrom (whole listing read) token = (y : Number) × (token ≡ number y)
-ComesFrom (bare_second x) token = token ≡ number x
-ComesFrom bare_whole token = (y : Number) × (token ≡ number y)
+ComesFrom (third listing read x y) token = token ≡ number y
+ComesFrom (whole listing read) token = (z : Number) × (token ≡ number z)
+ComesFrom (bare_second raised x) token = token ≡ number x
+ComesFrom (bare_third x y) token = token ≡ number y
+ComesFrom bare_whole token = (z : Number) × (token ≡ number z)
 ComesFrom spot token = Unit {0}
 
 abbrev From : Token → State → Type 0
@@ -63,6 +73,7 @@ enter_from (Points listing) stack paths comma next e = cc
 enter_from (Points listing) stack paths (word Empty) next e =
     leads_from (word Empty) (state behind stack paths) next e tt
 enter_from (Points listing) stack paths (word (Tag kind)) next e = cc
+enter_from (Points listing) stack paths (word Z) next e = cc
 enter_from (Points listing) stack paths (word Height) next e = cc
 enter_from (Points listing) stack paths (word Other) next e = cc
 enter_from (Points listing) stack paths (number n) next e = cc
@@ -72,6 +83,7 @@ enter_from (Items group) stack paths closing next e = cc
 enter_from (Items group) stack paths comma next e = cc
 enter_from (Items group) stack paths (word Empty) next e = leads_from (word Empty) (state behind stack paths) next e tt
 enter_from (Items group) stack paths (word (Tag kind)) next e = cc
+enter_from (Items group) stack paths (word Z) next e = cc
 enter_from (Items group) stack paths (word Height) next e = cc
 enter_from (Items group) stack paths (word Other) next e = cc
 enter_from (Items group) stack paths (number n) next e = cc
@@ -79,79 +91,85 @@ enter_from (Items group) stack paths stray next e = cc
 
 tag_from : (stack : List Group) (paths : List Path) (t : Token) (next : State) → tag_step stack paths t ≡ Some next
     → From t next
-tag_from stack paths (word (Tag kinds.Point)) next e =
-    leads_from (word (Tag kinds.Point)) (state (content (content_of kinds.Point)) stack paths) next e
-    (kinds.Point, refl)
-tag_from stack paths (word (Tag kinds.LineString)) next e =
-    leads_from (word (Tag kinds.LineString)) (state (content (content_of kinds.LineString)) stack paths) next e
-    (kinds.LineString, refl)
-tag_from stack paths (word (Tag kinds.Polygon)) next e =
-    leads_from (word (Tag kinds.Polygon)) (state (content (content_of kinds.Polygon)) stack paths) next e
-    (kinds.Polygon, refl)
-tag_from stack paths (word (Tag kinds.MultiPoint)) next e =
-    leads_from (word (Tag kinds.MultiPoint)) (state (content (content_of kinds.MultiPoint)) stack paths) next e
-    (kinds.MultiPoint, refl)
-tag_from stack paths (word (Tag kinds.MultiLineString)) next e =
-    leads_from (word (Tag kinds.MultiLineString)) (state (content (content_of kinds.MultiLineString)) stack paths) next
-    e (kinds.MultiLineString, refl)
-tag_from stack paths (word (Tag kinds.MultiPolygon)) next e =
-    leads_from (word (Tag kinds.MultiPolygon)) (state (content (content_of kinds.MultiPolygon)) stack paths) next e
-    (kinds.MultiPolygon, refl)
-tag_from stack paths (word (Tag kinds.Collection)) next e =
-    if_from (word (Tag kinds.Collection)) (nat_lt (length stack) DEEPEST)
-    (state (content (Items groups.Geometries)) stack paths) next e (kinds.Collection, refl)
+tag_from stack paths (word (Tag kind)) next e =
+    if_from (word (Tag kind)) (may_nest kind stack) (state (tagged kind) stack paths) next e refl
 tag_from stack paths opening next e = cc
 tag_from stack paths closing next e = cc
 tag_from stack paths comma next e = cc
 tag_from stack paths (word Empty) next e = cc
+tag_from stack paths (word Z) next e = cc
 tag_from stack paths (word Height) next e = cc
 tag_from stack paths (word Other) next e = cc
 tag_from stack paths (number n) next e = cc
 tag_from stack paths stray next e = cc
 
+tagged_from : (kind : Kind) (stack : List Group) (paths : List Path) (t : Token) (next : State)
+    → tagged_step kind stack paths t ≡ Some next → From t next
+tagged_from kind stack paths (word Z) next e =
+    leads_from (word Z) (state (content (content_of kind true)) stack paths) next e tt
+tagged_from kind stack paths (word Empty) next e = enter_from (content_of kind false) stack paths (word Empty) next e
+tagged_from kind stack paths (word Height) next e = enter_from (content_of kind false) stack paths (word Height) next e
+tagged_from kind stack paths (word Other) next e = enter_from (content_of kind false) stack paths (word Other) next e
+tagged_from kind stack paths (word (Tag other)) next e =
+    enter_from (content_of kind false) stack paths (word (Tag other)) next e
+tagged_from kind stack paths opening next e = enter_from (content_of kind false) stack paths opening next e
+tagged_from kind stack paths closing next e = enter_from (content_of kind false) stack paths closing next e
+tagged_from kind stack paths comma next e = enter_from (content_of kind false) stack paths comma next e
+tagged_from kind stack paths (number n) next e = enter_from (content_of kind false) stack paths (number n) next e
+tagged_from kind stack paths stray next e = enter_from (content_of kind false) stack paths stray next e
+
 item_from : (exact : Bool) (group : Group) (stack : List Group) (paths : List Path) (t : Token) (next : State)
     → item_step exact group stack paths t ≡ Some next → From t next
-item_from exact groups.Rings stack paths t next e = enter_from (Points listings.Ring) stack paths t next e
-item_from exact groups.Lists stack paths t next e = enter_from (Points listings.List) stack paths t next e
-item_from exact groups.Polygons stack paths t next e = enter_from (Items groups.Rings) stack paths t next e
+item_from exact (groups.Rings raised) stack paths t next e =
+    enter_from (Points (listings.Ring raised)) stack paths t next e
+item_from exact (groups.Lists raised) stack paths t next e =
+    enter_from (Points (listings.List raised)) stack paths t next e
+item_from exact (groups.Polygons raised) stack paths t next e =
+    enter_from (Items (groups.Rings raised)) stack paths t next e
 item_from exact groups.Geometries stack paths t next e = tag_from stack paths t next e
-item_from exact groups.Dots stack paths (number n) next e =
-    if_from (number n) (does_fit exact (measured n.text)) (state (bare_second n) stack paths) next e refl
-item_from exact groups.Dots stack paths opening next e = enter_from (Points listings.Dot) stack paths opening next e
-item_from exact groups.Dots stack paths closing next e = enter_from (Points listings.Dot) stack paths closing next e
-item_from exact groups.Dots stack paths comma next e = enter_from (Points listings.Dot) stack paths comma next e
-item_from exact groups.Dots stack paths (word w) next e = enter_from (Points listings.Dot) stack paths (word w) next e
-item_from exact groups.Dots stack paths stray next e = enter_from (Points listings.Dot) stack paths stray next e
+item_from exact (groups.Dots raised) stack paths (number n) next e =
+    if_from (number n) (does_fit exact (measured n.text)) (state (bare_second raised n) stack paths) next e refl
+item_from exact (groups.Dots raised) stack paths opening next e =
+    enter_from (Points (listings.Dot raised)) stack paths opening next e
+item_from exact (groups.Dots raised) stack paths closing next e =
+    enter_from (Points (listings.Dot raised)) stack paths closing next e
+item_from exact (groups.Dots raised) stack paths comma next e =
+    enter_from (Points (listings.Dot raised)) stack paths comma next e
+item_from exact (groups.Dots raised) stack paths (word w) next e =
+    enter_from (Points (listings.Dot raised)) stack paths (word w) next e
+item_from exact (groups.Dots raised) stack paths stray next e =
+    enter_from (Points (listings.Dot raised)) stack paths stray next e
 
 whole_from : (listing : Listing) (points : List Point) (stack : List Group) (paths : List Path) (t : Token)
     (next : State)
     → whole_step listing points stack paths t ≡ Some next → From t next
-whole_from listings.Dot points stack paths opening next e = cc
-whole_from listings.Dot points stack paths closing next e =
-    if_from closing (may_end listings.Dot points) (state behind stack (paths ++ path_of (kind_of listings.Dot) points))
+whole_from (listings.Dot raised) points stack paths opening next e = cc
+whole_from (listings.Dot raised) points stack paths closing next e =
+    if_from closing (may_end (listings.Dot raised) points)
+    (state behind stack (paths ++ path_of (kind_of (listings.Dot raised)) points))
     next e tt
-whole_from listings.Dot points stack paths comma next e = cc
-whole_from listings.Dot points stack paths (word w) next e = cc
-whole_from listings.Dot points stack paths (number n) next e = cc
-whole_from listings.Dot points stack paths stray next e = cc
-whole_from listings.List points stack paths opening next e = cc
-whole_from listings.List points stack paths closing next e =
-    if_from closing (may_end listings.List points)
-    (state behind stack (paths ++ path_of (kind_of listings.List) points)) next e tt
-whole_from listings.List points stack paths comma next e =
-    leads_from comma (state (first listings.List points) stack paths) next e tt
-whole_from listings.List points stack paths (word w) next e = cc
-whole_from listings.List points stack paths (number n) next e = cc
-whole_from listings.List points stack paths stray next e = cc
-whole_from listings.Ring points stack paths opening next e = cc
-whole_from listings.Ring points stack paths closing next e =
-    if_from closing (may_end listings.Ring points)
-    (state behind stack (paths ++ path_of (kind_of listings.Ring) points)) next e tt
-whole_from listings.Ring points stack paths comma next e =
-    leads_from comma (state (first listings.Ring points) stack paths) next e tt
-whole_from listings.Ring points stack paths (word w) next e = cc
-whole_from listings.Ring points stack paths (number n) next e = cc
-whole_from listings.Ring points stack paths stray next e = cc
+whole_from (listings.Dot raised) points stack paths comma next e = cc
+whole_from (listings.Dot raised) points stack paths (word w) next e = cc
+whole_from (listings.Dot raised) points stack paths (number n) next e = cc
+whole_from (listings.Dot raised) points stack paths stray next e = cc
+whole_from (listings.List raised) points stack paths opening next e = cc
+whole_from (listings.List raised) points stack paths closing next e =
+    if_from closing (may_end (listings.List raised) points)
+    (state behind stack (paths ++ path_of (kind_of (listings.List raised)) points)) next e tt
+whole_from (listings.List raised) points stack paths comma next e =
+    leads_from comma (state (first (listings.List raised) points) stack paths) next e tt
+whole_from (listings.List raised) points stack paths (word w) next e = cc
+whole_from (listings.List raised) points stack paths (number n) next e = cc
+whole_from (listings.List raised) points stack paths stray next e = cc
+whole_from (listings.Ring raised) points stack paths opening next e = cc
+whole_from (listings.Ring raised) points stack paths closing next e =
+    if_from closing (may_end (listings.Ring raised) points)
+    (state behind stack (paths ++ path_of (kind_of (listings.Ring raised)) points)) next e tt
+whole_from (listings.Ring raised) points stack paths comma next e =
+    leads_from comma (state (first (listings.Ring raised) points) stack paths) next e tt
+whole_from (listings.Ring raised) points stack paths (word w) next e = cc
+whole_from (listings.Ring raised) points stack paths (number n) next e = cc
+whole_from (listings.Ring raised) points stack paths stray next e = cc
 
 behind_from : (stack : List Group) (paths : List Path) (t : Token) (next : State)
     → behind_step stack paths t ≡ Some next → From t next
@@ -173,144 +191,190 @@ number_from exact make comma next from e = cc
 number_from exact make (word w) next from e = cc
 number_from exact make stray next from e = cc
 
+second_from : (listing : Listing) (points : List Point) (x y : Number) (raised : Bool) (stack : List Group)
+    (paths : List Path) → From (number y) (state (second_leads raised listing points x y) stack paths)
+second_from listing points x y true stack paths = refl
+second_from listing points x y false stack paths = (y, refl)
+
+bare_second_from : (raised : Bool) (x y : Number) (stack : List Group) (paths : List Path)
+    → From (number y) (bare_second_leads raised stack paths x y)
+bare_second_from true x y stack paths = refl
+bare_second_from false x y stack paths = (y, refl)
+
 -- each spot comes from its tokens
 pub step_from : (exact : Bool) (spot : Spot) (stack : List Group) (paths : List Path) (t : Token) (next : State)
     → step_at exact spot stack paths t ≡ Some next → From t next
 step_from exact item stack paths t next e = item_from exact (innermost stack) stack paths t next e
+step_from exact (tagged kind) stack paths t next e = tagged_from kind stack paths t next e
 step_from exact (content inner) stack paths t next e = enter_from inner stack paths t next e
 step_from exact (first listing points) stack paths t next e =
     number_from exact (λ x. state (second listing points x) stack paths) t next (λ n. refl) e
 step_from exact (second listing points x) stack paths t next e =
-    number_from exact (λ y. state (whole listing (points ++ pair x y ∷ [])) stack paths) t next (λ n. (n, refl)) e
+    number_from exact (λ y. state (second_leads (is_raised listing) listing points x y) stack paths) t next
+    (λ n. second_from listing points x n (is_raised listing) stack paths) e
+step_from exact (third listing points x y) stack paths t next e =
+    number_from exact (λ z. state (whole listing (points ++ point_with x y (Some z) ∷ [])) stack paths) t next
+    (λ n. (n, refl)) e
 step_from exact (whole listing points) stack paths t next e = whole_from listing points stack paths t next e
-step_from exact (bare_second x) stack paths t next e =
-    number_from exact (λ y. state bare_whole stack (paths ++ path_of Dot (pair x y ∷ []))) t next (λ n. (n, refl)) e
+step_from exact (bare_second raised x) stack paths t next e =
+    number_from exact (λ y. bare_second_leads raised stack paths x y) t next
+    (λ n. bare_second_from raised x n stack paths) e
+step_from exact (bare_third x y) stack paths t next e =
+    number_from exact (λ z. bare_leads stack paths (point_with x y (Some z))) t next (λ n. (n, refl)) e
 step_from exact bare_whole stack paths t next e = behind_from stack paths t next e
 step_from exact behind stack paths t next e = behind_from stack paths t next e
 
--- a tag leads to its content
-abbrev Tagged : State → Type 0
-Tagged s = IsBehindTag s.spot
-
-leads_tagged : (to next : State) → Some to ≡ Some next → Tagged to → Tagged next
-leads_tagged to next e is = subst Tagged (same_Some to next e) is
-
-if_tagged : (b : Bool) (to next : State) → (if b then Some to else None) ≡ Some next → Tagged to → Tagged next
-if_tagged true to next e is = leads_tagged to next e is
+-- ---- a tag leads behind it
+if_tagged : (b : Bool) (to next : State) → (if b then Some to else None) ≡ Some next → IsBehindTag to.spot
+    → IsBehindTag next.spot
+if_tagged true to next e is = subst (λ (s : State). IsBehindTag s.spot) (same_Some to next e) is
 if_tagged false to next e is = cc
 
-tag_tagged : (stack : List Group) (paths : List Path) (kind : Kind) (next : State)
-    → tag_step stack paths (word (Tag kind)) ≡ Some next → Tagged next
-tag_tagged stack paths kinds.Point next e =
-    leads_tagged (state (content (content_of kinds.Point)) stack paths) next e tt
-tag_tagged stack paths kinds.LineString next e =
-    leads_tagged (state (content (content_of kinds.LineString)) stack paths) next e tt
-tag_tagged stack paths kinds.Polygon next e =
-    leads_tagged (state (content (content_of kinds.Polygon)) stack paths) next e tt
-tag_tagged stack paths kinds.MultiPoint next e =
-    leads_tagged (state (content (content_of kinds.MultiPoint)) stack paths) next e tt
-tag_tagged stack paths kinds.MultiLineString next e =
-    leads_tagged (state (content (content_of kinds.MultiLineString)) stack paths) next e tt
-tag_tagged stack paths kinds.MultiPolygon next e =
-    leads_tagged (state (content (content_of kinds.MultiPolygon)) stack paths) next e tt
-tag_tagged stack paths kinds.Collection next e =
-    if_tagged (nat_lt (length stack) DEEPEST) (state (content (Items groups.Geometries)) stack paths) next e tt
-
 enter_tagged : (inner : Content) (stack : List Group) (paths : List Path) (kind : Kind) (next : State)
-    → enter_step inner stack paths (word (Tag kind)) ≡ Some next → Tagged next
+    → enter_step inner stack paths (word (Tag kind)) ≡ Some next → IsBehindTag next.spot
 enter_tagged (Points listing) stack paths kind next e = cc
 enter_tagged (Items group) stack paths kind next e = cc
 
 item_tagged : (exact : Bool) (group : Group) (stack : List Group) (paths : List Path) (kind : Kind) (next : State)
-    → item_step exact group stack paths (word (Tag kind)) ≡ Some next → Tagged next
-item_tagged exact groups.Rings stack paths kind next e = cc
-item_tagged exact groups.Lists stack paths kind next e = cc
-item_tagged exact groups.Polygons stack paths kind next e = cc
-item_tagged exact groups.Dots stack paths kind next e = cc
-item_tagged exact groups.Geometries stack paths kind next e = tag_tagged stack paths kind next e
+    → item_step exact group stack paths (word (Tag kind)) ≡ Some next → IsBehindTag next.spot
+item_tagged exact (groups.Rings raised) stack paths kind next e = cc
+item_tagged exact (groups.Lists raised) stack paths kind next e = cc
+item_tagged exact (groups.Polygons raised) stack paths kind next e = cc
+item_tagged exact (groups.Dots raised) stack paths kind next e = cc
+item_tagged exact groups.Geometries stack paths kind next e =
+    if_tagged (may_nest kind stack) (state (tagged kind) stack paths) next e tt
 
 whole_tagged : (listing : Listing) (points : List Point) (stack : List Group) (paths : List Path) (kind : Kind)
     (next : State)
-    → whole_step listing points stack paths (word (Tag kind)) ≡ Some next → Tagged next
-whole_tagged listings.Dot points stack paths kind next e = cc
-whole_tagged listings.List points stack paths kind next e = cc
-whole_tagged listings.Ring points stack paths kind next e = cc
+    → whole_step listing points stack paths (word (Tag kind)) ≡ Some next → IsBehindTag next.spot
+whole_tagged (listings.Dot raised) points stack paths kind next e = cc
+whole_tagged (listings.List raised) points stack paths kind next e = cc
+whole_tagged (listings.Ring raised) points stack paths kind next e = cc
 
 behind_tagged : (stack : List Group) (paths : List Path) (kind : Kind) (next : State)
-    → behind_step stack paths (word (Tag kind)) ≡ Some next → Tagged next
+    → behind_step stack paths (word (Tag kind)) ≡ Some next → IsBehindTag next.spot
 behind_tagged [] paths kind next e = cc
 behind_tagged (group ∷ outer) paths kind next e = cc
 
-pub tag_content : (exact : Bool) (spot : Spot) (stack : List Group) (paths : List Path) (kind : Kind) (next : State)
+pub tag_leads_behind : (exact : Bool) (spot : Spot) (stack : List Group) (paths : List Path) (kind : Kind)
+    (next : State)
     → step_at exact spot stack paths (word (Tag kind)) ≡ Some next → IsBehindTag next.spot
-tag_content exact item stack paths kind next e = item_tagged exact (innermost stack) stack paths kind next e
-tag_content exact (content inner) stack paths kind next e = enter_tagged inner stack paths kind next e
-tag_content exact (first listing points) stack paths kind next e = cc
-tag_content exact (second listing points x) stack paths kind next e = cc
-tag_content exact (whole listing points) stack paths kind next e = whole_tagged listing points stack paths kind next e
-tag_content exact (bare_second x) stack paths kind next e = cc
-tag_content exact bare_whole stack paths kind next e = behind_tagged stack paths kind next e
-tag_content exact behind stack paths kind next e = behind_tagged stack paths kind next e
+tag_leads_behind exact item stack paths kind next e = item_tagged exact (innermost stack) stack paths kind next e
+tag_leads_behind exact (tagged other) stack paths kind next e =
+    enter_tagged (content_of other false) stack paths kind next e
+tag_leads_behind exact (content inner) stack paths kind next e = enter_tagged inner stack paths kind next e
+tag_leads_behind exact (first listing points) stack paths kind next e = cc
+tag_leads_behind exact (second listing points x) stack paths kind next e = cc
+tag_leads_behind exact (third listing points x y) stack paths kind next e = cc
+tag_leads_behind exact (whole listing points) stack paths kind next e =
+    whole_tagged listing points stack paths kind next e
+tag_leads_behind exact (bare_second raised x) stack paths kind next e = cc
+tag_leads_behind exact (bare_third x y) stack paths kind next e = cc
+tag_leads_behind exact bare_whole stack paths kind next e = behind_tagged stack paths kind next e
+tag_leads_behind exact behind stack paths kind next e = behind_tagged stack paths kind next e
 
--- a number leads to the second number or behind it
-leads_number : (spot : Spot) (stack : List Group) (n : Number) (to next : State) → Some to ≡ Some next
-    → NumberLeads spot stack n to.spot to.stack → NumberLeads spot stack n next.spot next.stack
-leads_number spot stack n to next e is = subst (λ (s : State). NumberLeads spot stack n s.spot s.stack)
-    (same_Some to next e) is
+-- ---- a number leads behind it, and a point without brackets stands in a list
+abbrev pub IsNumbered : Spot → List Group → State → Type 0
+IsNumbered spot stack s = IsBehindNumber s.spot × (IsInList spot stack → IsInList s.spot s.stack)
 
-if_number : (spot : Spot) (stack : List Group) (n : Number) (b : Bool) (to next : State)
-    → (if b then Some to else None) ≡ Some next → NumberLeads spot stack n to.spot to.stack
-    → NumberLeads spot stack n next.spot next.stack
-if_number spot stack n true to next e is = leads_number spot stack n to next e is
-if_number spot stack n false to next e is = cc
+leads_numbered : (spot : Spot) (stack : List Group) (to next : State) → Some to ≡ Some next → IsNumbered spot stack to
+    → IsNumbered spot stack next
+leads_numbered spot stack to next e is = subst (IsNumbered spot stack) (same_Some to next e) is
 
-item_number : (exact : Bool) (group : Group) (outer : List Group) (paths : List Path) (n : Number) (next : State)
-    → item_step exact group (group ∷ outer) paths (number n) ≡ Some next
-    → NumberLeads item (group ∷ outer) n next.spot next.stack
-item_number exact groups.Rings outer paths n next e = cc
-item_number exact groups.Lists outer paths n next e = cc
-item_number exact groups.Polygons outer paths n next e = cc
-item_number exact groups.Geometries outer paths n next e = cc
-item_number exact groups.Dots outer paths n next e =
-    if_number item (groups.Dots ∷ outer) n (does_fit exact (measured n.text))
-    (state (bare_second n) (groups.Dots ∷ outer) paths) next e (refl, refl, λ none. cc)
+fit_numbered : (exact : Bool) (spot : Spot) (stack : List Group) (make : Number → State) (n : Number) (next : State)
+    → number_step exact make (number n) ≡ Some next → IsNumbered spot stack (make n) → IsNumbered spot stack next
+fit_numbered exact spot stack make n next e is = at (does_fit exact (measured n.text)) e
+  where
+    at : (b : Bool) → (if b then Some (make n) else None) ≡ Some next → IsNumbered spot stack next
+    at true h = leads_numbered spot stack (make n) next h is
+    at false h = cc
 
-enter_number : (spot : Spot) (inner : Content) (stack outer : List Group) (paths : List Path) (n : Number)
-    (next : State) → enter_step inner stack paths (number n) ≡ Some next
-    → NumberLeads spot outer n next.spot next.stack
-enter_number spot (Points listing) stack outer paths n next e = cc
-enter_number spot (Items group) stack outer paths n next e = cc
+item_numbered : (exact : Bool) (group : Group) (outer : List Group) (paths : List Path) (n : Number) (next : State)
+    → item_step exact group (group ∷ outer) paths (number n) ≡ Some next → IsNumbered item (group ∷ outer) next
+item_numbered exact (groups.Rings raised) outer paths n next e = cc
+item_numbered exact (groups.Lists raised) outer paths n next e = cc
+item_numbered exact (groups.Polygons raised) outer paths n next e = cc
+item_numbered exact groups.Geometries outer paths n next e = cc
+item_numbered exact (groups.Dots raised) outer paths n next e =
+    fit_numbered exact item (groups.Dots raised ∷ outer)
+    (λ x. state (bare_second raised x) (groups.Dots raised ∷ outer) paths) n next e (tt, λ _ none. cc)
 
-whole_number : (spot : Spot) (listing : Listing) (points : List Point) (stack outer : List Group) (paths : List Path)
-    (n : Number) (next : State)
-    → whole_step listing points stack paths (number n) ≡ Some next → NumberLeads spot outer n next.spot next.stack
-whole_number spot listings.Dot points stack outer paths n next e = cc
-whole_number spot listings.List points stack outer paths n next e = cc
-whole_number spot listings.Ring points stack outer paths n next e = cc
+enter_numbered : (spot : Spot) (inner : Content) (stack outer : List Group) (paths : List Path) (n : Number)
+    (next : State) → enter_step inner stack paths (number n) ≡ Some next → IsNumbered spot outer next
+enter_numbered spot (Points listing) stack outer paths n next e = cc
+enter_numbered spot (Items group) stack outer paths n next e = cc
 
-behind_number : (spot : Spot) (stack outer : List Group) (paths : List Path) (n : Number) (next : State)
-    → behind_step stack paths (number n) ≡ Some next
-    → NumberLeads spot outer n next.spot next.stack
-behind_number spot [] outer paths n next e = cc
-behind_number spot (group ∷ stack) outer paths n next e = cc
+whole_numbered : (spot : Spot) (listing : Listing) (points : List Point) (stack outer : List Group)
+    (paths : List Path) (n : Number) (next : State)
+    → whole_step listing points stack paths (number n) ≡ Some next → IsNumbered spot outer next
+whole_numbered spot (listings.Dot raised) points stack outer paths n next e = cc
+whole_numbered spot (listings.List raised) points stack outer paths n next e = cc
+whole_numbered spot (listings.Ring raised) points stack outer paths n next e = cc
 
-pub number_leads_to : (exact : Bool) (spot : Spot) (stack : List Group) (paths : List Path) (n : Number) (next : State)
-    → step_at exact spot stack paths (number n) ≡ Some next
-    → NumberLeads spot stack n next.spot next.stack
-number_leads_to exact item [] paths n next e = cc
-number_leads_to exact item (group ∷ outer) paths n next e = item_number exact group outer paths n next e
-number_leads_to exact (content inner) stack paths n next e =
-    enter_number (content inner) inner stack stack paths n next e
-number_leads_to exact (first listing points) stack paths n next e =
-    if_number (first listing points) stack n (does_fit exact (measured n.text))
-    (state (second listing points n) stack paths) next e (refl, refl)
-number_leads_to exact (second listing points x) stack paths n next e =
-    if_number (second listing points x) stack n (does_fit exact (measured n.text))
-    (state (whole listing (points ++ pair x n ∷ [])) stack paths) next e (refl, refl)
-number_leads_to exact (whole listing points) stack paths n next e =
-    whole_number (whole listing points) listing points stack stack paths n next e
-number_leads_to exact (bare_second x) stack paths n next e =
-    if_number (bare_second x) stack n (does_fit exact (measured n.text))
-    (state bare_whole stack (paths ++ path_of Dot (pair x n ∷ []))) next e (refl, refl)
-number_leads_to exact bare_whole stack paths n next e = behind_number bare_whole stack stack paths n next e
-number_leads_to exact behind stack paths n next e = behind_number behind stack stack paths n next e
+behind_numbered : (spot : Spot) (stack outer : List Group) (paths : List Path) (n : Number) (next : State)
+    → behind_step stack paths (number n) ≡ Some next → IsNumbered spot outer next
+behind_numbered spot [] outer paths n next e = cc
+behind_numbered spot (group ∷ stack) outer paths n next e = cc
+
+second_numbered : (listing : Listing) (points : List Point) (x y : Number) (raised : Bool) (stack : List Group)
+    (paths : List Path)
+    → IsNumbered (second listing points x) stack (state (second_leads raised listing points x y) stack paths)
+second_numbered listing points x y true stack paths = (tt, λ _. tt)
+second_numbered listing points x y false stack paths = (tt, λ _. tt)
+
+bare_second_numbered : (raised : Bool) (x y : Number) (stack : List Group) (paths : List Path)
+    → IsNumbered (bare_second raised x) stack (bare_second_leads raised stack paths x y)
+bare_second_numbered true x y stack paths = (tt, λ some. some)
+bare_second_numbered false x y stack paths = (tt, λ some. some)
+
+pub number_leads_behind : (exact : Bool) (spot : Spot) (stack : List Group) (paths : List Path) (n : Number)
+    (next : State)
+    → step_at exact spot stack paths (number n) ≡ Some next → IsNumbered spot stack next
+number_leads_behind exact item [] paths n next e = cc
+number_leads_behind exact item (group ∷ outer) paths n next e = item_numbered exact group outer paths n next e
+number_leads_behind exact (tagged kind) stack paths n next e =
+    enter_numbered (tagged kind) (content_of kind false) stack stack paths n next e
+number_leads_behind exact (content inner) stack paths n next e =
+    enter_numbered (content inner) inner stack stack paths n next e
+number_leads_behind exact (first listing points) stack paths n next e =
+    fit_numbered exact (first listing points) stack (λ x. state (second listing points x) stack paths) n next e
+    (tt, λ _. tt)
+number_leads_behind exact (second listing points x) stack paths n next e =
+    fit_numbered exact (second listing points x) stack
+    (λ y. state (second_leads (is_raised listing) listing points x y) stack paths) n next e
+    (second_numbered listing points x n (is_raised listing) stack paths)
+number_leads_behind exact (third listing points x y) stack paths n next e =
+    fit_numbered exact (third listing points x y) stack
+    (λ z. state (whole listing (points ++ point_with x y (Some z) ∷ [])) stack paths) n next e (tt, λ _. tt)
+number_leads_behind exact (whole listing points) stack paths n next e =
+    whole_numbered (whole listing points) listing points stack stack paths n next e
+number_leads_behind exact (bare_second raised x) stack paths n next e =
+    fit_numbered exact (bare_second raised x) stack (λ y. bare_second_leads raised stack paths x y) n next e
+    (bare_second_numbered raised x n stack paths)
+number_leads_behind exact (bare_third x y) stack paths n next e =
+    fit_numbered exact (bare_third x y) stack (λ z. bare_leads stack paths (point_with x y (Some z))) n next e
+    (tt, λ some. some)
+number_leads_behind exact bare_whole stack paths n next e = behind_numbered bare_whole stack stack paths n next e
+number_leads_behind exact behind stack paths n next e = behind_numbered behind stack stack paths n next e
+
+-- a token that is no number leads to no point without brackets
+pub comes_in_list : (spot : Spot) (stack : List Group) (t : Token) → ComesFrom spot t
+    → ((n : Number) → t ≡ number n → IsInList spot stack) → IsInList spot stack
+comes_in_list (bare_second raised x) stack t from by_number = by_number x from
+comes_in_list (bare_third x y) stack t from by_number = by_number y from
+comes_in_list bare_whole stack t from by_number = by_number from.0 from.1
+comes_in_list item stack t from by_number = tt
+comes_in_list (tagged kind) stack t from by_number = tt
+comes_in_list (content inner) stack t from by_number = tt
+comes_in_list (first listing points) stack t from by_number = tt
+comes_in_list (second listing points x) stack t from by_number = tt
+comes_in_list (third listing points x y) stack t from by_number = tt
+comes_in_list (whole listing points) stack t from by_number = tt
+comes_in_list behind stack t from by_number = tt
+
+pub step_in_list : (exact : Bool) (spot : Spot) (stack : List Group) (paths : List Path) (t : Token) (next : State)
+    → step_at exact spot stack paths t ≡ Some next → IsInList spot stack → IsInList next.spot next.stack
+step_in_list exact spot stack paths t next e is =
+    comes_in_list next.spot next.stack t (step_from exact spot stack paths t next e)
+    (λ n at_number. (number_leads_behind exact spot stack paths n next
+    (ap (step_at exact spot stack paths) (sym at_number) ∙ e)).1 is)

@@ -1,14 +1,16 @@
 -- From each state that the pass reaches some tokens lead to the end of a line.
 use Rattle.std.proofs.Common.{◌≡◌, ℕ, ◌+◌, Bool, true, false, List, [], ◌∷◌, ◌++◌, length, refl, sym, ap, ◌∙◌}
 use Rattle.std.proofs.Common.{append_assoc, arith, length-append}
+use Rattle.std.specs.Prelude.{Option, Some, None}
 use Rattle.mm_decimal.specs.Measured.{measured}
 use Rattle.sheet_base.specs.declared.paths.PathKind.TheVariants.{Dot}
 use Rattle.wkt_layer.specs.Tokens.{Number, Token, word, number}
-use Rattle.wkt_layer.specs.Numbers.{Point, IsNumber, IsPoint, place_of}
-use Rattle.wkt_layer.specs.Geometries.{dot, point, point_tokens, behind_item, ArePoints}
+use Rattle.wkt_layer.specs.Numbers.{Point, IsNumber, IsThird, IsPoint, position_of}
+use Rattle.wkt_layer.specs.Geometries.{dot, point, third_tokens, point_tokens, behind_item, ArePoints}
 use Rattle.wkt_layer.specs.Paths.{Path, path_of}
-use Rattle.wkt_layer.specs.States.{Spot, item, content, first, second, whole, bare_second, bare_whole, behind}
-use Rattle.wkt_layer.specs.States.{innermost, pair, kind_of}
+use Rattle.wkt_layer.specs.States.{Spot, item, tagged, content, first, second, third, whole, bare_second, bare_third}
+use Rattle.wkt_layer.specs.States.{bare_whole, behind}
+use Rattle.wkt_layer.specs.States.{innermost, point_with, kind_of, content_of, is_raised}
 use Rattle.wkt_layer.proofs.Rests.{room, ItemOf, item_tokens, more_tokens, items_tokens, IsItem, item_paths}
 use Rattle.wkt_layer.proofs.Rests.{items_paths, no_items, GoOn, Closes, ClosesPoints, Enters, Rests}
 use Rattle.wkt_layer.specs.declared.words.Word.TheVariants.{Empty}
@@ -22,11 +24,15 @@ use Rattle.wkt_layer.specs.Geometries.{last_behind}
 use Rattle.wkt_layer.proofs.Items.{are_none, no_points}
 use Rattle.wkt_layer.proofs.Rings.{ring_closes_by}
 
--- the points and the number that were read fit
+-- the points and the numbers that were read fit
 abbrev pub AreRead : Bool → Spot → Type 0
-AreRead exact (first listing read) = ArePoints exact read
-AreRead exact (second listing read x) = ArePoints exact read × IsNumber exact x
-AreRead exact (whole listing read) = ArePoints exact read
+AreRead exact (first listing read) = ArePoints exact (is_raised listing) read
+AreRead exact (second listing read x) = ArePoints exact (is_raised listing) read × IsNumber exact x
+AreRead exact (third listing read x y) = ArePoints exact (is_raised listing) read × IsNumber exact x
+    × IsNumber exact y × (is_raised listing ≡ true)
+AreRead exact (whole listing read) = ArePoints exact (is_raised listing) read
+AreRead exact (bare_second raised x) = IsNumber exact x
+AreRead exact (bare_third x y) = IsNumber exact x × IsNumber exact y
 AreRead exact spot = Unit {0}
 
 -- the number 0
@@ -38,11 +44,20 @@ unfolding measured
 zero_fits true = refl
 zero_fits false = refl
 
-abbrev zero_point : Point
-zero_point = pair zero_number zero_number
+-- a third number where one is wanted
+abbrev pub zero_third : Bool → Option Number
+zero_third false = None
+zero_third true = Some zero_number
 
-zero_is : (exact : Bool) → IsPoint exact zero_point
-zero_is exact = (zero_fits exact, zero_fits exact)
+third_fits : (exact raised : Bool) → IsThird exact raised (zero_third raised)
+third_fits exact false = tt
+third_fits exact true = zero_fits exact
+
+abbrev zero_point : Bool → Point
+zero_point raised = point_with zero_number zero_number (zero_third raised)
+
+zero_is : (exact raised : Bool) → IsPoint exact raised (zero_point raised)
+zero_is exact raised = (zero_fits exact, zero_fits exact, third_fits exact raised)
 
 -- some tokens close what is open
 abbrev CanClose : Bool → List Group → Type 0
@@ -63,27 +78,30 @@ last_at p (next ∷ points) q = last_at next points q
 
 -- points that close a path
 abbrev CanGoOn : Bool → Listing → List Point → Type 0
-CanGoOn exact listing read = (more : List Point) × ArePoints exact more × GoOn listing read more
+CanGoOn exact listing read = (more : List Point) × ArePoints exact (is_raised listing) more × GoOn listing read more
 
 length_four : (p : Point) (points : List Point) → length (points ++ (p ∷ p ∷ p ∷ p ∷ [])) ≡ length points + 4
 length_four p points = simp length-append refl
 
-ring_closes : (exact : Bool) (p : Point) (read : List Point) → IsPoint exact p → CanGoOn exact listings.Ring (p ∷ read)
-ring_closes exact p read is = (
+ring_closes : (exact raised : Bool) (p : Point) (read : List Point) → IsPoint exact raised p
+    → CanGoOn exact (listings.Ring raised) (p ∷ read)
+ring_closes exact raised p read is = (
   p ∷ p ∷ p ∷ p ∷ [],
   (is, (is, (is, (is, tt)))),
   ring_closes_by p (read ++ p ∷ p ∷ p ∷ p ∷ []) (omega (arith, length_four p read))
-      (ap place_of (ap (last_behind p) (sym (append_assoc read (p ∷ p ∷ p ∷ []) (p ∷ [])))
+      (ap position_of (ap (last_behind p) (sym (append_assoc read (p ∷ p ∷ p ∷ []) (p ∷ [])))
       ∙ last_at p (read ++ p ∷ p ∷ p ∷ []) p)),
 )
 
-can_go_on : (exact : Bool) (listing : Listing) (read : List Point) → ArePoints exact read → CanGoOn exact listing read
-can_go_on exact listings.Dot read are = ([], tt, refl)
-can_go_on exact listings.List read are = ([], tt, tt)
-can_go_on exact listings.Ring [] are = ([], tt, tt)
-can_go_on exact listings.Ring (p ∷ read) are = ring_closes exact p read are.0
+can_go_on : (exact : Bool) (listing : Listing) (read : List Point) → ArePoints exact (is_raised listing) read
+    → CanGoOn exact listing read
+can_go_on exact (listings.Dot raised) read are = ([], tt, refl)
+can_go_on exact (listings.List raised) read are = ([], tt, tt)
+can_go_on exact (listings.Ring raised) [] are = ([], tt, tt)
+can_go_on exact (listings.Ring raised) (p ∷ read) are = ring_closes exact raised p read are.0
 
-can_close_points : (exact : Bool) (listing : Listing) (read : List Point) (stack : List Group) → ArePoints exact read
+can_close_points : (exact : Bool) (listing : Listing) (read : List Point) (stack : List Group)
+    → ArePoints exact (is_raised listing) read
     → (tokens : List Token) × (paths : List Path) × ClosesPoints exact listing read stack tokens paths
 can_close_points exact listing read stack are =
     let (more, are_more, on) = can_go_on exact listing read are in
@@ -94,21 +112,30 @@ can_close_points exact listing read stack are =
       (more, rest, later, are_more, on, refl, closes, refl),
     )
 
-pub are_push : (exact : Bool) (read : List Point) (p : Point) → ArePoints exact read → IsPoint exact p
-    → ArePoints exact (read ++ p ∷ [])
-are_push exact [] p are is = (is, tt)
-are_push exact (q ∷ read) p are is = (are.0, are_push exact read p are.1 is)
+pub are_push : (exact raised : Bool) (read : List Point) (p : Point) → ArePoints exact raised read
+    → IsPoint exact raised p → ArePoints exact raised (read ++ p ∷ [])
+are_push exact raised [] p are is = (is, tt)
+are_push exact raised (q ∷ read) p are is = (are.0, are_push exact raised read p are.1 is)
+
+-- the third number of a point that wants one
+pub third_is : (exact raised : Bool) (z : Number) → raised ≡ true → IsNumber exact z → IsThird exact raised (Some z)
+third_is exact true z is fits = fits
+third_is exact false z is fits = cc
+
+pub third_none : (exact raised : Bool) → raised ≡ false → IsThird exact raised None
+third_none exact false is = tt
+third_none exact true is = cc
 
 -- a whole item
 abbrev CanBe : Bool → ℕ → Group → Type 0
 CanBe exact depth group = (one : ItemOf group) × IsItem exact depth group one
 
 can_be : (exact : Bool) (depth : ℕ) (group : Group) → CanBe exact depth group
-can_be exact depth groups.Rings = ([], (tt, tt))
-can_be exact depth groups.Dots = (dot [], (tt, omega arith))
-can_be exact depth groups.Lists = ([], tt)
-can_be exact depth groups.Polygons = ([], tt)
-can_be exact depth groups.Geometries = (point [], (tt, omega arith))
+can_be exact depth (groups.Rings raised) = ([], (tt, tt))
+can_be exact depth (groups.Dots raised) = (dot [], (tt, omega arith))
+can_be exact depth (groups.Lists raised) = ([], tt)
+can_be exact depth (groups.Polygons raised) = ([], tt)
+can_be exact depth groups.Geometries = (point false [], (tt, omega arith))
 
 abbrev CanFollow : Bool → Spot → List Group → Type 0
 CanFollow exact spot stack = (tokens : List Token) × (paths : List Path) × Rests exact spot stack tokens paths
@@ -134,22 +161,61 @@ can_follow exact item stack are =
           ++ later,
       (one, rest, later, is, refl, closes, refl),
     )
+can_follow exact (tagged kind) stack are =
+    let (tokens, paths, enters) = can_enter exact (content_of kind false) stack in
+    (tokens, paths, (false, tokens, refl, enters))
 can_follow exact (content inner) stack are = can_enter exact inner stack
 can_follow exact (first listing read) stack are =
-    let (rest, paths, closes) = can_close_points exact listing (read ++ zero_point ∷ []) stack
-    (are_push exact read zero_point are (zero_is exact)) in
-    (point_tokens zero_point ++ rest, paths, (zero_point, rest, zero_is exact, refl, closes))
+    let (rest, paths, closes) = can_close_points exact listing (read ++ zero_point (is_raised listing) ∷ []) stack
+    (are_push exact (is_raised listing) read (zero_point (is_raised listing)) are
+    (zero_is exact (is_raised listing))) in (
+      point_tokens (zero_point (is_raised listing)) ++ rest,
+      paths,
+      (zero_point (is_raised listing), rest, zero_is exact (is_raised listing), refl, closes),
+    )
 can_follow exact (second listing read x) stack are =
-    let p : Point = pair x zero_number in
-    let (rest, paths, closes) = can_close_points exact listing (read ++ pair x zero_number ∷ []) stack
-    (are_push exact read (pair x zero_number) are.0 (are.1, zero_fits exact)) in
+    let (rest, paths, closes) = can_close_points exact listing
+    (read ++ point_with x zero_number (zero_third (is_raised listing)) ∷ []) stack
+    (are_push exact (is_raised listing) read (point_with x zero_number (zero_third (is_raised listing))) are.0
+    (are.1, zero_fits exact, third_fits exact (is_raised listing))) in (
+      number zero_number ∷ (third_tokens (zero_third (is_raised listing)) ++ rest),
+      paths,
+      (
+        zero_number,
+        zero_third (is_raised listing),
+        rest,
+        zero_fits exact,
+        third_fits exact (is_raised listing),
+        refl,
+        closes,
+      ),
+    )
+can_follow exact (third listing read x y) stack are =
+    let (rest, paths, closes) = can_close_points exact listing (read ++ point_with x y (Some zero_number) ∷ []) stack
+    (are_push exact (is_raised listing) read (point_with x y (Some zero_number)) are.0
+    (are.1, are.2, third_is exact (is_raised listing) zero_number are.3 (zero_fits exact))) in
     (number zero_number ∷ rest, paths, (zero_number, rest, zero_fits exact, refl, closes))
 can_follow exact (whole listing read) stack are = can_close_points exact listing read stack are
-can_follow exact (bare_second x) stack are =
+can_follow exact (bare_second raised x) stack are =
+    let (rest, later, closes) = can_close exact stack in (
+      number zero_number ∷ (third_tokens (zero_third raised) ++ rest),
+      path_of Dot (point_with x zero_number (zero_third raised) ∷ []) ++ later,
+      (
+        zero_number,
+        zero_third raised,
+        rest,
+        later,
+        zero_fits exact,
+        third_fits exact raised,
+        refl,
+        closes,
+        refl,
+      ),
+    )
+can_follow exact (bare_third x y) stack are =
     let (rest, later, closes) = can_close exact stack in (
       number zero_number ∷ rest,
-      path_of Dot (pair x zero_number ∷ [])
-          ++ later,
+      path_of Dot (point_with x y (Some zero_number) ∷ []) ++ later,
       (zero_number, rest, later, zero_fits exact, refl, closes, refl),
     )
 can_follow exact bare_whole stack are = can_close exact stack

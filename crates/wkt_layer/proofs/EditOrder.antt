@@ -1,8 +1,8 @@
 -- The numbers of a text stand one behind the other, and so the edits of its paths are in order and apart from each
 -- other.
 use Rattle.std.proofs.Common.{◌≡◌, ◌==◌, ℕ, zero, suc, ◌+◌, ◌-◌, ◌≤◌, Bool, true, false, List, [], ◌∷◌, ◌++◌, length}
-use Rattle.std.proofs.Common.{take, refl, sym, ap, ◌∙◌, subst, append-nil, arith}
-use Rattle.std.specs.Prelude.{flat_map, if◌then◌else◌}
+use Rattle.std.proofs.Common.{take, refl, sym, ap, ◌∙◌, subst, append-nil, append_assoc, arith}
+use Rattle.std.specs.Prelude.{flat_map, if◌then◌else◌, Option, Some, None}
 use Rattle.std.specs.List.{slice_split, onto_first}
 use Rattle.std.specs.Char.{is_ascii_alphabetic}
 use Rattle.std.proofs.lemmas.Grind.{flat_map-append}
@@ -17,17 +17,18 @@ use Rattle.sheet_base.specs.declared.paths.PathKind.TheVariants.{Dot, Line, Loop
 use Rattle.wkt_layer.specs.Tokens.{Number, Token, opening, closing, comma, word, number, stray, Placed, is_blank}
 use Rattle.wkt_layer.specs.Tokens.{is_numeric, token_length, word_of, token_of, token_at, bytes_behind, tokens_behind}
 use Rattle.wkt_layer.specs.Tokens.{tokens_of}
-use Rattle.wkt_layer.specs.Numbers.{Point}
+use Rattle.wkt_layer.specs.Numbers.{Point, past_of}
 use Rattle.wkt_layer.specs.Geometries.{Member, dot, bare, Geometry, point, line_string, polygon, multi_point}
 use Rattle.wkt_layer.specs.Geometries.{multi_line_string, multi_polygon, collection, Geometries, no_geometry, geometry}
-use Rattle.wkt_layer.specs.Geometries.{point_tokens, behind_item, content_tokens, points_tokens, member_tokens}
-use Rattle.wkt_layer.specs.Geometries.{lists_tokens, geometry_tokens, behind_geometry, last_behind}
+use Rattle.wkt_layer.specs.Geometries.{third_tokens, mark, point_tokens, behind_item, content_tokens, points_tokens}
+use Rattle.wkt_layer.specs.Geometries.{member_tokens}
+use Rattle.wkt_layer.specs.Geometries.{lists_tokens, geometry_tokens, geometries_tokens, behind_geometry, last_behind}
 use Rattle.wkt_layer.specs.Paths.{Path, path_of, member_path, geometry_paths, geometries_paths, edits_from}
 use Rattle.wkt_layer.specs.Lines.{IsLineOf, tokens_in}
-use Rattle.wkt_layer.specs.Passes.{Ascend, point_numbers, path_numbers}
+use Rattle.wkt_layer.specs.Passes.{Ascend, third_numbers, point_numbers, path_numbers}
 
 -- the numbers among tokens
-abbrev numbers_of : List Token → List Number
+abbrev pub numbers_of : List Token → List Number
 numbers_of [] = []
 numbers_of (number n ∷ tokens) = n ∷ numbers_of tokens
 numbers_of (opening ∷ tokens) = numbers_of tokens
@@ -164,36 +165,55 @@ content_numbers : {A : Type 0} (tokens : A → List Token) (paths : A → List P
 content_numbers tokens paths each [] = refl
 content_numbers tokens paths each (x ∷ items) = behind_numbers tokens paths each (x ∷ items)
 
+third_more : (z : Option Number) (points : List Point)
+    → numbers_of (behind_item point_tokens points) ≡ flat_map point_numbers points
+    → numbers_of (third_tokens z ++ behind_item point_tokens points)
+    ≡ third_numbers z ++ flat_map point_numbers points
+third_more None points same = same
+third_more (Some z) points same = ap (λ ns. z ∷ ns) same
+
 more_points : (points : List Point) → numbers_of (behind_item point_tokens points) ≡ flat_map point_numbers points
 more_points [] = refl
-more_points (p ∷ points) = ap (λ ns. p.x ∷ p.y ∷ ns) (more_points points)
+more_points (p ∷ points) = ap (λ ns. p.x ∷ p.y ∷ ns) (third_more p.z points (more_points points))
 
 points_numbers : (kind : PathKind) (points : List Point)
     → numbers_of (points_tokens points) ≡ flat_map path_numbers (path_of kind points)
 points_numbers kind [] = refl
-points_numbers kind (p ∷ points) = ap (λ ns. p.x ∷ p.y ∷ ns) (more_points points)
-    ∙ sym (append-nil (p.x ∷ p.y ∷ flat_map point_numbers points))
+points_numbers kind (p ∷ points) = ap (λ ns. p.x ∷ p.y ∷ ns) (third_more p.z points (more_points points))
+    ∙ sym (append-nil (flat_map point_numbers (p ∷ points)))
+
+third_alone : (z : Option Number) → numbers_of (third_tokens z) ≡ third_numbers z ++ []
+third_alone None = refl
+third_alone (Some z) = refl
 
 member_numbers : (member : Member) → numbers_of (member_tokens member) ≡ flat_map path_numbers (member_path member)
 member_numbers (dot points) = points_numbers Dot points
-member_numbers (bare p) = refl
+member_numbers (bare p) = ap (λ ns. p.x ∷ p.y ∷ ns) (third_alone p.z)
+    ∙ sym (append-nil (flat_map point_numbers (p ∷ [])))
 
 lists_numbers : (kind : PathKind) (lists : List (List Point))
     → numbers_of (lists_tokens lists) ≡ flat_map path_numbers (flat_map (path_of kind) lists)
 lists_numbers kind lists = content_numbers points_tokens (path_of kind) (points_numbers kind) lists
 
+marked : (raised : Bool) (tokens : List Token) → numbers_of (mark raised ++ tokens) ≡ numbers_of tokens
+marked false tokens = refl
+marked true tokens = refl
+
 mutual
   geometry_numbers : (one : Geometry) → numbers_of (geometry_tokens one) ≡ flat_map path_numbers (geometry_paths one)
-  geometry_numbers (point points) = points_numbers Dot points
-  geometry_numbers (line_string points) = points_numbers Line points
-  geometry_numbers (polygon rings) = lists_numbers Loop rings
-  geometry_numbers (multi_point members) = content_numbers member_tokens member_path member_numbers members
-  geometry_numbers (multi_line_string lists) = lists_numbers Line lists
-  geometry_numbers (multi_polygon polygons) =
-      content_numbers lists_tokens (flat_map (path_of Loop)) (lists_numbers Loop) polygons
-  geometry_numbers (collection no_geometry) = refl
-  geometry_numbers (collection (geometry first more)) =
-      numbers_append (geometry_tokens first) (behind_geometry more)
+  geometry_numbers (point raised points) = marked raised (points_tokens points) ∙ points_numbers Dot points
+  geometry_numbers (line_string raised points) = marked raised (points_tokens points) ∙ points_numbers Line points
+  geometry_numbers (polygon raised rings) = marked raised (lists_tokens rings) ∙ lists_numbers Loop rings
+  geometry_numbers (multi_point raised members) = marked raised (content_tokens member_tokens members)
+      ∙ content_numbers member_tokens member_path member_numbers members
+  geometry_numbers (multi_line_string raised lists) = marked raised (lists_tokens lists) ∙ lists_numbers Line lists
+  geometry_numbers (multi_polygon raised polygons) =
+      marked raised (content_tokens lists_tokens polygons)
+      ∙ content_numbers lists_tokens (flat_map (path_of Loop)) (lists_numbers Loop) polygons
+  geometry_numbers (collection raised no_geometry) = marked raised (geometries_tokens no_geometry)
+  geometry_numbers (collection raised (geometry first more)) =
+      marked raised (geometries_tokens (geometry first more))
+      ∙ numbers_append (geometry_tokens first) (behind_geometry more)
       ∙ ap (λ ns. ns ++ numbers_of (behind_geometry more)) (geometry_numbers first)
       ∙ ap (λ ns. flat_map path_numbers (geometry_paths first) ++ ns) (geometries_numbers more)
       ∙ sym (flat_map-append path_numbers (geometry_paths first) (geometries_paths more))
@@ -207,7 +227,7 @@ mutual
       ∙ ap (λ ns. flat_map path_numbers (geometry_paths next) ++ ns) (geometries_numbers more)
       ∙ sym (flat_map-append path_numbers (geometry_paths next) (geometries_paths more))
 
-line_numbers : (exact : Bool) (line : List Placed) (paths : List Path) → IsLineOf exact line paths
+pub line_numbers : (exact : Bool) (line : List Placed) (paths : List Path) → IsLineOf exact line paths
     → numbers_of (tokens_in line) ≡ flat_map path_numbers paths
 line_numbers exact [] paths is = sym (ap (flat_map path_numbers) is)
 line_numbers exact (one ∷ more) paths (of, is, same, are) = ap numbers_of same ∙ geometry_numbers of
@@ -223,14 +243,27 @@ line_ascends exact at line paths is =
     (tokens_ascend 0 at line (omega arith)))
 
 -- Edits.
+third_order : (p : Point) (z : Option Number) (rest : List Number) (from past : ℕ) → p.z ≡ z → from ≤ p.x.start
+    → p.x.start + length p.x.text ≤ p.y.start
+    → Ascend (p.y.start + length p.y.text) (third_numbers z ++ rest) past
+    → (from ≤ p.x.start) × (p.x.start ≤ past_of p) × Ascend (past_of p) rest past
+third_order p None rest from past is first second up = rw is (first, omega (arith, second), up)
+third_order p (Some z) rest from past is first second (third, up) =
+    rw is (first, omega (arith, second, third), up)
+
 path_order : (p : Point) (more : List Point) (rest : List Number) (from past : ℕ)
     → Ascend from (flat_map point_numbers (p ∷ more) ++ rest) past
-    → (from ≤ p.x.start) × (p.x.start ≤ (last_behind p more).y.start + length (last_behind p more).y.text)
-    × Ascend ((last_behind p more).y.start + length (last_behind p more).y.text) rest past
-path_order p [] rest from past (first, (second, up)) = (first, omega (arith, second), up)
+    → (from ≤ p.x.start) × (p.x.start ≤ past_of (last_behind p more))
+    × Ascend (past_of (last_behind p more)) rest past
+path_order p [] rest from past (first, (second, up)) =
+    third_order p p.z rest from past refl first second (subst (λ ns. Ascend (p.y.start + length p.y.text) ns past)
+    (append_assoc (third_numbers p.z) [] rest) up)
 path_order p (next ∷ more) rest from past (first, (second, up)) =
-    let (third, fourth, later) = path_order next more rest (p.y.start + length p.y.text) past up in
-    (first, omega (arith, second, third, fourth), later)
+    let (begins, ends, behind) = third_order p p.z (flat_map point_numbers (next ∷ more) ++ rest) from past refl first
+    second (subst (λ ns. Ascend (p.y.start + length p.y.text) ns past)
+    (append_assoc (third_numbers p.z) (flat_map point_numbers (next ∷ more)) rest) up) in
+    let (third, fourth, later) = path_order next more rest (past_of p) past behind in
+    (first, omega (arith, ends, third, fourth), later)
 
 pub edits_in_order : (count : ℕ) (paths : List Path) (from past : ℕ) → Ascend from (flat_map path_numbers paths) past
     → AreInOrder from (edits_from count paths) past
@@ -240,11 +273,11 @@ edits_in_order count (path ∷ paths) from past up =
       first,
       second,
       edits_in_order (count + 1) paths
-          ((last_behind path.first path.more).y.start + length (last_behind path.first path.more).y.text) past later,
+          (past_of (last_behind path.first path.more)) past later,
     )
 
 -- Whole texts.
-width : List (List ℕ) → ℕ
+unfoldable pub width : List (List ℕ) → ℕ
 width [] = 0
 width (line ∷ []) = length line
 width (line ∷ next ∷ more) = length line + 1 + width (next ∷ more)
@@ -265,7 +298,7 @@ unfolding width
 onto_width byte line [] = refl
 onto_width byte line (next ∷ more) = omega arith
 
-lines_width : (p : ℕ → Bool) (bytes : List ℕ) → width (slice_split p bytes) ≡ length bytes
+pub lines_width : (p : ℕ → Bool) (bytes : List ℕ) → width (slice_split p bytes) ≡ length bytes
 unfolding width
 lines_width p [] = refl
 lines_width p (byte ∷ bytes) = at (p byte) refl (split_some p bytes) (lines_width p bytes)

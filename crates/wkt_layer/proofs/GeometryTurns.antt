@@ -1,21 +1,22 @@
 -- How a geometry turns into the one that is written.
-use Rattle.std.proofs.Common.{◌≡◌, ℕ, zero, suc, ◌+◌, Bool, List, [], ◌∷◌, ◌++◌, length, refl, ap, ◌∙◌, append_assoc}
+use Rattle.std.proofs.Common.{◌≡◌, ℕ, zero, suc, ◌+◌, Bool, true, false, List, [], ◌∷◌, ◌++◌, length, refl, ap, ◌∙◌}
+use Rattle.std.proofs.Common.{append_assoc}
 use Rattle.std.specs.Prelude.{flat_map}
 use Rattle.std.specs.List.{AllByRecursion}
-use Rattle.plane_base.specs.declared.shapes.Pt.{Pt}
+use Rattle.sheet_base.specs.PointHeights.{Position}
 use Rattle.sheet_base.specs.declared.edits.Edit.{Edit}
 use Rattle.sheet_base.specs.declared.paths.PathKind.TheVariants.{Dot, Line, Loop}
-use Rattle.sheet_base.proofs.Redrawn.{suit_parts}
+use Rattle.sheet_base.proofs.DrawnPaths.{suit_parts}
 use Rattle.wkt_layer.specs.Tokens.{Token, opening, closing, comma, word}
 use Rattle.wkt_layer.specs.Geometries.{Geometry, point, line_string, polygon, multi_point, multi_line_string}
 use Rattle.wkt_layer.specs.Geometries.{multi_polygon, collection, Geometries, no_geometry, geometry, point_tokens}
 use Rattle.wkt_layer.specs.Geometries.{behind_item, content_tokens, points_tokens, member_tokens, lists_tokens}
 use Rattle.wkt_layer.specs.Geometries.{geometry_tokens, geometries_tokens, behind_geometry, ArePoints, IsDot, IsRing}
-use Rattle.wkt_layer.specs.Geometries.{IsMember, IsGeometry, AreGeometries}
+use Rattle.wkt_layer.specs.Geometries.{mark, IsMember, IsGeometry, AreGeometries}
 use Rattle.wkt_layer.specs.Paths.{Path, path_of, member_path, geometry_paths, geometries_paths}
 use Rattle.wkt_layer.specs.declared.words.Kind.{Kind}
 use Rattle.wkt_layer.specs.declared.words.Kind.TheVariants as kinds
-use Rattle.wkt_layer.specs.declared.words.Word.TheVariants.{Tag, Empty}
+use Rattle.wkt_layer.specs.declared.words.Word.TheVariants.{Tag, Empty, Z}
 use Rattle.wkt_layer.proofs.TokenCuts.{lexed, Clear, MayFollow, Kept, kept_cut, clear_opening, clear_closing}
 use Rattle.wkt_layer.proofs.TokenCuts.{clear_comma, clear_word}
 use Rattle.wkt_layer.proofs.Turns.{drawn, AllSuit, Turned, EachTurns, single, tagged, led, after_empty, content_turned}
@@ -29,27 +30,61 @@ content_clear tokens [] at bytes kind others may e = clear_word at bytes Empty o
 content_clear tokens (item ∷ items) at bytes kind others may e =
     clear_opening at bytes ((tokens item ++ behind_item tokens items) ++ others) e
 
--- a geometry of one kind, whose content turns
-of_kind : {A : Type 0} (tokens : A → List Token) (paths : A → List Path) (IsGood : A → Type 0) (exact : Bool)
-    (depth : ℕ) (text : Edit → List ℕ) (images : ℕ → List Pt) (kind : Kind) (make : A → Geometry)
-    → EachTurns tokens paths IsGood text images
-    → ((a : A) → geometry_tokens (make a) ≡ word (Tag kind) ∷ tokens a) → ((a : A) → geometry_paths (make a) ≡ paths a)
-    → ((a : A) → IsGood a → IsGeometry exact depth (make a))
-    → ((a : A) (at : ℕ) (bytes : List ℕ) (others : List Token) → MayFollow (word (Tag kind)) bytes
-    → lexed at bytes ≡ tokens a ++ others → Clear bytes)
-    → (a : A) → IsGood a → (nth at : ℕ) (bytes : List ℕ) (others : List Token) → AllSuit images nth (paths a)
-    → lexed at bytes ≡ word (Tag kind) ∷ (tokens a ++ others)
-    → Turned geometry_tokens geometry_paths (IsGeometry exact depth) text images (make a) nth at bytes others
-of_kind tokens paths IsGood exact depth text images kind make each tokens_are paths_are good clear a is nth at bytes
-    others suit e =
-    go (kept_cut at bytes (word (Tag kind)) (tokens a ++ others) tt e)
+-- no word goes on in the bytes of such a part
+abbrev IsClearPart : {A : Type 0} → (A → List Token) → Type 0
+IsClearPart {A} tokens = (a : A) (at : ℕ) (bytes : List ℕ) (kind : Kind) (others : List Token)
+    → MayFollow (word (Tag kind)) bytes → lexed at bytes ≡ tokens a ++ others → Clear bytes
+
+-- this part turns
+abbrev DoesTurn : {A : Type 0} → (A → List Token) → (A → List Path) → (A → Type 0) → (Edit → List ℕ)
+    → (ℕ → List Position) → A → Type 0
+DoesTurn tokens paths IsGood text images a = (nth at : ℕ) (bytes : List ℕ) (others : List Token)
+    → AllSuit images nth (paths a) → lexed at bytes ≡ tokens a ++ others
+    → Turned tokens paths IsGood text images a nth at bytes others
+
+-- a content behind Z, or without it, turns as it does alone
+marked_turned : {A : Type 0} (raised : Bool) (tokens : A → List Token) (paths : A → List Path) (IsGood : A → Type 0)
+    (text : Edit → List ℕ) (images : ℕ → List Position) (a : A) → DoesTurn tokens paths IsGood text images a
+    → IsClearPart tokens → DoesTurn (λ x. mark raised ++ tokens x) paths IsGood text images a
+marked_turned false tokens paths IsGood text images a turn clear nth at bytes others suit e =
+    turn nth at bytes others suit e
+marked_turned true tokens paths IsGood text images a turn clear nth at bytes others suit e =
+    go (kept_cut at bytes (word Z) (tokens a ++ others) tt e)
   where
-    go : Kept at bytes (word (Tag kind)) (tokens a ++ others)
+    go : Kept at bytes (word Z) (tokens a ++ others)
+        → Turned (λ x. word Z ∷ tokens x) paths IsGood text images a nth at bytes others
+    go k = tagged tokens paths IsGood (λ x. word Z ∷ tokens x) paths IsGood text images (λ x. x) Z (λ x. refl)
+        (λ x. refl) (λ x good. good) a nth at bytes others k
+        (clear a (at + length k.piece) k.rest kinds.Point others k.follows k.left)
+        (turn nth (at + length k.piece) k.rest others suit k.left)
+
+marked_clear : {A : Type 0} (raised : Bool) (tokens : A → List Token) → IsClearPart tokens
+    → IsClearPart (λ x. mark raised ++ tokens x)
+marked_clear false tokens clear a at bytes kind others may e = clear a at bytes kind others may e
+marked_clear true tokens clear a at bytes kind others may e = clear_word at bytes Z (tokens a ++ others) may e
+
+-- a geometry of one kind, whose content turns
+of_kind : {A : Type 0} (raised : Bool) (tokens : A → List Token) (paths : A → List Path) (IsGood : A → Type 0)
+    (exact : Bool) (depth : ℕ) (text : Edit → List ℕ) (images : ℕ → List Position) (kind : Kind) (make : A → Geometry)
+    → ((a : A) → geometry_tokens (make a) ≡ word (Tag kind) ∷ (mark raised ++ tokens a))
+    → ((a : A) → geometry_paths (make a) ≡ paths a)
+    → ((a : A) → IsGood a → IsGeometry exact depth (make a))
+    → IsClearPart tokens
+    → (a : A) → DoesTurn tokens paths IsGood text images a
+    → (nth at : ℕ) (bytes : List ℕ) (others : List Token) → AllSuit images nth (paths a)
+    → lexed at bytes ≡ word (Tag kind) ∷ ((mark raised ++ tokens a) ++ others)
+    → Turned geometry_tokens geometry_paths (IsGeometry exact depth) text images (make a) nth at bytes others
+of_kind raised tokens paths IsGood exact depth text images kind make tokens_are paths_are good clear a turn nth at
+    bytes others suit e =
+    go (kept_cut at bytes (word (Tag kind)) ((mark raised ++ tokens a) ++ others) tt e)
+  where
+    go : Kept at bytes (word (Tag kind)) ((mark raised ++ tokens a) ++ others)
         → Turned geometry_tokens geometry_paths (IsGeometry exact depth) text images (make a) nth at bytes others
-    go k = tagged tokens paths IsGood geometry_tokens geometry_paths (IsGeometry exact depth) text images make
-        (Tag kind) tokens_are paths_are good a nth at bytes others k
-        (clear a (at + length k.piece) k.rest others k.follows k.left)
-        (each a is nth (at + length k.piece) k.rest others suit k.left)
+    go k = tagged (λ x. mark raised ++ tokens x) paths IsGood geometry_tokens geometry_paths (IsGeometry exact depth)
+        text images make (Tag kind) tokens_are paths_are good a nth at bytes others k
+        (marked_clear raised tokens clear a (at + length k.piece) k.rest kind others k.follows k.left)
+        (marked_turned raised tokens paths IsGood text images a turn clear nth (at + length k.piece) k.rest others
+        suit k.left)
 
 any_opening : (bytes : List ℕ) → MayFollow opening bytes
 any_opening bytes = tt
@@ -72,56 +107,64 @@ geometries_clear no_geometry at bytes kind others may e = clear_word at bytes Em
 geometries_clear (geometry first more) at bytes kind others may e =
     clear_opening at bytes ((geometry_tokens first ++ behind_geometry more) ++ others) e
 
-module _ (exact : Bool) (text : Edit → List ℕ) (images : ℕ → List Pt) (says : DoesSay text images) where
+module _ (exact : Bool) (text : Edit → List ℕ) (images : ℕ → List Position) (says : DoesSay text images) where
   mutual
     pub geometry_turned : (depth : ℕ) → EachTurns geometry_tokens geometry_paths (IsGeometry exact depth) text images
-    geometry_turned depth (point points) good nth at bytes others suit e =
-        of_kind points_tokens (path_of Dot) (IsDot exact) exact depth text images kinds.Point point
-        (points_turned exact Dot text images says) (λ a. refl) (λ a. refl) (λ a is. is)
-        (λ a place xs ts may f. content_clear point_tokens a place xs kinds.Point ts may f) points good nth at bytes
-        others suit e
-    geometry_turned depth (line_string points) good nth at bytes others suit e =
-        of_kind points_tokens (path_of Line) (ArePoints exact) exact depth text images kinds.LineString line_string
-        (points_turned exact Line text images says) (λ a. refl) (λ a. refl) (λ a is. is)
-        (λ a place xs ts may f. content_clear point_tokens a place xs kinds.LineString ts may f) points good nth at
-        bytes others suit e
-    geometry_turned depth (polygon rings) good nth at bytes others suit e =
-        of_kind lists_tokens (flat_map (path_of Loop)) (AllByRecursion (IsRing exact)) exact depth text images
-        kinds.Polygon polygon
-        (content_turned points_tokens (path_of Loop) (IsRing exact) text images
-        (points_turned exact Loop text images says)) (λ a. refl) (λ a. refl) (λ a is. is)
-        (λ a place xs ts may f. content_clear points_tokens a place xs kinds.Polygon ts may f) rings good nth at bytes
-        others suit e
-    geometry_turned depth (multi_point members) good nth at bytes others suit e =
-        of_kind (content_tokens member_tokens) (flat_map member_path) (AllByRecursion (IsMember exact)) exact depth text
-        images kinds.MultiPoint multi_point
-        (content_turned member_tokens member_path (IsMember exact) text images (member_turned exact text images says))
+    geometry_turned depth (point raised points) good nth at bytes others suit e =
+        of_kind raised points_tokens (path_of Dot) (IsDot exact raised) exact depth text images kinds.Point
+        (point raised)
         (λ a. refl) (λ a. refl) (λ a is. is)
-        (λ a place xs ts may f. content_clear member_tokens a place xs kinds.MultiPoint ts may f) members good nth at
-        bytes others suit e
-    geometry_turned depth (multi_line_string lists) good nth at bytes others suit e =
-        of_kind lists_tokens (flat_map (path_of Line)) (AllByRecursion (ArePoints exact)) exact depth text images
-        kinds.MultiLineString multi_line_string
-        (content_turned points_tokens (path_of Line) (ArePoints exact) text images
-        (points_turned exact Line text images says)) (λ a. refl) (λ a. refl) (λ a is. is)
-        (λ a place xs ts may f. content_clear points_tokens a place xs kinds.MultiLineString ts may f) lists good nth at
-        bytes others suit e
-    geometry_turned depth (multi_polygon polygons) good nth at bytes others suit e =
-        of_kind (content_tokens lists_tokens) (flat_map (flat_map (path_of Loop)))
-        (AllByRecursion (AllByRecursion (IsRing exact))) exact depth text images kinds.MultiPolygon multi_polygon
-        (content_turned lists_tokens (flat_map (path_of Loop)) (AllByRecursion (IsRing exact)) text images
-        (content_turned points_tokens (path_of Loop) (IsRing exact) text images
-        (points_turned exact Loop text images says))) (λ a. refl) (λ a. refl) (λ a is. is)
-        (λ a place xs ts may f. content_clear lists_tokens a place xs kinds.MultiPolygon ts may f) polygons good nth at
-        bytes others suit e
-    geometry_turned zero (collection all) good nth at bytes others suit e = absurd good
-    geometry_turned (suc depth) (collection all) good nth at bytes others suit e =
-        let k = kept_cut at bytes (word (Tag kinds.Collection)) (geometries_tokens all ++ others) tt e in
-        tagged geometries_tokens geometries_paths (AreGeometries exact depth) geometry_tokens geometry_paths
-        (IsGeometry exact (suc depth)) text images collection (Tag kinds.Collection)
-        (λ a. refl) (λ a. refl) (λ a is. is) all nth at bytes others k
-        (geometries_clear all (at + length k.piece) k.rest kinds.Collection others k.follows k.left)
-        (geometries_turned depth all good nth (at + length k.piece) k.rest others suit k.left)
+        (λ a place xs kind ts may f. content_clear point_tokens a place xs kind ts may f) points
+        (λ n place xs ts suits f. points_turned exact raised Dot text images says points good n place xs ts suits f)
+        nth at bytes others suit e
+    geometry_turned depth (line_string raised points) good nth at bytes others suit e =
+        of_kind raised points_tokens (path_of Line) (ArePoints exact raised) exact depth text images kinds.LineString
+        (line_string raised)
+        (λ a. refl) (λ a. refl) (λ a is. is)
+        (λ a place xs kind ts may f. content_clear point_tokens a place xs kind ts may f) points
+        (λ n place xs ts suits f. points_turned exact raised Line text images says points good n place xs ts suits f)
+        nth at bytes others suit e
+    geometry_turned depth (polygon raised rings) good nth at bytes others suit e =
+        of_kind raised lists_tokens (flat_map (path_of Loop)) (AllByRecursion (IsRing exact raised)) exact depth text
+        images kinds.Polygon (polygon raised)
+        (λ a. refl) (λ a. refl) (λ a is. is)
+        (λ a place xs kind ts may f. content_clear points_tokens a place xs kind ts may f) rings
+        (λ n place xs ts suits f. content_turned points_tokens (path_of Loop) (IsRing exact raised) text images
+        (points_turned exact raised Loop text images says) rings good n place xs ts suits f)
+        nth at bytes others suit e
+    geometry_turned depth (multi_point raised members) good nth at bytes others suit e =
+        of_kind raised (content_tokens member_tokens) (flat_map member_path) (AllByRecursion (IsMember exact raised))
+        exact depth text images kinds.MultiPoint (multi_point raised)
+        (λ a. refl) (λ a. refl) (λ a is. is)
+        (λ a place xs kind ts may f. content_clear member_tokens a place xs kind ts may f) members
+        (λ n place xs ts suits f. content_turned member_tokens member_path (IsMember exact raised) text images
+        (member_turned exact raised text images says) members good n place xs ts suits f)
+        nth at bytes others suit e
+    geometry_turned depth (multi_line_string raised lists) good nth at bytes others suit e =
+        of_kind raised lists_tokens (flat_map (path_of Line)) (AllByRecursion (ArePoints exact raised)) exact depth text
+        images kinds.MultiLineString (multi_line_string raised)
+        (λ a. refl) (λ a. refl) (λ a is. is)
+        (λ a place xs kind ts may f. content_clear points_tokens a place xs kind ts may f) lists
+        (λ n place xs ts suits f. content_turned points_tokens (path_of Line) (ArePoints exact raised) text images
+        (points_turned exact raised Line text images says) lists good n place xs ts suits f)
+        nth at bytes others suit e
+    geometry_turned depth (multi_polygon raised polygons) good nth at bytes others suit e =
+        of_kind raised (content_tokens lists_tokens) (flat_map (flat_map (path_of Loop)))
+        (AllByRecursion (AllByRecursion (IsRing exact raised))) exact depth text images kinds.MultiPolygon
+        (multi_polygon raised)
+        (λ a. refl) (λ a. refl) (λ a is. is)
+        (λ a place xs kind ts may f. content_clear lists_tokens a place xs kind ts may f) polygons
+        (λ n place xs ts suits f. content_turned lists_tokens (flat_map (path_of Loop))
+        (AllByRecursion (IsRing exact raised)) text images
+        (content_turned points_tokens (path_of Loop) (IsRing exact raised) text images
+        (points_turned exact raised Loop text images says)) polygons good n place xs ts suits f)
+        nth at bytes others suit e
+    geometry_turned zero (collection raised all) good nth at bytes others suit e = absurd good
+    geometry_turned (suc depth) (collection raised all) good nth at bytes others suit e =
+        of_kind raised geometries_tokens geometries_paths (AreGeometries exact depth) exact (suc depth) text images
+        kinds.Collection (collection raised) (λ a. refl) (λ a. refl) (λ a is. is) geometries_clear all
+        (λ n place xs ts suits f. geometries_turned depth all good n place xs ts suits f)
+        nth at bytes others suit e
 
     geometries_turned : (depth : ℕ) → EachTurns geometries_tokens geometries_paths (AreGeometries exact depth) text
         images

@@ -1,13 +1,15 @@
 -- The code goes where the pass goes.
-use Rattle.std.proofs.Common.{◌≡◌, ℕ, Bool, true, List, [], ◌∷◌, ◌++◌, refl, ◌∙◌, subst}
+use Rattle.std.proofs.Common.{◌≡◌, ℕ, Bool, true, false, List, [], ◌∷◌, ◌++◌, refl, sym, ◌∙◌, subst}
 use Rattle.std.specs.Prelude.{Some, None, Ok, if◌then◌else◌}
 use Rattle.mm_decimal.specs.Measured.{measured}
 use Rattle.mm_decimal.specs.declared.reading.MmRead.{MmRead}
 use Rattle.wkt_layer.specs.Tokens.{Number, Token, opening, closing, comma, word, number, stray}
 use Rattle.wkt_layer.specs.Numbers.{Point}
 use Rattle.wkt_layer.specs.Paths.{Path, path_of}
-use Rattle.wkt_layer.specs.States.{Spot, item, content, first, second, whole, bare_second, bare_whole, behind, State}
-use Rattle.wkt_layer.specs.States.{state, enter_step, tag_step, item_step, number_step, whole_step, behind_step}
+use Rattle.wkt_layer.specs.States.{Spot, item, tagged, content, first, second, third, whole, bare_second, bare_third}
+use Rattle.wkt_layer.specs.States.{bare_whole, behind, State}
+use Rattle.wkt_layer.specs.States.{state, content_of, enter_step, tag_step, tagged_step, item_step, number_step}
+use Rattle.wkt_layer.specs.States.{whole_step, behind_step}
 use Rattle.wkt_layer.specs.States.{may_end, kind_of, opened_by, IsLast}
 use Rattle.wkt_layer.specs.Passes.{token_for, Shows, AreSome, IsFit, IsUnfit, points_at}
 use Rattle.wkt_layer.specs.declared.places.Content.{Content}
@@ -18,7 +20,8 @@ use Rattle.wkt_layer.specs.declared.places.Group.{Group}
 use Rattle.wkt_layer.specs.declared.places.Group.TheVariants as groups
 use Rattle.wkt_layer.specs.declared.places.Place.TheVariants as places
 use Rattle.wkt_layer.specs.declared.words.Word.{Word}
-use Rattle.wkt_layer.specs.declared.words.Word.TheVariants.{Empty}
+use Rattle.wkt_layer.specs.declared.words.Kind.{Kind}
+use Rattle.wkt_layer.specs.declared.words.Word.TheVariants.{Tag, Empty, Z, Height, Other}
 use Rattle.wkt_layer.specs.declared.tokens.Sign.{Sign}
 use Rattle.wkt_layer.specs.declared.tokens.Sign.TheVariants as signs
 
@@ -55,25 +58,92 @@ pub at_second : (listing : Listing) (read : MmRead) (start : ℕ) (spot : Spot)
     → ((points : List Point) (x : Number) → measured x.text ≡ Ok read → start ≡ x.start → P (second listing points x))
     → P spot
 at_second listing read start item shows P there = absurd shows
+at_second listing read start (tagged kind) shows P there = absurd shows
 at_second listing read start (content other) shows P there = absurd shows
 at_second listing read start (first other points) shows P there = absurd shows
 at_second listing read start (second other points x) shows P there =
     subst (λ y. P (second y points x)) shows.0 (there points x shows.1 shows.2)
+at_second listing read start (third other points x y) shows P there = absurd shows
 at_second listing read start (whole other points) shows P there = absurd shows
-at_second listing read start (bare_second x) shows P there = absurd shows
+at_second listing read start (bare_second other x) shows P there = absurd shows
+at_second listing read start (bare_third x y) shows P there = absurd shows
 at_second listing read start bare_whole shows P there = absurd shows
 at_second listing read start behind shows P there = absurd shows
 
-pub at_bare_second : (read : MmRead) (start : ℕ) (spot : Spot) → Shows (places.BareSecond read start) spot
-    → (P : Spot → Type 0) → ((x : Number) → measured x.text ≡ Ok read → start ≡ x.start → P (bare_second x)) → P spot
-at_bare_second read start item shows P there = absurd shows
-at_bare_second read start (content other) shows P there = absurd shows
-at_bare_second read start (first other points) shows P there = absurd shows
-at_bare_second read start (second other points x) shows P there = absurd shows
-at_bare_second read start (whole other points) shows P there = absurd shows
-at_bare_second read start (bare_second x) shows P there = there x shows.0 shows.1
-at_bare_second read start bare_whole shows P there = absurd shows
-at_bare_second read start behind shows P there = absurd shows
+pub at_third : (listing : Listing) (read next : MmRead) (start : ℕ) (spot : Spot)
+    → Shows (places.Third listing read next start) spot → (P : Spot → Type 0)
+    → ((points : List Point) (x y : Number) → measured x.text ≡ Ok read → measured y.text ≡ Ok next → start ≡ x.start
+    → P (third listing points x y)) → P spot
+at_third listing read next start item shows P there = absurd shows
+at_third listing read next start (tagged kind) shows P there = absurd shows
+at_third listing read next start (content other) shows P there = absurd shows
+at_third listing read next start (first other points) shows P there = absurd shows
+at_third listing read next start (second other points x) shows P there = absurd shows
+at_third listing read next start (third other points x y) shows P there =
+    subst (λ l. P (third l points x y)) shows.0 (there points x y shows.1 shows.2 shows.3)
+at_third listing read next start (whole other points) shows P there = absurd shows
+at_third listing read next start (bare_second other x) shows P there = absurd shows
+at_third listing read next start (bare_third x y) shows P there = absurd shows
+at_third listing read next start bare_whole shows P there = absurd shows
+at_third listing read next start behind shows P there = absurd shows
+
+pub at_bare_second : (raised : Bool) (read : MmRead) (start : ℕ) (spot : Spot)
+    → Shows (places.BareSecond raised read start) spot → (P : Spot → Type 0)
+    → ((x : Number) → measured x.text ≡ Ok read → start ≡ x.start → P (bare_second raised x)) → P spot
+at_bare_second raised read start item shows P there = absurd shows
+at_bare_second raised read start (tagged kind) shows P there = absurd shows
+at_bare_second raised read start (content other) shows P there = absurd shows
+at_bare_second raised read start (first other points) shows P there = absurd shows
+at_bare_second raised read start (second other points x) shows P there = absurd shows
+at_bare_second raised read start (third other points x y) shows P there = absurd shows
+at_bare_second raised read start (whole other points) shows P there = absurd shows
+at_bare_second raised read start (bare_second other x) shows P there =
+    subst (λ r. P (bare_second r x)) shows.0 (there x shows.1 shows.2)
+at_bare_second raised read start (bare_third x y) shows P there = absurd shows
+at_bare_second raised read start bare_whole shows P there = absurd shows
+at_bare_second raised read start behind shows P there = absurd shows
+
+pub at_bare_third : (read next : MmRead) (start : ℕ) (spot : Spot)
+    → Shows (places.BareThird read next start) spot → (P : Spot → Type 0)
+    → ((x y : Number) → measured x.text ≡ Ok read → measured y.text ≡ Ok next → start ≡ x.start
+    → P (bare_third x y)) → P spot
+at_bare_third read next start item shows P there = absurd shows
+at_bare_third read next start (tagged kind) shows P there = absurd shows
+at_bare_third read next start (content other) shows P there = absurd shows
+at_bare_third read next start (first other points) shows P there = absurd shows
+at_bare_third read next start (second other points x) shows P there = absurd shows
+at_bare_third read next start (third other points x y) shows P there = absurd shows
+at_bare_third read next start (whole other points) shows P there = absurd shows
+at_bare_third read next start (bare_second raised x) shows P there = absurd shows
+at_bare_third read next start (bare_third x y) shows P there = there x y shows.0 shows.1 shows.2
+at_bare_third read next start bare_whole shows P there = absurd shows
+at_bare_third read next start behind shows P there = absurd shows
+
+-- behind a tag what is no Z is as behind the content of a geometry without heights
+pub tagged_enters : (kind : Kind) (stack : List Group) (paths : List Path) (at : ℕ) (text : List ℕ) (sign : Sign)
+    → ((w : Word) → sign ≡ signs.Word w → w ≡ Z → ⊥)
+    → enter_step (content_of kind false) stack paths (token_for at text sign)
+    ≡ tagged_step kind stack paths (token_for at text sign)
+tagged_enters kind stack paths at text (signs.Word Z) unlike = absurd (unlike Z refl refl)
+tagged_enters kind stack paths at text (signs.Word Empty) unlike = refl
+tagged_enters kind stack paths at text (signs.Word Height) unlike = refl
+tagged_enters kind stack paths at text (signs.Word Other) unlike = refl
+tagged_enters kind stack paths at text (signs.Word (Tag other)) unlike = refl
+tagged_enters kind stack paths at text signs.Number unlike = refl
+tagged_enters kind stack paths at text signs.Opening unlike = refl
+tagged_enters kind stack paths at text signs.Closing unlike = refl
+tagged_enters kind stack paths at text signs.Comma unlike = refl
+tagged_enters kind stack paths at text signs.Stray unlike = refl
+
+pub same_word : (sign : Sign) (w other : Word) → sign ≡ signs.Word w → sign ≡ signs.Word other → other ≡ Z → w ≡ Z
+same_word sign w other is too mark = let e : signs.Word w ≡ signs.Word other = sym is ∙ too in
+    let f : w ≡ other = cc in f ∙ mark
+
+pub tagged_mark : (kind : Kind) (stack : List Group) (paths : List Path) (at : ℕ) (text : List ℕ) (sign : Sign)
+    (w : Word) → sign ≡ signs.Word w → w ≡ Z
+    → tagged_step kind stack paths (token_for at text sign)
+    ≡ Some (state (content (content_of kind true)) stack paths)
+tagged_mark kind stack paths at text sign w is is_mark = rw (is, is_mark) refl
 
 -- a tag is no bracket
 pub opened_tag : (stack : List Group) (paths : List Path) (t : Token) (s : State) (at before : ℕ)
@@ -86,16 +156,16 @@ opened_tag stack paths (number n) s at before e = refl
 opened_tag stack paths stray s at before e = refl
 
 -- among dots a token that is no number that fits is as in front of a dot
-pub dots_enter : (exact : Bool) (stack : List Group) (paths : List Path) (at : ℕ) (text : List ℕ) (sign : Sign)
+pub dots_enter : (exact raised : Bool) (stack : List Group) (paths : List Path) (at : ℕ) (text : List ℕ) (sign : Sign)
     → IsUnfit exact sign text
-    → enter_step (Points listings.Dot) stack paths (token_for at text sign)
-    ≡ item_step exact groups.Dots stack paths (token_for at text sign)
-dots_enter exact stack paths at text signs.Number unfit = rw (unfit refl) refl
-dots_enter exact stack paths at text signs.Opening unfit = refl
-dots_enter exact stack paths at text signs.Closing unfit = refl
-dots_enter exact stack paths at text signs.Comma unfit = refl
-dots_enter exact stack paths at text (signs.Word w) unfit = refl
-dots_enter exact stack paths at text signs.Stray unfit = refl
+    → enter_step (Points (listings.Dot raised)) stack paths (token_for at text sign)
+    ≡ item_step exact (groups.Dots raised) stack paths (token_for at text sign)
+dots_enter exact raised stack paths at text signs.Number unfit = rw (unfit refl) refl
+dots_enter exact raised stack paths at text signs.Opening unfit = refl
+dots_enter exact raised stack paths at text signs.Closing unfit = refl
+dots_enter exact raised stack paths at text signs.Comma unfit = refl
+dots_enter exact raised stack paths at text (signs.Word w) unfit = refl
+dots_enter exact raised stack paths at text signs.Stray unfit = refl
 
 -- a number that fits leads on
 pub number_goes : (exact : Bool) (make : Number → State) (at : ℕ) (text : List ℕ) (sign : Sign) (read : MmRead)
@@ -107,20 +177,20 @@ pub opened_number : (exact : Bool) (at before : ℕ) (text : List ℕ) (sign : S
     → IsFit exact sign text read → before ≡ opened_by (token_for at text sign) at before
 opened_number exact at before text sign read fit = rw (fit.is) refl
 
-pub dot_number : (exact : Bool) (stack : List Group) (paths : List Path) (at : ℕ) (text : List ℕ) (sign : Sign)
+pub dot_number : (exact raised : Bool) (stack : List Group) (paths : List Path) (at : ℕ) (text : List ℕ) (sign : Sign)
     (read : MmRead) → IsFit exact sign text read
-    → item_step exact groups.Dots stack paths (token_for at text sign)
-    ≡ Some (state (bare_second (record { start = at; text = text })) stack paths)
-dot_number exact stack paths at text sign read fit = rw (fit.is, fit.fits) refl
+    → item_step exact (groups.Dots raised) stack paths (token_for at text sign)
+    ≡ Some (state (bare_second raised (record { start = at; text = text })) stack paths)
+dot_number exact raised stack paths at text sign read fit = rw (fit.is, fit.fits) refl
 
 -- behind points and items
 pub comma_goes : (listing : Listing) (points : List Point) (stack : List Group) (paths : List Path) (at : ℕ)
-    (text : List ℕ) (sign : Sign) (other : Listing) → sign ≡ signs.Comma
-    → listing ≡ other → (other ≡ listings.Dot → ⊥)
-    → whole_step listing points stack paths (token_for at text sign) ≡ Some (state (first other points) stack paths)
-comma_goes listing points stack paths at text sign listings.Dot is same no_dot = absurd (no_dot refl)
-comma_goes listing points stack paths at text sign listings.List is same no_dot = rw (is, same) refl
-comma_goes listing points stack paths at text sign listings.Ring is same no_dot = rw (is, same) refl
+    (text : List ℕ) (sign : Sign) → sign ≡ signs.Comma
+    → ((raised : Bool) → listing ≡ listings.Dot raised → ⊥)
+    → whole_step listing points stack paths (token_for at text sign) ≡ Some (state (first listing points) stack paths)
+comma_goes (listings.Dot raised) points stack paths at text sign is no_dot = absurd (no_dot raised refl)
+comma_goes (listings.List raised) points stack paths at text sign is no_dot = rw is refl
+comma_goes (listings.Ring raised) points stack paths at text sign is no_dot = rw is refl
 
 pub opened_comma : (at before : ℕ) (text : List ℕ) (sign : Sign) → sign ≡ signs.Comma
     → before ≡ opened_by (token_for at text sign) at before
@@ -133,9 +203,9 @@ opened_closing at before text sign is = rw is refl
 whole_closes : (listing : Listing) (points : List Point) (stack : List Group) (paths : List Path)
     → whole_step listing points stack paths closing
     ≡ (if may_end listing points then Some (state behind stack (paths ++ path_of (kind_of listing) points)) else None)
-whole_closes listings.Dot points stack paths = refl
-whole_closes listings.List points stack paths = refl
-whole_closes listings.Ring points stack paths = refl
+whole_closes (listings.Dot raised) points stack paths = refl
+whole_closes (listings.List raised) points stack paths = refl
+whole_closes (listings.Ring raised) points stack paths = refl
 
 pub closing_goes : (listing : Listing) (points : List Point) (stack : List Group) (paths : List Path) (at : ℕ)
     (text : List ℕ) (sign : Sign) → sign ≡ signs.Closing
@@ -163,8 +233,11 @@ pub last_points : (spot : Spot) → IsLast spot → points_at spot ≡ []
 last_points bare_whole last = refl
 last_points behind last = refl
 last_points item last = absurd last
+last_points (tagged kind) last = absurd last
 last_points (content inner) last = absurd last
 last_points (first listing points) last = absurd last
 last_points (second listing points x) last = absurd last
+last_points (third listing points x y) last = absurd last
 last_points (whole listing points) last = absurd last
-last_points (bare_second x) last = absurd last
+last_points (bare_second raised x) last = absurd last
+last_points (bare_third x y) last = absurd last

@@ -2,7 +2,8 @@
 use Rattle.std.proofs.Common.{◌≡◌, ℕ, zero, suc, ◌+◌, ◌/◌, ◌%◌, ◌^◌, ◌<◌, ◌≤◌, Bool, true, false, List, [], ◌∷◌, ◌++◌}
 use Rattle.std.proofs.Common.{length, refl, sym, ap, ◌∙◌, subst, append_assoc, append-nil, arith, length-append}
 use Rattle.std.proofs.Common.{decimal, ℤ, pos, negsuc}
-use Rattle.std.specs.Prelude.{map, sum_by, unsigned_abs, Ok}
+use Rattle.std.specs.Prelude.{map, sum_by, unsigned_abs, Ok, Option, Some, None}
+use Rattle.std.specs.Option.{is_some}
 use Rattle.std.specs.List.{list_all, AllByRecursion}
 use Rattle.std.specs.Char.{is_ascii_alphabetic}
 use Rattle.std.proofs.lemmas.Fmt.{decimal_by_steps}
@@ -14,12 +15,15 @@ use Rattle.mm_decimal.specs.declared.limits.TheConstants.{LIMIT}
 use Rattle.mm_decimal.specs.declared.reading.MmRead.{MmRead}
 use Rattle.mm_decimal.proofs.RoundTrip.{written_reads}
 use Rattle.mm_decimal.proofs.MeasuredAnswers.{answer_is_measured}
-use Rattle.plane_base.specs.declared.shapes.Pt.{Pt}
-use Rattle.sheet_base.specs.Fitting.{IsWithinReach}
+use Rattle.sheet_base.specs.PointHeights.{Height, Position, IsHeightWithinReach}
 use Rattle.wkt_layer.specs.Tokens.{Number, comma, number, is_blank, is_numeric}
-use Rattle.wkt_layer.specs.Numbers.{Point, does_fit, IsPoint, place_of, mm_in, lost_of, lost_in}
+use Rattle.wkt_layer.specs.Numbers.{Point, does_fit, IsThird, IsPoint, height_in_third, height_of}
+use Rattle.wkt_layer.specs.Numbers.{position_of, mm_in, lost_of}
+use Rattle.wkt_layer.specs.Numbers.{lost_in, lost_in_third}
+use Rattle.wkt_layer.specs.Geometries.{third_tokens, point_tokens}
 use Rattle.wkt_layer.specs.Faults.{joined_points}
-use Rattle.wkt_layer.specs.Texts.{image_text, list_text}
+use Rattle.wkt_layer.specs.Texts.{height_text, image_text, list_text}
+use Rattle.sheet_base.proofs.DrawnPaths.{IsPositionWithinReach, IsRaised}
 use Rattle.wkt_layer.proofs.TokenCuts.{lexed, Stops, passes_front, number_case, number_length, gap_lexed, token_lexed}
 
 -- ---- a written number has a number's bytes alone, and begins as a number does
@@ -134,11 +138,20 @@ number_lexed at mm behind within stops = go (written mm) (written_number mm with
             (number_case at h.byte (h.byte ∷ h.more) h.letter first.0)
 
 -- ---- points
-abbrev pub new_point : ℕ → Pt → Point
-new_point at image = record { x = number_at at image.x; y = number_at (at + length (written image.x) + 1) image.y }
+abbrev pub new_third : ℕ → Height → Option Number
+new_third at None = None
+new_third at (Some height) = Some (number_at at height)
+
+abbrev pub new_point : ℕ → Position → Point
+new_point at image =
+    record {
+      x = number_at at image.point.x;
+      y = number_at (at + length (written image.point.x) + 1) image.point.y;
+      z = new_third (at + length (written image.point.x) + 1 + length (written image.point.y) + 1) image.height;
+    }
 
 -- each behind a comma and a space
-abbrev pub new_points : ℕ → List Pt → List Point
+abbrev pub new_points : ℕ → List Position → List Point
 new_points at [] = []
 new_points at (image ∷ images) = new_point (at + 2) image ∷ new_points (at + 2 + length (image_text image)) images
 
@@ -148,29 +161,51 @@ space_lexed at behind = gap_lexed at (32 ∷ []) behind refl
 comma_lexed : (at : ℕ) (behind : List ℕ) → lexed at (44 ∷ behind) ≡ comma ∷ lexed (at + 1) behind
 comma_lexed at behind = token_lexed at 44 [] behind refl refl
 
-point_lexed : (at : ℕ) (image : Pt) (behind : List ℕ) → IsWithinReach image → Stops is_numeric behind
-    → lexed at (image_text image ++ behind) ≡ number (new_point at image).x ∷ number (new_point at image).y
-    ∷ lexed (at + length (image_text image)) behind
-point_lexed at image behind within stops =
-    let wx = written image.x in
-    let wy = written image.y in
-    let size : at + length wx + 1 + length wy ≡ at + length (image_text image) = let e =
-    length-append wx (32 ∷ wy) in omega (arith, e) in
-    ap (lexed at) (append_assoc wx (32 ∷ wy) behind) ∙ number_lexed at image.x (32 ∷ (wy ++ behind)) within.0 refl
-    ∙ ap (λ ts. number (number_at at image.x) ∷ ts)
-    (space_lexed (at + length wx) (wy ++ behind) ∙ number_lexed (at + length wx + 1) image.y behind within.1 stops
-    ∙ ap (λ n. number (number_at (at + length wx + 1) image.y) ∷ lexed n behind) size)
+-- a height, where there is one
+third_lexed : (at : ℕ) (height : Height) (behind : List ℕ) → IsHeightWithinReach height → Stops is_numeric behind
+    → lexed at (height_text height ++ behind)
+    ≡ third_tokens (new_third (at + 1) height) ++ lexed (at + length (height_text height)) behind
+third_lexed at None behind within stops = let e : at ≡ at + 0 = omega arith in ap (λ n. lexed n behind) e
+third_lexed at (Some height) behind within stops =
+    let size : at + 1 + length (written height) ≡ at + suc (length (written height)) = omega arith in
+    space_lexed at (written height ++ behind) ∙ number_lexed (at + 1) height behind within stops
+    ∙ ap (λ n. number (number_at (at + 1) height) ∷ lexed n behind) size
 
-pub points_lexed : (at : ℕ) (image : Pt) (images : List Pt) (behind : List ℕ)
-    → AllByRecursion IsWithinReach (image ∷ images) → Stops is_numeric behind
+third_stops : (height : Height) (behind : List ℕ) → Stops is_numeric behind
+    → Stops is_numeric (height_text height ++ behind)
+third_stops None behind stops = stops
+third_stops (Some height) behind stops = refl
+
+point_lexed : (at : ℕ) (image : Position) (behind : List ℕ) → IsPositionWithinReach image → Stops is_numeric behind
+    → lexed at (image_text image ++ behind) ≡ point_tokens (new_point at image)
+    ++ lexed (at + length (image_text image)) behind
+point_lexed at image behind within stops =
+    let wx = written image.point.x in
+    let wy = written image.point.y in
+    let wz = height_text image.height in
+    let third = new_third (at + length wx + 1 + length wy + 1) image.height in
+    let size : at + length wx + 1 + length wy + length wz ≡ at + length (image_text image) = let e =
+    length-append wx (32 ∷ (wy ++ wz)) in let f = length-append wy wz in omega (arith, e, f) in
+    ap (lexed at) (append_assoc wx (32 ∷ (wy ++ wz)) behind)
+    ∙ number_lexed at image.point.x (32 ∷ ((wy ++ wz) ++ behind)) within.0.0 refl
+    ∙ ap (λ ts. number (number_at at image.point.x) ∷ ts)
+    (space_lexed (at + length wx) ((wy ++ wz) ++ behind)
+    ∙ ap (lexed (at + length wx + 1)) (append_assoc wy wz behind)
+    ∙ number_lexed (at + length wx + 1) image.point.y (wz ++ behind) within.0.1
+    (third_stops image.height behind stops)
+    ∙ ap (λ ts. number (number_at (at + length wx + 1) image.point.y) ∷ ts)
+    (third_lexed (at + length wx + 1 + length wy) image.height behind within.1 stops
+    ∙ ap (λ n. third_tokens third ++ lexed n behind) size))
+
+pub points_lexed : (at : ℕ) (image : Position) (images : List Position) (behind : List ℕ)
+    → AllByRecursion IsPositionWithinReach (image ∷ images) → Stops is_numeric behind
     → lexed at (list_text (image ∷ images) ++ behind)
     ≡ joined_points (new_point at image) (new_points (at + length (image_text image)) images)
     ++ lexed (at + length (list_text (image ∷ images))) behind
 points_lexed at image [] behind within stops =
     let nil : image_text image ++ [] ≡ image_text image = append-nil (image_text image) in
     ap (λ text. lexed at (text ++ behind)) nil ∙ point_lexed at image behind within.0 stops
-    ∙ ap (λ text. number (new_point at image).x ∷ number (new_point at image).y ∷ lexed (at + length text) behind)
-    (sym nil)
+    ∙ ap (λ text. point_tokens (new_point at image) ++ lexed (at + length text) behind) (sym nil)
 points_lexed at image (next ∷ images) behind within stops =
     let first = image_text image in
     let later = list_text (next ∷ images) in
@@ -179,59 +214,93 @@ points_lexed at image (next ∷ images) behind within stops =
     let place : at + length first + 1 + 1 ≡ at + length first + 2 = omega arith in
     let size : at + length first + 2 + length later ≡ at + length (list_text (image ∷ next ∷ images)) = let e =
     length-append first (44 ∷ 32 ∷ later) in omega (arith, e) in
+    let tail = joined_points (new_point (at + length first + 2) next)
+    (new_points (at + length first + 2 + length (image_text next)) images) in
     ap (lexed at) all ∙ point_lexed at image (44 ∷ 32 ∷ (later ++ behind)) within.0 refl
-    ∙ ap (λ ts. number (new_point at image).x ∷ number (new_point at image).y ∷ ts)
+    ∙ ap (λ ts. point_tokens (new_point at image) ++ ts)
     (comma_lexed (at + length first) (32 ∷ (later ++ behind))
     ∙ ap (λ ts. comma ∷ ts)
     (space_lexed (at + length first + 1) (later ++ behind) ∙ ap (λ n. lexed n (later ++ behind)) place
     ∙ points_lexed (at + length first + 2) next images behind within.1 stops
-    ∙ ap (λ n. joined_points (new_point (at + length first + 2) next)
-    (new_points (at + length first + 2 + length (image_text next)) images) ++ lexed n behind) size))
+    ∙ ap (λ n. tail ++ lexed n behind) size))
+    ∙ sym (append_assoc (point_tokens (new_point at image)) (comma ∷ tail)
+    (lexed (at + length (list_text (image ∷ next ∷ images))) behind))
 
 -- ---- what is read of them
-pub new_place : (at : ℕ) (image : Pt) → IsWithinReach image → place_of (new_point at image) ≡ image
-new_place at image within =
-    ap (λ r. let p : Pt = record { x = mm_in r; y = mm_in (measured (written image.y)) } in p)
-    (measured_written image.x within.0)
-    ∙ ap (λ r. let p : Pt = record { x = image.x; y = mm_in r } in p) (measured_written image.y within.1)
+third_is : (at : ℕ) (height : Height) → IsHeightWithinReach height → height_in_third (new_third at height) ≡ height
+third_is at None within = refl
+third_is at (Some height) within =
+    ap (λ r. let h : Height = Some (mm_in r) in h) (measured_written height within)
+
+pub new_position : (at : ℕ) (image : Position) → IsPositionWithinReach image → position_of (new_point at image) ≡ image
+new_position at image within =
+    ap (λ r. let p : Position = record {
+      point = record { x = mm_in r; y = mm_in (measured (written image.point.y)) };
+      height = height_of (new_point at image);
+    } in p) (measured_written image.point.x within.0.0)
+    ∙ ap (λ r. let p : Position = record {
+      point = record { x = image.point.x; y = mm_in r };
+      height = height_of (new_point at image);
+    } in p) (measured_written image.point.y within.0.1)
+    ∙ ap (λ h. let p : Position = record { point = image.point; height = h } in p)
+    (third_is (at + length (written image.point.x) + 1 + length (written image.point.y) + 1) image.height within.1)
 
 fits_always : (exact : Bool) (mm : ℤ) → (let read : MmRead =
     record { mm = mm; exact = true } in does_fit exact (Ok read) ≡ true)
 fits_always true mm = refl
 fits_always false mm = refl
 
-pub new_is_point : (exact : Bool) (at : ℕ) (image : Pt) → IsWithinReach image → IsPoint exact (new_point at image)
-new_is_point exact at image within = (
-  ap (does_fit exact) (measured_written image.x within.0)
-      ∙ fits_always exact image.x,
-  ap (does_fit exact) (measured_written image.y within.1)
-      ∙ fits_always exact image.y,
-)
+number_fits : (exact : Bool) (mm : ℤ) → unsigned_abs mm ≤ LIMIT → does_fit exact (measured (written mm)) ≡ true
+number_fits exact mm within = ap (does_fit exact) (measured_written mm within) ∙ fits_always exact mm
 
-pub new_loses_none : (at : ℕ) (image : Pt) → IsWithinReach image → lost_of (new_point at image) ≡ 0
-new_loses_none at image within =
-    let x : lost_in (measured (written image.x)) ≡ 0 = ap lost_in (measured_written image.x within.0) in
-    let y : lost_in (measured (written image.y)) ≡ 0 = ap lost_in (measured_written image.y within.1) in
-    omega (arith, x, y)
+third_fits : (exact raised : Bool) (at : ℕ) (height : Height) → is_some height ≡ raised → IsHeightWithinReach height
+    → IsThird exact raised (new_third at height)
+third_fits exact false at None is within = tt
+third_fits exact true at None is within = cc
+third_fits exact true at (Some height) is within = number_fits exact height within
+third_fits exact false at (Some height) is within = cc
 
-pub new_places : (at : ℕ) (images : List Pt) → AllByRecursion IsWithinReach images
-    → map place_of (new_points at images) ≡ images
-new_places at [] within = refl
-new_places at (image ∷ images) within =
-    ap (λ p. p ∷ map place_of (new_points (at + 2 + length (image_text image)) images))
-    (new_place (at + 2) image within.0)
-    ∙ ap (λ ps. image ∷ ps) (new_places (at + 2 + length (image_text image)) images within.1)
-
-pub new_are_points : (exact : Bool) (at : ℕ) (images : List Pt) → AllByRecursion IsWithinReach images
-    → AllByRecursion (IsPoint exact) (new_points at images)
-new_are_points exact at [] within = tt
-new_are_points exact at (image ∷ images) within = (
-  new_is_point exact (at + 2) image within.0,
-  new_are_points exact (at + 2 + length (image_text image)) images
+pub new_is_point : (exact raised : Bool) (at : ℕ) (image : Position) → IsRaised raised image → IsPositionWithinReach image
+    → IsPoint exact raised (new_point at image)
+new_is_point exact raised at image is within = (
+  number_fits exact image.point.x within.0.0,
+  number_fits exact image.point.y within.0.1,
+  third_fits exact raised (at + length (written image.point.x) + 1 + length (written image.point.y) + 1) image.height is
       within.1,
 )
 
-pub new_lose_none : (at : ℕ) (images : List Pt) → AllByRecursion IsWithinReach images
+third_loses_none : (at : ℕ) (height : Height) → IsHeightWithinReach height → lost_in_third (new_third at height) ≡ 0
+third_loses_none at None within = refl
+third_loses_none at (Some height) within = ap lost_in (measured_written height within)
+
+pub new_loses_none : (at : ℕ) (image : Position) → IsPositionWithinReach image → lost_of (new_point at image) ≡ 0
+new_loses_none at image within =
+    let x : lost_in (measured (written image.point.x)) ≡ 0 =
+    ap lost_in (measured_written image.point.x within.0.0) in
+    let y : lost_in (measured (written image.point.y)) ≡ 0 =
+    ap lost_in (measured_written image.point.y within.0.1) in
+    let z = third_loses_none (at + length (written image.point.x) + 1 + length (written image.point.y) + 1) image.height
+    within.1 in
+    omega (arith, x, y, z)
+
+pub new_positions : (at : ℕ) (images : List Position) → AllByRecursion IsPositionWithinReach images
+    → map position_of (new_points at images) ≡ images
+new_positions at [] within = refl
+new_positions at (image ∷ images) within =
+    ap (λ p. p ∷ map position_of (new_points (at + 2 + length (image_text image)) images))
+    (new_position (at + 2) image within.0)
+    ∙ ap (λ ps. image ∷ ps) (new_positions (at + 2 + length (image_text image)) images within.1)
+
+pub new_are_points : (exact raised : Bool) (at : ℕ) (images : List Position) → AllByRecursion (IsRaised raised) images
+    → AllByRecursion IsPositionWithinReach images
+    → AllByRecursion (IsPoint exact raised) (new_points at images)
+new_are_points exact raised at [] are within = tt
+new_are_points exact raised at (image ∷ images) are within = (
+  new_is_point exact raised (at + 2) image are.0 within.0,
+  new_are_points exact raised (at + 2 + length (image_text image)) images are.1 within.1,
+)
+
+pub new_lose_none : (at : ℕ) (images : List Position) → AllByRecursion IsPositionWithinReach images
     → sum_by lost_of (new_points at images) ≡ 0
 new_lose_none at [] within = refl
 new_lose_none at (image ∷ images) within =
@@ -240,6 +309,13 @@ new_lose_none at (image ∷ images) within =
     sum_by-cons lost_of (new_point (at + 2) image) (new_points (at + 2 + length (image_text image)) images)
     ∙ omega (arith, one, others)
 
-pub new_count : (at : ℕ) (images : List Pt) → length (new_points at images) ≡ length images
+pub new_count : (at : ℕ) (images : List Position) → length (new_points at images) ≡ length images
 new_count at [] = refl
 new_count at (image ∷ images) = ap suc (new_count (at + 2 + length (image_text image)) images)
+
+-- ---- the text of an image, piece by piece
+pub image_pushed : (out both all x y z : List ℕ) → both ≡ out ++ (x ++ (32 ∷ y)) → all ≡ both ++ z
+    → all ≡ out ++ (x ++ (32 ∷ (y ++ z)))
+image_pushed out both all x y z one two =
+    two ∙ ap (λ text. text ++ z) one ∙ append_assoc out (x ++ (32 ∷ y)) z
+    ∙ ap (λ text. out ++ text) (append_assoc x (32 ∷ y) z)

@@ -1,20 +1,21 @@
 -- The tokens since the bracket in which the points stand that are read.
-use Rattle.std.proofs.Common.{◌≡◌, ℕ, Bool, true, false, List, [], ◌∷◌, ◌++◌, length, refl, sym, ap, ◌∙◌, subst}
+use Rattle.std.proofs.Common.{◌≡◌, ℕ, Bool, true, false, List, [], ◌∷◌, ◌++◌, refl, sym, ap, ◌∙◌, subst}
 use Rattle.std.proofs.Common.{append_assoc}
-use Rattle.std.specs.Prelude.{Some, None, nat_lt, if◌then◌else◌}
+use Rattle.std.specs.Prelude.{Some, None, if◌then◌else◌}
 use Rattle.std.proofs.lemmas.Option.{same_Some}
 use Rattle.mm_decimal.specs.Measured.{measured}
-use Rattle.sheet_base.specs.declared.paths.PathKind.TheVariants.{Dot}
 use Rattle.wkt_layer.specs.Tokens.{Number, Token, opening, closing, comma, word, number, stray}
 use Rattle.wkt_layer.specs.Numbers.{Point, does_fit}
 use Rattle.wkt_layer.specs.Geometries.{point_tokens}
 use Rattle.wkt_layer.specs.Paths.{Path, path_of}
-use Rattle.wkt_layer.specs.States.{Spot, item, content, first, second, whole, bare_second, bare_whole, behind, State}
-use Rattle.wkt_layer.specs.States.{state, innermost, pair, kind_of, step_at, enter_step, tag_step, number_step}
-use Rattle.wkt_layer.specs.States.{item_step, whole_step, behind_step, may_end, content_of}
-use Rattle.wkt_layer.specs.declared.limits.TheConstants.{DEEPEST}
-use Rattle.wkt_layer.specs.declared.words.Kind.TheVariants as kinds
-use Rattle.wkt_layer.specs.declared.words.Word.TheVariants.{Tag, Empty, Height, Other}
+use Rattle.wkt_layer.specs.States.{Spot, item, tagged, content, first, second, third, whole, bare_second, bare_third}
+use Rattle.wkt_layer.specs.States.{bare_whole, behind, State}
+use Rattle.wkt_layer.specs.States.{state, innermost, point_with, kind_of, content_of, is_raised, may_nest, second_leads}
+use Rattle.wkt_layer.specs.States.{bare_leads, bare_second_leads, step_at, enter_step, tag_step, tagged_step}
+use Rattle.wkt_layer.specs.States.{number_step}
+use Rattle.wkt_layer.specs.States.{item_step, whole_step, behind_step, may_end}
+use Rattle.wkt_layer.specs.declared.words.Kind.{Kind}
+use Rattle.wkt_layer.specs.declared.words.Word.TheVariants.{Tag, Empty, Z, Height, Other}
 use Rattle.wkt_layer.specs.declared.places.Content.{Content}
 use Rattle.wkt_layer.specs.declared.places.Content.TheVariants.{Points, Items}
 use Rattle.wkt_layer.specs.declared.places.Listing.{Listing}
@@ -42,27 +43,47 @@ ends_next front opened at t tokens (before, points, split, are) = (
 
 joined_push : (one : Point) (more : List Point) (p : Point)
     → (joined_points one more ++ comma ∷ []) ++ point_tokens p ≡ joined_points one (more ++ p ∷ [])
-joined_push one [] p = refl
+joined_push one [] p = append_assoc (point_tokens one) (comma ∷ []) (point_tokens p)
 joined_push one (next ∷ more) p =
-    ap (λ x. number one.x ∷ number one.y ∷ comma ∷ x) (joined_push next more p)
+    append_assoc (point_tokens one ++ comma ∷ joined_points next more) (comma ∷ []) (point_tokens p)
+    ∙ append_assoc (point_tokens one) (comma ∷ joined_points next more) (comma ∷ point_tokens p)
+    ∙ ap (λ x. point_tokens one ++ comma ∷ x)
+    (sym (append_assoc (joined_points next more) (comma ∷ []) (point_tokens p)) ∙ joined_push next more p)
 
--- the second number makes a point whole
-whole_next : (front : List Placed) (opened at : ℕ) (listing : Listing) (read : List Point) (x y : Number)
-    → EndsIn front opened (read_tokens read ++ number x ∷ [])
-    → IsIn (front ++ placed at (number y) ∷ []) opened (whole listing (read ++ pair x y ∷ []))
-whole_next front opened at listing [] x y ends =
-    (pair x y, [], refl, ends_next front opened at (number y) (number x ∷ []) ends)
-whole_next front opened at listing (one ∷ more) x y ends =
-    let now : EndsIn (front ++ placed at (number y) ∷ []) opened
-    ((read_tokens (one ∷ more) ++ number x ∷ []) ++ number y ∷ []) =
-    ends_next front opened at (number y) (read_tokens (one ∷ more) ++ number x ∷ []) ends in (
+-- a point's last number makes it whole
+whole_next : (front : List Placed) (opened at : ℕ) (listing : Listing) (read : List Point) (p : Point) (n : Number)
+    (numbers : List Token) → numbers ++ number n ∷ [] ≡ point_tokens p
+    → EndsIn front opened (read_tokens read ++ numbers)
+    → IsIn (front ++ placed at (number n) ∷ []) opened (whole listing (read ++ p ∷ []))
+whole_next front opened at listing [] p n numbers are ends = (
+  p,
+  [],
+  refl,
+  subst (EndsIn (front ++ placed at (number n) ∷ []) opened) are (ends_next front opened at (number n) numbers ends),
+)
+whole_next front opened at listing (one ∷ more) p n numbers are ends =
+    let now : EndsIn (front ++ placed at (number n) ∷ []) opened
+    ((read_tokens (one ∷ more) ++ numbers) ++ number n ∷ []) =
+    ends_next front opened at (number n) (read_tokens (one ∷ more) ++ numbers) ends in (
       one,
-      more ++ pair x y ∷ [],
+      more ++ p ∷ [],
       refl,
-      subst (EndsIn (front ++ placed at (number y) ∷ []) opened)
-          (append_assoc (read_tokens (one ∷ more)) (number x ∷ []) (number y ∷ []) ∙ joined_push one more (pair x y))
-          now,
+      subst (EndsIn (front ++ placed at (number n) ∷ []) opened)
+          (append_assoc (read_tokens (one ∷ more)) numbers (number n ∷ [])
+          ∙ ap (λ x. read_tokens (one ∷ more) ++ x) are ∙ joined_push one more p) now,
     )
+
+-- the second number of a point, of which a third one follows or none
+second_next : (front : List Placed) (opened at : ℕ) (listing : Listing) (read : List Point) (x y : Number)
+    (raised : Bool)
+    → EndsIn front opened (read_tokens read ++ number x ∷ [])
+    → IsIn (front ++ placed at (number y) ∷ []) opened (second_leads raised listing read x y)
+second_next front opened at listing read x y false ends =
+    whole_next front opened at listing read (point_with x y None) y (number x ∷ []) refl ends
+second_next front opened at listing read x y true ends =
+    subst (EndsIn (front ++ placed at (number y) ∷ []) opened)
+    (append_assoc (read_tokens read) (number x ∷ []) (number y ∷ []))
+    (ends_next front opened at (number y) (read_tokens read ++ number x ∷ []) ends)
 
 abbrev In : List Placed → ℕ → State → Type 0
 In front opened s = IsIn front opened s.spot
@@ -86,6 +107,7 @@ enter_in front opened at (Points listing) stack paths comma next e = cc
 enter_in front opened at (Points listing) stack paths (word Empty) next e =
     leads_in (front ++ placed at (word Empty) ∷ []) opened (state behind stack paths) next e tt
 enter_in front opened at (Points listing) stack paths (word (Tag kind)) next e = cc
+enter_in front opened at (Points listing) stack paths (word Z) next e = cc
 enter_in front opened at (Points listing) stack paths (word Height) next e = cc
 enter_in front opened at (Points listing) stack paths (word Other) next e = cc
 enter_in front opened at (Points listing) stack paths (number n) next e = cc
@@ -97,6 +119,7 @@ enter_in front opened at (Items group) stack paths comma next e = cc
 enter_in front opened at (Items group) stack paths (word Empty) next e =
     leads_in (front ++ placed at (word Empty) ∷ []) opened (state behind stack paths) next e tt
 enter_in front opened at (Items group) stack paths (word (Tag kind)) next e = cc
+enter_in front opened at (Items group) stack paths (word Z) next e = cc
 enter_in front opened at (Items group) stack paths (word Height) next e = cc
 enter_in front opened at (Items group) stack paths (word Other) next e = cc
 enter_in front opened at (Items group) stack paths (number n) next e = cc
@@ -104,53 +127,66 @@ enter_in front opened at (Items group) stack paths stray next e = cc
 
 tag_in : (front : List Placed) (opened : ℕ) (stack : List Group) (paths : List Path) (t : Token) (next : State)
     → tag_step stack paths t ≡ Some next → In front opened next
-tag_in front opened stack paths (word (Tag kinds.Point)) next e =
-    leads_in front opened (state (content (content_of kinds.Point)) stack paths) next e tt
-tag_in front opened stack paths (word (Tag kinds.LineString)) next e =
-    leads_in front opened (state (content (content_of kinds.LineString)) stack paths) next e tt
-tag_in front opened stack paths (word (Tag kinds.Polygon)) next e =
-    leads_in front opened (state (content (content_of kinds.Polygon)) stack paths) next e tt
-tag_in front opened stack paths (word (Tag kinds.MultiPoint)) next e =
-    leads_in front opened (state (content (content_of kinds.MultiPoint)) stack paths) next e tt
-tag_in front opened stack paths (word (Tag kinds.MultiLineString)) next e =
-    leads_in front opened (state (content (content_of kinds.MultiLineString)) stack paths) next e tt
-tag_in front opened stack paths (word (Tag kinds.MultiPolygon)) next e =
-    leads_in front opened (state (content (content_of kinds.MultiPolygon)) stack paths) next e tt
-tag_in front opened stack paths (word (Tag kinds.Collection)) next e =
-    if_in front opened (nat_lt (length stack) DEEPEST) (state (content (Items groups.Geometries)) stack paths) next e tt
+tag_in front opened stack paths (word (Tag kind)) next e =
+    if_in front opened (may_nest kind stack) (state (tagged kind) stack paths) next e tt
 tag_in front opened stack paths opening next e = cc
 tag_in front opened stack paths closing next e = cc
 tag_in front opened stack paths comma next e = cc
 tag_in front opened stack paths (word Empty) next e = cc
+tag_in front opened stack paths (word Z) next e = cc
 tag_in front opened stack paths (word Height) next e = cc
 tag_in front opened stack paths (word Other) next e = cc
 tag_in front opened stack paths (number n) next e = cc
 tag_in front opened stack paths stray next e = cc
 
+tagged_in : (front : List Placed) (opened at : ℕ) (kind : Kind) (stack : List Group) (paths : List Path) (t : Token)
+    (next : State) → tagged_step kind stack paths t ≡ Some next
+    → In (front ++ placed at t ∷ []) (opened_by t at opened) next
+tagged_in front opened at kind stack paths (word Z) next e =
+    leads_in (front ++ placed at (word Z) ∷ []) opened (state (content (content_of kind true)) stack paths) next e tt
+tagged_in front opened at kind stack paths (word Empty) next e =
+    enter_in front opened at (content_of kind false) stack paths (word Empty) next e
+tagged_in front opened at kind stack paths (word Height) next e =
+    enter_in front opened at (content_of kind false) stack paths (word Height) next e
+tagged_in front opened at kind stack paths (word Other) next e =
+    enter_in front opened at (content_of kind false) stack paths (word Other) next e
+tagged_in front opened at kind stack paths (word (Tag other)) next e =
+    enter_in front opened at (content_of kind false) stack paths (word (Tag other)) next e
+tagged_in front opened at kind stack paths opening next e =
+    enter_in front opened at (content_of kind false) stack paths opening next e
+tagged_in front opened at kind stack paths closing next e =
+    enter_in front opened at (content_of kind false) stack paths closing next e
+tagged_in front opened at kind stack paths comma next e =
+    enter_in front opened at (content_of kind false) stack paths comma next e
+tagged_in front opened at kind stack paths (number n) next e =
+    enter_in front opened at (content_of kind false) stack paths (number n) next e
+tagged_in front opened at kind stack paths stray next e =
+    enter_in front opened at (content_of kind false) stack paths stray next e
+
 item_in : (exact : Bool) (front : List Placed) (opened at : ℕ) (group : Group) (stack : List Group) (paths : List Path)
     (t : Token) (next : State)
     → item_step exact group stack paths t ≡ Some next → In (front ++ placed at t ∷ []) (opened_by t at opened) next
-item_in exact front opened at groups.Rings stack paths t next e =
-    enter_in front opened at (Points listings.Ring) stack paths t next e
-item_in exact front opened at groups.Lists stack paths t next e =
-    enter_in front opened at (Points listings.List) stack paths t next e
-item_in exact front opened at groups.Polygons stack paths t next e =
-    enter_in front opened at (Items groups.Rings) stack paths t next e
+item_in exact front opened at (groups.Rings raised) stack paths t next e =
+    enter_in front opened at (Points (listings.Ring raised)) stack paths t next e
+item_in exact front opened at (groups.Lists raised) stack paths t next e =
+    enter_in front opened at (Points (listings.List raised)) stack paths t next e
+item_in exact front opened at (groups.Polygons raised) stack paths t next e =
+    enter_in front opened at (Items (groups.Rings raised)) stack paths t next e
 item_in exact front opened at groups.Geometries stack paths t next e =
     tag_in (front ++ placed at t ∷ []) (opened_by t at opened) stack paths t next e
-item_in exact front opened at groups.Dots stack paths (number n) next e =
+item_in exact front opened at (groups.Dots raised) stack paths (number n) next e =
     if_in (front ++ placed at (number n) ∷ []) opened (does_fit exact (measured n.text))
-    (state (bare_second n) stack paths) next e tt
-item_in exact front opened at groups.Dots stack paths opening next e =
-    enter_in front opened at (Points listings.Dot) stack paths opening next e
-item_in exact front opened at groups.Dots stack paths closing next e =
-    enter_in front opened at (Points listings.Dot) stack paths closing next e
-item_in exact front opened at groups.Dots stack paths comma next e =
-    enter_in front opened at (Points listings.Dot) stack paths comma next e
-item_in exact front opened at groups.Dots stack paths (word w) next e =
-    enter_in front opened at (Points listings.Dot) stack paths (word w) next e
-item_in exact front opened at groups.Dots stack paths stray next e =
-    enter_in front opened at (Points listings.Dot) stack paths stray next e
+    (state (bare_second raised n) stack paths) next e tt
+item_in exact front opened at (groups.Dots raised) stack paths opening next e =
+    enter_in front opened at (Points (listings.Dot raised)) stack paths opening next e
+item_in exact front opened at (groups.Dots raised) stack paths closing next e =
+    enter_in front opened at (Points (listings.Dot raised)) stack paths closing next e
+item_in exact front opened at (groups.Dots raised) stack paths comma next e =
+    enter_in front opened at (Points (listings.Dot raised)) stack paths comma next e
+item_in exact front opened at (groups.Dots raised) stack paths (word w) next e =
+    enter_in front opened at (Points (listings.Dot raised)) stack paths (word w) next e
+item_in exact front opened at (groups.Dots raised) stack paths stray next e =
+    enter_in front opened at (Points (listings.Dot raised)) stack paths stray next e
 
 -- a comma behind a whole point
 comma_next : (front : List Placed) (opened at : ℕ) (listing : Listing) (read : List Point)
@@ -162,34 +198,34 @@ comma_next front opened at listing read (one, more, same, ends) =
 whole_in : (front : List Placed) (opened at : ℕ) (listing : Listing) (read : List Point) (stack : List Group)
     (paths : List Path) (t : Token) (next : State) → IsIn front opened (whole listing read)
     → whole_step listing read stack paths t ≡ Some next → In (front ++ placed at t ∷ []) (opened_by t at opened) next
-whole_in front opened at listings.Dot read stack paths opening next is e = cc
-whole_in front opened at listings.Dot read stack paths closing next is e =
-    if_in (front ++ placed at closing ∷ []) opened (may_end listings.Dot read)
-    (state behind stack (paths ++ path_of (kind_of listings.Dot) read)) next e tt
-whole_in front opened at listings.Dot read stack paths comma next is e = cc
-whole_in front opened at listings.Dot read stack paths (word w) next is e = cc
-whole_in front opened at listings.Dot read stack paths (number n) next is e = cc
-whole_in front opened at listings.Dot read stack paths stray next is e = cc
-whole_in front opened at listings.List read stack paths opening next is e = cc
-whole_in front opened at listings.List read stack paths closing next is e =
-    if_in (front ++ placed at closing ∷ []) opened (may_end listings.List read)
-    (state behind stack (paths ++ path_of (kind_of listings.List) read)) next e tt
-whole_in front opened at listings.List read stack paths comma next is e =
-    leads_in (front ++ placed at comma ∷ []) opened (state (first listings.List read) stack paths) next e
-    (comma_next front opened at listings.List read is)
-whole_in front opened at listings.List read stack paths (word w) next is e = cc
-whole_in front opened at listings.List read stack paths (number n) next is e = cc
-whole_in front opened at listings.List read stack paths stray next is e = cc
-whole_in front opened at listings.Ring read stack paths opening next is e = cc
-whole_in front opened at listings.Ring read stack paths closing next is e =
-    if_in (front ++ placed at closing ∷ []) opened (may_end listings.Ring read)
-    (state behind stack (paths ++ path_of (kind_of listings.Ring) read)) next e tt
-whole_in front opened at listings.Ring read stack paths comma next is e =
-    leads_in (front ++ placed at comma ∷ []) opened (state (first listings.Ring read) stack paths) next e
-    (comma_next front opened at listings.Ring read is)
-whole_in front opened at listings.Ring read stack paths (word w) next is e = cc
-whole_in front opened at listings.Ring read stack paths (number n) next is e = cc
-whole_in front opened at listings.Ring read stack paths stray next is e = cc
+whole_in front opened at (listings.Dot raised) read stack paths opening next is e = cc
+whole_in front opened at (listings.Dot raised) read stack paths closing next is e =
+    if_in (front ++ placed at closing ∷ []) opened (may_end (listings.Dot raised) read)
+    (state behind stack (paths ++ path_of (kind_of (listings.Dot raised)) read)) next e tt
+whole_in front opened at (listings.Dot raised) read stack paths comma next is e = cc
+whole_in front opened at (listings.Dot raised) read stack paths (word w) next is e = cc
+whole_in front opened at (listings.Dot raised) read stack paths (number n) next is e = cc
+whole_in front opened at (listings.Dot raised) read stack paths stray next is e = cc
+whole_in front opened at (listings.List raised) read stack paths opening next is e = cc
+whole_in front opened at (listings.List raised) read stack paths closing next is e =
+    if_in (front ++ placed at closing ∷ []) opened (may_end (listings.List raised) read)
+    (state behind stack (paths ++ path_of (kind_of (listings.List raised)) read)) next e tt
+whole_in front opened at (listings.List raised) read stack paths comma next is e =
+    leads_in (front ++ placed at comma ∷ []) opened (state (first (listings.List raised) read) stack paths) next e
+    (comma_next front opened at (listings.List raised) read is)
+whole_in front opened at (listings.List raised) read stack paths (word w) next is e = cc
+whole_in front opened at (listings.List raised) read stack paths (number n) next is e = cc
+whole_in front opened at (listings.List raised) read stack paths stray next is e = cc
+whole_in front opened at (listings.Ring raised) read stack paths opening next is e = cc
+whole_in front opened at (listings.Ring raised) read stack paths closing next is e =
+    if_in (front ++ placed at closing ∷ []) opened (may_end (listings.Ring raised) read)
+    (state behind stack (paths ++ path_of (kind_of (listings.Ring raised)) read)) next e tt
+whole_in front opened at (listings.Ring raised) read stack paths comma next is e =
+    leads_in (front ++ placed at comma ∷ []) opened (state (first (listings.Ring raised) read) stack paths) next e
+    (comma_next front opened at (listings.Ring raised) read is)
+whole_in front opened at (listings.Ring raised) read stack paths (word w) next is e = cc
+whole_in front opened at (listings.Ring raised) read stack paths (number n) next is e = cc
+whole_in front opened at (listings.Ring raised) read stack paths stray next is e = cc
 
 behind_in : (front : List Placed) (opened : ℕ) (stack : List Group) (paths : List Path) (t : Token) (next : State)
     → behind_step stack paths t ≡ Some next → In front opened next
@@ -214,25 +250,38 @@ number_in exact front opened at make (word w) next is e = cc
 number_in exact front opened at make stray next is e = cc
 
 -- each token keeps it
+bare_in : (front : List Placed) (opened : ℕ) (raised : Bool) (stack : List Group) (paths : List Path) (x y : Number)
+    → In front opened (bare_second_leads raised stack paths x y)
+bare_in front opened true stack paths x y = tt
+bare_in front opened false stack paths x y = tt
+
 pub step_in : (exact : Bool) (front : List Placed) (opened at : ℕ) (spot : Spot) (stack : List Group)
     (paths : List Path) (t : Token) (next : State) → IsIn front opened spot
     → step_at exact spot stack paths t ≡ Some next
     → IsIn (front ++ record { start = at; token = t } ∷ []) (opened_by t at opened) next.spot
 step_in exact front opened at item stack paths t next is e =
     item_in exact front opened at (innermost stack) stack paths t next e
+step_in exact front opened at (tagged kind) stack paths t next is e =
+    tagged_in front opened at kind stack paths t next e
 step_in exact front opened at (content inner) stack paths t next is e =
     enter_in front opened at inner stack paths t next e
 step_in exact front opened at (first listing read) stack paths t next is e =
     number_in exact front opened at (λ x. state (second listing read x) stack paths) t next
     (λ n. ends_next front opened at (number n) (read_tokens read) is) e
 step_in exact front opened at (second listing read x) stack paths t next is e =
-    number_in exact front opened at (λ y. state (whole listing (read ++ pair x y ∷ [])) stack paths) t next
-    (λ n. whole_next front opened at listing read x n is) e
+    number_in exact front opened at (λ y. state (second_leads (is_raised listing) listing read x y) stack paths) t next
+    (λ n. second_next front opened at listing read x n (is_raised listing) is) e
+step_in exact front opened at (third listing read x y) stack paths t next is e =
+    number_in exact front opened at (λ z. state (whole listing (read ++ point_with x y (Some z) ∷ [])) stack paths) t
+    next
+    (λ n. whole_next front opened at listing read (point_with x y (Some n)) n (number x ∷ number y ∷ []) refl is) e
 step_in exact front opened at (whole listing read) stack paths t next is e =
     whole_in front opened at listing read stack paths t next is e
-step_in exact front opened at (bare_second x) stack paths t next is e =
-    number_in exact front opened at (λ y. state bare_whole stack (paths ++ path_of Dot (pair x y ∷ []))) t next
-    (λ n. tt) e
+step_in exact front opened at (bare_second raised x) stack paths t next is e =
+    number_in exact front opened at (λ y. bare_second_leads raised stack paths x y) t next
+    (λ n. bare_in (front ++ placed at (number n) ∷ []) opened raised stack paths x n) e
+step_in exact front opened at (bare_third x y) stack paths t next is e =
+    number_in exact front opened at (λ z. bare_leads stack paths (point_with x y (Some z))) t next (λ n. tt) e
 step_in exact front opened at bare_whole stack paths t next is e =
     behind_in (front ++ placed at t ∷ []) (opened_by t at opened) stack paths t next e
 step_in exact front opened at behind stack paths t next is e =

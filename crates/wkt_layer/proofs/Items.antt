@@ -5,6 +5,7 @@ use Rattle.wkt_layer.specs.Numbers.{Point, IsPoint}
 use Rattle.wkt_layer.specs.Geometries.{no_geometry, geometry, ArePoints}
 use Rattle.wkt_layer.proofs.Rests.{ItemOf, ItemsOf, item_tokens, more_tokens, items_tokens, IsItem, AreItems}
 use Rattle.wkt_layer.proofs.Rests.{item_paths, items_paths, no_items, one_more, GoOn, IsContentOfPoints}
+use Rattle.wkt_layer.specs.States.{is_raised}
 use Rattle.wkt_layer.specs.declared.words.Word.TheVariants.{Empty}
 use Rattle.wkt_layer.specs.declared.places.Listing.{Listing}
 use Rattle.wkt_layer.specs.declared.places.Listing.TheVariants as listings
@@ -14,116 +15,119 @@ use Rattle.wkt_layer.specs.declared.places.Group.TheVariants as groups
 -- the first of items, unless there is none
 pub split_items : (group : Group) (items : ItemsOf group)
     → (items ≡ no_items group) ⊎ ((one : ItemOf group) × (more : ItemsOf group) × (items ≡ one_more group one more))
-split_items groups.Rings [] = inl refl
-split_items groups.Rings (one ∷ more) = inr (one, more, refl)
-split_items groups.Dots [] = inl refl
-split_items groups.Dots (one ∷ more) = inr (one, more, refl)
-split_items groups.Lists [] = inl refl
-split_items groups.Lists (one ∷ more) = inr (one, more, refl)
-split_items groups.Polygons [] = inl refl
-split_items groups.Polygons (one ∷ more) = inr (one, more, refl)
+split_items (groups.Rings raised) [] = inl refl
+split_items (groups.Rings raised) (one ∷ more) = inr (one, more, refl)
+split_items (groups.Dots raised) [] = inl refl
+split_items (groups.Dots raised) (one ∷ more) = inr (one, more, refl)
+split_items (groups.Lists raised) [] = inl refl
+split_items (groups.Lists raised) (one ∷ more) = inr (one, more, refl)
+split_items (groups.Polygons raised) [] = inl refl
+split_items (groups.Polygons raised) (one ∷ more) = inr (one, more, refl)
 split_items groups.Geometries no_geometry = inl refl
 split_items groups.Geometries (geometry one more) = inr (one, more, refl)
 
 pub tokens_none : (group : Group) → items_tokens group (no_items group) ≡ word Empty ∷ []
-tokens_none groups.Rings = refl
-tokens_none groups.Dots = refl
-tokens_none groups.Lists = refl
-tokens_none groups.Polygons = refl
+tokens_none (groups.Rings raised) = refl
+tokens_none (groups.Dots raised) = refl
+tokens_none (groups.Lists raised) = refl
+tokens_none (groups.Polygons raised) = refl
 tokens_none groups.Geometries = refl
 
 pub tokens_some : (group : Group) (one : ItemOf group) (more : ItemsOf group)
     → items_tokens group (one_more group one more) ≡ opening ∷ (item_tokens group one ++ more_tokens group more)
-tokens_some groups.Rings one more = refl
-tokens_some groups.Dots one more = refl
-tokens_some groups.Lists one more = refl
-tokens_some groups.Polygons one more = refl
+tokens_some (groups.Rings raised) one more = refl
+tokens_some (groups.Dots raised) one more = refl
+tokens_some (groups.Lists raised) one more = refl
+tokens_some (groups.Polygons raised) one more = refl
 tokens_some groups.Geometries one more = refl
 
 pub more_none : (group : Group) → more_tokens group (no_items group) ≡ closing ∷ []
-more_none groups.Rings = refl
-more_none groups.Dots = refl
-more_none groups.Lists = refl
-more_none groups.Polygons = refl
+more_none (groups.Rings raised) = refl
+more_none (groups.Dots raised) = refl
+more_none (groups.Lists raised) = refl
+more_none (groups.Polygons raised) = refl
 more_none groups.Geometries = refl
 
 pub more_some : (group : Group) (one : ItemOf group) (more : ItemsOf group)
     → more_tokens group (one_more group one more) ≡ comma ∷ (item_tokens group one ++ more_tokens group more)
-more_some groups.Rings one more = refl
-more_some groups.Dots one more = refl
-more_some groups.Lists one more = refl
-more_some groups.Polygons one more = refl
+more_some (groups.Rings raised) one more = refl
+more_some (groups.Dots raised) one more = refl
+more_some (groups.Lists raised) one more = refl
+more_some (groups.Polygons raised) one more = refl
 more_some groups.Geometries one more = refl
 
 pub paths_none : (group : Group) → items_paths group (no_items group) ≡ []
-paths_none groups.Rings = refl
-paths_none groups.Dots = refl
-paths_none groups.Lists = refl
-paths_none groups.Polygons = refl
+paths_none (groups.Rings raised) = refl
+paths_none (groups.Dots raised) = refl
+paths_none (groups.Lists raised) = refl
+paths_none (groups.Polygons raised) = refl
 paths_none groups.Geometries = refl
 
 pub paths_some : (group : Group) (one : ItemOf group) (more : ItemsOf group)
     → items_paths group (one_more group one more) ≡ item_paths group one ++ items_paths group more
-paths_some groups.Rings one more = refl
-paths_some groups.Dots one more = refl
-paths_some groups.Lists one more = refl
-paths_some groups.Polygons one more = refl
+paths_some (groups.Rings raised) one more = refl
+paths_some (groups.Dots raised) one more = refl
+paths_some (groups.Lists raised) one more = refl
+paths_some (groups.Polygons raised) one more = refl
 paths_some groups.Geometries one more = refl
 
 pub are_none : (exact : Bool) (depth : ℕ) (group : Group) → AreItems exact depth group (no_items group)
-are_none exact depth groups.Rings = tt
-are_none exact depth groups.Dots = tt
-are_none exact depth groups.Lists = tt
-are_none exact depth groups.Polygons = tt
+are_none exact depth (groups.Rings raised) = tt
+are_none exact depth (groups.Dots raised) = tt
+are_none exact depth (groups.Lists raised) = tt
+are_none exact depth (groups.Polygons raised) = tt
 are_none exact depth groups.Geometries = tt
 
 pub are_parts : (exact : Bool) (depth : ℕ) (group : Group) (one : ItemOf group) (more : ItemsOf group)
     → AreItems exact depth group (one_more group one more)
     → IsItem exact depth group one × AreItems exact depth group more
-are_parts exact depth groups.Rings one more are = (are.0, are.1)
-are_parts exact depth groups.Dots one more are = (are.0, are.1)
-are_parts exact depth groups.Lists one more are = (are.0, are.1)
-are_parts exact depth groups.Polygons one more are = (are.0, are.1)
+are_parts exact depth (groups.Rings raised) one more are = (are.0, are.1)
+are_parts exact depth (groups.Dots raised) one more are = (are.0, are.1)
+are_parts exact depth (groups.Lists raised) one more are = (are.0, are.1)
+are_parts exact depth (groups.Polygons raised) one more are = (are.0, are.1)
 are_parts exact depth groups.Geometries one more are = (are.0, are.1)
 
 pub are_some : (exact : Bool) (depth : ℕ) (group : Group) (one : ItemOf group) (more : ItemsOf group)
     → IsItem exact depth group one → AreItems exact depth group more
     → AreItems exact depth group (one_more group one more)
-are_some exact depth groups.Rings one more is are = (is, are)
-are_some exact depth groups.Dots one more is are = (is, are)
-are_some exact depth groups.Lists one more is are = (is, are)
-are_some exact depth groups.Polygons one more is are = (is, are)
+are_some exact depth (groups.Rings raised) one more is are = (is, are)
+are_some exact depth (groups.Dots raised) one more is are = (is, are)
+are_some exact depth (groups.Lists raised) one more is are = (is, are)
+are_some exact depth (groups.Polygons raised) one more is are = (is, are)
 are_some exact depth groups.Geometries one more is are = (is, are)
 
 -- the points of a content: the first, and those behind it
 pub points_parts : (exact : Bool) (listing : Listing) (p : Point) (more : List Point)
-    → IsContentOfPoints exact listing (p ∷ more) → IsPoint exact p × ArePoints exact more × GoOn listing (p ∷ []) more
-points_parts exact listings.Dot p [] is = (is.0.0, is.0.1, refl)
-points_parts exact listings.Dot p (q ∷ more) is = absurd (omega (arith, is.1))
-points_parts exact listings.List p more is = (is.0, is.1, tt)
-points_parts exact listings.Ring p more is = (is.0.0, is.0.1, is.1)
+    → IsContentOfPoints exact listing (p ∷ more)
+    → IsPoint exact (is_raised listing) p × ArePoints exact (is_raised listing) more × GoOn listing (p ∷ []) more
+points_parts exact (listings.Dot raised) p [] is = (is.0.0, is.0.1, refl)
+points_parts exact (listings.Dot raised) p (q ∷ more) is = absurd (omega (arith, is.1))
+points_parts exact (listings.List raised) p more is = (is.0, is.1, tt)
+points_parts exact (listings.Ring raised) p more is = (is.0.0, is.0.1, is.1)
 
 pub points_whole : (exact : Bool) (listing : Listing) (p : Point) (more : List Point)
-    → IsPoint exact p → ArePoints exact more → GoOn listing (p ∷ []) more → IsContentOfPoints exact listing (p ∷ more)
-points_whole exact listings.Dot p [] is are on = ((is, are), lit≤ tt)
-points_whole exact listings.Dot p (q ∷ more) is are on = cc
-points_whole exact listings.List p more is are on = (is, are)
-points_whole exact listings.Ring p more is are on = ((is, are), on)
+    → IsPoint exact (is_raised listing) p → ArePoints exact (is_raised listing) more → GoOn listing (p ∷ []) more
+    → IsContentOfPoints exact listing (p ∷ more)
+points_whole exact (listings.Dot raised) p [] is are on = ((is, are), lit≤ tt)
+points_whole exact (listings.Dot raised) p (q ∷ more) is are on = cc
+points_whole exact (listings.List raised) p more is are on = (is, are)
+points_whole exact (listings.Ring raised) p more is are on = ((is, are), on)
 
 pub no_points : (exact : Bool) (listing : Listing) → IsContentOfPoints exact listing []
-no_points exact listings.Dot = (tt, omega arith)
-no_points exact listings.List = tt
-no_points exact listings.Ring = (tt, tt)
+no_points exact (listings.Dot raised) = (tt, omega arith)
+no_points exact (listings.List raised) = tt
+no_points exact (listings.Ring raised) = (tt, tt)
 
 -- points go on in two steps
 pub on_next : (listing : Listing) (read : List Point) (p : Point) (more : List Point) → GoOn listing read (p ∷ more)
     → GoOn listing (read ++ p ∷ []) more
-on_next listings.Dot read p more on = cc
-on_next listings.List read p more on = tt
-on_next listings.Ring read p more on = rw (append_assoc read (p ∷ []) more) on
+on_next (listings.Dot raised) read p more on = cc
+on_next (listings.List raised) read p more on = tt
+on_next (listings.Ring raised) read p more on = rw (append_assoc read (p ∷ []) more) on
 
-pub on_before : (listing : Listing) (read : List Point) (p : Point) (more : List Point) → (listing ≡ listings.Dot → ⊥)
+pub on_before : (listing : Listing) (read : List Point) (p : Point) (more : List Point)
+    → ((raised : Bool) → listing ≡ listings.Dot raised → ⊥)
     → GoOn listing (read ++ p ∷ []) more → GoOn listing read (p ∷ more)
-on_before listings.Dot read p more no_dot on = absurd (no_dot refl)
-on_before listings.List read p more no_dot on = tt
-on_before listings.Ring read p more no_dot on = rw (append_assoc read (p ∷ []) more) at on
+on_before (listings.Dot raised) read p more no_dot on = absurd (no_dot raised refl)
+on_before (listings.List raised) read p more no_dot on = tt
+on_before (listings.Ring raised) read p more no_dot on = rw (append_assoc read (p ∷ []) more) at on

@@ -8,7 +8,7 @@ use Rattle.wkt_layer.specs.Tokens.{tokens_of}
 use Rattle.wkt_layer.specs.Numbers.{lost_of}
 use Rattle.wkt_layer.specs.Lines.{IsLineOf}
 use Rattle.wkt_layer.specs.Layers.{AreLinesOf, IsFirstLineFault}
-use Rattle.wkt_layer.specs.Paths.{Path, kept_points, rows_from, edits_from, lost_on, sheet_of}
+use Rattle.wkt_layer.specs.Paths.{Path, kept_points, kept_heights, rows_from, edits_from, lost_on, sheet_of}
 use Rattle.wkt_layer.specs.Passes.{GoesOn, Held, HasRoom, RestsAt, Ascend, path_numbers}
 use Rattle.wkt_layer.proofs.EditOrder.{ascend_before, ascend_past, ascend_append, line_ascends, edits_in_order}
 use Rattle.sheet_base.specs.Splices.{AreInOrder}
@@ -33,64 +33,68 @@ pub goes_end : (exact : Bool) (all : List (List ℕ)) (base : ℕ) (done : List 
     → AreLinesOf exact 0 all done
 goes_end exact all base done on = subst (AreLinesOf exact 0 all) (append-nil done) (on.onward [] refl)
 
+-- what is held, as a sheet
+abbrev pub contents_of : Pass → Contents
+contents_of pass = record {
+  paths = pass.paths.items;
+  points = pass.points.items;
+  heights = pass.heights;
+  edits = pass.edits.items;
+  inexact = pass.inexact;
+  dropped = 0;
+}
+
 -- what is held of whole paths is their sheet
-pub held_sheet : (pass : Pass) (done : List Path) → Held pass done []
-    → (let sheet : Contents = record {
-      paths = pass.paths.items;
-      points = pass.points.items;
-      edits =
-          pass.edits.items;
-      inexact = pass.inexact;
-      dropped = 0;
-    } in sheet ≡ sheet_of done)
+pub held_sheet : (pass : Pass) (done : List Path) → Held pass done [] → contents_of pass ≡ sheet_of done
 held_sheet pass done held =
     let points : pass.points.items ≡ flat_map kept_points done = held.points ∙ append-nil (flat_map kept_points done) in
+    let heights : pass.heights ≡ flat_map kept_heights done = held.heights ∙ append-nil (flat_map kept_heights done) in
     let inexact : pass.inexact ≡ sum_by lost_on done = let e : sum_by lost_of [] ≡ 0 =
     refl in omega (arith, held.inexact, e) in
     ap (λ x. let c : Contents = record {
       paths = x;
       points = pass.points.items;
+      heights = pass.heights;
       edits = pass.edits.items;
-      inexact =
-          pass.inexact;
+      inexact = pass.inexact;
       dropped = 0;
     } in c) held.paths
     ∙ ap (λ x. let c : Contents = record {
       paths = rows_from 0 done;
       points = x;
+      heights = pass.heights;
       edits = pass.edits.items;
-      inexact =
-          pass.inexact;
+      inexact = pass.inexact;
       dropped = 0;
     } in c) points
     ∙ ap (λ x. let c : Contents = record {
       paths = rows_from 0 done;
       points = flat_map kept_points done;
-      edits =
-          x;
+      heights = x;
+      edits = pass.edits.items;
+      inexact = pass.inexact;
+      dropped = 0;
+    } in c) heights
+    ∙ ap (λ x. let c : Contents = record {
+      paths = rows_from 0 done;
+      points = flat_map kept_points done;
+      heights = flat_map kept_heights done;
+      edits = x;
       inexact = pass.inexact;
       dropped = 0;
     } in c) held.edits
     ∙ ap (λ x. let c : Contents = record {
       paths = rows_from 0 done;
       points = flat_map kept_points done;
-      edits =
-          edits_from 0 done;
+      heights = flat_map kept_heights done;
+      edits = edits_from 0 done;
       inexact = x;
       dropped = 0;
     } in c) inexact
 
 pub held_is_sheet : (pass : Pass) (done : List Path) → Held pass done []
     → (exact : Bool) (all : List (List ℕ)) (base : ℕ) → GoesOn exact all base [] done
-    → length pass.points.items < 2 ^ 32
-    → (let sheet : Contents = record {
-      paths = pass.paths.items;
-      points = pass.points.items;
-      edits =
-          pass.edits.items;
-      inexact = pass.inexact;
-      dropped = 0;
-    } in IsSheet sheet)
+    → length pass.points.items < 2 ^ 32 → IsSheet (contents_of pass)
 held_is_sheet pass done held exact all base on few =
     let points : pass.points.items ≡ flat_map kept_points done = held.points ∙ append-nil (flat_map kept_points done) in
     subst IsSheet (sym (held_sheet pass done held))
@@ -111,6 +115,7 @@ room_more pass at more room le = record {
   end = omega (arith, room.end);
   inexact = omega (arith, room.inexact);
   inside = room.inside;
+  heights = omega (arith, room.heights);
 }
 
 -- the numbers so far stand one behind the other

@@ -27,3 +27,5 @@ pub mod SheetTurns
 pub mod ReadingBack
 pub mod OneFault
 mod SomeOutcome
+mod ReadSheets
+mod MemoryFaults

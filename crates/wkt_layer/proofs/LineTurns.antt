@@ -7,7 +7,7 @@ use Rattle.std.proofs.lemmas.Bool.{and_parts}
 use Rattle.std.proofs.lemmas.List.{map-append}
 use Rattle.std.proofs.lemmas.List.Sums.{sum_by-append}
 use Rattle.std.proofs.lemmas.List.Splits.{slice_split_none, slice_split_at, join_with_byte-slice_split}
-use Rattle.plane_base.specs.declared.shapes.Pt.{Pt}
+use Rattle.sheet_base.specs.PointHeights.{Position}
 use Rattle.sheet_base.specs.declared.edits.Edit.{Edit}
 use Rattle.wkt_layer.specs.Tokens.{Placed, tokens_of, is_blank}
 use Rattle.wkt_layer.specs.Geometries.{Geometry, point, line_string, polygon, multi_point, multi_line_string}
@@ -18,7 +18,7 @@ use Rattle.wkt_layer.specs.Layers.{lines_of, AreLinesOf}
 use Rattle.wkt_layer.specs.declared.limits.TheConstants.{DEEPEST, LINE_FEED}
 use Rattle.sheet_base.specs.Splices.{AreInOrder, spliced}
 use Rattle.sheet_base.proofs.Swaps.{Swapped, spliced_on, on_from, swapped_all, kept_swapped, both_swapped}
-use Rattle.sheet_base.proofs.Redrawn.{suit_parts, redrawn_append}
+use Rattle.sheet_base.proofs.DrawnPaths.{suit_parts, redrawn_append}
 use Rattle.wkt_layer.proofs.EditOrder.{split_some}
 use Rattle.wkt_layer.proofs.Lexing.{blank_tokens, black_tokens}
 use Rattle.wkt_layer.proofs.TokenCuts.{lexed, clear_end}
@@ -28,13 +28,13 @@ use Rattle.wkt_layer.proofs.GeometryTurns.{geometry_turned}
 
 -- ---- one line
 no_tokens : (one : Geometry) → geometry_tokens one ≡ [] → ⊥
-no_tokens (point points) e = cc
-no_tokens (line_string points) e = cc
-no_tokens (polygon rings) e = cc
-no_tokens (multi_point members) e = cc
-no_tokens (multi_line_string lists) e = cc
-no_tokens (multi_polygon polygons) e = cc
-no_tokens (collection all) e = cc
+no_tokens (point raised points) e = cc
+no_tokens (line_string raised points) e = cc
+no_tokens (polygon raised rings) e = cc
+no_tokens (multi_point raised members) e = cc
+no_tokens (multi_line_string raised lists) e = cc
+no_tokens (multi_polygon raised polygons) e = cc
+no_tokens (collection raised all) e = cc
 
 line_is : (exact : Bool) (line : List Placed) (one : Geometry) → IsGeometry exact DEEPEST one
     → tokens_in line ≡ geometry_tokens one → IsLineOf exact line (geometry_paths one)
@@ -55,20 +55,21 @@ none_lexed (one ∷ more) e = cc
 
 -- some lines are written in place of lines of these paths, and are read as the same paths with images in place of their
 -- points
-pub record IsWritten (exact : Bool) (images : ℕ → List Pt) (nth : ℕ) (paths : List Path)
+pub record IsWritten (exact : Bool) (images : ℕ → List Position) (nth : ℕ) (paths : List Path)
     (AreOf : List Path → Type 0) : Type 0 where
   pub others : List Path
   pub are_of : AreOf others
   pub drawn_are : map drawn others ≡ redrawn images nth paths
   pub exact_all : sum_by lost_on others ≡ 0
 
-pub record LineTurned (exact : Bool) (text : Edit → List ℕ) (images : ℕ → List Pt) (at : ℕ) (line : List ℕ) (nth : ℕ)
+pub record LineTurned (exact : Bool) (text : Edit → List ℕ) (images : ℕ → List Position) (at : ℕ) (line : List ℕ)
+    (nth : ℕ)
     (paths : List Path) : Type 0 where
   pub now : List ℕ
   pub swap : Swapped text at line (edits_from nth paths) now
   pub reads : (from : ℕ) → IsWritten exact images nth paths (IsLineOf exact (tokens_of from now))
 
-module _ (exact : Bool) (text : Edit → List ℕ) (images : ℕ → List Pt) (says : DoesSay text images) where
+module _ (exact : Bool) (text : Edit → List ℕ) (images : ℕ → List Position) (says : DoesSay text images) where
   line_turned : (at : ℕ) (line : List ℕ) (nth : ℕ) (paths : List Path) → AllSuit images nth paths
       → IsLineOf exact (tokens_of at line) paths → LineTurned exact text images at line nth paths
   line_turned at line nth paths suit is = by_tokens (tokens_of at line) refl is
@@ -198,7 +199,8 @@ lines_plain (byte ∷ bytes) = by_test (byte == LINE_FEED) refl (lines_plain byt
     by_test true is plain = rw is (refl, plain)
     by_test false is plain = rw is (onto_plain byte (lines_of bytes) (ap not is) plain)
 
-pub record LinesTurned (exact : Bool) (text : Edit → List ℕ) (images : ℕ → List Pt) (at : ℕ) (lines : List (List ℕ))
+pub record LinesTurned (exact : Bool) (text : Edit → List ℕ) (images : ℕ → List Position) (at : ℕ)
+    (lines : List (List ℕ))
     (nth : ℕ) (paths : List Path) : Type 0 where
   pub first : List ℕ
   pub more : List (List ℕ)
@@ -206,7 +208,7 @@ pub record LinesTurned (exact : Bool) (text : Edit → List ℕ) (images : ℕ �
   pub plain : ArePlain (first ∷ more)
   pub reads : (from : ℕ) → IsWritten exact images nth paths (AreLinesOf exact from (first ∷ more))
 
-module _ (exact : Bool) (text : Edit → List ℕ) (images : ℕ → List Pt) (says : DoesSay text images)
+module _ (exact : Bool) (text : Edit → List ℕ) (images : ℕ → List Position) (says : DoesSay text images)
     (plain : (edit : Edit) → IsPlain (text edit)) where
   last_turned : (at : ℕ) (line : List ℕ) (nth : ℕ) (paths : List Path) → AllSuit images nth paths
       → IsLineOf exact (tokens_of at line) paths → IsPlain line → LinesTurned exact text images at (line ∷ []) nth paths

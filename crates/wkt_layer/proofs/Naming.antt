@@ -1,19 +1,20 @@
 -- The fault of a token that the pass refuses is the one of the table.
 use Rattle.std.proofs.Common.{◌≡◌, ℕ, ◌<◌, ◌⊎◌, inl, inr, Bool, true, false, List, [], ◌∷◌, ◌++◌, refl, sym, ap, ◌∙◌}
-use Rattle.std.proofs.Common.{subst, append_assoc, arith}
+use Rattle.std.proofs.Common.{subst, arith}
 use Rattle.std.specs.Prelude.{Option, Some, None, if◌then◌else◌}
 use Rattle.std.proofs.lemmas.Option.{same_Some}
 use Rattle.mm_decimal.specs.Measured.{measured}
 use Rattle.wkt_layer.specs.Tokens.{Number, Token, opening, closing, comma, word, number, stray}
 use Rattle.wkt_layer.specs.Numbers.{Point}
-use Rattle.wkt_layer.specs.Geometries.{point_tokens}
 use Rattle.wkt_layer.specs.Paths.{Path}
-use Rattle.wkt_layer.specs.States.{Spot, item, content, first, second, whole, bare_second, bare_whole, behind, State}
-use Rattle.wkt_layer.specs.States.{state, innermost, pair, step, step_at, item_step, behind_step}
+use Rattle.wkt_layer.specs.States.{Spot, item, tagged, content, first, second, third, whole, bare_second, bare_third}
+use Rattle.wkt_layer.specs.States.{bare_whole, behind, State}
+use Rattle.wkt_layer.specs.States.{state, innermost, content_of, is_raised, point_with, second_leads, bare_leads}
+use Rattle.wkt_layer.specs.States.{bare_second_leads, step, step_at, enter_step, number_step, item_step, behind_step}
 use Rattle.wkt_layer.specs.declared.words.Kind.{Kind}
 use Rattle.wkt_layer.specs.declared.words.Kind.TheVariants as kinds
 use Rattle.wkt_layer.specs.declared.words.Word.{Word}
-use Rattle.wkt_layer.specs.declared.words.Word.TheVariants.{Tag, Empty, Height, Other}
+use Rattle.wkt_layer.specs.declared.words.Word.TheVariants.{Tag, Empty, Z, Height, Other}
 use Rattle.wkt_layer.specs.declared.places.Content.{Content}
 use Rattle.wkt_layer.specs.declared.places.Content.TheVariants.{Points, Items}
 use Rattle.wkt_layer.specs.declared.places.Listing.{Listing}
@@ -22,7 +23,6 @@ use Rattle.wkt_layer.specs.declared.places.Group.{Group}
 use Rattle.wkt_layer.specs.declared.places.Group.TheVariants as groups
 use Rattle.std.specs.Prelude.{option_and_then, Result, Ok, Err, not, ◌&&◌}
 use Rattle.std.proofs.lemmas.Bool.{and_parts}
-use Rattle.std.proofs.lemmas.List.{map-append}
 use Rattle.text_places.specs.Machine.{run}
 use Rattle.text_places.proofs.Runs.{run-append, run_next}
 use Rattle.mm_decimal.specs.declared.reading.MmRead.{MmRead}
@@ -30,13 +30,16 @@ use Rattle.mm_decimal.specs.declared.reading.NumFault.{NumFault}
 use Rattle.sheet_base.specs.declared.faults.LayerFault.TheVariants as faults
 use Rattle.wkt_layer.specs.Tokens.{Placed}
 use Rattle.wkt_layer.specs.Lines.{tokens_in}
-use Rattle.wkt_layer.specs.Faults.{IsGeometryPlace, EndsInTag, EndsInPoint, joined_points, EndsInPoints, Row, kind}
+use Rattle.wkt_layer.specs.Faults.{IsGeometryPlace, EndsInTag, EndsInNumber, IsNumberPlace, EndsInPoint}
+use Rattle.wkt_layer.specs.Faults.{Row, kind}
 use Rattle.wkt_layer.specs.Faults.{height, deep, unread, inexact, ring, rank, SpeaksKind, SpeaksRing, Speaks, IsUnread}
 use Rattle.wkt_layer.specs.Faults.{IsInexact, IsTokenFault}
 use Rattle.wkt_layer.specs.States.{start, is_geometries, is_geometry_spot, word_fault, other_fault, answer_fault}
 use Rattle.wkt_layer.specs.States.{number_fault, closing_fault, fault_of}
 use Rattle.wkt_layer.proofs.Passing.{viable, not_viable}
-use Rattle.wkt_layer.proofs.Comings.{ComesFrom, step_from, IsBehindTag, tag_content, NumberLeads, number_leads_to}
+use Rattle.wkt_layer.proofs.Comings.{ComesFrom, step_from, IsBehindTag, tag_leads_behind, IsBehindNumber, IsInList}
+use Rattle.wkt_layer.proofs.Comings.{number_leads_behind, step_in_list}
+use Rattle.wkt_layer.proofs.Completions.{zero_number, zero_fits}
 use Rattle.wkt_layer.proofs.InBrackets.{in_points}
 use Rattle.wkt_layer.specs.Reached.{IsIn}
 
@@ -83,181 +86,152 @@ came exact front s runs = elim (snoc front) [
 ]
 
 -- behind a tag
-content_ends : (exact : Bool) (front : List Token) (s : State) (inner : Content) → run (step exact) start front ≡ Some s
-    → s.spot ≡ content inner → EndsInTag front
-content_ends exact front s inner runs at_content = elim (came exact front s runs) [
-  | inl same ↦ let h : item ≡ content inner = sym (ap (λ (x : State). x.spot) same) ∙ at_content in cc
+tagged_ends : (exact : Bool) (front : List Token) (s : State) (which : Kind) → run (step exact) start front ≡ Some s
+    → s.spot ≡ tagged which → EndsInTag front
+tagged_ends exact front s which runs at_tag = elim (came exact front s runs) [
+  | inl same ↦ let h : item ≡ tagged which = sym (ap (λ (x : State). x.spot) same) ∙ at_tag in cc
   | inr (before, t, split, (from, ran, steps)) ↦
-      let (which, is) = subst (λ spot. ComesFrom spot t) at_content
-      (step_from exact from.spot from.stack from.paths t s steps) in
+      let is = subst (λ spot. ComesFrom spot t) at_tag (step_from exact from.spot from.stack from.paths t s steps) in
       (before, which, split ∙ ap (λ x. before ++ x ∷ []) is)
 ]
 
-ends_content : (exact : Bool) (front : List Token) (s : State) → run (step exact) start front ≡ Some s → EndsInTag front
+ends_tagged : (exact : Bool) (front : List Token) (s : State) → run (step exact) start front ≡ Some s → EndsInTag front
     → IsBehindTag s.spot
-ends_content exact front s runs (before, which, split) =
+ends_tagged exact front s runs (before, which, split) =
     let (from, ran, steps) = run_last exact before (word (Tag which)) s
     (ap (run (step exact) start) (sym split) ∙ runs) in
-    tag_content exact from.spot from.stack from.paths which s steps
+    tag_leads_behind exact from.spot from.stack from.paths which s steps
 
--- Behind a point.
-abbrev IsBehindPoint : Spot → Type 0
-IsBehindPoint (whole listing points) = Unit {0}
-IsBehindPoint bare_whole = Unit {0}
-IsBehindPoint spot = ⊥
-
-two_numbers : (spot between last : Spot) (stack outer final : List Group) (m n : Number)
-    → NumberLeads spot stack m between outer → NumberLeads between outer n last final → IsBehindPoint last
-two_numbers item between last stack outer final m n (to, _, _) on =
-    let h = subst (λ x. NumberLeads x outer n last final) to on in subst IsBehindPoint (sym h.0) tt
-two_numbers (first listing read) between last stack outer final m n (to, _) on =
-    let h = subst (λ x. NumberLeads x outer n last final) to on in subst IsBehindPoint (sym h.0) tt
-two_numbers (second listing read x) between last stack outer final m n (to, _) on =
-    absurd (subst (λ x. NumberLeads x outer n last final) to on)
-two_numbers (bare_second x) between last stack outer final m n (to, _) on =
-    absurd (subst (λ x. NumberLeads x outer n last final) to on)
-two_numbers (content inner) between last stack outer final m n leads on = absurd leads
-two_numbers (whole listing read) between last stack outer final m n leads on = absurd leads
-two_numbers bare_whole between last stack outer final m n leads on = absurd leads
-two_numbers behind between last stack outer final m n leads on = absurd leads
-
-ends_point : (exact : Bool) (front : List Token) (s : State) → run (step exact) start front ≡ Some s → EndsInPoint front
-    → IsBehindPoint s.spot
-ends_point exact front s runs (before, p, split) =
-    let last : front ≡ (before ++ number p.x ∷ []) ++ number p.y ∷ [] = split
-    ∙ sym (append_assoc before (number p.x ∷ []) (number p.y ∷ [])) in
-    let (between, ran, steps) = run_last exact (before ++ number p.x ∷ []) (number p.y) s
-    (ap (run (step exact) start) (sym last) ∙ runs) in
-    let (from, began, first_step) = run_last exact before (number p.x) between ran in
-    two_numbers from.spot between.spot s.spot from.stack between.stack s.stack p.x p.y
-    (number_leads_to exact from.spot from.stack from.paths (number-of p.x) between first_step)
-    (number_leads_to exact between.spot between.stack between.paths p.y s steps)
-  where
-    number-of : Number → Number
-    number-of n = n
-
--- a whole point has its second number from a spot with the first one
-from_second : (spot : Spot) (stack outer : List Group) (n : Number) (listing : Listing) (points : List Point)
-    (to : Spot) → to ≡ whole listing points → NumberLeads spot stack n to outer
-    → (other : Listing) × (read : List Point) × (x : Number) × (spot ≡ second other read x)
-from_second item stack outer n listing points to is (e, _, _) = cc
-from_second (first l read) stack outer n listing points to is (e, _) = cc
-from_second (second l read x) stack outer n listing points to is leads = (l, read, x, refl)
-from_second (bare_second x) stack outer n listing points to is (e, _) = cc
-from_second (content inner) stack outer n listing points to is leads = absurd leads
-from_second (whole l read) stack outer n listing points to is leads = absurd leads
-from_second bare_whole stack outer n listing points to is leads = absurd leads
-from_second behind stack outer n listing points to is leads = absurd leads
-
-from_bare : (spot : Spot) (stack outer : List Group) (n : Number) (to : Spot) → to ≡ bare_whole
-    → NumberLeads spot stack n to outer → (x : Number) × (spot ≡ bare_second x) × (stack ≡ outer)
-from_bare item stack outer n to is (e, _, _) = cc
-from_bare (first l read) stack outer n to is (e, _) = cc
-from_bare (second l read x) stack outer n to is (e, _) = cc
-from_bare (bare_second x) stack outer n to is leads = (x, refl, leads.1)
-from_bare (content inner) stack outer n to is leads = absurd leads
-from_bare (whole l read) stack outer n to is leads = absurd leads
-from_bare bare_whole stack outer n to is leads = absurd leads
-from_bare behind stack outer n to is leads = absurd leads
-
-from_item : (spot : Spot) (stack outer : List Group) (n x : Number) (to : Spot) → to ≡ bare_second x
-    → NumberLeads spot stack n to outer → outer ≡ [] → ⊥
-from_item item stack outer n x to is (e, same, some) none = some (same ∙ none)
-from_item (first l read) stack outer n x to is (e, _) none = cc
-from_item (second l read y) stack outer n x to is (e, _) none = cc
-from_item (bare_second y) stack outer n x to is (e, _) none = cc
-from_item (content inner) stack outer n x to is leads none = leads
-from_item (whole l read) stack outer n x to is leads none = leads
-from_item bare_whole stack outer n x to is leads none = leads
-from_item behind stack outer n x to is leads none = leads
-
--- the first number stands before the second one
-second_ends : (exact : Bool) (front : List Token) (s : State) (listing : Listing) (read : List Point) (x : Number)
-    → run (step exact) start front ≡ Some s → s.spot ≡ second listing read x
-    → (before : List Token) × (front ≡ before ++ number x ∷ [])
-second_ends exact front s listing read x runs at_second = elim (came exact front s runs) [
-  | inl same ↦ let h : item ≡ second listing read x = sym (ap (λ (y : State). y.spot) same) ∙ at_second in cc
-  | inr (before, t, split, (from, ran, steps)) ↦
-      let is : t ≡ number x = subst (λ spot. ComesFrom spot t) at_second
-      (step_from exact from.spot from.stack from.paths t s steps) in
-      (before, split ∙ ap (λ y. before ++ y ∷ []) is)
-]
-
-bare_ends : (exact : Bool) (front : List Token) (s : State) (x : Number) → run (step exact) start front ≡ Some s
-    → s.spot ≡ bare_second x → (before : List Token) × (front ≡ before ++ number x ∷ [])
-bare_ends exact front s x runs at_second = elim (came exact front s runs) [
-  | inl same ↦ let h : item ≡ bare_second x = sym (ap (λ (y : State). y.spot) same) ∙ at_second in cc
-  | inr (before, t, split, (from, ran, steps)) ↦
-      let is : t ≡ number x = subst (λ spot. ComesFrom spot t) at_second
-      (step_from exact from.spot from.stack from.paths t s steps) in
-      (before, split ∙ ap (λ y. before ++ y ∷ []) is)
-]
-
-point_split : (front before outer : List Token) (x y : Number) (t : Token) → front ≡ before ++ t ∷ [] → t ≡ number y
-    → before ≡ outer ++ number x ∷ [] → front ≡ outer ++ point_tokens (pair x y)
-point_split front before outer x y t split is first_split =
-    split ∙ ap (λ z. before ++ z ∷ []) is ∙ ap (λ z. z ++ number y ∷ []) first_split
-    ∙ append_assoc outer (number x ∷ []) (number y ∷ [])
+-- behind a number
+ends_number : (exact : Bool) (front : List Token) (s : State) → run (step exact) start front ≡ Some s
+    → EndsInNumber front → IsBehindNumber s.spot
+ends_number exact front s runs (before, n, split) =
+    let (from, ran, steps) = run_last exact before (number n) s (ap (run (step exact) start) (sym split) ∙ runs) in
+    (number_leads_behind exact from.spot from.stack from.paths n s steps).0
 
 whole_ends : (exact : Bool) (front : List Token) (s : State) (listing : Listing) (read : List Point)
-    → run (step exact) start front ≡ Some s → s.spot ≡ whole listing read → EndsInPoint front
+    → run (step exact) start front ≡ Some s → s.spot ≡ whole listing read → EndsInNumber front
 whole_ends exact front s listing read runs at_whole = elim (came exact front s runs) [
   | inl same ↦ let h : item ≡ whole listing read = sym (ap (λ (y : State). y.spot) same) ∙ at_whole in cc
   | inr (before, t, split, (from, ran, steps)) ↦
-      let (y, is) = subst (λ spot. ComesFrom spot t) at_whole
+      let (z, is) = subst (λ spot. ComesFrom spot t) at_whole
       (step_from exact from.spot from.stack from.paths t s steps) in
-      let leads = number_leads_to exact from.spot from.stack from.paths y s
-      (ap (λ z. step exact from z) (sym is) ∙ steps) in
-      let (l, r, x, at_second) = from_second from.spot from.stack s.stack y listing read s.spot at_whole leads in
-      let (outer, first_split) = second_ends exact before from l r x ran at_second in
-      (outer, pair x y, point_split front before outer x y t split is first_split)
+      (before, z, split ∙ ap (λ y. before ++ y ∷ []) is)
 ]
 
 bare_whole_ends : (exact : Bool) (front : List Token) (s : State) → run (step exact) start front ≡ Some s
-    → s.spot ≡ bare_whole → EndsInPoint front × (s.stack ≡ [] → ⊥)
+    → s.spot ≡ bare_whole → EndsInNumber front
 bare_whole_ends exact front s runs at_whole = elim (came exact front s runs) [
   | inl same ↦ let h : item ≡ bare_whole = sym (ap (λ (y : State). y.spot) same) ∙ at_whole in cc
   | inr (before, t, split, (from, ran, steps)) ↦
-      let (y, is) = subst (λ spot. ComesFrom spot t) at_whole
+      let (z, is) = subst (λ spot. ComesFrom spot t) at_whole
       (step_from exact from.spot from.stack from.paths t s steps) in
-      let leads = number_leads_to exact from.spot from.stack from.paths y s
-      (ap (λ z. step exact from z) (sym is) ∙ steps) in
-      let (x, at_second, kept) = from_bare from.spot from.stack s.stack y s.spot at_whole leads in
-      let (outer, first_split) = bare_ends exact before from x ran at_second in (
-        (outer, pair x y, point_split front before outer x y t split is first_split),
-        (λ none. bare_open exact before from x ran at_second (kept ∙ none)),
-      )
+      (before, z, split ∙ ap (λ y. before ++ y ∷ []) is)
 ]
+
+-- a point without brackets stands in a list
+runs_in_list : (exact : Bool) (s last : State) (tokens : List Token) → IsInList s.spot s.stack
+    → run (step exact) s tokens ≡ Some last → IsInList last.spot last.stack
+runs_in_list exact s last [] is runs = subst (λ (x : State). IsInList x.spot x.stack) (same_Some s last runs) is
+runs_in_list exact s last (t ∷ ts) is runs =
+    let step_runs : option_and_then (λ next. run (step exact) next ts) (step exact s t) ≡ Some last = runs in
+    at_step (step exact s t) refl step_runs (λ next inside h. runs_in_list exact next last ts inside h)
   where
-    bare_open : (exact : Bool) (front : List Token) (s : State) (x : Number) → run (step exact) start front ≡ Some s
-        → s.spot ≡ bare_second x → s.stack ≡ [] → ⊥
-    bare_open exact front s x runs at_second none = elim (came exact front s runs) [
-      | inl same ↦ let h : item ≡ bare_second x = sym (ap (λ (y : State). y.spot) same) ∙ at_second in cc
-      | inr (before, t, split, (from, ran, steps)) ↦
-          let is : t ≡ number x = subst (λ spot. ComesFrom spot t) at_second
-          (step_from exact from.spot from.stack from.paths t s steps) in
-          from_item from.spot from.stack s.stack x x s.spot at_second
-          (number_leads_to exact from.spot from.stack from.paths x s (ap (λ z. step exact from z) (sym is) ∙ steps))
-          none
-    ]
+    at_step : (to : Option State) → step exact s t ≡ to
+        → option_and_then (λ next. run (step exact) next ts) to ≡ Some last
+        → ((next : State) → IsInList next.spot next.stack → run (step exact) next ts ≡ Some last
+        → IsInList last.spot last.stack) → IsInList last.spot last.stack
+    at_step None e h on = cc
+    at_step (Some next) e h on = on next (step_in_list exact s.spot s.stack s.paths t next e is) h
 
--- points in brackets end in a point
-joined_last : (one : Point) (more : List Point)
-    → (before : List Token) × (p : Point) × (joined_points one more ≡ before ++ point_tokens p)
-joined_last one [] = ([], one, refl)
-joined_last one (next ∷ more) =
-    let (before, p, same) = joined_last next more in
-    (number one.x ∷ number one.y ∷ comma ∷ before, p, ap (λ x. number one.x ∷ number one.y ∷ comma ∷ x) same)
+bare_open : (exact : Bool) (front : List Token) (stack : List Group) (paths : List Path)
+    → run (step exact) start front ≡ Some (state bare_whole stack paths) → stack ≡ [] → ⊥
+bare_open exact front stack paths runs = runs_in_list exact start (state bare_whole stack paths) front tt runs
 
-points_end_in_one : (front : List Placed) (at : ℕ) → EndsInPoints front at → EndsInPoint (tokens_in front)
-points_end_in_one front at (before, points, one, more, split, are) =
-    let (inner, p, same) = joined_last one more in (
-      tokens_in before ++ opening ∷ inner,
-      p,
-      ap tokens_in split ∙ map-append (λ (q : Placed). q.token) before (record { start = at; token = opening } ∷ points)
-          ∙ ap (λ x. tokens_in before ++ opening ∷ x) (are ∙ same)
-          ∙ sym (append_assoc (tokens_in before) (opening ∷ inner) (point_tokens p)),
-    )
+-- Where a number may stand.
+number_place : (exact : Bool) (front : List Token) (s next : State) → run (step exact) start front ≡ Some s
+    → step exact s (number zero_number) ≡ Some next → IsNumberPlace exact front
+number_place exact front s next runs steps = (
+  zero_number,
+  zero_fits exact,
+  viable exact (front ++ number zero_number ∷ []) next
+      (run_next (step exact) start s front (number zero_number) runs ∙ steps),
+)
+
+no_number_place : (exact : Bool) (front : List Token) (s : State) → run (step exact) start front ≡ Some s
+    → ((n : Number) → step exact s (number n) ≡ None) → IsNumberPlace exact front → ⊥
+no_number_place exact front s runs refused (n, fits, viable_front) =
+    not_viable exact (front ++ number n ∷ []) (run_next (step exact) start s front (number n) runs ∙ refused n)
+    viable_front
+
+whole_refuses : (exact : Bool) (listing : Listing) (read : List Point) (stack : List Group) (paths : List Path)
+    (n : Number) → step_at exact (whole listing read) stack paths (number n) ≡ None
+whole_refuses exact (listings.Dot raised) read stack paths n = refl
+whole_refuses exact (listings.List raised) read stack paths n = refl
+whole_refuses exact (listings.Ring raised) read stack paths n = refl
+
+bare_refuses : (exact : Bool) (stack : List Group) (paths : List Path) (n : Number)
+    → step_at exact bare_whole stack paths (number n) ≡ None
+bare_refuses exact [] paths n = refl
+bare_refuses exact (group ∷ outer) paths n = refl
+
+-- what is not behind a whole point
+abbrev IsNoWhole : Spot → Type 0
+IsNoWhole (whole listing read) = ⊥
+IsNoWhole bare_whole = ⊥
+IsNoWhole spot = Unit {0}
+
+fits_steps : (exact : Bool) (make : Number → State)
+    → number_step exact make (number zero_number) ≡ Some (make zero_number)
+fits_steps exact make = rw (zero_fits exact) refl
+
+-- behind a number that is not a point's last one another number may stand
+no_point : (exact : Bool) (front : List Token) (spot : Spot) (stack : List Group) (paths : List Path)
+    → run (step exact) start front ≡ Some (state spot stack paths) → IsNoWhole spot → EndsInPoint exact front → ⊥
+no_point exact front item stack paths runs is (ends, none) =
+    ends_number exact front (state item stack paths) runs ends
+no_point exact front (tagged which) stack paths runs is (ends, none) =
+    ends_number exact front (state (tagged which) stack paths) runs ends
+no_point exact front (content inner) stack paths runs is (ends, none) =
+    ends_number exact front (state (content inner) stack paths) runs ends
+no_point exact front (first listing read) stack paths runs is (ends, none) =
+    ends_number exact front (state (first listing read) stack paths) runs ends
+no_point exact front (second listing read x) stack paths runs is (ends, none) =
+    let make : Number → State = λ y. state (second_leads (is_raised listing) listing read x y) stack paths in
+    none (number_place exact front (state (second listing read x) stack paths) (make zero_number) runs
+    (fits_steps exact make))
+no_point exact front (third listing read x y) stack paths runs is (ends, none) =
+    let make : Number → State = λ z. state (whole listing (read ++ point_with x y (Some z) ∷ [])) stack paths in
+    none (number_place exact front (state (third listing read x y) stack paths) (make zero_number) runs
+    (fits_steps exact make))
+no_point exact front (whole listing read) stack paths runs is ends = is
+no_point exact front (bare_second raised x) stack paths runs is (ends, none) =
+    let make : Number → State = λ y. bare_second_leads raised stack paths x y in
+    none (number_place exact front (state (bare_second raised x) stack paths) (make zero_number) runs
+    (fits_steps exact make))
+no_point exact front (bare_third x y) stack paths runs is (ends, none) =
+    let make : Number → State = λ z. bare_leads stack paths (point_with x y (Some z)) in
+    none (number_place exact front (state (bare_third x y) stack paths) (make zero_number) runs
+    (fits_steps exact make))
+no_point exact front bare_whole stack paths runs is ends = is
+no_point exact front behind stack paths runs is (ends, none) =
+    ends_number exact front (state behind stack paths) runs ends
+
+whole_point : (exact : Bool) (front : List Token) (listing : Listing) (read : List Point) (stack : List Group)
+    (paths : List Path) → run (step exact) start front ≡ Some (state (whole listing read) stack paths)
+    → EndsInPoint exact front
+whole_point exact front listing read stack paths runs = (
+  whole_ends exact front (state (whole listing read) stack paths) listing read runs refl,
+  no_number_place exact front (state (whole listing read) stack paths) runs
+      (λ n. whole_refuses exact listing read stack paths n),
+)
+
+bare_point : (exact : Bool) (front : List Token) (stack : List Group) (paths : List Path)
+    → run (step exact) start front ≡ Some (state bare_whole stack paths) → EndsInPoint exact front
+bare_point exact front stack paths runs = (
+  bare_whole_ends exact front (state bare_whole stack paths) runs refl,
+  no_number_place exact front (state bare_whole stack paths) runs (λ n. bare_refuses exact stack paths n),
+)
 
 -- Where a geometry may stand.
 abbrev point_tag : Token
@@ -269,18 +243,26 @@ tag_taken exact item stack paths is = at (innermost stack) is
   where
     at : (group : Group) → is_geometries group ≡ true
         → (next : State) × (item_step exact group stack paths point_tag ≡ Some next)
-    at groups.Geometries e = (state (content (Points listings.Dot)) stack paths, refl)
-    at groups.Rings e = cc
-    at groups.Dots e = cc
-    at groups.Lists e = cc
-    at groups.Polygons e = cc
+    at groups.Geometries e = (state (tagged kinds.Point) stack paths, refl)
+    at (groups.Rings raised) e = cc
+    at (groups.Dots raised) e = cc
+    at (groups.Lists raised) e = cc
+    at (groups.Polygons raised) e = cc
+tag_taken exact (tagged which) stack paths is = cc
 tag_taken exact (content inner) stack paths is = cc
 tag_taken exact (first listing points) stack paths is = cc
 tag_taken exact (second listing points x) stack paths is = cc
+tag_taken exact (third listing points x y) stack paths is = cc
 tag_taken exact (whole listing points) stack paths is = cc
-tag_taken exact (bare_second x) stack paths is = cc
+tag_taken exact (bare_second raised x) stack paths is = cc
+tag_taken exact (bare_third x y) stack paths is = cc
 tag_taken exact bare_whole stack paths is = cc
 tag_taken exact behind stack paths is = cc
+
+content_refuses : (inner : Content) (stack : List Group) (paths : List Path)
+    → enter_step inner stack paths point_tag ≡ None
+content_refuses (Points listing) stack paths = refl
+content_refuses (Items group) stack paths = refl
 
 tag_refused : (exact : Bool) (spot : Spot) (stack : List Group) (paths : List Path)
     → is_geometry_spot spot stack ≡ false → step_at exact spot stack paths point_tag ≡ None
@@ -288,18 +270,20 @@ tag_refused exact item stack paths is = at (innermost stack) is
   where
     at : (group : Group) → is_geometries group ≡ false → item_step exact group stack paths point_tag ≡ None
     at groups.Geometries e = cc
-    at groups.Rings e = refl
-    at groups.Dots e = refl
-    at groups.Lists e = refl
-    at groups.Polygons e = refl
-tag_refused exact (content (Points listing)) stack paths is = refl
-tag_refused exact (content (Items group)) stack paths is = refl
+    at (groups.Rings raised) e = refl
+    at (groups.Dots raised) e = refl
+    at (groups.Lists raised) e = refl
+    at (groups.Polygons raised) e = refl
+tag_refused exact (tagged which) stack paths is = content_refuses (content_of which false) stack paths
+tag_refused exact (content inner) stack paths is = content_refuses inner stack paths
 tag_refused exact (first listing points) stack paths is = refl
 tag_refused exact (second listing points x) stack paths is = refl
-tag_refused exact (whole listings.Dot points) stack paths is = refl
-tag_refused exact (whole listings.List points) stack paths is = refl
-tag_refused exact (whole listings.Ring points) stack paths is = refl
-tag_refused exact (bare_second x) stack paths is = refl
+tag_refused exact (third listing points x y) stack paths is = refl
+tag_refused exact (whole (listings.Dot raised) points) stack paths is = refl
+tag_refused exact (whole (listings.List raised) points) stack paths is = refl
+tag_refused exact (whole (listings.Ring raised) points) stack paths is = refl
+tag_refused exact (bare_second raised x) stack paths is = refl
+tag_refused exact (bare_third x y) stack paths is = refl
 tag_refused exact bare_whole [] paths is = refl
 tag_refused exact bare_whole (group ∷ outer) paths is = refl
 tag_refused exact behind [] paths is = refl
@@ -332,15 +316,18 @@ deep_tag exact item stack paths which is refused = at (innermost stack) which is
     at groups.Geometries kinds.MultiPoint e r = cc
     at groups.Geometries kinds.MultiLineString e r = cc
     at groups.Geometries kinds.MultiPolygon e r = cc
-    at groups.Rings which e r = cc
-    at groups.Dots which e r = cc
-    at groups.Lists which e r = cc
-    at groups.Polygons which e r = cc
+    at (groups.Rings raised) which e r = cc
+    at (groups.Dots raised) which e r = cc
+    at (groups.Lists raised) which e r = cc
+    at (groups.Polygons raised) which e r = cc
+deep_tag exact (tagged other) stack paths which is refused = cc
 deep_tag exact (content inner) stack paths which is refused = cc
 deep_tag exact (first listing points) stack paths which is refused = cc
 deep_tag exact (second listing points x) stack paths which is refused = cc
+deep_tag exact (third listing points x y) stack paths which is refused = cc
 deep_tag exact (whole listing points) stack paths which is refused = cc
-deep_tag exact (bare_second x) stack paths which is refused = cc
+deep_tag exact (bare_second raised x) stack paths which is refused = cc
+deep_tag exact (bare_third x y) stack paths which is refused = cc
 deep_tag exact bare_whole stack paths which is refused = cc
 deep_tag exact behind stack paths which is refused = cc
 
@@ -372,7 +359,7 @@ none_stray exact front inexact h = h
 none_stray exact front ring h = h
 
 -- A closing bracket.
-none_closing : (exact : Bool) (front : List Placed) → (SpeaksRing front closing → ⊥) → (row : Row)
+none_closing : (exact : Bool) (front : List Placed) → (SpeaksRing exact front closing → ⊥) → (row : Row)
     → Speaks exact front closing row → ⊥
 none_closing exact front no_ring kind h = h
 none_closing exact front no_ring height h = h
@@ -390,39 +377,49 @@ first_ring exact front unread below h = h
 first_ring exact front inexact below h = h
 first_ring exact front ring below h = absurd (omega (arith, below))
 
-behind_point : (exact : Bool) (front : List Placed) (s : State) → run (step exact) start (tokens_in front) ≡ Some s
-    → SpeaksRing front closing → IsBehindPoint s.spot
-behind_point exact front s runs (at, ends) = ends_point exact (tokens_in front) s runs (points_end_in_one front at ends)
-
 bare_closes : (stack : List Group) (paths : List Path) → behind_step stack paths closing ≡ None → stack ≡ []
 bare_closes [] paths e = refl
 bare_closes (group ∷ outer) paths e = cc
+
+-- it is no ring's where no whole point stands before it
+bad_closing : (exact : Bool) (front : List Placed) (at : ℕ) (spot : Spot) (stack : List Group) (paths : List Path)
+    → run (step exact) start (tokens_in front) ≡ Some (state spot stack paths) → IsNoWhole spot
+    → IsTokenFault exact front (placed at closing) (faults.Bad at)
+bad_closing exact front at spot stack paths runs is =
+    (refl, none_closing exact front (λ h. no_point exact (tokens_in front) spot stack paths runs is h.2))
 
 named_closing : (exact : Bool) (front : List Placed) (at opened : ℕ) (spot : Spot) (stack : List Group)
     (paths : List Path) → run (step exact) start (tokens_in front) ≡ Some (state spot stack paths)
     → step_at exact spot stack paths closing ≡ None → IsIn front opened spot
     → IsTokenFault exact front (placed at closing) (closing_fault spot at opened)
 named_closing exact front at opened (whole listing read) stack paths runs refused inside =
-    let ends = in_points front opened listing read inside in
-    (record { speaks = (opened, ends); first = first_ring exact front }, ends)
+    let ends = in_points front opened listing read inside in (
+      record {
+        speaks = (opened, ends, whole_point exact (tokens_in front) listing read stack paths runs);
+        first = first_ring exact front;
+      },
+      ends,
+    )
 named_closing exact front at opened bare_whole stack paths runs refused inside =
-    absurd ((bare_whole_ends exact (tokens_in front) (state bare_whole stack paths) runs refl).1
-    (bare_closes stack paths refused))
+    absurd (bare_open exact (tokens_in front) stack paths runs (bare_closes stack paths refused))
 named_closing exact front at opened item stack paths runs refused inside =
-    (refl, none_closing exact front (λ h. behind_point exact front (state item stack paths) runs h))
+    bad_closing exact front at item stack paths runs tt
+named_closing exact front at opened (tagged which) stack paths runs refused inside =
+    bad_closing exact front at (tagged which) stack paths runs tt
 named_closing exact front at opened (content inner) stack paths runs refused inside =
-    (refl, none_closing exact front (λ h. behind_point exact front (state (content inner) stack paths) runs h))
+    bad_closing exact front at (content inner) stack paths runs tt
 named_closing exact front at opened (first listing points) stack paths runs refused inside =
-    (refl, none_closing exact front (λ h. behind_point exact front (state (first listing points) stack paths) runs h))
-named_closing exact front at opened (second listing points x) stack paths runs refused inside = (
-  refl,
-  none_closing exact front (λ h. behind_point exact front (state (second listing points x) stack paths) runs
-      h),
-)
-named_closing exact front at opened (bare_second x) stack paths runs refused inside =
-    (refl, none_closing exact front (λ h. behind_point exact front (state (bare_second x) stack paths) runs h))
+    bad_closing exact front at (first listing points) stack paths runs tt
+named_closing exact front at opened (second listing points x) stack paths runs refused inside =
+    bad_closing exact front at (second listing points x) stack paths runs tt
+named_closing exact front at opened (third listing points x y) stack paths runs refused inside =
+    bad_closing exact front at (third listing points x y) stack paths runs tt
+named_closing exact front at opened (bare_second raised x) stack paths runs refused inside =
+    bad_closing exact front at (bare_second raised x) stack paths runs tt
+named_closing exact front at opened (bare_third x y) stack paths runs refused inside =
+    bad_closing exact front at (bare_third x y) stack paths runs tt
 named_closing exact front at opened behind stack paths runs refused inside =
-    (refl, none_closing exact front (λ h. behind_point exact front (state behind stack paths) runs h))
+    bad_closing exact front at behind stack paths runs tt
 
 -- Tags.
 none_tag : (exact : Bool) (front : List Placed) (which : Kind) → (IsGeometryPlace exact (tokens_in front) → ⊥)
@@ -495,6 +492,12 @@ none_word exact front Empty is no_place no_tag deep h = h
 none_word exact front Empty is no_place no_tag unread h = h
 none_word exact front Empty is no_place no_tag inexact h = h
 none_word exact front Empty is no_place no_tag ring h = h
+none_word exact front Z is no_place no_tag kind h = no_place h
+none_word exact front Z is no_place no_tag height h = h
+none_word exact front Z is no_place no_tag deep h = h
+none_word exact front Z is no_place no_tag unread h = h
+none_word exact front Z is no_place no_tag inexact h = h
+none_word exact front Z is no_place no_tag ring h = h
 none_word exact front Height is no_place no_tag kind h = no_place h
 none_word exact front Height is no_place no_tag height h = no_tag h
 none_word exact front Height is no_place no_tag deep h = h
@@ -516,6 +519,7 @@ speaks_kind : (exact : Bool) (front : List Placed) (w : Word) → IsNoTag w → 
     → SpeaksKind exact (tokens_in front) (word w)
 speaks_kind exact front (Tag which) is place = absurd is
 speaks_kind exact front Empty is place = place
+speaks_kind exact front Z is place = place
 speaks_kind exact front Height is place = place
 speaks_kind exact front Other is place = place
 
@@ -528,144 +532,69 @@ first_height_word exact front no_place unread below h = absurd (omega (arith, be
 first_height_word exact front no_place inexact below h = absurd (omega (arith, below))
 first_height_word exact front no_place ring below h = absurd (omega (arith, below))
 
+-- M or ZM that is not directly behind a tag
+bad_height : (exact : Bool) (front : List Placed) (at : ℕ) (spot : Spot) (stack : List Group) (paths : List Path)
+    → run (step exact) start (tokens_in front) ≡ Some (state spot stack paths) → is_geometry_spot spot stack ≡ false
+    → (IsBehindTag spot → ⊥) → IsTokenFault exact front (placed at (word Height)) (faults.Bad at)
+bad_height exact front at spot stack paths runs here unlike = (
+  refl,
+  none_word exact front Height tt (no_geometry_place exact (tokens_in front) (state spot stack paths) runs here)
+      (λ h. unlike (ends_tagged exact (tokens_in front) (state spot stack paths) runs h)),
+)
+
 named_other : (exact : Bool) (front : List Placed) (at : ℕ) (w : Word) (spot : Spot) (stack : List Group)
     (paths : List Path) → IsNoTag w
     → run (step exact) start (tokens_in front) ≡ Some (state spot stack paths) → is_geometry_spot spot stack ≡ false
-    → IsTokenFault exact front (placed at (word w)) (other_fault spot w at)
+    → IsTokenFault exact front (placed at (word w)) (other_fault w spot at)
 named_other exact front at (Tag which) spot stack paths is runs here = absurd is
-named_other exact front at Empty item stack paths is runs here = (
+named_other exact front at Empty spot stack paths is runs here = (
   refl,
-  none_word exact front Empty tt (no_geometry_place exact (tokens_in front) (state item stack paths) runs here)
+  none_word exact front Empty tt (no_geometry_place exact (tokens_in front) (state spot stack paths) runs here)
       (λ h. h),
 )
-named_other exact front at Empty (content inner) stack paths is runs here = (
+named_other exact front at Z spot stack paths is runs here = (
   refl,
-  none_word exact front Empty tt (no_geometry_place exact (tokens_in front) (state (content inner) stack paths)
-      runs here) (λ h. h),
+  none_word exact front Z tt (no_geometry_place exact (tokens_in front) (state spot stack paths) runs here) (λ h. h),
 )
-named_other exact front at Empty (first listing points) stack paths is runs here = (
+named_other exact front at Other spot stack paths is runs here = (
   refl,
-  none_word exact front Empty tt (no_geometry_place exact (tokens_in front)
-      (state (first listing points) stack paths) runs here) (λ h. h),
+  none_word exact front Other tt (no_geometry_place exact (tokens_in front) (state spot stack paths) runs here)
+      (λ h. h),
 )
-named_other exact front at Empty (second listing points x) stack paths is runs here = (
-  refl,
-  none_word exact front Empty tt (no_geometry_place exact (tokens_in front)
-      (state (second listing points x) stack paths) runs here) (λ h. h),
-)
-named_other exact front at Empty (whole listing points) stack paths is runs here = (
-  refl,
-  none_word exact front Empty tt (no_geometry_place exact (tokens_in front)
-      (state (whole listing points) stack paths) runs here) (λ h. h),
-)
-named_other exact front at Empty (bare_second x) stack paths is runs here = (
-  refl,
-  none_word exact front Empty tt (no_geometry_place exact (tokens_in front) (state (bare_second x) stack paths)
-      runs here) (λ h. h),
-)
-named_other exact front at Empty bare_whole stack paths is runs here = (
-  refl,
-  none_word exact front Empty tt (no_geometry_place exact (tokens_in front) (state bare_whole stack paths) runs
-      here) (λ h. h),
-)
-named_other exact front at Empty behind stack paths is runs here = (
-  refl,
-  none_word exact front Empty tt (no_geometry_place exact (tokens_in front) (state behind stack paths) runs
-      here) (λ h. h),
-)
-named_other exact front at Height item stack paths is runs here = (
-  refl,
-  none_word exact front Height tt (no_geometry_place exact (tokens_in front) (state item stack paths) runs
-      here) (λ h. ends_content exact (tokens_in front) (state item stack paths) runs h),
-)
-named_other exact front at Height (content inner) stack paths is runs here = (
+named_other exact front at Height (tagged which) stack paths is runs here = (
   refl,
   record {
-    speaks = content_ends exact (tokens_in front) (state (content inner) stack paths) inner runs refl;
-    first = first_height_word exact front (no_geometry_place exact (tokens_in front) (state (content inner) stack paths)
+    speaks = tagged_ends exact (tokens_in front) (state (tagged which) stack paths) which runs refl;
+    first = first_height_word exact front (no_geometry_place exact (tokens_in front) (state (tagged which) stack paths)
         runs here);
   },
 )
-named_other exact front at Height (first listing points) stack paths is runs here = (
-  refl,
-  none_word exact front Height tt (no_geometry_place exact (tokens_in front)
-      (state (first listing points) stack paths) runs here)
-      (λ h. ends_content exact (tokens_in front) (state (first listing points) stack paths) runs h),
-)
-named_other exact front at Height (second listing points x) stack paths is runs here = (
-  refl,
-  none_word exact front Height tt (no_geometry_place exact (tokens_in front)
-      (state (second listing points x) stack paths) runs here)
-      (λ h. ends_content exact (tokens_in front) (state (second listing points x) stack paths) runs h),
-)
-named_other exact front at Height (whole listing points) stack paths is runs here = (
-  refl,
-  none_word exact front Height tt (no_geometry_place exact (tokens_in front)
-      (state (whole listing points) stack paths) runs here)
-      (λ h. ends_content exact (tokens_in front) (state (whole listing points) stack paths) runs h),
-)
-named_other exact front at Height (bare_second x) stack paths is runs here = (
-  refl,
-  none_word exact front Height tt (no_geometry_place exact (tokens_in front)
-      (state (bare_second x) stack paths) runs here)
-      (λ h. ends_content exact (tokens_in front) (state (bare_second x) stack paths) runs h),
-)
-named_other exact front at Height bare_whole stack paths is runs here = (
-  refl,
-  none_word exact front Height tt (no_geometry_place exact (tokens_in front) (state bare_whole stack paths)
-      runs here) (λ h. ends_content exact (tokens_in front) (state bare_whole stack paths) runs h),
-)
-named_other exact front at Height behind stack paths is runs here = (
-  refl,
-  none_word exact front Height tt (no_geometry_place exact (tokens_in front) (state behind stack paths) runs
-      here) (λ h. ends_content exact (tokens_in front) (state behind stack paths) runs h),
-)
-named_other exact front at Other item stack paths is runs here = (
-  refl,
-  none_word exact front Other tt (no_geometry_place exact (tokens_in front) (state item stack paths) runs here)
-      (λ h. h),
-)
-named_other exact front at Other (content inner) stack paths is runs here = (
-  refl,
-  none_word exact front Other tt (no_geometry_place exact (tokens_in front) (state (content inner) stack paths)
-      runs here) (λ h. h),
-)
-named_other exact front at Other (first listing points) stack paths is runs here = (
-  refl,
-  none_word exact front Other tt (no_geometry_place exact (tokens_in front)
-      (state (first listing points) stack paths) runs here) (λ h. h),
-)
-named_other exact front at Other (second listing points x) stack paths is runs here = (
-  refl,
-  none_word exact front Other tt (no_geometry_place exact (tokens_in front)
-      (state (second listing points x) stack paths) runs here) (λ h. h),
-)
-named_other exact front at Other (whole listing points) stack paths is runs here = (
-  refl,
-  none_word exact front Other tt (no_geometry_place exact (tokens_in front)
-      (state (whole listing points) stack paths) runs here) (λ h. h),
-)
-named_other exact front at Other (bare_second x) stack paths is runs here = (
-  refl,
-  none_word exact front Other tt (no_geometry_place exact (tokens_in front) (state (bare_second x) stack paths)
-      runs here) (λ h. h),
-)
-named_other exact front at Other bare_whole stack paths is runs here = (
-  refl,
-  none_word exact front Other tt (no_geometry_place exact (tokens_in front) (state bare_whole stack paths) runs
-      here) (λ h. h),
-)
-named_other exact front at Other behind stack paths is runs here = (
-  refl,
-  none_word exact front Other tt (no_geometry_place exact (tokens_in front) (state behind stack paths) runs
-      here) (λ h. h),
-)
+named_other exact front at Height item stack paths is runs here =
+    bad_height exact front at item stack paths runs here (λ h. h)
+named_other exact front at Height (content inner) stack paths is runs here =
+    bad_height exact front at (content inner) stack paths runs here (λ h. h)
+named_other exact front at Height (first listing points) stack paths is runs here =
+    bad_height exact front at (first listing points) stack paths runs here (λ h. h)
+named_other exact front at Height (second listing points x) stack paths is runs here =
+    bad_height exact front at (second listing points x) stack paths runs here (λ h. h)
+named_other exact front at Height (third listing points x y) stack paths is runs here =
+    bad_height exact front at (third listing points x y) stack paths runs here (λ h. h)
+named_other exact front at Height (whole listing points) stack paths is runs here =
+    bad_height exact front at (whole listing points) stack paths runs here (λ h. h)
+named_other exact front at Height (bare_second raised x) stack paths is runs here =
+    bad_height exact front at (bare_second raised x) stack paths runs here (λ h. h)
+named_other exact front at Height (bare_third x y) stack paths is runs here =
+    bad_height exact front at (bare_third x y) stack paths runs here (λ h. h)
+named_other exact front at Height bare_whole stack paths is runs here =
+    bad_height exact front at bare_whole stack paths runs here (λ h. h)
+named_other exact front at Height behind stack paths is runs here =
+    bad_height exact front at behind stack paths runs here (λ h. h)
 
 named_no_tag : (exact : Bool) (front : List Placed) (at : ℕ) (w : Word) (spot : Spot) (stack : List Group)
     (paths : List Path) → IsNoTag w
     → run (step exact) start (tokens_in front) ≡ Some (state spot stack paths)
     → IsTokenFault exact front (placed at (word w))
-    (if is_geometry_spot spot stack then faults.Kind at else other_fault spot w at)
+    (if is_geometry_spot spot stack then faults.Kind at else other_fault w spot at)
 named_no_tag exact front at w spot stack paths is runs = elim (tested (is_geometry_spot spot stack)) [
   | yes here ↦
       rw here (
@@ -685,11 +614,12 @@ named_word : (exact : Bool) (front : List Placed) (at : ℕ) (w : Word) (s : Sta
     → IsTokenFault exact front (placed at (word w)) (word_fault s.spot s.stack w at)
 named_word exact front at (Tag which) s runs refused = named_tag exact front at s which runs refused
 named_word exact front at Empty s runs refused = named_no_tag exact front at Empty s.spot s.stack s.paths tt runs
+named_word exact front at Z s runs refused = named_no_tag exact front at Z s.spot s.stack s.paths tt runs
 named_word exact front at Height s runs refused = named_no_tag exact front at Height s.spot s.stack s.paths tt runs
 named_word exact front at Other s runs refused = named_no_tag exact front at Other s.spot s.stack s.paths tt runs
 
 -- Numbers.
-none_number : (exact : Bool) (front : List Placed) (n : Number) → (EndsInPoint (tokens_in front) → ⊥)
+none_number : (exact : Bool) (front : List Placed) (n : Number) → (EndsInPoint exact (tokens_in front) → ⊥)
     → (IsUnread (measured n.text) → ⊥)
     → ((exact ≡ true) × IsInexact (measured n.text) → ⊥) → (row : Row) → Speaks exact front (number n) row → ⊥
 none_number exact front n no_point read fits kind h = h
@@ -708,7 +638,8 @@ first_height exact front n unread below h = absurd (omega (arith, below))
 first_height exact front n inexact below h = absurd (omega (arith, below))
 first_height exact front n ring below h = absurd (omega (arith, below))
 
-first_unread : (exact : Bool) (front : List Placed) (n : Number) → (EndsInPoint (tokens_in front) → ⊥) → (other : Row)
+first_unread : (exact : Bool) (front : List Placed) (n : Number) → (EndsInPoint exact (tokens_in front) → ⊥)
+    → (other : Row)
     → rank other < rank unread → Speaks exact front (number n) other → ⊥
 first_unread exact front n no_point kind below h = h
 first_unread exact front n no_point height below h = no_point h
@@ -717,7 +648,7 @@ first_unread exact front n no_point unread below h = absurd (omega (arith, below
 first_unread exact front n no_point inexact below h = absurd (omega (arith, below))
 first_unread exact front n no_point ring below h = absurd (omega (arith, below))
 
-first_inexact : (exact : Bool) (front : List Placed) (n : Number) → (EndsInPoint (tokens_in front) → ⊥)
+first_inexact : (exact : Bool) (front : List Placed) (n : Number) → (EndsInPoint exact (tokens_in front) → ⊥)
     → (IsUnread (measured n.text) → ⊥)
     → (other : Row) → rank other < rank inexact → Speaks exact front (number n) other → ⊥
 first_inexact exact front n no_point read kind below h = h
@@ -728,7 +659,7 @@ first_inexact exact front n no_point read inexact below h = absurd (omega (arith
 first_inexact exact front n no_point read ring below h = absurd (omega (arith, below))
 
 named_answer : (exact : Bool) (front : List Placed) (at : ℕ) (n : Number) (answer : Result MmRead NumFault)
-    → measured n.text ≡ answer → (EndsInPoint (tokens_in front) → ⊥)
+    → measured n.text ≡ answer → (EndsInPoint exact (tokens_in front) → ⊥)
     → IsTokenFault exact front (placed at (number n)) (answer_fault exact answer at)
 named_answer exact front at n (Err fault) is no_point =
     (refl, record { speaks = (fault, is); first = first_unread exact front n no_point }, is)
@@ -762,42 +693,42 @@ named_answer exact front at n (Ok read) is no_point = elim (tested (exact && not
     both_false true true e x y = cc
     both_false false b e x y = cc
 
+-- a number behind one that is not a point's last
+named_wanted : (exact : Bool) (front : List Placed) (at : ℕ) (n : Number) (spot : Spot) (stack : List Group)
+    (paths : List Path) → run (step exact) start (tokens_in front) ≡ Some (state spot stack paths) → IsNoWhole spot
+    → IsTokenFault exact front (placed at (number n)) (answer_fault exact (measured n.text) at)
+named_wanted exact front at n spot stack paths runs is =
+    named_answer exact front at n (measured n.text) refl
+    (λ h. no_point exact (tokens_in front) spot stack paths runs is h)
+
 named_number : (exact : Bool) (front : List Placed) (at : ℕ) (n : Number) (spot : Spot) (stack : List Group)
     (paths : List Path) → run (step exact) start (tokens_in front) ≡ Some (state spot stack paths)
     → IsTokenFault exact front (placed at (number n)) (number_fault exact spot (measured n.text) at)
 named_number exact front at n (whole listing read) stack paths runs = (
   refl,
   record {
-    speaks = whole_ends exact (tokens_in front) (state (whole listing read) stack paths) listing read
-        runs refl;
+    speaks = whole_point exact (tokens_in front) listing read stack paths runs;
     first = first_height exact front n;
   },
 )
-named_number exact front at n bare_whole stack paths runs = (
-  refl,
-  record {
-    speaks = (bare_whole_ends exact (tokens_in front) (state bare_whole stack paths) runs refl).0;
-    first = first_height exact front n;
-  },
-)
-named_number exact front at n item stack paths runs =
-    named_answer exact front at n (measured n.text) refl
-    (λ h. ends_point exact (tokens_in front) (state item stack paths) runs h)
+named_number exact front at n bare_whole stack paths runs =
+    (refl, record { speaks = bare_point exact (tokens_in front) stack paths runs; first = first_height exact front n })
+named_number exact front at n item stack paths runs = named_wanted exact front at n item stack paths runs tt
+named_number exact front at n (tagged which) stack paths runs =
+    named_wanted exact front at n (tagged which) stack paths runs tt
 named_number exact front at n (content inner) stack paths runs =
-    named_answer exact front at n (measured n.text) refl
-    (λ h. ends_point exact (tokens_in front) (state (content inner) stack paths) runs h)
+    named_wanted exact front at n (content inner) stack paths runs tt
 named_number exact front at n (first listing points) stack paths runs =
-    named_answer exact front at n (measured n.text) refl
-    (λ h. ends_point exact (tokens_in front) (state (first listing points) stack paths) runs h)
+    named_wanted exact front at n (first listing points) stack paths runs tt
 named_number exact front at n (second listing points x) stack paths runs =
-    named_answer exact front at n (measured n.text) refl
-    (λ h. ends_point exact (tokens_in front) (state (second listing points x) stack paths) runs h)
-named_number exact front at n (bare_second x) stack paths runs =
-    named_answer exact front at n (measured n.text) refl
-    (λ h. ends_point exact (tokens_in front) (state (bare_second x) stack paths) runs h)
-named_number exact front at n behind stack paths runs =
-    named_answer exact front at n (measured n.text) refl
-    (λ h. ends_point exact (tokens_in front) (state behind stack paths) runs h)
+    named_wanted exact front at n (second listing points x) stack paths runs tt
+named_number exact front at n (third listing points x y) stack paths runs =
+    named_wanted exact front at n (third listing points x y) stack paths runs tt
+named_number exact front at n (bare_second raised x) stack paths runs =
+    named_wanted exact front at n (bare_second raised x) stack paths runs tt
+named_number exact front at n (bare_third x y) stack paths runs =
+    named_wanted exact front at n (bare_third x y) stack paths runs tt
+named_number exact front at n behind stack paths runs = named_wanted exact front at n behind stack paths runs tt
 
 -- a token that is refused has this fault
 pub named : (exact : Bool) (front : List Placed) (at opened : ℕ) (t : Token) (s : State)

@@ -6,8 +6,10 @@ use Rattle.mm_decimal.specs.declared.reading.MmRead.{MmRead}
 use Rattle.mm_decimal.specs.declared.reading.NumFault.{NumFault}
 use Rattle.sheet_base.specs.declared.faults.LayerFault.{LayerFault}
 use Rattle.sheet_base.specs.declared.faults.LayerFault.TheVariants as faults
-use Rattle.wkt_layer.specs.Tokens.{Token, opening, closing, comma, word, number, stray, Placed, tokens_of}
+use Rattle.wkt_layer.specs.Tokens.{Number, Token, opening, closing, comma, word, number, stray, Placed, tokens_of}
+use Rattle.std.specs.Prelude.{Option, Some, None}
 use Rattle.wkt_layer.specs.Numbers.{Point}
+use Rattle.wkt_layer.specs.Geometries.{third_tokens}
 use Rattle.wkt_layer.specs.Lines.{IsLine, tokens_in}
 use Rattle.wkt_layer.specs.Faults.{joined_points, EndsInPoints, Row, kind, height, deep, unread, inexact, ring, rank}
 use Rattle.wkt_layer.specs.Faults.{Speaks, Decides, IsAnswer, IsTokenFault, IsFaultBehind, IsLineFault}
@@ -39,9 +41,18 @@ abbrev HasNone : List Token → Type 0
 HasNone [] = Unit {0}
 HasNone (token ∷ tokens) = (token ≡ opening → ⊥) × HasNone tokens
 
+none_after : (z : Option Number) (tokens : List Token) → HasNone tokens → HasNone (third_tokens z ++ tokens)
+none_after None tokens none = none
+none_after (Some z) tokens none = ((λ e. cc), none)
+
+none_third : (z : Option Number) → HasNone (third_tokens z)
+none_third None = tt
+none_third (Some z) = ((λ e. cc), tt)
+
 none_joined : (first : Point) (more : List Point) → HasNone (joined_points first more)
-none_joined first [] = ((λ e. cc), ((λ e. cc), tt))
-none_joined first (next ∷ more) = ((λ e. cc), ((λ e. cc), ((λ e. cc), none_joined next more)))
+none_joined first [] = ((λ e. cc), ((λ e. cc), none_third first.z))
+none_joined first (next ∷ more) =
+    ((λ e. cc), ((λ e. cc), none_after first.z (comma ∷ joined_points next more) ((λ e. cc), none_joined next more)))
 
 none_bracket : (before points : List Placed) (at : ℕ)
     → HasNone (tokens_in (before ++ record { start = at; token = opening } ∷ points)) → ⊥

@@ -1,25 +1,26 @@
 -- The pass over the tokens of a line reads the line's geometry, and refuses each other line at its first fault.
 use Rattle.std.proofs.Common.{◌≡◌, ℕ, ◌+◌, ◌<◌, Bool, true, false, List, [], ◌∷◌, ◌++◌, length, refl, sym, ap, ◌∙◌}
 use Rattle.std.proofs.Common.{subst, append-nil, take}
-use Rattle.std.specs.Prelude.{Option, Some, None, nat_lt, if◌then◌else◌}
+use Rattle.std.specs.Prelude.{Option, Some, None, if◌then◌else◌}
 use Rattle.std.proofs.lemmas.Option.{same_Some}
-use Rattle.mm_decimal.specs.Measured.{measured}
-use Rattle.sheet_base.specs.declared.paths.PathKind.TheVariants.{Dot}
-use Rattle.wkt_layer.specs.Tokens.{Token, opening, closing, comma, word, number, stray}
-use Rattle.wkt_layer.specs.Numbers.{Point, does_fit}
+use Rattle.wkt_layer.specs.Tokens.{Number, Token, opening, closing, comma, word, number, stray}
+use Rattle.wkt_layer.specs.Numbers.{Point, IsNumber}
 use Rattle.wkt_layer.specs.Geometries.{Member, dot, bare, Geometry, point, line_string, polygon, multi_point}
 use Rattle.wkt_layer.specs.Geometries.{multi_line_string, multi_polygon, collection, Geometries, no_geometry, geometry}
 use Rattle.wkt_layer.specs.Geometries.{content_tokens, points_tokens, member_tokens, lists_tokens, geometry_tokens}
 use Rattle.wkt_layer.specs.Geometries.{geometries_tokens, ArePoints, IsGeometry}
 use Rattle.wkt_layer.specs.Paths.{Path, path_of, geometry_paths}
-use Rattle.wkt_layer.specs.States.{Spot, item, content, first, second, whole, bare_second, bare_whole, behind, State}
-use Rattle.wkt_layer.specs.States.{state, innermost, pair, kind_of, step, step_at, enter_step, tag_step, item_step}
-use Rattle.wkt_layer.specs.States.{whole_step, behind_step, may_end, content_of}
+use Rattle.wkt_layer.specs.States.{Spot, item, tagged, content, first, second, third, whole, bare_second, bare_third}
+use Rattle.wkt_layer.specs.States.{bare_whole, behind, State}
+use Rattle.wkt_layer.specs.States.{state, innermost, point_with, kind_of, content_of, is_raised, may_nest, second_leads}
+use Rattle.wkt_layer.specs.States.{bare_leads, bare_second_leads, step, step_at, enter_step, tag_step, tagged_step}
+use Rattle.wkt_layer.specs.States.{number_step, item_step}
+use Rattle.wkt_layer.specs.States.{whole_step, behind_step, may_end}
 use Rattle.wkt_layer.proofs.Rests.{ItemOf, ItemsOf, item_tokens, more_tokens, items_tokens, Closes, ClosesPoints, Rests}
-use Rattle.wkt_layer.proofs.Rests.{Follows}
+use Rattle.wkt_layer.proofs.Rests.{Enters, Follows}
 use Rattle.wkt_layer.specs.declared.limits.TheConstants.{DEEPEST}
-use Rattle.wkt_layer.specs.declared.words.Kind.TheVariants as kinds
-use Rattle.wkt_layer.specs.declared.words.Word.TheVariants.{Tag, Empty, Height, Other}
+use Rattle.wkt_layer.specs.declared.words.Kind.{Kind}
+use Rattle.wkt_layer.specs.declared.words.Word.TheVariants.{Tag, Empty, Z, Height, Other}
 use Rattle.wkt_layer.specs.declared.places.Content.{Content}
 use Rattle.wkt_layer.specs.declared.places.Content.TheVariants.{Points, Items}
 use Rattle.wkt_layer.specs.declared.places.Listing.{Listing}
@@ -34,7 +35,7 @@ use Rattle.wkt_layer.specs.Lines.{IsLine, IsViable}
 use Rattle.wkt_layer.specs.States.{start, IsLast, IsEnd}
 use Rattle.wkt_layer.proofs.Taking.{token_leads}
 use Rattle.wkt_layer.proofs.Taken.{number_taken, token_before}
-use Rattle.wkt_layer.proofs.Completions.{AreRead, are_push, can_follow}
+use Rattle.wkt_layer.proofs.Completions.{AreRead, are_push, third_is, third_none, can_follow}
 
 -- a contents has a token at least
 points_begin : (points : List Point) (rest : List Token) → [] ≡ points_tokens points ++ rest → ⊥
@@ -59,38 +60,38 @@ geometries_begin no_geometry rest e = cc
 geometries_begin (geometry one more) rest e = cc
 
 geometry_begins : (one : Geometry) (rest : List Token) → [] ≡ geometry_tokens one ++ rest → ⊥
-geometry_begins (point points) rest e = cc
-geometry_begins (line_string points) rest e = cc
-geometry_begins (polygon rings) rest e = cc
-geometry_begins (multi_point members) rest e = cc
-geometry_begins (multi_line_string lists) rest e = cc
-geometry_begins (multi_polygon polygons) rest e = cc
-geometry_begins (collection geometries) rest e = cc
+geometry_begins (point raised points) rest e = cc
+geometry_begins (line_string raised points) rest e = cc
+geometry_begins (polygon raised rings) rest e = cc
+geometry_begins (multi_point raised members) rest e = cc
+geometry_begins (multi_line_string raised lists) rest e = cc
+geometry_begins (multi_polygon raised polygons) rest e = cc
+geometry_begins (collection raised geometries) rest e = cc
 
 item_begins : (group : Group) (one : ItemOf group) (rest : List Token) → [] ≡ item_tokens group one ++ rest → ⊥
-item_begins groups.Rings one rest e = points_begin one rest e
-item_begins groups.Dots (dot points) rest e = points_begin points rest e
-item_begins groups.Dots (bare p) rest e = cc
-item_begins groups.Lists one rest e = points_begin one rest e
-item_begins groups.Polygons one rest e = lists_begin one rest e
+item_begins (groups.Rings raised) one rest e = points_begin one rest e
+item_begins (groups.Dots raised) (dot points) rest e = points_begin points rest e
+item_begins (groups.Dots raised) (bare p) rest e = cc
+item_begins (groups.Lists raised) one rest e = points_begin one rest e
+item_begins (groups.Polygons raised) one rest e = lists_begin one rest e
 item_begins groups.Geometries one rest e = geometry_begins one rest e
 
 items_begin : (group : Group) (items : ItemsOf group) (rest : List Token) → [] ≡ items_tokens group items ++ rest → ⊥
-items_begin groups.Rings items rest e = lists_begin items rest e
-items_begin groups.Dots items rest e = members_begin items rest e
-items_begin groups.Lists items rest e = lists_begin items rest e
-items_begin groups.Polygons items rest e = polygons_begin items rest e
+items_begin (groups.Rings raised) items rest e = lists_begin items rest e
+items_begin (groups.Dots raised) items rest e = members_begin items rest e
+items_begin (groups.Lists raised) items rest e = lists_begin items rest e
+items_begin (groups.Polygons raised) items rest e = polygons_begin items rest e
 items_begin groups.Geometries items rest e = geometries_begin items rest e
 
 more_begin : (group : Group) (more : ItemsOf group) (rest : List Token) → [] ≡ more_tokens group more ++ rest → ⊥
-more_begin groups.Rings [] rest e = cc
-more_begin groups.Rings (one ∷ more) rest e = cc
-more_begin groups.Dots [] rest e = cc
-more_begin groups.Dots (one ∷ more) rest e = cc
-more_begin groups.Lists [] rest e = cc
-more_begin groups.Lists (one ∷ more) rest e = cc
-more_begin groups.Polygons [] rest e = cc
-more_begin groups.Polygons (one ∷ more) rest e = cc
+more_begin (groups.Rings raised) [] rest e = cc
+more_begin (groups.Rings raised) (one ∷ more) rest e = cc
+more_begin (groups.Dots raised) [] rest e = cc
+more_begin (groups.Dots raised) (one ∷ more) rest e = cc
+more_begin (groups.Lists raised) [] rest e = cc
+more_begin (groups.Lists raised) (one ∷ more) rest e = cc
+more_begin (groups.Polygons raised) [] rest e = cc
+more_begin (groups.Polygons raised) (one ∷ more) rest e = cc
 more_begin groups.Geometries no_geometry rest e = cc
 more_begin groups.Geometries (geometry one more) rest e = cc
 
@@ -109,18 +110,29 @@ points_end : (exact : Bool) (listing : Listing) (read : List Point) (stack : Lis
 points_end exact listing read stack later ([], rest, close, are, on, same, closes, all) = cc
 points_end exact listing read stack later (p ∷ more, rest, close, are, on, same, closes, all) = cc
 
+enters_end : (exact : Bool) (inner : Content) (stack : List Group) (later : List Path)
+    → Enters exact inner stack [] later
+    → ⊥
+enters_end exact (Points listing) stack later (points, rest, close, is, same, closes, all) =
+    points_begin points rest same
+enters_end exact (Items group) stack later (items, rest, close, is, same, closes, all) =
+    items_begin group items rest same
+
 rests_end : (exact : Bool) (spot : Spot) (stack : List Group) (later : List Path) → Rests exact spot stack [] later
     → Ends spot stack later
 rests_end exact item stack later (one, rest, close, is, same, closes, all) =
     absurd (item_begins (innermost stack) one rest same)
-rests_end exact (content (Points listing)) stack later (points, rest, close, is, same, closes, all) =
-    absurd (points_begin points rest same)
-rests_end exact (content (Items group)) stack later (items, rest, close, is, same, closes, all) =
-    absurd (items_begin group items rest same)
+rests_end exact (tagged kind) stack later (true, rest, same, enters) = cc
+rests_end exact (tagged kind) stack later (false, rest, same, enters) =
+    absurd (enters_end exact (content_of kind false) stack later
+    (subst (λ x. Enters exact (content_of kind false) stack x later) (sym same) enters))
+rests_end exact (content inner) stack later enters = absurd (enters_end exact inner stack later enters)
 rests_end exact (first listing read) stack later (p, rest, is, same, closes) = cc
-rests_end exact (second listing read x) stack later (y, rest, is, same, closes) = cc
+rests_end exact (second listing read x) stack later (y, z, rest, is, is_z, same, closes) = cc
+rests_end exact (third listing read x y) stack later (z, rest, is, same, closes) = cc
 rests_end exact (whole listing read) stack later closes = absurd (points_end exact listing read stack later closes)
-rests_end exact (bare_second x) stack later (y, rest, close, is, same, closes, all) = cc
+rests_end exact (bare_second raised x) stack later (y, z, rest, close, is, is_z, same, closes, all) = cc
+rests_end exact (bare_third x y) stack later (z, rest, close, is, same, closes, all) = cc
 rests_end exact bare_whole stack later closes = let h = closes_ends exact stack later closes in (tt, h.0, h.1)
 rests_end exact behind stack later closes = let h = closes_ends exact stack later closes in (tt, h.0, h.1)
 
@@ -128,11 +140,14 @@ end_rests : (exact : Bool) (spot : Spot) (stack : List Group) → IsLast spot �
 end_rests exact bare_whole stack last closed = subst (λ s. Closes exact s [] []) (sym closed) (refl, refl)
 end_rests exact behind stack last closed = subst (λ s. Closes exact s [] []) (sym closed) (refl, refl)
 end_rests exact item stack last closed = absurd last
+end_rests exact (tagged kind) stack last closed = absurd last
 end_rests exact (content inner) stack last closed = absurd last
 end_rests exact (first listing read) stack last closed = absurd last
 end_rests exact (second listing read x) stack last closed = absurd last
+end_rests exact (third listing read x y) stack last closed = absurd last
 end_rests exact (whole listing read) stack last closed = absurd last
-end_rests exact (bare_second x) stack last closed = absurd last
+end_rests exact (bare_second raised x) stack last closed = absurd last
+end_rests exact (bare_third x y) stack last closed = absurd last
 
 -- the pass takes all that follows, to an end
 abbrev RunsOut : Bool → State → List Token → List Path → Type 0
@@ -233,6 +248,8 @@ enter_read exact (Points listing) stack paths (word Empty) next e =
 enter_read exact (Items group) stack paths (word Empty) next e = leads_read exact (state behind stack paths) next e tt
 enter_read exact (Points listing) stack paths (word (Tag kind)) next e = cc
 enter_read exact (Items group) stack paths (word (Tag kind)) next e = cc
+enter_read exact (Points listing) stack paths (word Z) next e = cc
+enter_read exact (Items group) stack paths (word Z) next e = cc
 enter_read exact (Points listing) stack paths (word Height) next e = cc
 enter_read exact (Items group) stack paths (word Height) next e = cc
 enter_read exact (Points listing) stack paths (word Other) next e = cc
@@ -248,75 +265,98 @@ enter_read exact (Items group) stack paths stray next e = cc
 
 tag_read : (exact : Bool) (stack : List Group) (paths : List Path) (t : Token) (next : State)
     → tag_step stack paths t ≡ Some next → Read exact next
-tag_read exact stack paths (word (Tag kinds.Collection)) next e =
-    if_read exact (nat_lt (length stack) DEEPEST) (state (content (Items groups.Geometries)) stack paths) next e tt
-tag_read exact stack paths (word (Tag kinds.Point)) next e =
-    leads_read exact (state (content (content_of kinds.Point)) stack paths) next e tt
-tag_read exact stack paths (word (Tag kinds.LineString)) next e =
-    leads_read exact (state (content (content_of kinds.LineString)) stack paths) next e tt
-tag_read exact stack paths (word (Tag kinds.Polygon)) next e =
-    leads_read exact (state (content (content_of kinds.Polygon)) stack paths) next e tt
-tag_read exact stack paths (word (Tag kinds.MultiPoint)) next e =
-    leads_read exact (state (content (content_of kinds.MultiPoint)) stack paths) next e tt
-tag_read exact stack paths (word (Tag kinds.MultiLineString)) next e =
-    leads_read exact (state (content (content_of kinds.MultiLineString)) stack paths) next e tt
-tag_read exact stack paths (word (Tag kinds.MultiPolygon)) next e =
-    leads_read exact (state (content (content_of kinds.MultiPolygon)) stack paths) next e tt
-tag_read exact stack paths (word Empty) next e = cc
-tag_read exact stack paths (word Height) next e = cc
-tag_read exact stack paths (word Other) next e = cc
 tag_read exact stack paths opening next e = cc
 tag_read exact stack paths closing next e = cc
 tag_read exact stack paths comma next e = cc
+tag_read exact stack paths (word (Tag kind)) next e =
+    if_read exact (may_nest kind stack) (state (tagged kind) stack paths) next e tt
+tag_read exact stack paths (word Empty) next e = cc
+tag_read exact stack paths (word Z) next e = cc
+tag_read exact stack paths (word Height) next e = cc
+tag_read exact stack paths (word Other) next e = cc
 tag_read exact stack paths (number n) next e = cc
 tag_read exact stack paths stray next e = cc
 
+tagged_read : (exact : Bool) (kind : Kind) (stack : List Group) (paths : List Path) (t : Token) (next : State)
+    → tagged_step kind stack paths t ≡ Some next → Read exact next
+tagged_read exact kind stack paths (word Z) next e =
+    leads_read exact (state (content (content_of kind true)) stack paths) next e tt
+tagged_read exact kind stack paths (word Empty) next e =
+    enter_read exact (content_of kind false) stack paths (word Empty) next e
+tagged_read exact kind stack paths (word Height) next e =
+    enter_read exact (content_of kind false) stack paths (word Height) next e
+tagged_read exact kind stack paths (word Other) next e =
+    enter_read exact (content_of kind false) stack paths (word Other) next e
+tagged_read exact kind stack paths (word (Tag other)) next e =
+    enter_read exact (content_of kind false) stack paths (word (Tag other)) next e
+tagged_read exact kind stack paths opening next e = enter_read exact (content_of kind false) stack paths opening next e
+tagged_read exact kind stack paths closing next e = enter_read exact (content_of kind false) stack paths closing next e
+tagged_read exact kind stack paths comma next e = enter_read exact (content_of kind false) stack paths comma next e
+tagged_read exact kind stack paths (number n) next e =
+    enter_read exact (content_of kind false) stack paths (number n) next e
+tagged_read exact kind stack paths stray next e = enter_read exact (content_of kind false) stack paths stray next e
+
+-- a number was read
+fit_read : (exact : Bool) (make : Number → State) (t : Token) (next : State)
+    → ((n : Number) → IsNumber exact n → Read exact (make n)) → number_step exact make t ≡ Some next → Read exact next
+fit_read exact make t next are e =
+    let (n, is, fits, made) = number_taken exact make t next e in
+    subst (λ (s : State). Read exact s) (sym made) (are n fits)
+
 item_read : (exact : Bool) (group : Group) (stack : List Group) (paths : List Path) (t : Token) (next : State)
     → item_step exact group stack paths t ≡ Some next → Read exact next
-item_read exact groups.Rings stack paths t next e = enter_read exact (Points listings.Ring) stack paths t next e
-item_read exact groups.Lists stack paths t next e = enter_read exact (Points listings.List) stack paths t next e
-item_read exact groups.Polygons stack paths t next e = enter_read exact (Items groups.Rings) stack paths t next e
+item_read exact (groups.Rings raised) stack paths t next e =
+    enter_read exact (Points (listings.Ring raised)) stack paths t next e
+item_read exact (groups.Lists raised) stack paths t next e =
+    enter_read exact (Points (listings.List raised)) stack paths t next e
+item_read exact (groups.Polygons raised) stack paths t next e =
+    enter_read exact (Items (groups.Rings raised)) stack paths t next e
 item_read exact groups.Geometries stack paths t next e = tag_read exact stack paths t next e
-item_read exact groups.Dots stack paths (number n) next e =
-    if_read exact (does_fit exact (measured n.text)) (state (bare_second n) stack paths) next e tt
-item_read exact groups.Dots stack paths opening next e =
-    enter_read exact (Points listings.Dot) stack paths opening next e
-item_read exact groups.Dots stack paths closing next e =
-    enter_read exact (Points listings.Dot) stack paths closing next e
-item_read exact groups.Dots stack paths comma next e = enter_read exact (Points listings.Dot) stack paths comma next e
-item_read exact groups.Dots stack paths (word w) next e =
-    enter_read exact (Points listings.Dot) stack paths (word w) next e
-item_read exact groups.Dots stack paths stray next e = enter_read exact (Points listings.Dot) stack paths stray next e
+item_read exact (groups.Dots raised) stack paths (number n) next e =
+    fit_read exact (λ x. state (bare_second raised x) stack paths) (number n) next (λ m fits. fits) e
+item_read exact (groups.Dots raised) stack paths opening next e =
+    enter_read exact (Points (listings.Dot raised)) stack paths opening next e
+item_read exact (groups.Dots raised) stack paths closing next e =
+    enter_read exact (Points (listings.Dot raised)) stack paths closing next e
+item_read exact (groups.Dots raised) stack paths comma next e =
+    enter_read exact (Points (listings.Dot raised)) stack paths comma next e
+item_read exact (groups.Dots raised) stack paths (word w) next e =
+    enter_read exact (Points (listings.Dot raised)) stack paths (word w) next e
+item_read exact (groups.Dots raised) stack paths stray next e =
+    enter_read exact (Points (listings.Dot raised)) stack paths stray next e
 
 whole_read : (exact : Bool) (listing : Listing) (points : List Point) (stack : List Group) (paths : List Path)
-    (t : Token) (next : State) → ArePoints exact points
+    (t : Token) (next : State) → ArePoints exact (is_raised listing) points
     → whole_step listing points stack paths t ≡ Some next → Read exact next
-whole_read exact listings.Dot points stack paths comma next are e = cc
-whole_read exact listings.List points stack paths comma next are e =
-    leads_read exact (state (first listings.List points) stack paths) next e are
-whole_read exact listings.Ring points stack paths comma next are e =
-    leads_read exact (state (first listings.Ring points) stack paths) next e are
-whole_read exact listings.Dot points stack paths closing next are e =
-    if_read exact (may_end listings.Dot points) (state behind stack (paths ++ path_of (kind_of listings.Dot) points))
+whole_read exact (listings.Dot raised) points stack paths comma next are e = cc
+whole_read exact (listings.List raised) points stack paths comma next are e =
+    leads_read exact (state (first (listings.List raised) points) stack paths) next e are
+whole_read exact (listings.Ring raised) points stack paths comma next are e =
+    leads_read exact (state (first (listings.Ring raised) points) stack paths) next e are
+whole_read exact (listings.Dot raised) points stack paths closing next are e =
+    if_read exact (may_end (listings.Dot raised) points)
+    (state behind stack (paths ++ path_of (kind_of (listings.Dot raised)) points))
     next e tt
-whole_read exact listings.List points stack paths closing next are e =
-    if_read exact (may_end listings.List points) (state behind stack (paths ++ path_of (kind_of listings.List) points))
+whole_read exact (listings.List raised) points stack paths closing next are e =
+    if_read exact (may_end (listings.List raised) points)
+    (state behind stack (paths ++ path_of (kind_of (listings.List raised)) points))
     next e tt
-whole_read exact listings.Ring points stack paths closing next are e =
-    if_read exact (may_end listings.Ring points) (state behind stack (paths ++ path_of (kind_of listings.Ring) points))
+whole_read exact (listings.Ring raised) points stack paths closing next are e =
+    if_read exact (may_end (listings.Ring raised) points)
+    (state behind stack (paths ++ path_of (kind_of (listings.Ring raised)) points))
     next e tt
-whole_read exact listings.Dot points stack paths opening next are e = cc
-whole_read exact listings.Dot points stack paths (word w) next are e = cc
-whole_read exact listings.Dot points stack paths (number n) next are e = cc
-whole_read exact listings.Dot points stack paths stray next are e = cc
-whole_read exact listings.List points stack paths opening next are e = cc
-whole_read exact listings.List points stack paths (word w) next are e = cc
-whole_read exact listings.List points stack paths (number n) next are e = cc
-whole_read exact listings.List points stack paths stray next are e = cc
-whole_read exact listings.Ring points stack paths opening next are e = cc
-whole_read exact listings.Ring points stack paths (word w) next are e = cc
-whole_read exact listings.Ring points stack paths (number n) next are e = cc
-whole_read exact listings.Ring points stack paths stray next are e = cc
+whole_read exact (listings.Dot raised) points stack paths opening next are e = cc
+whole_read exact (listings.Dot raised) points stack paths (word w) next are e = cc
+whole_read exact (listings.Dot raised) points stack paths (number n) next are e = cc
+whole_read exact (listings.Dot raised) points stack paths stray next are e = cc
+whole_read exact (listings.List raised) points stack paths opening next are e = cc
+whole_read exact (listings.List raised) points stack paths (word w) next are e = cc
+whole_read exact (listings.List raised) points stack paths (number n) next are e = cc
+whole_read exact (listings.List raised) points stack paths stray next are e = cc
+whole_read exact (listings.Ring raised) points stack paths opening next are e = cc
+whole_read exact (listings.Ring raised) points stack paths (word w) next are e = cc
+whole_read exact (listings.Ring raised) points stack paths (number n) next are e = cc
+whole_read exact (listings.Ring raised) points stack paths stray next are e = cc
 
 behind_read : (exact : Bool) (stack : List Group) (paths : List Path) (t : Token) (next : State)
     → behind_step stack paths t ≡ Some next → Read exact next
@@ -328,23 +368,42 @@ behind_read exact (group ∷ outer) paths (word w) next e = cc
 behind_read exact (group ∷ outer) paths (number n) next e = cc
 behind_read exact (group ∷ outer) paths stray next e = cc
 
+-- the second number of a point was read
+second_read : (exact : Bool) (listing : Listing) (points : List Point) (x y : Number) (raised : Bool)
+    (stack : List Group) (paths : List Path) → is_raised listing ≡ raised → ArePoints exact (is_raised listing) points
+    → IsNumber exact x → IsNumber exact y
+    → Read exact (state (second_leads raised listing points x y) stack paths)
+second_read exact listing points x y true stack paths is are one two = (are, one, two, is)
+second_read exact listing points x y false stack paths is are one two =
+    are_push exact (is_raised listing) points (point_with x y None) are
+    (one, two, third_none exact (is_raised listing) is)
+
+bare_second_read : (exact raised : Bool) (x y : Number) (stack : List Group) (paths : List Path) → IsNumber exact x
+    → IsNumber exact y → Read exact (bare_second_leads raised stack paths x y)
+bare_second_read exact true x y stack paths one two = (one, two)
+bare_second_read exact false x y stack paths one two = tt
+
 pub read_step : (exact : Bool) (spot : Spot) (stack : List Group) (paths : List Path) (t : Token) (next : State)
     → AreRead exact spot → step_at exact spot stack paths t ≡ Some next → Read exact next
 read_step exact item stack paths t next are e = item_read exact (innermost stack) stack paths t next e
+read_step exact (tagged kind) stack paths t next are e = tagged_read exact kind stack paths t next e
 read_step exact (content inner) stack paths t next are e = enter_read exact inner stack paths t next e
 read_step exact (first listing points) stack paths t next are e =
-    let (n, is, fits, make) = number_taken exact (λ x. state (second listing points x) stack paths) t next e in
-    subst (λ (s : State). Read exact s) (sym make) (are, fits)
+    fit_read exact (λ x. state (second listing points x) stack paths) t next (λ n fits. (are, fits)) e
 read_step exact (second listing points x) stack paths t next are e =
-    let (n, is, fits, make) = number_taken exact (λ y. state (whole listing (points ++ pair x y ∷ [])) stack paths) t
-    next e in
-    subst (λ (s : State). Read exact s) (sym make) (are_push exact points (pair x n) are.0 (are.1, fits))
+    fit_read exact (λ y. state (second_leads (is_raised listing) listing points x y) stack paths) t next
+    (λ n fits. second_read exact listing points x n (is_raised listing) stack paths refl are.0 are.1 fits) e
+read_step exact (third listing points x y) stack paths t next are e =
+    fit_read exact (λ z. state (whole listing (points ++ point_with x y (Some z) ∷ [])) stack paths) t next
+    (λ n fits. are_push exact (is_raised listing) points (point_with x y (Some n)) are.0
+    (are.1, are.2, third_is exact (is_raised listing) n are.3 fits)) e
 read_step exact (whole listing points) stack paths t next are e =
     whole_read exact listing points stack paths t next are e
-read_step exact (bare_second x) stack paths t next are e =
-    let (n, is, fits, make) = number_taken exact (λ y. state bare_whole stack (paths ++ path_of Dot (pair x y ∷ []))) t
-    next e in
-    subst (λ (s : State). Read exact s) (sym make) tt
+read_step exact (bare_second raised x) stack paths t next are e =
+    fit_read exact (λ y. bare_second_leads raised stack paths x y) t next
+    (λ n fits. bare_second_read exact raised x n stack paths are fits) e
+read_step exact (bare_third x y) stack paths t next are e =
+    fit_read exact (λ z. bare_leads stack paths (point_with x y (Some z))) t next (λ n fits. tt) e
 read_step exact bare_whole stack paths t next are e = behind_read exact stack paths t next e
 read_step exact behind stack paths t next are e = behind_read exact stack paths t next e
 

@@ -1,9 +1,10 @@
 -- What is written of a layer is read as its images.
 use Rattle.std.proofs.Common.{ℕ, ◌+◌, Bool, List, [], ◌∷◌, length, refl, sym, subst}
 use Rattle.sheet_base.specs.Sheets.{Contents}
-use Rattle.sheet_base.specs.Fitting.{Runs, path_images, IsWithinReach, DoFit}
+use Rattle.sheet_base.specs.PointHeights.{IsHeightWithinReach}
+use Rattle.sheet_base.specs.Fitting.{Runs, path_positions, IsWithinReach, DoFit}
 use Rattle.sheet_base.specs.Splices.{AreInOrder, spliced}
-use Rattle.sheet_base.specs.ReadBack.{IsReadBack}
+use Rattle.sheet_base.specs.ReadBack.{AreTheSame, IsReadBack}
 use Rattle.sheet_base.proofs.WrittenLayers.{IsReadAgain, read_back}
 use Rattle.sheet_base.proofs.ListParts.{all_listed}
 use Rattle.wkt_layer.specs.Tokens.{tokens_of}
@@ -14,9 +15,9 @@ use Rattle.wkt_layer.specs.Passes.{AreWhole}
 use Rattle.wkt_layer.proofs.EditOrder.{read_in_order}
 use Rattle.wkt_layer.proofs.Sheets.{whole_append, line_paths_whole}
 use Rattle.wkt_layer.proofs.LineTurns.{IsWritten, text_turned}
-use Rattle.wkt_layer.proofs.SheetTurns.{texts_plain, texts_say, sheet_suits, points_again, rows_again}
+use Rattle.wkt_layer.proofs.SheetTurns.{texts_plain, texts_say, sheet_suits, points_again, heights_again, rows_again}
 
-lines_whole : (exact : Bool) (at : ℕ) (lines : List (List ℕ)) (paths : List Path) → AreLinesOf exact at lines paths
+pub lines_whole : (exact : Bool) (at : ℕ) (lines : List (List ℕ)) (paths : List Path) → AreLinesOf exact at lines paths
     → AreWhole paths
 lines_whole exact at [] paths none = subst AreWhole (sym none) tt
 lines_whole exact at (line ∷ lines) paths (here, others, is, are, same) =
@@ -29,12 +30,13 @@ paths_again : (exact : Bool) (bytes : List ℕ) (paths : List Path) (images : Ru
     → IsReadAgain (IsReadAs exact) (spliced bytes (edit_text (sheet_of paths) images) (edits_from 0 paths))
     (sheet_of paths) images
 paths_again exact bytes paths images are order fit =
-    go (text_turned exact (edit_text (sheet_of paths) images) (path_images (rows_from 0 paths) images)
+    go (text_turned exact (edit_text (sheet_of paths) images) (path_positions (rows_from 0 paths) images)
     (texts_say (sheet_of paths) images)
-    (texts_plain (sheet_of paths) images (all_listed IsWithinReach images.points fit.in_reach)) bytes paths
+    (texts_plain (sheet_of paths) images (all_listed IsWithinReach images.points fit.in_reach)
+    (all_listed IsHeightWithinReach images.heights fit.heights_in_reach)) bytes paths
     (sheet_suits paths images fit (lines_whole exact 0 (lines_of bytes) paths are)) are order)
   where
-    go : IsWritten exact (path_images (rows_from 0 paths) images) 0 paths
+    go : IsWritten exact (path_positions (rows_from 0 paths) images) 0 paths
         (AreLinesOf exact 0 (lines_of (spliced bytes (edit_text (sheet_of paths) images) (edits_from 0 paths))))
         → IsReadAgain (IsReadAs exact) (spliced bytes (edit_text (sheet_of paths) images) (edits_from 0 paths))
         (sheet_of paths) images
@@ -42,6 +44,7 @@ paths_again exact bytes paths images are order fit =
       back = sheet_of w.others;
       is_read = (w.others, w.are_of, refl);
       points = points_again paths images fit w.others w.drawn_are;
+      heights = heights_again paths images fit w.others w.drawn_are;
       paths = rows_again paths images fit w.others w.drawn_are;
       exact_all = w.exact_all;
     }
@@ -59,7 +62,8 @@ read_again exact bytes sheet images (paths, are, same) fit =
 
 pub reads_back : (exact : Bool) (bytes : List ℕ) (sheet : Contents) (images : Runs) → IsReadAs exact bytes sheet
     → DoFit sheet images
-    → IsReadBack (IsReadAs exact) sheet images (spliced bytes (edit_text sheet images) sheet.edits)
+    → IsReadBack (IsReadAs exact) AreTheSame sheet images
+    (spliced bytes (edit_text sheet images) sheet.edits)
 reads_back exact bytes sheet images is fit =
     read_back (IsReadAs exact) (spliced bytes (edit_text sheet images) sheet.edits) sheet images
     (read_again exact bytes sheet images is fit)

@@ -1,17 +1,19 @@
 -- What may follow each state of the pass, and the paths of what follows: by the grammar, and not by the pass.
 use Rattle.std.proofs.Common.{◌≡◌, ℕ, ◌-◌, Bool, List, [], ◌∷◌, ◌++◌, length}
-use Rattle.std.specs.Prelude.{flat_map}
+use Rattle.std.specs.Prelude.{flat_map, Option, Some}
 use Rattle.std.specs.List.{AllByRecursion}
 use Rattle.sheet_base.specs.declared.paths.PathKind.TheVariants.{Dot, Line, Loop}
 use Rattle.wkt_layer.specs.Tokens.{Number, Token, number}
-use Rattle.wkt_layer.specs.Numbers.{Point, IsNumber, IsPoint}
-use Rattle.wkt_layer.specs.Geometries.{Member, Geometry, Geometries, no_geometry, geometry, point_tokens, behind_item}
+use Rattle.wkt_layer.specs.Numbers.{Point, IsNumber, IsThird, IsPoint}
+use Rattle.wkt_layer.specs.Geometries.{Member, Geometry, Geometries, no_geometry, geometry, third_tokens, point_tokens}
+use Rattle.wkt_layer.specs.Geometries.{mark, behind_item}
 use Rattle.wkt_layer.specs.Geometries.{content_tokens, points_tokens, member_tokens, lists_tokens, geometry_tokens}
 use Rattle.wkt_layer.specs.Geometries.{geometries_tokens, behind_geometry, IsClosed, ArePoints, IsDot, IsRing, IsMember}
 use Rattle.wkt_layer.specs.Geometries.{IsGeometry, AreGeometries}
 use Rattle.wkt_layer.specs.Paths.{Path, path_of, member_path, geometry_paths, geometries_paths}
-use Rattle.wkt_layer.specs.States.{Spot, item, content, first, second, whole, bare_second, bare_whole, behind, State}
-use Rattle.wkt_layer.specs.States.{innermost, pair, kind_of}
+use Rattle.wkt_layer.specs.States.{Spot, item, tagged, content, first, second, third, whole, bare_second, bare_third}
+use Rattle.wkt_layer.specs.States.{bare_whole, behind, State}
+use Rattle.wkt_layer.specs.States.{innermost, point_with, kind_of, content_of, is_raised}
 use Rattle.wkt_layer.specs.declared.limits.TheConstants.{DEEPEST}
 use Rattle.wkt_layer.specs.declared.places.Content.{Content}
 use Rattle.wkt_layer.specs.declared.places.Content.TheVariants.{Points, Items}
@@ -26,88 +28,88 @@ room stack = DEEPEST - length stack
 
 -- The items of a list, and one of them.
 abbrev pub ItemOf : Group → Type 0
-ItemOf groups.Rings = List Point
-ItemOf groups.Dots = Member
-ItemOf groups.Lists = List Point
-ItemOf groups.Polygons = List (List Point)
+ItemOf (groups.Rings raised) = List Point
+ItemOf (groups.Dots raised) = Member
+ItemOf (groups.Lists raised) = List Point
+ItemOf (groups.Polygons raised) = List (List Point)
 ItemOf groups.Geometries = Geometry
 
 abbrev pub ItemsOf : Group → Type 0
-ItemsOf groups.Rings = List (List Point)
-ItemsOf groups.Dots = List Member
-ItemsOf groups.Lists = List (List Point)
-ItemsOf groups.Polygons = List (List (List Point))
+ItemsOf (groups.Rings raised) = List (List Point)
+ItemsOf (groups.Dots raised) = List Member
+ItemsOf (groups.Lists raised) = List (List Point)
+ItemsOf (groups.Polygons raised) = List (List (List Point))
 ItemsOf groups.Geometries = Geometries
 
 abbrev pub item_tokens : (group : Group) → ItemOf group → List Token
-item_tokens groups.Rings one = points_tokens one
-item_tokens groups.Dots one = member_tokens one
-item_tokens groups.Lists one = points_tokens one
-item_tokens groups.Polygons one = lists_tokens one
+item_tokens (groups.Rings raised) one = points_tokens one
+item_tokens (groups.Dots raised) one = member_tokens one
+item_tokens (groups.Lists raised) one = points_tokens one
+item_tokens (groups.Polygons raised) one = lists_tokens one
 item_tokens groups.Geometries one = geometry_tokens one
 
 -- the tokens of what stands behind an item
 abbrev pub more_tokens : (group : Group) → ItemsOf group → List Token
-more_tokens groups.Rings more = behind_item points_tokens more
-more_tokens groups.Dots more = behind_item member_tokens more
-more_tokens groups.Lists more = behind_item points_tokens more
-more_tokens groups.Polygons more = behind_item lists_tokens more
+more_tokens (groups.Rings raised) more = behind_item points_tokens more
+more_tokens (groups.Dots raised) more = behind_item member_tokens more
+more_tokens (groups.Lists raised) more = behind_item points_tokens more
+more_tokens (groups.Polygons raised) more = behind_item lists_tokens more
 more_tokens groups.Geometries more = behind_geometry more
 
 abbrev pub items_tokens : (group : Group) → ItemsOf group → List Token
-items_tokens groups.Rings items = lists_tokens items
-items_tokens groups.Dots items = content_tokens member_tokens items
-items_tokens groups.Lists items = lists_tokens items
-items_tokens groups.Polygons items = content_tokens lists_tokens items
+items_tokens (groups.Rings raised) items = lists_tokens items
+items_tokens (groups.Dots raised) items = content_tokens member_tokens items
+items_tokens (groups.Lists raised) items = lists_tokens items
+items_tokens (groups.Polygons raised) items = content_tokens lists_tokens items
 items_tokens groups.Geometries items = geometries_tokens items
 
 abbrev pub IsItem : Bool → ℕ → (group : Group) → ItemOf group → Type 0
-IsItem exact depth groups.Rings one = IsRing exact one
-IsItem exact depth groups.Dots one = IsMember exact one
-IsItem exact depth groups.Lists one = ArePoints exact one
-IsItem exact depth groups.Polygons one = AllByRecursion (IsRing exact) one
+IsItem exact depth (groups.Rings raised) one = IsRing exact raised one
+IsItem exact depth (groups.Dots raised) one = IsMember exact raised one
+IsItem exact depth (groups.Lists raised) one = ArePoints exact raised one
+IsItem exact depth (groups.Polygons raised) one = AllByRecursion (IsRing exact raised) one
 IsItem exact depth groups.Geometries one = IsGeometry exact depth one
 
 abbrev pub AreItems : Bool → ℕ → (group : Group) → ItemsOf group → Type 0
-AreItems exact depth groups.Rings items = AllByRecursion (IsRing exact) items
-AreItems exact depth groups.Dots items = AllByRecursion (IsMember exact) items
-AreItems exact depth groups.Lists items = AllByRecursion (ArePoints exact) items
-AreItems exact depth groups.Polygons items = AllByRecursion (AllByRecursion (IsRing exact)) items
+AreItems exact depth (groups.Rings raised) items = AllByRecursion (IsRing exact raised) items
+AreItems exact depth (groups.Dots raised) items = AllByRecursion (IsMember exact raised) items
+AreItems exact depth (groups.Lists raised) items = AllByRecursion (ArePoints exact raised) items
+AreItems exact depth (groups.Polygons raised) items = AllByRecursion (AllByRecursion (IsRing exact raised)) items
 AreItems exact depth groups.Geometries items = AreGeometries exact depth items
 
 abbrev pub item_paths : (group : Group) → ItemOf group → List Path
-item_paths groups.Rings one = path_of Loop one
-item_paths groups.Dots one = member_path one
-item_paths groups.Lists one = path_of Line one
-item_paths groups.Polygons one = flat_map (path_of Loop) one
+item_paths (groups.Rings raised) one = path_of Loop one
+item_paths (groups.Dots raised) one = member_path one
+item_paths (groups.Lists raised) one = path_of Line one
+item_paths (groups.Polygons raised) one = flat_map (path_of Loop) one
 item_paths groups.Geometries one = geometry_paths one
 
 abbrev pub items_paths : (group : Group) → ItemsOf group → List Path
-items_paths groups.Rings items = flat_map (path_of Loop) items
-items_paths groups.Dots items = flat_map member_path items
-items_paths groups.Lists items = flat_map (path_of Line) items
-items_paths groups.Polygons items = flat_map (flat_map (path_of Loop)) items
+items_paths (groups.Rings raised) items = flat_map (path_of Loop) items
+items_paths (groups.Dots raised) items = flat_map member_path items
+items_paths (groups.Lists raised) items = flat_map (path_of Line) items
+items_paths (groups.Polygons raised) items = flat_map (flat_map (path_of Loop)) items
 items_paths groups.Geometries items = geometries_paths items
 
 abbrev pub no_items : (group : Group) → ItemsOf group
-no_items groups.Rings = []
-no_items groups.Dots = []
-no_items groups.Lists = []
-no_items groups.Polygons = []
+no_items (groups.Rings raised) = []
+no_items (groups.Dots raised) = []
+no_items (groups.Lists raised) = []
+no_items (groups.Polygons raised) = []
 no_items groups.Geometries = no_geometry
 
 abbrev pub one_more : (group : Group) → ItemOf group → ItemsOf group → ItemsOf group
-one_more groups.Rings one more = one ∷ more
-one_more groups.Dots one more = one ∷ more
-one_more groups.Lists one more = one ∷ more
-one_more groups.Polygons one more = one ∷ more
+one_more (groups.Rings raised) one more = one ∷ more
+one_more (groups.Dots raised) one more = one ∷ more
+one_more (groups.Lists raised) one more = one ∷ more
+one_more (groups.Polygons raised) one more = one ∷ more
 one_more groups.Geometries one more = geometry one more
 
 -- The points of a path, of which some were read, go on so.
 abbrev pub GoOn : Listing → List Point → List Point → Type 0
-GoOn listings.Dot read more = more ≡ []
-GoOn listings.List read more = Unit {0}
-GoOn listings.Ring read more = IsClosed (read ++ more)
+GoOn (listings.Dot raised) read more = more ≡ []
+GoOn (listings.List raised) read more = Unit {0}
+GoOn (listings.Ring raised) read more = IsClosed (read ++ more)
 
 -- the tokens are those of the items behind one, and then of what stands behind the list; and so for each list that is
 -- open
@@ -123,15 +125,16 @@ Closes exact (group ∷ outer) tokens paths =
 abbrev pub ClosesPoints : Bool → Listing → List Point → List Group → List Token → List Path → Type 0
 ClosesPoints exact listing read stack tokens paths =
     (more : List Point) × (rest : List Token) × (later : List Path)
-    × ArePoints exact more × GoOn listing read more × (tokens ≡ behind_item point_tokens more ++ rest)
+    × ArePoints exact (is_raised listing) more × GoOn listing read more
+    × (tokens ≡ behind_item point_tokens more ++ rest)
     × Closes exact stack rest later
     × (paths ≡ path_of (kind_of listing) (read ++ more) ++ later)
 
 -- a content of points
 abbrev pub IsContentOfPoints : Bool → Listing → List Point → Type 0
-IsContentOfPoints exact listings.Dot points = IsDot exact points
-IsContentOfPoints exact listings.List points = ArePoints exact points
-IsContentOfPoints exact listings.Ring points = IsRing exact points
+IsContentOfPoints exact (listings.Dot raised) points = IsDot exact raised points
+IsContentOfPoints exact (listings.List raised) points = ArePoints exact raised points
+IsContentOfPoints exact (listings.Ring raised) points = IsRing exact raised points
 
 abbrev pub Enters : Bool → Content → List Group → List Token → List Path → Type 0
 Enters exact (Points listing) stack tokens paths =
@@ -151,18 +154,29 @@ Rests exact item stack tokens paths =
     × IsItem exact (room stack) (innermost stack) one × (tokens ≡ item_tokens (innermost stack) one ++ rest)
     × Closes exact stack rest later
     × (paths ≡ item_paths (innermost stack) one ++ later)
+Rests exact (tagged kind) stack tokens paths =
+    (raised : Bool) × (rest : List Token) × (tokens ≡ mark raised ++ rest)
+    × Enters exact (content_of kind raised) stack rest paths
 Rests exact (content inner) stack tokens paths = Enters exact inner stack tokens paths
 Rests exact (first listing read) stack tokens paths =
-    (p : Point) × (rest : List Token) × IsPoint exact p × (tokens ≡ point_tokens p ++ rest)
+    (p : Point) × (rest : List Token) × IsPoint exact (is_raised listing) p × (tokens ≡ point_tokens p ++ rest)
     × ClosesPoints exact listing (read ++ p ∷ []) stack rest paths
 Rests exact (second listing read x) stack tokens paths =
-    (y : Number) × (rest : List Token) × IsNumber exact y × (tokens ≡ number y ∷ rest)
-    × ClosesPoints exact listing (read ++ pair x y ∷ []) stack rest paths
+    (y : Number) × (z : Option Number) × (rest : List Token) × IsNumber exact y × IsThird exact (is_raised listing) z
+    × (tokens ≡ number y ∷ (third_tokens z ++ rest))
+    × ClosesPoints exact listing (read ++ point_with x y z ∷ []) stack rest paths
+Rests exact (third listing read x y) stack tokens paths =
+    (z : Number) × (rest : List Token) × IsNumber exact z × (tokens ≡ number z ∷ rest)
+    × ClosesPoints exact listing (read ++ point_with x y (Some z) ∷ []) stack rest paths
 Rests exact (whole listing read) stack tokens paths = ClosesPoints exact listing read stack tokens paths
-Rests exact (bare_second x) stack tokens paths =
-    (y : Number) × (rest : List Token) × (later : List Path) × IsNumber exact y × (tokens ≡ number y ∷ rest)
+Rests exact (bare_second raised x) stack tokens paths =
+    (y : Number) × (z : Option Number) × (rest : List Token) × (later : List Path) × IsNumber exact y
+    × IsThird exact raised z × (tokens ≡ number y ∷ (third_tokens z ++ rest)) × Closes exact stack rest later
+    × (paths ≡ path_of Dot (point_with x y z ∷ []) ++ later)
+Rests exact (bare_third x y) stack tokens paths =
+    (z : Number) × (rest : List Token) × (later : List Path) × IsNumber exact z × (tokens ≡ number z ∷ rest)
     × Closes exact stack rest later
-    × (paths ≡ path_of Dot (pair x y ∷ []) ++ later)
+    × (paths ≡ path_of Dot (point_with x y (Some z) ∷ []) ++ later)
 Rests exact bare_whole stack tokens paths = Closes exact stack tokens paths
 Rests exact behind stack tokens paths = Closes exact stack tokens paths
 

@@ -1,27 +1,30 @@
 -- The images of a sheet that fit it, path by path: their texts, that they may take the place of the points, and that
 -- they make up all images.
 use Rattle.std.proofs.Common.{◌≡◌, ◌==◌, ℕ, ◌+◌, ◌<◌, Bool, true, false, List, [], ◌∷◌, ◌++◌, length, refl, ap, ◌∙◌}
-use Rattle.std.proofs.Common.{subst, arith}
-use Rattle.std.specs.Prelude.{map, flat_map, Option, Some, None}
+use Rattle.std.proofs.Common.{sym, subst, arith}
+use Rattle.std.proofs.lemmas.List.{length-map, map-append}
+use Rattle.std.specs.Prelude.{map, flat_map, Option, Some, None, slice_index_or, drop, ◌-◌}
 use Rattle.std.specs.List.{list_all, AllByRecursion}
 use Rattle.std.proofs.lemmas.Bool.{and_parts, eqb-true}
 use Rattle.mm_decimal.specs.Writing.{written}
-use Rattle.plane_base.specs.declared.shapes.Pt.{Pt}
+use Rattle.sheet_base.specs.PointHeights.{Height, Position, IsHeightWithinReach, points_of, heights_of}
 use Rattle.sheet_base.specs.declared.edits.Edit.{Edit}
 use Rattle.sheet_base.specs.declared.paths.PathKind.{PathKind}
 use Rattle.sheet_base.specs.declared.paths.PathKind.TheVariants.{Dot, Line, Loop}
 use Rattle.sheet_base.specs.declared.paths.PathRow.{PathRow}
 use Rattle.sheet_base.specs.Sheets.{Contents}
-use Rattle.sheet_base.specs.Fitting.{Runs, path_images, IsWithinReach, DoFit}
+use Rattle.sheet_base.specs.Fitting.{Runs, run_begin, no_path, positions_in, path_positions, IsWithinReach, DoFit}
 use Rattle.sheet_base.specs.ReadBack.{imaged}
-use Rattle.sheet_base.proofs.ImageRuns.{path_within}
-use Rattle.sheet_base.proofs.Redrawn.{IsSome, all_points, row_from, rows_of}
-use Rattle.sheet_base.proofs.Redrawn as sheets
+use Rattle.sheet_base.proofs.ListParts.{all_parts}
+use Rattle.sheet_base.proofs.DrawnPaths.{IsPositionWithinReach, IsSome, all_positions, row_from, rows_of, part_reached}
+use Rattle.sheet_base.proofs.DrawnPaths as sheets
+use Rattle.sheet_base.proofs.PositionLists.{paired_points, paired_heights}
 use Rattle.wkt_layer.specs.Tokens.{is_numeric}
-use Rattle.wkt_layer.specs.Numbers.{Point, place_of}
-use Rattle.wkt_layer.specs.Paths.{Path, kept_of, kept_points, rows_from, text_for, sheet_of}
+use Rattle.wkt_layer.specs.Numbers.{Point, place_of, height_of, position_of}
+use Rattle.wkt_layer.specs.Paths.{Path, kept_of, kept_points, kept_heights, rows_from, text_for, sheet_of}
 use Rattle.wkt_layer.specs.Passes.{IsWholeOf, AreWhole}
-use Rattle.wkt_layer.specs.Texts.{image_text, texts_behind, list_text, ring_text, Writing, list, ring, writing_of}
+use Rattle.wkt_layer.specs.Texts.{height_text, image_text, texts_behind, list_text, ring_text, Writing, list, ring}
+use Rattle.wkt_layer.specs.Texts.{writing_of}
 use Rattle.wkt_layer.specs.Texts.{writing_text, what_text, edit_text}
 use Rattle.wkt_layer.specs.declared.limits.TheConstants.{LINE_FEED}
 use Rattle.wkt_layer.proofs.ImageTexts.{written_number}
@@ -44,70 +47,116 @@ numbers_plain (byte ∷ bytes) all = let parts =
     and_parts (is_numeric byte) (list_all is_numeric bytes) all in rw (numeric_plain byte parts.0)
     (numbers_plain bytes parts.1)
 
-image_plain : (image : Pt) → IsWithinReach image → IsPlain (image_text image)
-image_plain image within =
-    let x = written_number image.x within.0 in
-    let y = written_number image.y within.1 in
-    plain_append (written image.x) (32 ∷ written image.y) (numbers_plain (written image.x) x.numeric)
-    (numbers_plain (written image.y) y.numeric)
+height_plain : (height : Height) → IsHeightWithinReach height → IsPlain (height_text height)
+height_plain None within = refl
+height_plain (Some height) within = let z = written_number height within in numbers_plain (written height) z.numeric
 
-behind_plain : (images : List Pt) → AllByRecursion IsWithinReach images → IsPlain (texts_behind images)
+image_plain : (image : Position) → IsPositionWithinReach image → IsPlain (image_text image)
+image_plain image within =
+    let x = written_number image.point.x within.0.0 in
+    let y = written_number image.point.y within.0.1 in
+    plain_append (written image.point.x) (32 ∷ (written image.point.y ++ height_text image.height))
+    (numbers_plain (written image.point.x) x.numeric)
+    (plain_append (written image.point.y) (height_text image.height) (numbers_plain (written image.point.y) y.numeric)
+    (height_plain image.height within.1))
+
+behind_plain : (images : List Position) → AllByRecursion IsPositionWithinReach images → IsPlain (texts_behind images)
 behind_plain [] within = refl
 behind_plain (image ∷ images) within = plain_append (image_text image) (texts_behind images)
     (image_plain image within.0) (behind_plain images within.1)
 
-list_plain : (images : List Pt) → AllByRecursion IsWithinReach images → IsPlain (list_text images)
+list_plain : (images : List Position) → AllByRecursion IsPositionWithinReach images → IsPlain (list_text images)
 list_plain [] within = refl
 list_plain (image ∷ images) within = plain_append (image_text image) (texts_behind images) (image_plain image within.0)
     (behind_plain images within.1)
 
-ring_plain : (images : List Pt) → AllByRecursion IsWithinReach images → IsPlain (ring_text images)
+ring_plain : (images : List Position) → AllByRecursion IsPositionWithinReach images → IsPlain (ring_text images)
 ring_plain [] within = refl
 ring_plain (image ∷ images) within = plain_append (list_text (image ∷ images)) (texts_behind (image ∷ []))
     (list_plain (image ∷ images) within) (behind_plain (image ∷ []) (within.0, tt))
 
-writing_plain : (rows : List PathRow) (images : Runs) → AllByRecursion IsWithinReach images.points
+path_reached : (rows : List PathRow) (images : Runs) (number : ℕ) → AllByRecursion IsPositionWithinReach (positions_in images)
+    → AllByRecursion IsPositionWithinReach (path_positions rows images number)
+path_reached rows images number reach =
+    let path : PathRow = slice_index_or rows number no_path in
+    (all_parts IsPositionWithinReach (run_begin images path.past - run_begin images path.first)
+    (drop (run_begin images path.first) (positions_in images))
+    (all_parts IsPositionWithinReach (run_begin images path.first) (positions_in images) reach).1).0
+
+writing_plain : (rows : List PathRow) (images : Runs) → AllByRecursion IsPositionWithinReach (positions_in images)
     → (writing : Option Writing) → IsPlain (writing_text rows images writing)
 writing_plain rows images within None = refl
 writing_plain rows images within (Some (list nth)) =
-    list_plain (path_images rows images nth) (path_within rows images nth within)
+    list_plain (path_positions rows images nth) (path_reached rows images nth within)
 writing_plain rows images within (Some (ring nth)) =
-    ring_plain (path_images rows images nth) (path_within rows images nth within)
+    ring_plain (path_positions rows images nth) (path_reached rows images nth within)
 
-pub texts_plain : (sheet : Contents) (images : Runs) → AllByRecursion IsWithinReach images.points → (edit : Edit)
+pub texts_plain : (sheet : Contents) (images : Runs) → AllByRecursion IsWithinReach images.points
+    → AllByRecursion IsHeightWithinReach images.heights → (edit : Edit)
     → IsPlain (edit_text sheet images edit)
-texts_plain sheet images within edit = writing_plain sheet.paths images within (writing_of edit.what)
+texts_plain sheet images points heights edit =
+    writing_plain sheet.paths images (part_reached images.points images.heights points heights) (writing_of edit.what)
 
 -- ---- the texts of edits are those of the paths' images
 says_kind : (rows : List PathRow) (images : Runs) (kind : PathKind) (nth : ℕ)
-    → what_text rows images (text_for kind nth) ≡ kind_text kind (path_images rows images nth)
+    → what_text rows images (text_for kind nth) ≡ kind_text kind (path_positions rows images nth)
 says_kind rows images Dot nth = refl
 says_kind rows images Line nth = refl
 says_kind rows images Loop nth = refl
 
-pub texts_say : (sheet : Contents) (images : Runs) → DoesSay (edit_text sheet images) (path_images sheet.paths images)
+pub texts_say : (sheet : Contents) (images : Runs)
+    → DoesSay (edit_text sheet images) (path_positions sheet.paths images)
 texts_say sheet images nth path = says_kind sheet.paths images path.kind nth
 
--- ---- what is drawn, as the rows and points of a sheet
+-- ---- what is drawn, as the rows, points and heights of a sheet
+drawn_count : (path : Path) → length (kept_points path) ≡ length (drawn path).positions
+drawn_count path =
+    let kept = kept_of path.kind path.first path.more in
+    length-map kept place_of ∙ sym (length-map kept position_of)
+
 rows_drawn : (first : ℕ) (paths : List Path) → rows_from first paths ≡ rows_of first (map drawn paths)
 rows_drawn first [] = refl
-rows_drawn first (path ∷ paths) = ap (λ rows. row_from first (drawn path) ∷ rows)
-    (rows_drawn (first + length (kept_points path)) paths)
+rows_drawn first (path ∷ paths) =
+    ap (λ n. let row : PathRow = record { kind = path.kind; first = first; past = first + n } in row
+    ∷ rows_from (first + n) paths) (drawn_count path)
+    ∙ ap (λ rows. row_from first (drawn path) ∷ rows) (rows_drawn (first + length (drawn path).positions) paths)
 
-points_drawn : (paths : List Path) → flat_map kept_points paths ≡ all_points (map drawn paths)
+points_of_all : (points : List Point) → map place_of points ≡ points_of (map position_of points)
+points_of_all [] = refl
+points_of_all (p ∷ points) = ap (λ ps. place_of p ∷ ps) (points_of_all points)
+
+heights_of_all : (points : List Point) → map height_of points ≡ heights_of (map position_of points)
+heights_of_all [] = refl
+heights_of_all (p ∷ points) = ap (λ hs. height_of p ∷ hs) (heights_of_all points)
+
+points_drawn : (paths : List Path) → flat_map kept_points paths ≡ points_of (all_positions (map drawn paths))
 points_drawn [] = refl
-points_drawn (path ∷ paths) = ap (λ ps. kept_points path ++ ps) (points_drawn paths)
+points_drawn (path ∷ paths) =
+    ap (λ ps. kept_points path ++ ps) (points_drawn paths)
+    ∙ ap (λ ps. ps ++ points_of (all_positions (map drawn paths)))
+    (points_of_all (kept_of path.kind path.first path.more))
+    ∙ sym (map-append (λ (position : Position). position.point) (drawn path).positions
+    (all_positions (map drawn paths)))
+
+heights_drawn : (paths : List Path) → flat_map kept_heights paths ≡ heights_of (all_positions (map drawn paths))
+heights_drawn [] = refl
+heights_drawn (path ∷ paths) =
+    ap (λ hs. kept_heights path ++ hs) (heights_drawn paths)
+    ∙ ap (λ hs. hs ++ heights_of (all_positions (map drawn paths)))
+    (heights_of_all (kept_of path.kind path.first path.more))
+    ∙ sym (map-append (λ (position : Position). position.height) (drawn path).positions
+    (all_positions (map drawn paths)))
 
 kept_some : (kind : PathKind) (first : Point) (more : List Point) → IsWholeOf kind more
-    → 0 < length (map place_of (kept_of kind first more))
+    → 0 < length (map position_of (kept_of kind first more))
 kept_some Dot first more whole = omega arith
 kept_some Line first more whole = omega arith
 kept_some Loop first [] whole = absurd whole
 kept_some Loop first (next ∷ more) whole = omega arith
 
 kept_one : (kind : PathKind) (first : Point) (more : List Point) → IsWholeOf kind more → kind ≡ Dot
-    → length (map place_of (kept_of kind first more)) ≡ 1
-kept_one Dot first more whole is = ap (λ ps. length (map place_of (first ∷ ps))) whole
+    → length (map position_of (kept_of kind first more)) ≡ 1
+kept_one Dot first more whole is = ap (λ ps. length (map position_of (first ∷ ps))) whole
 kept_one Line first more whole is = cc
 kept_one Loop first more whole is = cc
 
@@ -124,18 +173,30 @@ all_some (path ∷ paths) whole = (
 
 -- ---- the whole sheet
 module _ (paths : List Path) (images : Runs) (fit : DoFit (sheet_of paths) images) where
-  pub sheet_suits : AreWhole paths → AllSuit (path_images (rows_from 0 paths) images) 0 paths
-  sheet_suits whole = sheets.sheet_suits (sheet_of paths) images fit (map drawn paths) (rows_drawn 0 paths)
-      (points_drawn paths) (all_some paths whole)
+  count : length (flat_map kept_points paths) ≡ length (all_positions (map drawn paths))
+  count = ap length (points_drawn paths)
+      ∙ length-map (all_positions (map drawn paths)) (λ (position : Position). position.point)
 
-  pub points_again : (others : List Path) → map drawn others ≡ redrawn (path_images (rows_from 0 paths) images) 0 paths
-      → flat_map kept_points others ≡ images.points
-  points_again others are =
-      points_drawn others ∙ ap all_points are ∙ sheets.points_again (sheet_of paths) images fit (map drawn paths)
-      (rows_drawn 0 paths) (points_drawn paths)
+  pub sheet_suits : AreWhole paths → AllSuit (path_positions (rows_from 0 paths) images) 0 paths
+  sheet_suits whole = sheets.sheet_suits (sheet_of paths) images fit (map drawn paths) (rows_drawn 0 paths) count
+      (heights_drawn paths) (all_some paths whole)
 
-  pub rows_again : (others : List Path) → map drawn others ≡ redrawn (path_images (rows_from 0 paths) images) 0 paths
-      → rows_from 0 others ≡ map (imaged images) (rows_from 0 paths)
-  rows_again others are =
-      rows_drawn 0 others ∙ ap (rows_of 0) are
-      ∙ sheets.rows_again (sheet_of paths) images fit (map drawn paths) (rows_drawn 0 paths) (points_drawn paths)
+  -- what is drawn again
+  module _ (others : List Path)
+      (are : map drawn others ≡ redrawn (path_positions (rows_from 0 paths) images) 0 paths) where
+    positions_again : all_positions (map drawn others) ≡ positions_in images
+    positions_again = ap all_positions are
+        ∙ sheets.positions_again (sheet_of paths) images fit (map drawn paths) (rows_drawn 0 paths) count
+
+    pub points_again : flat_map kept_points others ≡ images.points
+    points_again = points_drawn others ∙ ap points_of positions_again
+        ∙ paired_points images.points images.heights (sym fit.height_each)
+
+    pub heights_again : flat_map kept_heights others ≡ images.heights
+    heights_again = heights_drawn others ∙ ap heights_of positions_again
+        ∙ paired_heights images.points images.heights (sym fit.height_each)
+
+    pub rows_again : rows_from 0 others ≡ map (imaged images) (rows_from 0 paths)
+    rows_again =
+        rows_drawn 0 others ∙ ap (rows_of 0) are
+        ∙ sheets.rows_again (sheet_of paths) images fit (map drawn paths) (rows_drawn 0 paths) count

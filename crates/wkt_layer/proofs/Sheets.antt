@@ -1,17 +1,30 @@
 -- The sheet of the paths of well-formed lines is one.
-use Rattle.std.proofs.Common.{◌≡◌, ℕ, zero, suc, ◌+◌, ◌<◌, Bool, List, [], ◌∷◌, ◌++◌, length, refl, sym, ap, subst}
-use Rattle.std.proofs.Common.{arith, length-append, ◌^◌}
+use Rattle.std.proofs.Common.{◌≡◌, ℕ, zero, suc, ◌+◌, ◌<◌, ◌≤◌, Bool, List, [], ◌∷◌, ◌++◌, length, refl, sym, ap, subst}
+use Rattle.std.proofs.Common.{arith, length-append, ◌^◌, ◌-◌, ◌∙◌, true, false, ◌&&◌}
 use Rattle.std.specs.Prelude.{flat_map, map}
 use Rattle.std.specs.List.{AllByRecursion}
+use Rattle.std.specs.Prelude.{Option, Some, None, Result, Ok, Err, unsigned_abs, All}
+use Rattle.plane_base.specs.declared.shapes.Pt.{Pt}
+use Rattle.sheet_base.specs.PointHeights.{Height, height_in, IsHeightWithinReach}
+use Rattle.sheet_base.specs.Rings.{is_same_height}
+use Rattle.wkt_layer.specs.Geometries.{last_behind}
+use Rattle.mm_decimal.specs.Measured.{measured}
+use Rattle.mm_decimal.specs.Answers.{Answers}
+use Rattle.mm_decimal.specs.declared.limits.TheConstants.{LIMIT}
+use Rattle.mm_decimal.specs.declared.reading.MmRead.{MmRead}
+use Rattle.mm_decimal.specs.declared.reading.NumFault.{NumFault}
+use Rattle.mm_decimal.proofs.MeasuredAnswers.{measured_answers}
 use Rattle.sheet_base.specs.declared.paths.PathKind.{PathKind}
 use Rattle.sheet_base.specs.declared.paths.PathKind.TheVariants.{Dot, Line, Loop}
 use Rattle.sheet_base.specs.Sheets.{AreTiled, IsSheet}
-use Rattle.wkt_layer.specs.Tokens.{Placed}
-use Rattle.wkt_layer.specs.Numbers.{Point, place_of}
+use Rattle.wkt_layer.specs.Tokens.{Number, Placed}
+use Rattle.std.proofs.lemmas.List.{length-map}
+use Rattle.wkt_layer.specs.Numbers.{Point, place_of, height_in_third, height_of, mm_in}
 use Rattle.wkt_layer.specs.Geometries.{Member, dot, bare, Geometry, point, line_string, polygon, multi_point}
 use Rattle.wkt_layer.specs.Geometries.{multi_line_string, multi_polygon, collection, Geometries, no_geometry, geometry}
 use Rattle.wkt_layer.specs.Geometries.{IsDot, IsRing, IsMember, IsGeometry, AreGeometries}
 use Rattle.wkt_layer.specs.Paths.{Path, path_of, member_path, geometry_paths, geometries_paths, kept_of, kept_points}
+use Rattle.wkt_layer.specs.Paths.{kept_heights}
 use Rattle.wkt_layer.specs.Paths.{rows_from, sheet_of}
 use Rattle.wkt_layer.specs.Lines.{IsLineOf}
 use Rattle.wkt_layer.specs.Passes.{IsWhole, AreWhole}
@@ -21,60 +34,61 @@ pub whole_append : (xs ys : List Path) → AreWhole xs → AreWhole ys → AreWh
 whole_append [] ys are more = more
 whole_append (x ∷ xs) ys are more = (are.0, whole_append xs ys are.1 more)
 
-dot_whole : (exact : Bool) (points : List Point) → IsDot exact points → AreWhole (path_of Dot points)
-dot_whole exact [] is = tt
-dot_whole exact (one ∷ []) is = (refl, tt)
-dot_whole exact (one ∷ next ∷ more) is = absurd (omega (arith, is.1))
+dot_whole : (exact raised : Bool) (points : List Point) → IsDot exact raised points → AreWhole (path_of Dot points)
+dot_whole exact raised [] is = tt
+dot_whole exact raised (one ∷ []) is = (refl, tt)
+dot_whole exact raised (one ∷ next ∷ more) is = absurd (omega (arith, is.1))
 
 line_whole : (points : List Point) → AreWhole (path_of Line points)
 line_whole [] = tt
 line_whole (one ∷ more) = (tt, tt)
 
-ring_whole : (exact : Bool) (points : List Point) → IsRing exact points → AreWhole (path_of Loop points)
-ring_whole exact [] is = tt
-ring_whole exact (one ∷ []) is = let four = ring_has_four one [] is.1 in absurd (omega (arith, four))
-ring_whole exact (one ∷ next ∷ more) is = (tt, tt)
+ring_whole : (exact raised : Bool) (points : List Point) → IsRing exact raised points → AreWhole (path_of Loop points)
+ring_whole exact raised [] is = tt
+ring_whole exact raised (one ∷ []) is = let four = ring_has_four one [] is.1 in absurd (omega (arith, four))
+ring_whole exact raised (one ∷ next ∷ more) is = (tt, tt)
 
-rings_whole : (exact : Bool) (rings : List (List Point)) → AllByRecursion (IsRing exact) rings
+rings_whole : (exact raised : Bool) (rings : List (List Point)) → AllByRecursion (IsRing exact raised) rings
     → AreWhole (flat_map (path_of Loop) rings)
-rings_whole exact [] are = tt
-rings_whole exact (ring ∷ rings) are = whole_append (path_of Loop ring) (flat_map (path_of Loop) rings)
-    (ring_whole exact ring are.0) (rings_whole exact rings are.1)
+rings_whole exact raised [] are = tt
+rings_whole exact raised (ring ∷ rings) are = whole_append (path_of Loop ring) (flat_map (path_of Loop) rings)
+    (ring_whole exact raised ring are.0) (rings_whole exact raised rings are.1)
 
 lists_whole : (lists : List (List Point)) → AreWhole (flat_map (path_of Line) lists)
 lists_whole [] = tt
 lists_whole (list ∷ lists) = whole_append (path_of Line list) (flat_map (path_of Line) lists) (line_whole list)
     (lists_whole lists)
 
-polygons_whole : (exact : Bool) (polygons : List (List (List Point)))
-    → AllByRecursion (AllByRecursion (IsRing exact)) polygons → AreWhole (flat_map (flat_map (path_of Loop)) polygons)
-polygons_whole exact [] are = tt
-polygons_whole exact (rings ∷ polygons) are =
+polygons_whole : (exact raised : Bool) (polygons : List (List (List Point)))
+    → AllByRecursion (AllByRecursion (IsRing exact raised)) polygons
+    → AreWhole (flat_map (flat_map (path_of Loop)) polygons)
+polygons_whole exact raised [] are = tt
+polygons_whole exact raised (rings ∷ polygons) are =
     whole_append (flat_map (path_of Loop) rings) (flat_map (flat_map (path_of Loop)) polygons)
-    (rings_whole exact rings are.0) (polygons_whole exact polygons are.1)
+    (rings_whole exact raised rings are.0) (polygons_whole exact raised polygons are.1)
 
-member_whole : (exact : Bool) (member : Member) → IsMember exact member → AreWhole (member_path member)
-member_whole exact (dot points) is = dot_whole exact points is
-member_whole exact (bare p) is = (refl, tt)
+member_whole : (exact raised : Bool) (member : Member) → IsMember exact raised member → AreWhole (member_path member)
+member_whole exact raised (dot points) is = dot_whole exact raised points is
+member_whole exact raised (bare p) is = (refl, tt)
 
-members_whole : (exact : Bool) (members : List Member) → AllByRecursion (IsMember exact) members
+members_whole : (exact raised : Bool) (members : List Member) → AllByRecursion (IsMember exact raised) members
     → AreWhole (flat_map member_path members)
-members_whole exact [] are = tt
-members_whole exact (member ∷ members) are =
-    whole_append (member_path member) (flat_map member_path members) (member_whole exact member are.0)
-    (members_whole exact members are.1)
+members_whole exact raised [] are = tt
+members_whole exact raised (member ∷ members) are =
+    whole_append (member_path member) (flat_map member_path members) (member_whole exact raised member are.0)
+    (members_whole exact raised members are.1)
 
 mutual
   geometry_whole : (exact : Bool) (depth : ℕ) (one : Geometry) → IsGeometry exact depth one
       → AreWhole (geometry_paths one)
-  geometry_whole exact depth (point points) is = dot_whole exact points is
-  geometry_whole exact depth (line_string points) is = line_whole points
-  geometry_whole exact depth (polygon rings) is = rings_whole exact rings is
-  geometry_whole exact depth (multi_point members) is = members_whole exact members is
-  geometry_whole exact depth (multi_line_string lists) is = lists_whole lists
-  geometry_whole exact depth (multi_polygon polygons) is = polygons_whole exact polygons is
-  geometry_whole exact zero (collection geometries) is = absurd is
-  geometry_whole exact (suc depth) (collection geometries) is = geometries_whole exact depth geometries is
+  geometry_whole exact depth (point raised points) is = dot_whole exact raised points is
+  geometry_whole exact depth (line_string raised points) is = line_whole points
+  geometry_whole exact depth (polygon raised rings) is = rings_whole exact raised rings is
+  geometry_whole exact depth (multi_point raised members) is = members_whole exact raised members is
+  geometry_whole exact depth (multi_line_string raised lists) is = lists_whole lists
+  geometry_whole exact depth (multi_polygon raised polygons) is = polygons_whole exact raised polygons is
+  geometry_whole exact zero (collection raised geometries) is = absurd is
+  geometry_whole exact (suc depth) (collection raised geometries) is = geometries_whole exact depth geometries is
 
   geometries_whole : (exact : Bool) (depth : ℕ) (geometries : Geometries) → AreGeometries exact depth geometries
       → AreWhole (geometries_paths geometries)
@@ -103,7 +117,7 @@ kept_dot Dot one more is e = ap (λ ps. length (map place_of (one ∷ ps))) is
 kept_dot Line one more is e = cc
 kept_dot Loop one more is e = cc
 
-tiled : (first past : ℕ) (paths : List Path) → AreWhole paths → past ≡ first + length (flat_map kept_points paths)
+pub tiled : (first past : ℕ) (paths : List Path) → AreWhole paths → past ≡ first + length (flat_map kept_points paths)
     → AreTiled (rows_from first paths) first past
 tiled first past [] are end = omega (arith, end)
 tiled first past (path ∷ paths) are end =
@@ -118,10 +132,97 @@ tiled first past (path ∷ paths) are end =
       tiled (first + length (kept_points path)) past paths are.1 (omega (arith, end, size)),
     )
 
+-- ---- heights: one for each point, none out of reach
+pub heights_each : (paths : List Path) → length (flat_map kept_heights paths) ≡ length (flat_map kept_points paths)
+heights_each [] = refl
+heights_each (path ∷ paths) =
+    let kept = kept_of path.kind path.first path.more in
+    let a = length-append (kept_heights path) (flat_map kept_heights paths) in
+    let b = length-append (kept_points path) (flat_map kept_points paths) in
+    let c = length-map kept height_of in
+    let d = length-map kept place_of in
+    let e = heights_each paths in
+    omega (arith, a, b, c, d, e)
+
+third_reach : (third : Option Number) → IsHeightWithinReach (height_in_third third)
+third_reach None = tt
+third_reach (Some z) = answer_reach (measured z.text) refl
+  where
+    answer_reach : (answer : Result MmRead NumFault) → measured z.text ≡ answer
+        → unsigned_abs (mm_in (measured z.text)) ≤ LIMIT
+    answer_reach (Ok read) is =
+        let (short, (value, has, rounds)) = subst (Answers z.text) is (measured_answers z.text) in
+        rw (is, rounds.mm) rounds.limit
+    answer_reach (Err fault) is = rw is (omega arith)
+
+points_reach : (points : List Point) → AllByRecursion IsHeightWithinReach (map height_of points)
+points_reach [] = tt
+points_reach (p ∷ points) = (third_reach p.z, points_reach points)
+
+reach_append : (xs ys : List Height) → AllByRecursion IsHeightWithinReach xs → AllByRecursion IsHeightWithinReach ys
+    → AllByRecursion IsHeightWithinReach (xs ++ ys)
+reach_append [] ys all more = more
+reach_append (x ∷ xs) ys all more = (all.0, reach_append xs ys all.1 more)
+
+paths_reach : (paths : List Path) → AllByRecursion IsHeightWithinReach (flat_map kept_heights paths)
+paths_reach [] = tt
+paths_reach (path ∷ paths) = reach_append (kept_heights path) (flat_map kept_heights paths)
+    (points_reach (kept_of path.kind path.first path.more)) (paths_reach paths)
+
+all_of_listed : {A : Type 0} (P : A → Type 0) (xs : List A) → AllByRecursion P xs → All P xs
+all_of_listed P [] all k d h = absurd (omega (arith, h))
+all_of_listed P (x ∷ xs) all zero d h = all.0
+all_of_listed P (x ∷ xs) all (suc k) d h = all_of_listed P xs all.1 k d (omega (arith, h))
+
+pub heights_reach : (paths : List Path) → All IsHeightWithinReach (flat_map kept_heights paths)
+heights_reach paths = all_of_listed IsHeightWithinReach (flat_map kept_heights paths) (paths_reach paths)
+
 pub is_sheet : (paths : List Path) → AreWhole paths → length (flat_map kept_points paths) < 2 ^ 32
     → IsSheet (sheet_of paths)
 is_sheet paths are few = record {
   tiled = tiled 0 (length (flat_map kept_points paths)) paths are (omega arith);
   few =
       few;
+  one_height_each = heights_each paths;
+  heights_in_reach = heights_reach paths;
 }
+
+-- ---- the heights at the ends of the points that were read last
+height_behind : (xs ys : List Height) (n : ℕ) → height_in (xs ++ ys) (length xs + n) ≡ height_in ys n
+height_behind [] ys n = let e : 0 + n ≡ n = omega arith in ap (height_in ys) e
+height_behind (x ∷ xs) ys n =
+    let e : suc (length xs) + n ≡ suc (length xs + n) = omega arith in
+    ap (height_in (x ∷ (xs ++ ys))) e ∙ height_behind xs ys n
+
+last_height : (one : Point) (more : List Point)
+    → height_in (map height_of (one ∷ more)) (length more) ≡ height_of (last_behind one more)
+last_height one [] = refl
+last_height one (next ∷ more) = last_height next more
+
+pub ends_level : (heights : List Height) (points : List Pt) (first last : ℕ) (done : List Path) (one : Point)
+    (more : List Point) → heights ≡ flat_map kept_heights done ++ map height_of (one ∷ more)
+    → points ≡ flat_map kept_points done ++ map place_of (one ∷ more)
+    → first ≡ length (flat_map kept_points done) → last ≡ length points - 1
+    → is_same_height (height_in heights first) (height_in heights last)
+    ≡ is_same_height (height_of one) (height_of (last_behind one more))
+ends_level heights points first last done one more are places at_first at_last =
+    let front = flat_map kept_heights done in
+    let back = map height_of (one ∷ more) in
+    let each = heights_each done in
+    let size : length points ≡ length (flat_map kept_points done) + suc (length more) =
+    ap length places ∙ length-append (flat_map kept_points done) (map place_of (one ∷ more))
+    ∙ ap (λ n. length (flat_map kept_points done) + n) (length-map (one ∷ more) place_of) in
+    let begin : first ≡ length front + 0 = omega (arith, at_first, each) in
+    let end : last ≡ length front + length more = omega (arith, at_last, size, each) in
+    let a : height_in heights first ≡ height_of one =
+    ap (λ hs. height_in hs first) are ∙ ap (height_in (front ++ back)) begin ∙ height_behind front back 0 in
+    let b : height_in heights last ≡ height_of (last_behind one more) =
+    ap (λ hs. height_in hs last) are ∙ ap (height_in (front ++ back)) end ∙ height_behind front back (length more)
+    ∙ last_height one more in
+    rw (a, b) refl
+
+pub both_hold : (closed level answer : Bool) → closed ≡ true → answer ≡ level → answer ≡ (closed && level)
+both_hold closed level answer is same = rw is same
+
+pub one_fails : (closed level : Bool) → closed ≡ false → false ≡ (closed && level)
+one_fails closed level is = rw is refl

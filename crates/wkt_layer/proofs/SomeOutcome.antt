@@ -13,7 +13,8 @@ use Rattle.wkt_layer.specs.Lines.{IsLineOf, tokens_in}
 use Rattle.wkt_layer.specs.Faults.{IsLineFault}
 use Rattle.wkt_layer.specs.Layers.{lines_of, AreLinesOf, IsFirstLineFault, IsReadAs, IsRefusedBy}
 use Rattle.wkt_layer.specs.Reached.{IsIn}
-use Rattle.wkt_layer.specs.States.{Spot, item, content, first, second, whole, bare_second, bare_whole, behind, State}
+use Rattle.wkt_layer.specs.States.{Spot, item, tagged, content, first, second, third, whole, bare_second, bare_third}
+use Rattle.wkt_layer.specs.States.{bare_whole, behind, State}
 use Rattle.wkt_layer.specs.States.{state, start, step, IsEnd, fault_of, opened_by}
 use Rattle.wkt_layer.specs.declared.places.Group.{Group}
 use Rattle.wkt_layer.proofs.InBrackets.{step_in}
@@ -32,11 +33,14 @@ end_or_open bare_whole (group ∷ stack) paths = inr (λ end. let e = end.closed
 end_or_open behind [] paths = inl (record { last = tt; closed = refl })
 end_or_open behind (group ∷ stack) paths = inr (λ end. let e = end.closed in cc)
 end_or_open item stack paths = inr (λ end. end.last)
+end_or_open (tagged kind) stack paths = inr (λ end. end.last)
 end_or_open (content inner) stack paths = inr (λ end. end.last)
 end_or_open (first listing points) stack paths = inr (λ end. end.last)
 end_or_open (second listing points x) stack paths = inr (λ end. end.last)
+end_or_open (third listing points x y) stack paths = inr (λ end. end.last)
 end_or_open (whole listing points) stack paths = inr (λ end. end.last)
-end_or_open (bare_second x) stack paths = inr (λ end. end.last)
+end_or_open (bare_second raised x) stack paths = inr (λ end. end.last)
+end_or_open (bare_third x y) stack paths = inr (λ end. end.last)
 
 ended : (exact : Bool) (line : List Placed) (end : ℕ) (s : State) → line ≢ []
     → run (step exact) start (tokens_in line) ≡ Some s → HasLineOutcome exact line end

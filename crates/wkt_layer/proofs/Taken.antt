@@ -2,24 +2,28 @@
 -- before, behind the token.
 use Rattle.std.proofs.Common.{◌≡◌, suc, ◌<◌, Bool, true, false, List, [], ◌∷◌, ◌++◌, length, refl, sym, ap, ◌∙◌, subst}
 use Rattle.std.proofs.Common.{append_assoc, append-nil, arith}
-use Rattle.std.specs.Prelude.{Some, None, nat_lt, if◌then◌else◌}
+use Rattle.std.specs.Prelude.{Some, None, if◌then◌else◌}
 use Rattle.std.proofs.lemmas.Option.{same_Some}
 use Rattle.mm_decimal.specs.Measured.{measured}
 use Rattle.sheet_base.specs.declared.paths.PathKind.TheVariants.{Dot}
 use Rattle.wkt_layer.specs.Tokens.{Number, Token, opening, closing, comma, word, number, stray}
 use Rattle.wkt_layer.specs.Numbers.{Point, IsNumber, does_fit}
 use Rattle.wkt_layer.specs.Geometries.{dot, bare, point, line_string, polygon, multi_point, multi_line_string}
-use Rattle.wkt_layer.specs.Geometries.{multi_polygon, collection, point_tokens, IsClosed, IsGeometry}
+use Rattle.wkt_layer.specs.Geometries.{multi_polygon, collection, point_tokens, behind_item, mark}
+use Rattle.wkt_layer.specs.Geometries.{IsClosed, IsGeometry}
 use Rattle.wkt_layer.specs.Paths.{Path, path_of}
-use Rattle.wkt_layer.specs.States.{Spot, item, content, first, second, whole, bare_second, bare_whole, behind, State}
-use Rattle.wkt_layer.specs.States.{state, innermost, pair, kind_of, step_at, enter_step, tag_step, number_step}
+use Rattle.wkt_layer.specs.States.{Spot, item, tagged, content, first, second, third, whole, bare_second, bare_third}
+use Rattle.wkt_layer.specs.States.{bare_whole, behind, State}
+use Rattle.wkt_layer.specs.States.{state, innermost, point_with, kind_of, content_of, is_raised, may_nest, second_leads}
+use Rattle.wkt_layer.specs.States.{bare_leads, bare_second_leads, step_at, enter_step, tag_step, tagged_step}
+use Rattle.wkt_layer.specs.States.{number_step}
 use Rattle.wkt_layer.specs.States.{item_step, whole_step, behind_step, may_end}
 use Rattle.wkt_layer.proofs.Rests.{room, ItemOf, item_tokens, more_tokens, IsItem, item_paths, items_paths, no_items}
 use Rattle.wkt_layer.proofs.Rests.{one_more, GoOn, Closes, ClosesPoints, Enters, Follows}
 use Rattle.wkt_layer.specs.declared.limits.TheConstants.{DEEPEST}
 use Rattle.wkt_layer.specs.declared.words.Kind.{Kind}
 use Rattle.wkt_layer.specs.declared.words.Kind.TheVariants as kinds
-use Rattle.wkt_layer.specs.declared.words.Word.TheVariants.{Tag, Empty, Height, Other}
+use Rattle.wkt_layer.specs.declared.words.Word.TheVariants.{Tag, Empty, Z, Height, Other}
 use Rattle.wkt_layer.specs.declared.places.Content.{Content}
 use Rattle.wkt_layer.specs.declared.places.Content.TheVariants.{Points, Items}
 use Rattle.wkt_layer.specs.declared.places.Listing.{Listing}
@@ -30,6 +34,7 @@ use Rattle.std.proofs.lemmas.Bool.{ltb-true}
 use Rattle.wkt_layer.proofs.Items.{tokens_none, tokens_some, more_none, more_some, paths_none, paths_some, are_none}
 use Rattle.wkt_layer.proofs.Items.{are_some, points_whole, no_points, on_before}
 use Rattle.wkt_layer.proofs.Rings.{is_closed_is}
+use Rattle.wkt_layer.proofs.Completions.{third_is, third_none}
 
 -- the tokens with this one in front follow the state
 abbrev pub Before : Bool → Spot → List Group → List Path → Token → List Token → List Path → Type 0
@@ -89,7 +94,8 @@ opening_before exact (Points listing) stack paths next ts all e follows =
         rest,
         close,
         points_whole exact listing p more is are on,
-        ap (λ x. opening ∷ x) (same ∙ ap (λ x. point_tokens p ++ x) tokens_are),
+        ap (λ x. opening ∷ x) (same ∙ ap (λ x. point_tokens p ++ x) tokens_are
+            ∙ sym (append_assoc (point_tokens p) (behind_item point_tokens more) rest)),
         closes,
         paths_are,
       ),
@@ -142,6 +148,8 @@ enter_before exact (Items group) stack paths (word Empty) next ts all e follows 
     (subst (λ s. Follows exact s ts all) (sym (same_Some (state behind stack paths) next e)) follows)
 enter_before exact (Points listing) stack paths (word (Tag kind)) next ts all e follows = cc
 enter_before exact (Items group) stack paths (word (Tag kind)) next ts all e follows = cc
+enter_before exact (Points listing) stack paths (word Z) next ts all e follows = cc
+enter_before exact (Items group) stack paths (word Z) next ts all e follows = cc
 enter_before exact (Points listing) stack paths (word Height) next ts all e follows = cc
 enter_before exact (Items group) stack paths (word Height) next ts all e follows = cc
 enter_before exact (Points listing) stack paths (word Other) next ts all e follows = cc
@@ -164,88 +172,90 @@ Begun exact group stack paths tokens all =
     × (later ≡ item_paths group one ++ close))
     × (all ≡ paths ++ later)
 
--- a tag
-kind_before : (exact : Bool) (kind : Kind) (stack : List Group) (paths : List Path) (next : State) (ts : List Token)
-    (all : List Path)
-    → tag_step stack paths (word (Tag kind)) ≡ Some next → Follows exact next ts all
-    → Begun exact groups.Geometries stack paths (word (Tag kind) ∷ ts) all
-kind_before exact kinds.Point stack paths next ts all e follows =
-    let (later, (points, rest, close, is, same, closes, paths_are), all_are) =
-    subst (λ s. Follows exact s ts all) (sym (same_Some (state (content (Points listings.Dot)) stack paths) next e))
-    follows in
-    (later, (point points, rest, close, is, ap (λ x. word (Tag kinds.Point) ∷ x) same, closes, paths_are), all_are)
-kind_before exact kinds.LineString stack paths next ts all e follows =
-    let (later, (points, rest, close, is, same, closes, paths_are), all_are) =
-    subst (λ s. Follows exact s ts all) (sym (same_Some (state (content (Points listings.List)) stack paths) next e))
-    follows in (
-      later,
-      (line_string points, rest, close, is, ap (λ x. word (Tag kinds.LineString) ∷ x) same, closes, paths_are),
-      all_are,
-    )
-kind_before exact kinds.Polygon stack paths next ts all e follows =
-    let (later, (items, rest, close, is, same, closes, paths_are), all_are) =
-    subst (λ s. Follows exact s ts all) (sym (same_Some (state (content (Items groups.Rings)) stack paths) next e))
-    follows in
-    (later, (polygon items, rest, close, is, ap (λ x. word (Tag kinds.Polygon) ∷ x) same, closes, paths_are), all_are)
-kind_before exact kinds.MultiPoint stack paths next ts all e follows =
-    let (later, (items, rest, close, is, same, closes, paths_are), all_are) =
-    subst (λ s. Follows exact s ts all) (sym (same_Some (state (content (Items groups.Dots)) stack paths) next e))
-    follows in (
-      later,
-      (multi_point items, rest, close, is, ap (λ x. word (Tag kinds.MultiPoint) ∷ x) same, closes, paths_are),
-      all_are,
-    )
-kind_before exact kinds.MultiLineString stack paths next ts all e follows =
-    let (later, (items, rest, close, is, same, closes, paths_are), all_are) =
-    subst (λ s. Follows exact s ts all) (sym (same_Some (state (content (Items groups.Lists)) stack paths) next e))
-    follows in (
-      later,
-      (
-        multi_line_string items,
-        rest,
-        close,
-        is,
-        ap (λ x. word (Tag kinds.MultiLineString) ∷ x) same,
-        closes,
-        paths_are,
-      ),
-      all_are,
-    )
-kind_before exact kinds.MultiPolygon stack paths next ts all e follows =
-    let (later, (items, rest, close, is, same, closes, paths_are), all_are) =
-    subst (λ s. Follows exact s ts all) (sym (same_Some (state (content (Items groups.Polygons)) stack paths) next e))
-    follows in (
-      later,
-      (multi_polygon items, rest, close, is, ap (λ x. word (Tag kinds.MultiPolygon) ∷ x) same, closes, paths_are),
-      all_are,
-    )
-kind_before exact kinds.Collection stack paths next ts all e follows =
-    let taken = if_some (nat_lt (length stack) DEEPEST) (state (content (Items groups.Geometries)) stack paths) next
-    e in
-    let (later, (items, rest, close, is, same, closes, paths_are), all_are) =
-    subst (λ s. Follows exact s ts all) taken.1 follows in
-    let less : length stack < DEEPEST = ltb-true (length stack) DEEPEST taken.0 in
+-- a geometry's tag, mark and content, and what stands behind it
+abbrev Made : Bool → Kind → Bool → List Group → List Token → List Path → Type 0
+Made exact kind raised stack rest later =
+    (one : ItemOf groups.Geometries) × (after : List Token) × (close : List Path)
+    × IsItem exact (room stack) groups.Geometries one
+    × (word (Tag kind) ∷ (mark raised ++ rest) ≡ item_tokens groups.Geometries one ++ after)
+    × Closes exact stack after close × (later ≡ item_paths groups.Geometries one ++ close)
+
+mark_content : (kind : Kind) (raised : Bool) (inner rest after : List Token) → rest ≡ inner ++ after
+    → word (Tag kind) ∷ (mark raised ++ rest) ≡ (word (Tag kind) ∷ (mark raised ++ inner)) ++ after
+mark_content kind raised inner rest after same = ap (λ x. word (Tag kind) ∷ (mark raised ++ x)) same
+    ∙ ap (λ x. word (Tag kind) ∷ x) (sym (append_assoc (mark raised) inner after))
+
+made : (exact : Bool) (kind : Kind) (raised : Bool) (stack : List Group) (rest : List Token) (later : List Path)
+    → may_nest kind stack ≡ true → Enters exact (content_of kind raised) stack rest later
+    → Made exact kind raised stack rest later
+made exact kinds.Point raised stack rest later may (points, after, close, is, same, closes, paths_are) =
+    (point raised points, after, close, is, mark_content kinds.Point raised _ rest after same, closes, paths_are)
+made exact kinds.LineString raised stack rest later may (points, after, close, is, same, closes, paths_are) = (
+  line_string raised points,
+  after,
+  close,
+  is,
+  mark_content kinds.LineString raised _ rest after same,
+  closes,
+  paths_are,
+)
+made exact kinds.Polygon raised stack rest later may (items, after, close, is, same, closes, paths_are) =
+    (polygon raised items, after, close, is, mark_content kinds.Polygon raised _ rest after same, closes, paths_are)
+made exact kinds.MultiPoint raised stack rest later may (items, after, close, is, same, closes, paths_are) = (
+  multi_point raised items,
+  after,
+  close,
+  is,
+  mark_content kinds.MultiPoint raised _ rest after same,
+  closes,
+  paths_are,
+)
+made exact kinds.MultiLineString raised stack rest later may (items, after, close, is, same, closes, paths_are) = (
+  multi_line_string raised items,
+  after,
+  close,
+  is,
+  mark_content kinds.MultiLineString raised _ rest after same,
+  closes,
+  paths_are,
+)
+made exact kinds.MultiPolygon raised stack rest later may (items, after, close, is, same, closes, paths_are) = (
+  multi_polygon raised items,
+  after,
+  close,
+  is,
+  mark_content kinds.MultiPolygon raised _ rest after same,
+  closes,
+  paths_are,
+)
+made exact kinds.Collection raised stack rest later may (items, after, close, is, same, closes, paths_are) =
+    let less : length stack < DEEPEST = ltb-true (length stack) DEEPEST may in
     let left : suc (room (groups.Geometries ∷ stack)) ≡ room stack = omega arith in (
-      later,
-      (
-        collection items,
-        rest,
-        close,
-        subst (λ d. IsGeometry exact d (collection items)) left is,
-        ap (λ x. word (Tag kinds.Collection) ∷ x) same,
-        closes,
-        paths_are,
-      ),
-      all_are,
+      collection raised items,
+      after,
+      close,
+      subst (λ d. IsGeometry exact d (collection raised items)) left is,
+      mark_content kinds.Collection raised _ rest after same,
+      closes,
+      paths_are,
     )
 
+-- a tag
 tag_before : (exact : Bool) (stack : List Group) (paths : List Path) (t : Token) (next : State) (ts : List Token)
     (all : List Path)
     → tag_step stack paths t ≡ Some next → Follows exact next ts all
     → Begun exact groups.Geometries stack paths (t ∷ ts) all
 tag_before exact stack paths (word (Tag kind)) next ts all e follows =
-    kind_before exact kind stack paths next ts all e follows
+    let taken = if_some (may_nest kind stack) (state (tagged kind) stack paths) next e in
+    go taken.0 (subst (λ s. Follows exact s ts all) taken.1 follows)
+  where
+    go : may_nest kind stack ≡ true → Follows exact (state (tagged kind) stack paths) ts all
+        → Begun exact groups.Geometries stack paths (word (Tag kind) ∷ ts) all
+    go may (later, (raised, rest, same, enters), all_are) =
+        let (one, after, close, is, tokens, closes, paths_are) = made exact kind raised stack rest later may enters in
+        (later, (one, after, close, is, ap (λ x. word (Tag kind) ∷ x) same ∙ tokens, closes, paths_are), all_are)
 tag_before exact stack paths (word Empty) next ts all e follows = cc
+tag_before exact stack paths (word Z) next ts all e follows = cc
 tag_before exact stack paths (word Height) next ts all e follows = cc
 tag_before exact stack paths (word Other) next ts all e follows = cc
 tag_before exact stack paths opening next ts all e follows = cc
@@ -254,50 +264,98 @@ tag_before exact stack paths comma next ts all e follows = cc
 tag_before exact stack paths (number n) next ts all e follows = cc
 tag_before exact stack paths stray next ts all e follows = cc
 
+-- Z, or a content
+flat_before : (exact : Bool) (kind : Kind) (stack : List Group) (paths : List Path) (t : Token) (next : State)
+    (ts : List Token) (all : List Path)
+    → enter_step (content_of kind false) stack paths t ≡ Some next → Follows exact next ts all
+    → Before exact (tagged kind) stack paths t ts all
+flat_before exact kind stack paths t next ts all e follows =
+    let (later, enters, same) = enter_before exact (content_of kind false) stack paths t next ts all e follows in
+    (later, (false, t ∷ ts, refl, enters), same)
+
+tagged_before : (exact : Bool) (kind : Kind) (stack : List Group) (paths : List Path) (t : Token) (next : State)
+    (ts : List Token) (all : List Path)
+    → tagged_step kind stack paths t ≡ Some next → Follows exact next ts all
+    → Before exact (tagged kind) stack paths t ts all
+tagged_before exact kind stack paths (word Z) next ts all e follows =
+    let (later, enters, same) = subst (λ s. Follows exact s ts all)
+    (sym (same_Some (state (content (content_of kind true)) stack paths) next e)) follows in
+    (later, (true, ts, refl, enters), same)
+tagged_before exact kind stack paths (word Empty) next ts all e follows =
+    flat_before exact kind stack paths (word Empty) next ts all e follows
+tagged_before exact kind stack paths (word Height) next ts all e follows =
+    flat_before exact kind stack paths (word Height) next ts all e follows
+tagged_before exact kind stack paths (word Other) next ts all e follows =
+    flat_before exact kind stack paths (word Other) next ts all e follows
+tagged_before exact kind stack paths (word (Tag other)) next ts all e follows =
+    flat_before exact kind stack paths (word (Tag other)) next ts all e follows
+tagged_before exact kind stack paths opening next ts all e follows =
+    flat_before exact kind stack paths opening next ts all e follows
+tagged_before exact kind stack paths closing next ts all e follows =
+    flat_before exact kind stack paths closing next ts all e follows
+tagged_before exact kind stack paths comma next ts all e follows =
+    flat_before exact kind stack paths comma next ts all e follows
+tagged_before exact kind stack paths (number n) next ts all e follows =
+    flat_before exact kind stack paths (number n) next ts all e follows
+tagged_before exact kind stack paths stray next ts all e follows =
+    flat_before exact kind stack paths stray next ts all e follows
+
 -- a dot of a multipoint
-dot_before : (exact : Bool) (stack : List Group) (paths : List Path) (t : Token) (next : State) (ts : List Token)
+dot_before : (exact raised : Bool) (stack : List Group) (paths : List Path) (t : Token) (next : State) (ts : List Token)
     (all : List Path)
-    → enter_step (Points listings.Dot) stack paths t ≡ Some next → Follows exact next ts all
-    → Begun exact groups.Dots stack paths (t ∷ ts) all
-dot_before exact stack paths t next ts all e follows =
+    → enter_step (Points (listings.Dot raised)) stack paths t ≡ Some next → Follows exact next ts all
+    → Begun exact (groups.Dots raised) stack paths (t ∷ ts) all
+dot_before exact raised stack paths t next ts all e follows =
     let (later, (points, rest, close, is, same, closes, paths_are), all_are) =
-    enter_before exact (Points listings.Dot) stack paths t next ts all e follows in
+    enter_before exact (Points (listings.Dot raised)) stack paths t next ts all e follows in
     (later, (dot points, rest, close, is, same, closes, paths_are), all_are)
 
-bare_before : (exact : Bool) (stack : List Group) (paths : List Path) (n : Number) (next : State) (ts : List Token)
-    (all : List Path)
-    → number_step exact (λ x. state (bare_second x) stack paths) (number n) ≡ Some next → Follows exact next ts all
-    → Begun exact groups.Dots stack paths (number n ∷ ts) all
-bare_before exact stack paths n next ts all e follows =
-    let taken = if_some (does_fit exact (measured n.text)) (state (bare_second n) stack paths) next e in
-    let (later, (y, rest, close, is, same, closes, paths_are), all_are) =
-    subst (λ s. Follows exact s ts all) taken.1 follows in
-    (later, (bare (pair n y), rest, close, (taken.0, is), ap (λ x. number n ∷ x) same, closes, paths_are), all_are)
+bare_before : (exact raised : Bool) (stack : List Group) (paths : List Path) (n : Number) (next : State)
+    (ts : List Token) (all : List Path)
+    → number_step exact (λ x. state (bare_second raised x) stack paths) (number n) ≡ Some next
+    → Follows exact next ts all
+    → Begun exact (groups.Dots raised) stack paths (number n ∷ ts) all
+bare_before exact raised stack paths n next ts all e follows =
+    let taken = if_some (does_fit exact (measured n.text)) (state (bare_second raised n) stack paths) next e in
+    let (later, (y, z, rest, close, is, is_third, same, closes, paths_are), all_are) =
+    subst (λ s. Follows exact s ts all) taken.1 follows in (
+      later,
+      (
+        bare (point_with n y z),
+        rest,
+        close,
+        (taken.0, is, is_third),
+        ap (λ x. number n ∷ x) same,
+        closes,
+        paths_are,
+      ),
+      all_are,
+    )
 
 item_before : (exact : Bool) (group : Group) (stack : List Group) (paths : List Path) (t : Token) (next : State)
     (ts : List Token) (all : List Path)
     → item_step exact group stack paths t ≡ Some next → Follows exact next ts all
     → Begun exact group stack paths (t ∷ ts) all
-item_before exact groups.Rings stack paths t next ts all e follows =
-    enter_before exact (Points listings.Ring) stack paths t next ts all e follows
-item_before exact groups.Lists stack paths t next ts all e follows =
-    enter_before exact (Points listings.List) stack paths t next ts all e follows
-item_before exact groups.Polygons stack paths t next ts all e follows =
-    enter_before exact (Items groups.Rings) stack paths t next ts all e follows
+item_before exact (groups.Rings raised) stack paths t next ts all e follows =
+    enter_before exact (Points (listings.Ring raised)) stack paths t next ts all e follows
+item_before exact (groups.Lists raised) stack paths t next ts all e follows =
+    enter_before exact (Points (listings.List raised)) stack paths t next ts all e follows
+item_before exact (groups.Polygons raised) stack paths t next ts all e follows =
+    enter_before exact (Items (groups.Rings raised)) stack paths t next ts all e follows
 item_before exact groups.Geometries stack paths t next ts all e follows =
     tag_before exact stack paths t next ts all e follows
-item_before exact groups.Dots stack paths (number n) next ts all e follows =
-    bare_before exact stack paths n next ts all e follows
-item_before exact groups.Dots stack paths opening next ts all e follows =
-    dot_before exact stack paths opening next ts all e follows
-item_before exact groups.Dots stack paths closing next ts all e follows =
-    dot_before exact stack paths closing next ts all e follows
-item_before exact groups.Dots stack paths comma next ts all e follows =
-    dot_before exact stack paths comma next ts all e follows
-item_before exact groups.Dots stack paths (word w) next ts all e follows =
-    dot_before exact stack paths (word w) next ts all e follows
-item_before exact groups.Dots stack paths stray next ts all e follows =
-    dot_before exact stack paths stray next ts all e follows
+item_before exact (groups.Dots raised) stack paths (number n) next ts all e follows =
+    bare_before exact raised stack paths n next ts all e follows
+item_before exact (groups.Dots raised) stack paths opening next ts all e follows =
+    dot_before exact raised stack paths opening next ts all e follows
+item_before exact (groups.Dots raised) stack paths closing next ts all e follows =
+    dot_before exact raised stack paths closing next ts all e follows
+item_before exact (groups.Dots raised) stack paths comma next ts all e follows =
+    dot_before exact raised stack paths comma next ts all e follows
+item_before exact (groups.Dots raised) stack paths (word w) next ts all e follows =
+    dot_before exact raised stack paths (word w) next ts all e follows
+item_before exact (groups.Dots raised) stack paths stray next ts all e follows =
+    dot_before exact raised stack paths stray next ts all e follows
 
 -- behind an item
 comma_before : (exact : Bool) (group : Group) (outer : List Group) (paths : List Path) (ts : List Token)
@@ -362,7 +420,7 @@ behind_before exact (group ∷ outer) paths stray next ts all e follows = cc
 
 -- behind a point in brackets
 next_before : (exact : Bool) (listing : Listing) (read : List Point) (stack : List Group) (paths : List Path)
-    (ts : List Token) (all : List Path) → (listing ≡ listings.Dot → ⊥)
+    (ts : List Token) (all : List Path) → ((raised : Bool) → listing ≡ listings.Dot raised → ⊥)
     → Follows exact (state (first listing read) stack paths) ts all
     → (later : List Path) × ClosesPoints exact listing read stack (comma ∷ ts) later × (all ≡ paths ++ later)
 next_before exact listing read stack paths ts all no_dot
@@ -374,7 +432,8 @@ next_before exact listing read stack paths ts all no_dot
         close,
         (is, are),
         on_before listing read p more no_dot on,
-        ap (λ x. comma ∷ x) (same ∙ ap (λ x. point_tokens p ++ x) tokens_are),
+        ap (λ x. comma ∷ x) (same ∙ ap (λ x. point_tokens p ++ x) tokens_are
+            ∙ sym (append_assoc (point_tokens p) (behind_item point_tokens more) rest)),
         closes,
         paths_are ∙ ap (λ x. path_of (kind_of listing) x ++ close) (append_assoc read (p ∷ []) more),
       ),
@@ -382,9 +441,9 @@ next_before exact listing read stack paths ts all no_dot
     )
 
 may_on : (listing : Listing) (read : List Point) → may_end listing read ≡ true → GoOn listing read []
-may_on listings.Dot read may = refl
-may_on listings.List read may = tt
-may_on listings.Ring read may = subst IsClosed (sym (append-nil read)) (is_closed_is read may)
+may_on (listings.Dot raised) read may = refl
+may_on (listings.List raised) read may = tt
+may_on (listings.Ring raised) read may = subst IsClosed (sym (append-nil read)) (is_closed_is read may)
 
 end_before : (exact : Bool) (listing : Listing) (read : List Point) (stack : List Group) (paths : List Path)
     (next : State) (ts : List Token) (all : List Path)
@@ -413,58 +472,90 @@ whole_before : (exact : Bool) (listing : Listing) (read : List Point) (stack : L
     (t : Token) (next : State) (ts : List Token) (all : List Path)
     → whole_step listing read stack paths t ≡ Some next → Follows exact next ts all
     → (later : List Path) × ClosesPoints exact listing read stack (t ∷ ts) later × (all ≡ paths ++ later)
-whole_before exact listings.Dot read stack paths closing next ts all e follows =
-    end_before exact listings.Dot read stack paths next ts all e follows
-whole_before exact listings.List read stack paths closing next ts all e follows =
-    end_before exact listings.List read stack paths next ts all e follows
-whole_before exact listings.Ring read stack paths closing next ts all e follows =
-    end_before exact listings.Ring read stack paths next ts all e follows
-whole_before exact listings.Dot read stack paths comma next ts all e follows = cc
-whole_before exact listings.List read stack paths comma next ts all e follows =
-    next_before exact listings.List read stack paths ts all (λ e. cc)
-    (subst (λ s. Follows exact s ts all) (sym (same_Some (state (first listings.List read) stack paths) next e))
+whole_before exact (listings.Dot raised) read stack paths closing next ts all e follows =
+    end_before exact (listings.Dot raised) read stack paths next ts all e follows
+whole_before exact (listings.List raised) read stack paths closing next ts all e follows =
+    end_before exact (listings.List raised) read stack paths next ts all e follows
+whole_before exact (listings.Ring raised) read stack paths closing next ts all e follows =
+    end_before exact (listings.Ring raised) read stack paths next ts all e follows
+whole_before exact (listings.Dot raised) read stack paths comma next ts all e follows = cc
+whole_before exact (listings.List raised) read stack paths comma next ts all e follows =
+    next_before exact (listings.List raised) read stack paths ts all (λ other e. cc)
+    (subst (λ s. Follows exact s ts all) (sym
+    (same_Some (state (first (listings.List raised) read) stack paths) next e))
     follows)
-whole_before exact listings.Ring read stack paths comma next ts all e follows =
-    next_before exact listings.Ring read stack paths ts all (λ e. cc)
-    (subst (λ s. Follows exact s ts all) (sym (same_Some (state (first listings.Ring read) stack paths) next e))
+whole_before exact (listings.Ring raised) read stack paths comma next ts all e follows =
+    next_before exact (listings.Ring raised) read stack paths ts all (λ other e. cc)
+    (subst (λ s. Follows exact s ts all) (sym
+    (same_Some (state (first (listings.Ring raised) read) stack paths) next e))
     follows)
-whole_before exact listings.Dot read stack paths opening next ts all e follows = cc
-whole_before exact listings.List read stack paths opening next ts all e follows = cc
-whole_before exact listings.Ring read stack paths opening next ts all e follows = cc
-whole_before exact listings.Dot read stack paths (word w) next ts all e follows = cc
-whole_before exact listings.List read stack paths (word w) next ts all e follows = cc
-whole_before exact listings.Ring read stack paths (word w) next ts all e follows = cc
-whole_before exact listings.Dot read stack paths (number n) next ts all e follows = cc
-whole_before exact listings.List read stack paths (number n) next ts all e follows = cc
-whole_before exact listings.Ring read stack paths (number n) next ts all e follows = cc
-whole_before exact listings.Dot read stack paths stray next ts all e follows = cc
-whole_before exact listings.List read stack paths stray next ts all e follows = cc
-whole_before exact listings.Ring read stack paths stray next ts all e follows = cc
+whole_before exact (listings.Dot raised) read stack paths opening next ts all e follows = cc
+whole_before exact (listings.List raised) read stack paths opening next ts all e follows = cc
+whole_before exact (listings.Ring raised) read stack paths opening next ts all e follows = cc
+whole_before exact (listings.Dot raised) read stack paths (word w) next ts all e follows = cc
+whole_before exact (listings.List raised) read stack paths (word w) next ts all e follows = cc
+whole_before exact (listings.Ring raised) read stack paths (word w) next ts all e follows = cc
+whole_before exact (listings.Dot raised) read stack paths (number n) next ts all e follows = cc
+whole_before exact (listings.List raised) read stack paths (number n) next ts all e follows = cc
+whole_before exact (listings.Ring raised) read stack paths (number n) next ts all e follows = cc
+whole_before exact (listings.Dot raised) read stack paths stray next ts all e follows = cc
+whole_before exact (listings.List raised) read stack paths stray next ts all e follows = cc
+whole_before exact (listings.Ring raised) read stack paths stray next ts all e follows = cc
 
 -- numbers
 first_before : (exact : Bool) (listing : Listing) (read : List Point) (n : Number) (stack : List Group)
     (paths : List Path) (ts : List Token) (all : List Path) → IsNumber exact n
     → Follows exact (state (second listing read n) stack paths) ts all
     → Before exact (first listing read) stack paths (number n) ts all
-first_before exact listing read n stack paths ts all fits (later, (y, rest, is_y, same, closes), all_are) =
-    (later, (pair n y, rest, (fits, is_y), ap (λ x. number n ∷ x) same, closes), all_are)
+first_before exact listing read n stack paths ts all fits
+    (later, (y, z, rest, is_y, is_z, same, closes), all_are) = (
+      later,
+      (point_with n y z, rest, (fits, is_y, is_z), ap (λ x. number n ∷ x) same, closes),
+      all_are,
+    )
 
-second_before : (exact : Bool) (listing : Listing) (read : List Point) (x n : Number) (stack : List Group)
-    (paths : List Path) (ts : List Token) (all : List Path) → IsNumber exact n
-    → Follows exact (state (whole listing (read ++ pair x n ∷ [])) stack paths) ts all
+second_before : (exact : Bool) (listing : Listing) (read : List Point) (x n : Number) (raised : Bool)
+    (stack : List Group) (paths : List Path) (ts : List Token) (all : List Path) → is_raised listing ≡ raised
+    → IsNumber exact n
+    → Follows exact (state (second_leads raised listing read x n) stack paths) ts all
     → Before exact (second listing read x) stack paths (number n) ts all
-second_before exact listing read x n stack paths ts all fits (later, closes, all_are) =
+second_before exact listing read x n true stack paths ts all is fits
+    (later, (z, rest, is_z, same, closes), all_are) = (
+      later,
+      (n, Some z, rest, fits, third_is exact (is_raised listing) z is is_z, ap (λ y. number n ∷ y) same, closes),
+      all_are,
+    )
+second_before exact listing read x n false stack paths ts all is fits (later, closes, all_are) =
+    (later, (n, None, ts, fits, third_none exact (is_raised listing) is, refl, closes), all_are)
+
+third_before : (exact : Bool) (listing : Listing) (read : List Point) (x y n : Number) (stack : List Group)
+    (paths : List Path) (ts : List Token) (all : List Path) → IsNumber exact n
+    → Follows exact (state (whole listing (read ++ point_with x y (Some n) ∷ [])) stack paths) ts all
+    → Before exact (third listing read x y) stack paths (number n) ts all
+third_before exact listing read x y n stack paths ts all fits (later, closes, all_are) =
     (later, (n, ts, fits, refl, closes), all_are)
 
-bare_second_before : (exact : Bool) (x n : Number) (stack : List Group) (paths : List Path) (ts : List Token)
+bare_second_before : (exact raised : Bool) (x n : Number) (stack : List Group) (paths : List Path) (ts : List Token)
     (all : List Path) → IsNumber exact n
-    → Follows exact (state bare_whole stack (paths ++ path_of Dot (pair x n ∷ []))) ts all
-    → Before exact (bare_second x) stack paths (number n) ts all
-bare_second_before exact x n stack paths ts all fits (close, closes, all_are) = (
-  path_of Dot (pair x n ∷ []) ++ close,
+    → Follows exact (bare_second_leads raised stack paths x n) ts all
+    → Before exact (bare_second raised x) stack paths (number n) ts all
+bare_second_before exact true x n stack paths ts all fits
+    (later, (z, rest, close, is_z, same, closes, paths_are), all_are) =
+    (later, (n, Some z, rest, close, fits, is_z, ap (λ y. number n ∷ y) same, closes, paths_are), all_are)
+bare_second_before exact false x n stack paths ts all fits (close, closes, all_are) = (
+  path_of Dot (point_with x n None ∷ []) ++ close,
+  (n, None, ts, close, fits, tt, refl, closes, refl),
+  all_are ∙ append_assoc paths (path_of Dot (point_with x n None ∷ [])) close,
+)
+
+bare_third_before : (exact : Bool) (x y n : Number) (stack : List Group) (paths : List Path) (ts : List Token)
+    (all : List Path) → IsNumber exact n
+    → Follows exact (bare_leads stack paths (point_with x y (Some n))) ts all
+    → Before exact (bare_third x y) stack paths (number n) ts all
+bare_third_before exact x y n stack paths ts all fits (close, closes, all_are) = (
+  path_of Dot (point_with x y (Some n) ∷ []) ++ close,
   (n, ts, close, fits, refl, closes, refl),
-  all_are
-      ∙ append_assoc paths (path_of Dot (pair x n ∷ [])) close,
+  all_are ∙ append_assoc paths (path_of Dot (point_with x y (Some n) ∷ [])) close,
 )
 
 -- a token that was taken stands before what follows
@@ -473,6 +564,8 @@ pub token_before : (exact : Bool) (spot : Spot) (stack : List Group) (paths : Li
     → step_at exact spot stack paths t ≡ Some next → Follows exact next ts all → Before exact spot stack paths t ts all
 token_before exact item stack paths t next ts all e follows =
     item_before exact (innermost stack) stack paths t next ts all e follows
+token_before exact (tagged kind) stack paths t next ts all e follows =
+    tagged_before exact kind stack paths t next ts all e follows
 token_before exact (content inner) stack paths t next ts all e follows =
     enter_before exact inner stack paths t next ts all e follows
 token_before exact (first listing read) stack paths t next ts all e follows =
@@ -480,17 +573,26 @@ token_before exact (first listing read) stack paths t next ts all e follows =
     subst (λ (token : Token). Before exact (first listing read) stack paths token ts all) (sym is)
     (first_before exact listing read n stack paths ts all fits (subst (λ s. Follows exact s ts all) make follows))
 token_before exact (second listing read x) stack paths t next ts all e follows =
-    let (n, is, fits, make) = number_taken exact (λ y. state (whole listing (read ++ pair x y ∷ [])) stack paths) t next
-    e in
+    let (n, is, fits, make) = number_taken exact
+    (λ y. state (second_leads (is_raised listing) listing read x y) stack paths) t next e in
     subst (λ (token : Token). Before exact (second listing read x) stack paths token ts all) (sym is)
-    (second_before exact listing read x n stack paths ts all fits (subst (λ s. Follows exact s ts all) make follows))
+    (second_before exact listing read x n (is_raised listing) stack paths ts all refl fits
+    (subst (λ s. Follows exact s ts all) make follows))
+token_before exact (third listing read x y) stack paths t next ts all e follows =
+    let (n, is, fits, make) = number_taken exact
+    (λ z. state (whole listing (read ++ point_with x y (Some z) ∷ [])) stack paths) t next e in
+    subst (λ (token : Token). Before exact (third listing read x y) stack paths token ts all) (sym is)
+    (third_before exact listing read x y n stack paths ts all fits (subst (λ s. Follows exact s ts all) make follows))
 token_before exact (whole listing read) stack paths t next ts all e follows =
     whole_before exact listing read stack paths t next ts all e follows
-token_before exact (bare_second x) stack paths t next ts all e follows =
-    let (n, is, fits, make) = number_taken exact (λ y. state bare_whole stack (paths ++ path_of Dot (pair x y ∷ []))) t
-    next e in
-    subst (λ (token : Token). Before exact (bare_second x) stack paths token ts all) (sym is)
-    (bare_second_before exact x n stack paths ts all fits (subst (λ s. Follows exact s ts all) make follows))
+token_before exact (bare_second raised x) stack paths t next ts all e follows =
+    let (n, is, fits, make) = number_taken exact (λ y. bare_second_leads raised stack paths x y) t next e in
+    subst (λ (token : Token). Before exact (bare_second raised x) stack paths token ts all) (sym is)
+    (bare_second_before exact raised x n stack paths ts all fits (subst (λ s. Follows exact s ts all) make follows))
+token_before exact (bare_third x y) stack paths t next ts all e follows =
+    let (n, is, fits, make) = number_taken exact (λ z. bare_leads stack paths (point_with x y (Some z))) t next e in
+    subst (λ (token : Token). Before exact (bare_third x y) stack paths token ts all) (sym is)
+    (bare_third_before exact x y n stack paths ts all fits (subst (λ s. Follows exact s ts all) make follows))
 token_before exact bare_whole stack paths t next ts all e follows =
     behind_before exact stack paths t next ts all e follows
 token_before exact behind stack paths t next ts all e follows = behind_before exact stack paths t next ts all e follows

@@ -6,27 +6,28 @@ use Rattle.std.specs.Prelude.{map, flat_map, sum_by}
 use Rattle.std.specs.List.{AllByRecursion}
 use Rattle.std.proofs.lemmas.List.{map-append}
 use Rattle.std.proofs.lemmas.List.Sums.{sum_by-append}
-use Rattle.plane_base.specs.declared.shapes.Pt.{Pt}
+use Rattle.sheet_base.specs.PointHeights.{Position}
 use Rattle.sheet_base.specs.declared.edits.Edit.{Edit}
 use Rattle.sheet_base.proofs.Swaps.{Swapped, kept_swapped, both_swapped}
-use Rattle.sheet_base.proofs.Redrawn.{Drawn, suit_parts, redrawn_append}
-use Rattle.sheet_base.proofs.Redrawn as sheets
+use Rattle.sheet_base.proofs.DrawnPaths.{Drawn, suit_parts, redrawn_append}
+use Rattle.sheet_base.proofs.DrawnPaths as sheets
 use Rattle.wkt_layer.specs.Tokens.{Token, opening, closing, comma, word}
 use Rattle.wkt_layer.specs.Geometries.{behind_item, content_tokens}
-use Rattle.wkt_layer.specs.Paths.{Path, kept_points, lost_on, edit_of, edits_from}
+use Rattle.wkt_layer.specs.Numbers.{position_of}
+use Rattle.wkt_layer.specs.Paths.{Path, kept_of, lost_on, edit_of, edits_from}
 use Rattle.wkt_layer.specs.declared.words.Word.{Word}
 use Rattle.wkt_layer.specs.declared.words.Word.TheVariants.{Empty}
 use Rattle.wkt_layer.proofs.TokenCuts.{lexed, Clear, MayFollow, Kept, kept_cut, clear_closing, clear_comma}
 
 -- what a sheet keeps of a path
 abbrev pub drawn : Path → Drawn
-drawn path = record { kind = path.kind; points = kept_points path }
+drawn path = record { kind = path.kind; positions = map position_of (kept_of path.kind path.first path.more) }
 
 -- the same paths with images in place of their points, and images that may take that place
-abbrev pub redrawn : (ℕ → List Pt) → ℕ → List Path → List Drawn
+abbrev pub redrawn : (ℕ → List Position) → ℕ → List Path → List Drawn
 redrawn images number paths = sheets.redrawn images number (map drawn paths)
 
-abbrev pub AllSuit : (ℕ → List Pt) → ℕ → List Path → Type 0
+abbrev pub AllSuit : (ℕ → List Position) → ℕ → List Path → Type 0
 AllSuit images number paths = sheets.AllSuit images number (map drawn paths)
 
 pub edits_append : (number : ℕ) (paths more : List Path)
@@ -51,7 +52,7 @@ pub record IsRead {A : Type 0} (tokens : A → List Token) (paths : A → List P
 -- place of their spans make it a part of the same kind with the images in place of its points, wherever it is read
 -- before bytes in which no token goes on.
 pub record Turned {A : Type 0} (tokens : A → List Token) (paths : A → List Path) (IsGood : A → Type 0)
-    (text : Edit → List ℕ) (images : ℕ → List Pt)
+    (text : Edit → List ℕ) (images : ℕ → List Position)
     (part : A) (number at : ℕ) (bytes : List ℕ) (others : List Token) : Type 0 where
   pub taken : List ℕ
   pub rest : List ℕ
@@ -66,7 +67,7 @@ pub record Turned {A : Type 0} (tokens : A → List Token) (paths : A → List P
 
 -- a part that is one token
 pub single : {A : Type 0} (tokens : A → List Token) (paths : A → List Path) (IsGood : A → Type 0) (text : Edit → List ℕ)
-    (images : ℕ → List Pt)
+    (images : ℕ → List Position)
     (part : A) (t : Token) → tokens part ≡ t ∷ [] → paths part ≡ [] → IsGood part
     → ((bytes : List ℕ) → Clear bytes → MayFollow t bytes)
     → (number at : ℕ) (bytes : List ℕ) (others : List Token) → Kept at bytes t others
@@ -92,7 +93,7 @@ single tokens paths IsGood text images part t tokens_are none good may number at
 -- a word, and a part behind it
 pub tagged : {A B : Type 0} (tokens : A → List Token) (paths : A → List Path) (IsGood : A → Type 0)
     (tokens_b : B → List Token) (paths_b : B → List Path) (IsGoodB : B → Type 0)
-    (text : Edit → List ℕ) (images : ℕ → List Pt) (make : A → B) (w : Word)
+    (text : Edit → List ℕ) (images : ℕ → List Position) (make : A → B) (w : Word)
     → ((a : A) → tokens_b (make a) ≡ word w ∷ tokens a) → ((a : A) → paths_b (make a) ≡ paths a)
     → ((a : A) → IsGood a → IsGoodB (make a))
     → (part : A) (number at : ℕ) (bytes : List ℕ) (others : List Token)
@@ -144,7 +145,7 @@ tagged tokens paths IsGood tokens_b paths_b IsGoodB text images make w tokens_ar
 pub led : {A B C : Type 0} (tokens_a : A → List Token) (paths_a : A → List Path) (IsGoodA : A → Type 0)
     (tokens_b : B → List Token) (paths_b : B → List Path) (IsGoodB : B → Type 0)
     (tokens : C → List Token) (paths : C → List Path) (IsGood : C → Type 0) (text : Edit → List ℕ)
-    (images : ℕ → List Pt) (make : A → B → C) (lead : Token)
+    (images : ℕ → List Position) (make : A → B → C) (lead : Token)
     → ((a : A) (b : B) → tokens (make a b) ≡ lead ∷ (tokens_a a ++ tokens_b b))
     → ((a : A) (b : B) → paths (make a b) ≡ paths_a a ++ paths_b b)
     → ((a : A) (b : B) → IsGoodA a → IsGoodB b → IsGood (make a b))
@@ -221,7 +222,7 @@ led tokens_a paths_a IsGoodA tokens_b paths_b IsGoodB tokens paths IsGood text i
 -- ---- items in brackets
 -- each good part turns
 abbrev pub EachTurns : {A : Type 0} → (A → List Token) → (A → List Path) → (A → Type 0) → (Edit → List ℕ)
-    → (ℕ → List Pt) → Type 0
+    → (ℕ → List Position) → Type 0
 EachTurns {A} tokens paths IsGood text images =
     (part : A) → IsGood part → (number at : ℕ) (bytes : List ℕ) (others : List Token)
     → AllSuit images number (paths part) → lexed at bytes ≡ tokens part ++ others
@@ -246,7 +247,7 @@ clear_behind tokens (next ∷ more) at bytes others e =
     clear_comma at bytes ((tokens next ++ behind_item tokens more) ++ others) e
 
 behind_turned : {A : Type 0} (tokens : A → List Token) (paths : A → List Path) (IsGood : A → Type 0)
-    (text : Edit → List ℕ) (images : ℕ → List Pt) → EachTurns tokens paths IsGood text images
+    (text : Edit → List ℕ) (images : ℕ → List Position) → EachTurns tokens paths IsGood text images
     → EachTurns (behind_item tokens) (flat_map paths) (AllByRecursion IsGood) text images
 behind_turned tokens paths IsGood text images each [] good number at bytes others suit e =
     single (behind_item tokens) (flat_map paths) (AllByRecursion IsGood) text images [] closing refl refl tt any_closing
@@ -274,7 +275,7 @@ behind_turned tokens paths IsGood text images each (item ∷ items) good number 
         (later (number + length (paths item)) (at + length k.piece + length a.taken) a.rest suits.1 a.left)
 
 pub content_turned : {A : Type 0} (tokens : A → List Token) (paths : A → List Path) (IsGood : A → Type 0)
-    (text : Edit → List ℕ) (images : ℕ → List Pt) → EachTurns tokens paths IsGood text images
+    (text : Edit → List ℕ) (images : ℕ → List Position) → EachTurns tokens paths IsGood text images
     → EachTurns (content_tokens tokens) (flat_map paths) (AllByRecursion IsGood) text images
 content_turned tokens paths IsGood text images each [] good number at bytes others suit e =
     single (content_tokens tokens) (flat_map paths) (AllByRecursion IsGood) text images [] (word Empty) refl refl tt

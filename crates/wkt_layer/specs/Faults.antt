@@ -6,8 +6,8 @@ use Rattle.mm_decimal.specs.declared.reading.MmRead.{MmRead}
 use Rattle.mm_decimal.specs.declared.reading.NumFault.{NumFault}
 use Rattle.sheet_base.specs.declared.faults.LayerFault.{LayerFault}
 use Rattle.sheet_base.specs.declared.faults.LayerFault.TheVariants as faults
-use Rattle.wkt_layer.specs.Tokens.{Token, opening, closing, comma, word, number, Placed}
-use Rattle.wkt_layer.specs.Numbers.{Point}
+use Rattle.wkt_layer.specs.Tokens.{Number, Token, opening, closing, comma, word, number, Placed}
+use Rattle.wkt_layer.specs.Numbers.{Point, IsNumber}
 use Rattle.wkt_layer.specs.Geometries.{point_tokens}
 use Rattle.wkt_layer.specs.Lines.{IsLine, IsViable, tokens_in}
 use Rattle.wkt_layer.specs.declared.words.Kind.{Kind}
@@ -22,9 +22,17 @@ IsGeometryPlace exact front = IsViable exact (front ++ word (Tag kinds.Point) �
 abbrev pub EndsInTag : List Token → Type 0
 EndsInTag front = (before : List Token) × (kind : Kind) × (front ≡ before ++ word (Tag kind) ∷ [])
 
--- the last two of the tokens are a point's numbers
-abbrev pub EndsInPoint : List Token → Type 0
-EndsInPoint front = (before : List Token) × (p : Point) × (front ≡ before ++ point_tokens p)
+-- the last of the tokens is a number
+abbrev pub EndsInNumber : List Token → Type 0
+EndsInNumber front = (before : List Token) × (n : Number) × (front ≡ before ++ number n ∷ [])
+
+-- some number that fits may stand behind these tokens
+abbrev pub IsNumberPlace : Bool → List Token → Type 0
+IsNumberPlace exact front = (n : Number) × IsNumber exact n × IsViable exact (front ++ number n ∷ [])
+
+-- the last of the tokens is the last number that a point wants
+abbrev pub EndsInPoint : Bool → List Token → Type 0
+EndsInPoint exact front = EndsInNumber front × (IsNumberPlace exact front → ⊥)
 
 -- points with commas between them
 abbrev pub joined_points : Point → List Point → List Token
@@ -62,11 +70,11 @@ SpeaksKind exact front (word (Tag which)) = ⊥
 SpeaksKind exact front (word w) = IsGeometryPlace exact front
 SpeaksKind exact front token = ⊥
 
--- Z, M or ZM directly behind a tag, or a number directly behind a point's two numbers
-abbrev pub SpeaksHeight : List Token → Token → Type 0
-SpeaksHeight front (word Height) = EndsInTag front
-SpeaksHeight front (number n) = EndsInPoint front
-SpeaksHeight front token = ⊥
+-- M or ZM directly behind a tag, or a number directly behind the last one that a point wants
+abbrev pub SpeaksHeight : Bool → List Token → Token → Type 0
+SpeaksHeight exact front (word Height) = EndsInTag front
+SpeaksHeight exact front (number n) = EndsInPoint exact front
+SpeaksHeight exact front token = ⊥
 
 -- the tag of a collection in a geometry's place: one collection too many nests
 abbrev pub SpeaksDeep : Bool → List Token → Token → Type 0
@@ -90,17 +98,17 @@ SpeaksInexact exact (number n) = (exact ≡ true) × IsInexact (measured n.text)
 SpeaksInexact exact token = ⊥
 
 -- a closing bracket directly behind a whole point in brackets; since it does not fit there, the brackets are a ring's
-abbrev pub SpeaksRing : List Placed → Token → Type 0
-SpeaksRing front closing = (at : ℕ) × EndsInPoints front at
-SpeaksRing front token = ⊥
+abbrev pub SpeaksRing : Bool → List Placed → Token → Type 0
+SpeaksRing exact front closing = (at : ℕ) × EndsInPoints front at × EndsInPoint exact (tokens_in front)
+SpeaksRing exact front token = ⊥
 
 abbrev pub Speaks : Bool → List Placed → Token → Row → Type 0
 Speaks exact front token kind = SpeaksKind exact (tokens_in front) token
-Speaks exact front token height = SpeaksHeight (tokens_in front) token
+Speaks exact front token height = SpeaksHeight exact (tokens_in front) token
 Speaks exact front token deep = SpeaksDeep exact (tokens_in front) token
 Speaks exact front token unread = SpeaksUnread token
 Speaks exact front token inexact = SpeaksInexact exact token
-Speaks exact front token ring = SpeaksRing front token
+Speaks exact front token ring = SpeaksRing exact front token
 
 -- the first row that speaks of the token
 pub record Decides (exact : Bool) (front : List Placed) (token : Token) (row : Row) : Type 0 where

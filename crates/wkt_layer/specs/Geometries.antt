@@ -1,36 +1,41 @@
--- The grammar of well-known text (OGC 06-103r4, section 7.2.2), in this project's profile: seven plane kinds, and in a
--- multipoint points without brackets.
-use Rattle.std.specs.Prelude.{◌≡◌, ℕ, zero, suc, ◌≤◌, Bool, true, List, [], ◌∷◌, ◌++◌, length, map}
+-- The grammar of well-known text (OGC 06-103r4, section 7.2.2), in this project's profile: seven kinds, in the plane or
+-- with Z, and in a multipoint points without brackets.
+use Rattle.std.specs.Prelude.{◌≡◌, ℕ, zero, suc, ◌≤◌, Bool, true, false, List, [], ◌∷◌, ◌++◌, length, map, Option}
+use Rattle.std.specs.Prelude.{Some, None}
 use Rattle.std.specs.List.{AllByRecursion}
-use Rattle.sheet_base.specs.Rings.{is_closed}
-use Rattle.wkt_layer.specs.Tokens.{Token, opening, closing, comma, word, number}
-use Rattle.wkt_layer.specs.Numbers.{Point, IsPoint, place_of}
+use Rattle.sheet_base.specs.Rings.{is_closed, is_same_height}
+use Rattle.wkt_layer.specs.Tokens.{Number, Token, opening, closing, comma, word, number}
+use Rattle.wkt_layer.specs.Numbers.{Point, IsPoint, place_of, height_of}
 use Rattle.wkt_layer.specs.declared.words.Kind.TheVariants as kinds
-use Rattle.wkt_layer.specs.declared.words.Word.TheVariants.{Tag, Empty}
+use Rattle.wkt_layer.specs.declared.words.Word.TheVariants.{Tag, Empty, Z}
 
 -- a member of a multipoint: a dot, or a point without brackets
 pub data Member : Type 0 where
   dot : List Point → Member
   bare : Point → Member
 
--- A geometry, by its kind and the items of its content. A content without items is EMPTY.
+-- A geometry, by its kind, whether it has Z, and the items of its content. A content without items is EMPTY.
 mutual
   pub data Geometry : Type 0 where
-    point : List Point → Geometry
-    line_string : List Point → Geometry
-    polygon : List (List Point) → Geometry
-    multi_point : List Member → Geometry
-    multi_line_string : List (List Point) → Geometry
-    multi_polygon : List (List (List Point)) → Geometry
-    collection : Geometries → Geometry
+    point : Bool → List Point → Geometry
+    line_string : Bool → List Point → Geometry
+    polygon : Bool → List (List Point) → Geometry
+    multi_point : Bool → List Member → Geometry
+    multi_line_string : Bool → List (List Point) → Geometry
+    multi_polygon : Bool → List (List (List Point)) → Geometry
+    collection : Bool → Geometries → Geometry
 
   pub data Geometries : Type 0 where
     no_geometry : Geometries
     geometry : Geometry → Geometries → Geometries
 
--- point = number number
+abbrev pub third_tokens : Option Number → List Token
+third_tokens None = []
+third_tokens (Some z) = number z ∷ []
+
+-- point = number number, or with Z number number number
 abbrev pub point_tokens : Point → List Token
-point_tokens p = number p.x ∷ number p.y ∷ []
+point_tokens p = number p.x ∷ number p.y ∷ third_tokens p.z
 
 -- what stands behind an item: a comma and the next one, or the closing bracket
 abbrev pub behind_item : {A : Type 0} → (A → List Token) → List A → List Token
@@ -55,17 +60,26 @@ member_tokens (bare p) = point_tokens p
 abbrev pub lists_tokens : List (List Point) → List Token
 lists_tokens lists = content_tokens points_tokens lists
 
+-- Z behind the tag of a geometry with heights
+abbrev pub mark : Bool → List Token
+mark false = []
+mark true = word Z ∷ []
+
 -- geometry = POINT dot | LINESTRING list | POLYGON rings | MULTIPOINT dots | MULTILINESTRING lists | MULTIPOLYGON
--- polygons | GEOMETRYCOLLECTION geometries
+-- polygons | GEOMETRYCOLLECTION geometries, each with Z behind its tag or without
 abbrev mutual
   pub geometry_tokens : Geometry → List Token
-  geometry_tokens (point points) = word (Tag kinds.Point) ∷ points_tokens points
-  geometry_tokens (line_string points) = word (Tag kinds.LineString) ∷ points_tokens points
-  geometry_tokens (polygon rings) = word (Tag kinds.Polygon) ∷ lists_tokens rings
-  geometry_tokens (multi_point members) = word (Tag kinds.MultiPoint) ∷ content_tokens member_tokens members
-  geometry_tokens (multi_line_string lists) = word (Tag kinds.MultiLineString) ∷ lists_tokens lists
-  geometry_tokens (multi_polygon polygons) = word (Tag kinds.MultiPolygon) ∷ content_tokens lists_tokens polygons
-  geometry_tokens (collection geometries) = word (Tag kinds.Collection) ∷ geometries_tokens geometries
+  geometry_tokens (point raised points) = word (Tag kinds.Point) ∷ (mark raised ++ points_tokens points)
+  geometry_tokens (line_string raised points) = word (Tag kinds.LineString) ∷ (mark raised ++ points_tokens points)
+  geometry_tokens (polygon raised rings) = word (Tag kinds.Polygon) ∷ (mark raised ++ lists_tokens rings)
+  geometry_tokens (multi_point raised members) =
+      word (Tag kinds.MultiPoint) ∷ (mark raised ++ content_tokens member_tokens members)
+  geometry_tokens (multi_line_string raised lists) =
+      word (Tag kinds.MultiLineString) ∷ (mark raised ++ lists_tokens lists)
+  geometry_tokens (multi_polygon raised polygons) =
+      word (Tag kinds.MultiPolygon) ∷ (mark raised ++ content_tokens lists_tokens polygons)
+  geometry_tokens (collection raised geometries) =
+      word (Tag kinds.Collection) ∷ (mark raised ++ geometries_tokens geometries)
 
   pub geometries_tokens : Geometries → List Token
   geometries_tokens no_geometry = word Empty ∷ []
@@ -80,36 +94,40 @@ abbrev pub last_behind : Point → List Point → Point
 last_behind p [] = p
 last_behind p (next ∷ more) = last_behind next more
 
--- a ring is closed, to the millimetre, unless it has no point
+-- a ring is closed, to the millimetre and in height, unless it has no point
 abbrev pub IsClosed : List Point → Type 0
 IsClosed [] = Unit {0}
-IsClosed (first ∷ more) = is_closed (map place_of (first ∷ more)) ≡ true
+IsClosed (first ∷ more) = (is_closed (map place_of (first ∷ more)) ≡ true)
+    × (is_same_height (height_of first) (height_of (last_behind first more)) ≡ true)
 
-abbrev pub ArePoints : Bool → List Point → Type 0
-ArePoints exact points = AllByRecursion (IsPoint exact) points
+-- the points have heights, or none has one
+abbrev pub ArePoints : Bool → Bool → List Point → Type 0
+ArePoints exact raised points = AllByRecursion (IsPoint exact raised) points
 
 -- a dot has one point at most
-abbrev pub IsDot : Bool → List Point → Type 0
-IsDot exact points = ArePoints exact points × (length points ≤ 1)
+abbrev pub IsDot : Bool → Bool → List Point → Type 0
+IsDot exact raised points = ArePoints exact raised points × (length points ≤ 1)
 
-abbrev pub IsRing : Bool → List Point → Type 0
-IsRing exact points = ArePoints exact points × IsClosed points
+abbrev pub IsRing : Bool → Bool → List Point → Type 0
+IsRing exact raised points = ArePoints exact raised points × IsClosed points
 
-abbrev pub IsMember : Bool → Member → Type 0
-IsMember exact (dot points) = IsDot exact points
-IsMember exact (bare p) = IsPoint exact p
+abbrev pub IsMember : Bool → Bool → Member → Type 0
+IsMember exact raised (dot points) = IsDot exact raised points
+IsMember exact raised (bare p) = IsPoint exact raised p
 
--- the contents are what the kind wants of them, and collections nest at most so deep
+-- the contents are what the kind wants of them, with heights where the geometry has Z and without where it has none; a
+-- collection's Z says nothing of its members; and collections nest at most so deep
 abbrev mutual
   pub IsGeometry : Bool → ℕ → Geometry → Type 0
-  IsGeometry exact depth (point points) = IsDot exact points
-  IsGeometry exact depth (line_string points) = ArePoints exact points
-  IsGeometry exact depth (polygon rings) = AllByRecursion (IsRing exact) rings
-  IsGeometry exact depth (multi_point members) = AllByRecursion (IsMember exact) members
-  IsGeometry exact depth (multi_line_string lists) = AllByRecursion (ArePoints exact) lists
-  IsGeometry exact depth (multi_polygon polygons) = AllByRecursion (AllByRecursion (IsRing exact)) polygons
-  IsGeometry exact zero (collection geometries) = ⊥
-  IsGeometry exact (suc depth) (collection geometries) = AreGeometries exact depth geometries
+  IsGeometry exact depth (point raised points) = IsDot exact raised points
+  IsGeometry exact depth (line_string raised points) = ArePoints exact raised points
+  IsGeometry exact depth (polygon raised rings) = AllByRecursion (IsRing exact raised) rings
+  IsGeometry exact depth (multi_point raised members) = AllByRecursion (IsMember exact raised) members
+  IsGeometry exact depth (multi_line_string raised lists) = AllByRecursion (ArePoints exact raised) lists
+  IsGeometry exact depth (multi_polygon raised polygons) =
+      AllByRecursion (AllByRecursion (IsRing exact raised)) polygons
+  IsGeometry exact zero (collection raised geometries) = ⊥
+  IsGeometry exact (suc depth) (collection raised geometries) = AreGeometries exact depth geometries
 
   pub AreGeometries : Bool → ℕ → Geometries → Type 0
   AreGeometries exact depth no_geometry = Unit {0}

@@ -16,10 +16,12 @@ use Rattle.wkt_layer.specs.Reached.{Reached}
 use Rattle.wkt_layer.specs.Lines.{IsLineOf}
 use Rattle.wkt_layer.specs.Faults.{IsLineFault}
 use Rattle.wkt_layer.specs.Layers.{lines_of, AreLinesOf, IsFirstLineFault}
-use Rattle.wkt_layer.specs.Numbers.{Point, does_fit, place_of, lost_of}
+use Rattle.wkt_layer.specs.Numbers.{Point, does_fit, past_of, place_of, height_of, lost_of, lost_in}
+use Rattle.sheet_base.specs.PointHeights.{Height}
 use Rattle.wkt_layer.specs.Geometries.{last_behind}
-use Rattle.wkt_layer.specs.Paths.{Path, kept_points, lost_on, rows_from, edits_from}
-use Rattle.wkt_layer.specs.States.{Spot, item, content, first, second, whole, bare_second, bare_whole, behind, State}
+use Rattle.wkt_layer.specs.Paths.{Path, kept_points, kept_heights, lost_on, rows_from, edits_from}
+use Rattle.wkt_layer.specs.States.{Spot, item, tagged, content, first, second, third, whole, bare_second, bare_third}
+use Rattle.wkt_layer.specs.States.{bare_whole, behind, State}
 use Rattle.wkt_layer.specs.States.{step, fault_of, opened_by}
 use Rattle.wkt_layer.specs.declared.pass.Pass.{Pass}
 use Rattle.wkt_layer.specs.declared.places.Place.{Place}
@@ -59,12 +61,18 @@ AreSome (one ∷ more) = Unit {0}
 -- the code's place is this spot
 abbrev pub Shows : Place → Spot → Type 0
 Shows places.Item item = Unit {0}
+Shows (places.Tagged kind) (tagged other) = kind ≡ other
 Shows (places.Content inner) (content other) = inner ≡ other
 Shows (places.First listing) (first other points) = listing ≡ other
 Shows (places.Second listing read at) (second other points x) =
     (listing ≡ other) × (measured x.text ≡ Ok read) × (at ≡ x.start)
+Shows (places.Third listing read next at) (third other points x y) =
+    (listing ≡ other) × (measured x.text ≡ Ok read) × (measured y.text ≡ Ok next) × (at ≡ x.start)
 Shows (places.Whole listing) (whole other points) = (listing ≡ other) × AreSome points
-Shows (places.BareSecond read at) (bare_second x) = (measured x.text ≡ Ok read) × (at ≡ x.start)
+Shows (places.BareSecond raised read at) (bare_second other x) =
+    (raised ≡ other) × (measured x.text ≡ Ok read) × (at ≡ x.start)
+Shows (places.BareThird read next at) (bare_third x y) =
+    (measured x.text ≡ Ok read) × (measured y.text ≡ Ok next) × (at ≡ x.start)
 Shows places.BareWhole bare_whole = Unit {0}
 Shows places.Behind behind = Unit {0}
 Shows place spot = ⊥
@@ -73,19 +81,35 @@ Shows place spot = ⊥
 abbrev pub points_at : Spot → List Point
 points_at (first listing points) = points
 points_at (second listing points x) = points
+points_at (third listing points x y) = points
 points_at (whole listing points) = points
 points_at spot = []
 
 -- from the first byte of the points' first number to the last byte of their last one
 abbrev pub AreFrom : List Point → ℕ → ℕ → Type 0
 AreFrom [] start end = Unit {0}
-AreFrom (one ∷ more) start end = (start ≡ one.x.start)
-    × (end ≡ (last_behind one more).y.start + length (last_behind one more).y.text)
+AreFrom (one ∷ more) start end = (start ≡ one.x.start) × (end ≡ past_of (last_behind one more))
+
+-- what was read of a point's third number, where it has one
+abbrev pub IsThirdRead : Option Number → Option MmRead → Type 0
+IsThirdRead None None = Unit {0}
+IsThirdRead (Some z) (Some read) = measured z.text ≡ Ok read
+IsThirdRead wanted read = ⊥
+
+-- the height of it, and 1 where it lost digits
+abbrev pub height_read : Option MmRead → Height
+height_read None = None
+height_read (Some read) = Some read.mm
+
+abbrev pub lost_read : Option MmRead → ℕ
+lost_read None = 0
+lost_read (Some read) = lost_in (Ok read)
 
 -- the sheet so far has these paths, and behind them these points
 pub record Held (pass : Pass) (done : List Path) (now : List Point) : Type 0 where
   pub paths : pass.paths.items ≡ rows_from 0 done
   pub points : pass.points.items ≡ flat_map kept_points done ++ map place_of now
+  pub heights : pass.heights ≡ flat_map kept_heights done ++ map height_of now
   pub edits : pass.edits.items ≡ edits_from 0 done
   pub inexact : pass.inexact ≡ sum_by lost_on done + sum_by lost_of now
   pub first : pass.first ≡ length (flat_map kept_points done)
@@ -119,13 +143,16 @@ pub record HasRoom (pass : Pass) (at : ℕ) : Type 0 where
   pub first : pass.first ≤ at
   pub start : pass.start ≤ at
   pub end : pass.end ≤ at
-  pub inexact : pass.inexact ≤ 2 * at
+  pub inexact : pass.inexact ≤ 3 * at
   pub inside : pass.first ≤ length pass.points.items
+  pub heights : length pass.heights ≤ at
 
 -- a number that was read begins before this place
 abbrev pub BeginsBefore : Place → ℕ → Type 0
 BeginsBefore (places.Second listing read start) at = start ≤ at
-BeginsBefore (places.BareSecond read start) at = start ≤ at
+BeginsBefore (places.Third listing read next start) at = start ≤ at
+BeginsBefore (places.BareSecond raised read start) at = start ≤ at
+BeginsBefore (places.BareThird read next start) at = start ≤ at
 BeginsBefore place at = ⊤
 
 abbrev pub LeavesRoom : Result (Option Place) AllocError → Pass → ℕ → Type 0
@@ -137,6 +164,7 @@ LeavesRoom (Err fault) pass at = ⊤
 pub record SameSheet (old new : Pass) : Type 0 where
   pub paths : new.paths ≡ old.paths
   pub points : new.points ≡ old.points
+  pub heights : new.heights ≡ old.heights
   pub edits : new.edits ≡ old.edits
   pub inexact : new.inexact ≡ old.inexact
   pub first : new.first ≡ old.first
@@ -192,8 +220,12 @@ abbrev pub Ascend : ℕ → List Number → ℕ → Type 0
 Ascend from [] past = from ≤ past
 Ascend from (n ∷ numbers) past = (from ≤ n.start) × Ascend (n.start + length n.text) numbers past
 
+abbrev pub third_numbers : Option Number → List Number
+third_numbers None = []
+third_numbers (Some z) = z ∷ []
+
 abbrev pub point_numbers : Point → List Number
-point_numbers p = p.x ∷ p.y ∷ []
+point_numbers p = p.x ∷ p.y ∷ third_numbers p.z
 
 abbrev pub path_numbers : Path → List Number
 path_numbers path = flat_map point_numbers (path.first ∷ path.more)

@@ -1,5 +1,6 @@
 -- The paths of a geometry, and the sheet of a list of paths.
 use Rattle.std.specs.Prelude.{ℕ, ◌+◌, List, [], ◌∷◌, ◌++◌, length, map, flat_map, sum_by}
+use Rattle.sheet_base.specs.PointHeights.{Height}
 use Rattle.sheet_base.specs.declared.paths.PathKind.{PathKind}
 use Rattle.sheet_base.specs.declared.paths.PathKind.TheVariants.{Dot, Line, Loop}
 use Rattle.sheet_base.specs.declared.paths.PathRow.{PathRow}
@@ -8,7 +9,7 @@ use Rattle.sheet_base.specs.declared.edits.What.{What}
 use Rattle.sheet_base.specs.declared.edits.What.TheVariants.{WktList, WktRing}
 use Rattle.sheet_base.specs.Sheets.{Contents}
 use Rattle.plane_base.specs.declared.shapes.Pt.{Pt}
-use Rattle.wkt_layer.specs.Numbers.{Point, place_of, lost_of}
+use Rattle.wkt_layer.specs.Numbers.{Point, past_of, place_of, height_of, lost_of}
 use Rattle.wkt_layer.specs.Geometries.{Member, dot, bare, Geometry, point, line_string, polygon, multi_point}
 use Rattle.wkt_layer.specs.Geometries.{multi_line_string, multi_polygon, collection, Geometries, no_geometry, geometry}
 use Rattle.wkt_layer.specs.Geometries.{last_behind}
@@ -30,13 +31,13 @@ member_path (bare p) = path_of Dot (p ∷ [])
 
 abbrev mutual
   pub geometry_paths : Geometry → List Path
-  geometry_paths (point points) = path_of Dot points
-  geometry_paths (line_string points) = path_of Line points
-  geometry_paths (polygon rings) = flat_map (path_of Loop) rings
-  geometry_paths (multi_point members) = flat_map member_path members
-  geometry_paths (multi_line_string lists) = flat_map (path_of Line) lists
-  geometry_paths (multi_polygon polygons) = flat_map (flat_map (path_of Loop)) polygons
-  geometry_paths (collection geometries) = geometries_paths geometries
+  geometry_paths (point raised points) = path_of Dot points
+  geometry_paths (line_string raised points) = path_of Line points
+  geometry_paths (polygon raised rings) = flat_map (path_of Loop) rings
+  geometry_paths (multi_point raised members) = flat_map member_path members
+  geometry_paths (multi_line_string raised lists) = flat_map (path_of Line) lists
+  geometry_paths (multi_polygon raised polygons) = flat_map (flat_map (path_of Loop)) polygons
+  geometry_paths (collection raised geometries) = geometries_paths geometries
 
   pub geometries_paths : Geometries → List Path
   geometries_paths no_geometry = []
@@ -55,6 +56,9 @@ kept_of Loop first more = points_before_last first more
 
 abbrev pub kept_points : Path → List Pt
 kept_points path = map place_of (kept_of path.kind path.first path.more)
+
+abbrev pub kept_heights : Path → List Height
+kept_heights path = map height_of (kept_of path.kind path.first path.more)
 
 abbrev pub lost_on : Path → ℕ
 lost_on path = sum_by lost_of (path.first ∷ path.more)
@@ -75,8 +79,11 @@ text_for Loop number = WktRing number
 -- last one
 abbrev pub edit_of : ℕ → Path → Edit
 edit_of number path =
-    let last = (last_behind path.first path.more).y in
-    record { start = path.first.x.start; end = last.start + length last.text; what = text_for path.kind number }
+    record {
+      start = path.first.x.start;
+      end = past_of (last_behind path.first path.more);
+      what = text_for path.kind number;
+    }
 
 -- the edits of paths the first of which has this number
 abbrev pub edits_from : ℕ → List Path → List Edit
@@ -88,6 +95,7 @@ abbrev pub sheet_of : List Path → Contents
 sheet_of paths = record {
   paths = rows_from 0 paths;
   points = flat_map kept_points paths;
+  heights = flat_map kept_heights paths;
   edits = edits_from 0 paths;
   inexact = sum_by lost_on paths;
   dropped = 0;

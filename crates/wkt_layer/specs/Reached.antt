@@ -5,7 +5,7 @@ use Rattle.wkt_layer.specs.Tokens.{Token, opening, comma, number, Placed, tokens
 use Rattle.wkt_layer.specs.Numbers.{Point}
 use Rattle.wkt_layer.specs.Lines.{tokens_in}
 use Rattle.wkt_layer.specs.Faults.{joined_points}
-use Rattle.wkt_layer.specs.States.{Spot, first, second, whole, State, start, step}
+use Rattle.wkt_layer.specs.States.{Spot, first, second, third, whole, State, start, step}
 
 -- points that were read, each with the comma behind it
 abbrev pub read_tokens : List Point → List Token
@@ -21,6 +21,7 @@ EndsIn front opened tokens = (before points : List Placed)
 abbrev pub IsIn : List Placed → ℕ → Spot → Type 0
 IsIn front opened (first listing read) = EndsIn front opened (read_tokens read)
 IsIn front opened (second listing read x) = EndsIn front opened (read_tokens read ++ number x ∷ [])
+IsIn front opened (third listing read x y) = EndsIn front opened (read_tokens read ++ number x ∷ number y ∷ [])
 IsIn front opened (whole listing read) = (one : Point) × (more : List Point) × (read ≡ one ∷ more)
     × EndsIn front opened (joined_points one more)
 IsIn front opened spot = Unit {0}

@@ -6,17 +6,18 @@ use Rattle.mm_decimal.specs.declared.reading.MmRead.{MmRead}
 use Rattle.mm_decimal.specs.declared.reading.NumFault.{NumFault}
 use Rattle.sheet_base.specs.declared.faults.LayerFault.{LayerFault}
 use Rattle.sheet_base.specs.declared.faults.LayerFault.TheVariants as faults
-use Rattle.sheet_base.specs.Rings.{is_closed}
+use Rattle.sheet_base.specs.Rings.{is_closed, is_same_height}
 use Rattle.sheet_base.specs.declared.paths.PathKind.{PathKind}
 use Rattle.sheet_base.specs.declared.paths.PathKind.TheVariants.{Dot, Line, Loop}
 use Rattle.wkt_layer.specs.Tokens.{Number, Token, opening, closing, comma, word, number}
-use Rattle.wkt_layer.specs.Numbers.{Point, does_fit, place_of}
+use Rattle.wkt_layer.specs.Numbers.{Point, does_fit, place_of, height_of}
+use Rattle.wkt_layer.specs.Geometries.{last_behind}
 use Rattle.wkt_layer.specs.Paths.{Path, path_of}
 use Rattle.wkt_layer.specs.declared.limits.TheConstants.{DEEPEST}
 use Rattle.wkt_layer.specs.declared.words.Kind.{Kind}
 use Rattle.wkt_layer.specs.declared.words.Kind.TheVariants as kinds
 use Rattle.wkt_layer.specs.declared.words.Word.{Word}
-use Rattle.wkt_layer.specs.declared.words.Word.TheVariants.{Tag, Empty, Height}
+use Rattle.wkt_layer.specs.declared.words.Word.TheVariants.{Tag, Empty, Z, Height}
 use Rattle.wkt_layer.specs.declared.places.Content.{Content}
 use Rattle.wkt_layer.specs.declared.places.Content.TheVariants.{Points, Items}
 use Rattle.wkt_layer.specs.declared.places.Listing.{Listing}
@@ -24,15 +25,19 @@ use Rattle.wkt_layer.specs.declared.places.Listing.TheVariants as listings
 use Rattle.wkt_layer.specs.declared.places.Group.{Group}
 use Rattle.wkt_layer.specs.declared.places.Group.TheVariants as groups
 
--- what may come next: an item; a content; a point in brackets behind others; its second number; what stands behind it;
--- the second number of a point without brackets; what stands behind that one; what stands behind another item
+-- what may come next: an item; Z or a content behind a tag; a content; a point in brackets behind others; its second
+-- number; its third one; what stands behind it; the second number of a point without brackets, with Z or without; its
+-- third one; what stands behind that point; what stands behind another item
 pub data Spot : Type 0 where
   item : Spot
+  tagged : Kind → Spot
   content : Content → Spot
   first : Listing → List Point → Spot
   second : Listing → List Point → Number → Spot
+  third : Listing → List Point → Number → Number → Spot
   whole : Listing → List Point → Spot
-  bare_second : Number → Spot
+  bare_second : Bool → Number → Spot
+  bare_third : Number → Number → Spot
   bare_whole : Spot
   behind : Spot
 
@@ -48,28 +53,37 @@ state spot stack paths = record { spot = spot; stack = stack; paths = paths }
 abbrev pub start : State
 start = state item [] []
 
--- what stands behind a kind's tag
-abbrev pub content_of : Kind → Content
-content_of kinds.Point = Points listings.Dot
-content_of kinds.LineString = Points listings.List
-content_of kinds.Polygon = Items groups.Rings
-content_of kinds.MultiPoint = Items groups.Dots
-content_of kinds.MultiLineString = Items groups.Lists
-content_of kinds.MultiPolygon = Items groups.Polygons
-content_of kinds.Collection = Items groups.Geometries
+-- what stands behind a kind's tag, with Z or without
+abbrev pub content_of : Kind → Bool → Content
+content_of kinds.Point raised = Points (listings.Dot raised)
+content_of kinds.LineString raised = Points (listings.List raised)
+content_of kinds.Polygon raised = Items (groups.Rings raised)
+content_of kinds.MultiPoint raised = Items (groups.Dots raised)
+content_of kinds.MultiLineString raised = Items (groups.Lists raised)
+content_of kinds.MultiPolygon raised = Items (groups.Polygons raised)
+content_of kinds.Collection raised = Items groups.Geometries
+
+-- whether the points have heights
+abbrev pub is_raised : Listing → Bool
+is_raised (listings.Dot raised) = raised
+is_raised (listings.List raised) = raised
+is_raised (listings.Ring raised) = raised
 
 -- what the items of the innermost list are; the line is like an item of a collection
 abbrev pub innermost : List Group → Group
 innermost [] = groups.Geometries
 innermost (group ∷ groups) = group
 
-abbrev pub pair : Number → Number → Point
-pair x y = record { x = x; y = y }
+abbrev pub point_with : Number → Number → Option Number → Point
+point_with x y z = record { x = x; y = y; z = z }
+
+-- whether a geometry of this kind may stand inside so many lists
+abbrev pub may_nest : Kind → List Group → Bool
+may_nest kinds.Collection stack = nat_lt (length stack) DEEPEST
+may_nest kind stack = true
 
 abbrev pub tag_step : List Group → List Path → Token → Option State
-tag_step stack paths (word (Tag kinds.Collection)) =
-    if nat_lt (length stack) DEEPEST then Some (state (content (Items groups.Geometries)) stack paths) else None
-tag_step stack paths (word (Tag kind)) = Some (state (content (content_of kind)) stack paths)
+tag_step stack paths (word (Tag kind)) = if may_nest kind stack then Some (state (tagged kind) stack paths) else None
 tag_step stack paths token = None
 
 abbrev pub enter_step : Content → List Group → List Path → Token → Option State
@@ -78,36 +92,42 @@ enter_step (Points listing) stack paths opening = Some (state (first listing [])
 enter_step (Items group) stack paths opening = Some (state item (group ∷ stack) paths)
 enter_step inner stack paths token = None
 
+-- behind a tag: Z, or the content of a geometry without heights
+abbrev pub tagged_step : Kind → List Group → List Path → Token → Option State
+tagged_step kind stack paths (word Z) = Some (state (content (content_of kind true)) stack paths)
+tagged_step kind stack paths token = enter_step (content_of kind false) stack paths token
+
 -- a number that fits leads on
 abbrev pub number_step : Bool → (Number → State) → Token → Option State
 number_step exact next (number n) = if does_fit exact (measured n.text) then Some (next n) else None
 number_step exact next token = None
 
 abbrev pub item_step : Bool → Group → List Group → List Path → Token → Option State
-item_step exact groups.Rings stack paths token = enter_step (Points listings.Ring) stack paths token
-item_step exact groups.Lists stack paths token = enter_step (Points listings.List) stack paths token
-item_step exact groups.Polygons stack paths token = enter_step (Items groups.Rings) stack paths token
+item_step exact (groups.Rings raised) stack paths token = enter_step (Points (listings.Ring raised)) stack paths token
+item_step exact (groups.Lists raised) stack paths token = enter_step (Points (listings.List raised)) stack paths token
+item_step exact (groups.Polygons raised) stack paths token = enter_step (Items (groups.Rings raised)) stack paths token
 item_step exact groups.Geometries stack paths token = tag_step stack paths token
-item_step exact groups.Dots stack paths (number n) =
-    number_step exact (λ x. state (bare_second x) stack paths) (number n)
-item_step exact groups.Dots stack paths token = enter_step (Points listings.Dot) stack paths token
+item_step exact (groups.Dots raised) stack paths (number n) =
+    number_step exact (λ x. state (bare_second raised x) stack paths) (number n)
+item_step exact (groups.Dots raised) stack paths token = enter_step (Points (listings.Dot raised)) stack paths token
 
 abbrev pub kind_of : Listing → PathKind
-kind_of listings.Dot = Dot
-kind_of listings.List = Line
-kind_of listings.Ring = Loop
+kind_of (listings.Dot raised) = Dot
+kind_of (listings.List raised) = Line
+kind_of (listings.Ring raised) = Loop
 
 abbrev pub may_close : List Point → Bool
 may_close [] = true
-may_close (one ∷ more) = is_closed (map place_of (one ∷ more))
+may_close (one ∷ more) =
+    is_closed (map place_of (one ∷ more)) && is_same_height (height_of one) (height_of (last_behind one more))
 
 abbrev pub may_end : Listing → List Point → Bool
-may_end listings.Dot points = true
-may_end listings.List points = true
-may_end listings.Ring points = may_close points
+may_end (listings.Dot raised) points = true
+may_end (listings.List raised) points = true
+may_end (listings.Ring raised) points = may_close points
 
 abbrev pub whole_step : Listing → List Point → List Group → List Path → Token → Option State
-whole_step listings.Dot points stack paths comma = None
+whole_step (listings.Dot raised) points stack paths comma = None
 whole_step listing points stack paths comma = Some (state (first listing points) stack paths)
 whole_step listing points stack paths closing =
     if may_end listing points then Some (state behind stack (paths ++ path_of (kind_of listing) points)) else None
@@ -118,16 +138,34 @@ behind_step (group ∷ outer) paths comma = Some (state item (group ∷ outer) p
 behind_step (group ∷ outer) paths closing = Some (state behind outer paths)
 behind_step stack paths token = None
 
+-- behind the second number of a point: the third one, or what stands behind the point
+abbrev pub second_leads : Bool → Listing → List Point → Number → Number → Spot
+second_leads true listing points x y = third listing points x y
+second_leads false listing points x y = whole listing (points ++ point_with x y None ∷ [])
+
+-- a point without brackets was read
+abbrev pub bare_leads : List Group → List Path → Point → State
+bare_leads stack paths p = state bare_whole stack (paths ++ path_of Dot (p ∷ []))
+
+abbrev pub bare_second_leads : Bool → List Group → List Path → Number → Number → State
+bare_second_leads true stack paths x y = state (bare_third x y) stack paths
+bare_second_leads false stack paths x y = bare_leads stack paths (point_with x y None)
+
 abbrev pub step_at : Bool → Spot → List Group → List Path → Token → Option State
 step_at exact item stack paths token = item_step exact (innermost stack) stack paths token
+step_at exact (tagged kind) stack paths token = tagged_step kind stack paths token
 step_at exact (content inner) stack paths token = enter_step inner stack paths token
 step_at exact (first listing points) stack paths token =
     number_step exact (λ x. state (second listing points x) stack paths) token
 step_at exact (second listing points x) stack paths token =
-    number_step exact (λ y. state (whole listing (points ++ pair x y ∷ [])) stack paths) token
+    number_step exact (λ y. state (second_leads (is_raised listing) listing points x y) stack paths) token
+step_at exact (third listing points x y) stack paths token =
+    number_step exact (λ z. state (whole listing (points ++ point_with x y (Some z) ∷ [])) stack paths) token
 step_at exact (whole listing points) stack paths token = whole_step listing points stack paths token
-step_at exact (bare_second x) stack paths token =
-    number_step exact (λ y. state bare_whole stack (paths ++ path_of Dot (pair x y ∷ []))) token
+step_at exact (bare_second raised x) stack paths token =
+    number_step exact (λ y. bare_second_leads raised stack paths x y) token
+step_at exact (bare_third x y) stack paths token =
+    number_step exact (λ z. bare_leads stack paths (point_with x y (Some z))) token
 step_at exact bare_whole stack paths token = behind_step stack paths token
 step_at exact behind stack paths token = behind_step stack paths token
 
@@ -155,13 +193,13 @@ is_geometry_spot item stack = is_geometries (innermost stack)
 is_geometry_spot spot stack = false
 
 -- the fault of a word that is no tag, at this place
-abbrev pub other_fault : Spot → Word → ℕ → LayerFault
-other_fault (content inner) Height at = faults.Height at
-other_fault spot w at = faults.Bad at
+abbrev pub other_fault : Word → Spot → ℕ → LayerFault
+other_fault Height (tagged kind) at = faults.Height at
+other_fault w spot at = faults.Bad at
 
 abbrev pub word_fault : Spot → List Group → Word → ℕ → LayerFault
 word_fault spot stack (Tag kind) at = if is_geometry_spot spot stack then faults.Deep at else faults.Bad at
-word_fault spot stack w at = if is_geometry_spot spot stack then faults.Kind at else other_fault spot w at
+word_fault spot stack w at = if is_geometry_spot spot stack then faults.Kind at else other_fault w spot at
 
 -- the fault of a number that does not fit for itself, or that is not wanted
 abbrev pub answer_fault : Bool → Result MmRead NumFault → ℕ → LayerFault

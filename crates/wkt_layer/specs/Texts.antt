@@ -1,29 +1,34 @@
 -- The texts that take the place of edits in well-known text.
 use Rattle.std.specs.Prelude.{ℕ, List, [], ◌∷◌, ◌++◌, codes, Option, Some, None}
 use Rattle.mm_decimal.specs.Writing.{written}
-use Rattle.plane_base.specs.declared.shapes.Pt.{Pt}
+use Rattle.sheet_base.specs.PointHeights.{Height, Position}
 use Rattle.sheet_base.specs.declared.paths.PathRow.{PathRow}
 use Rattle.sheet_base.specs.declared.edits.Edit.{Edit}
 use Rattle.sheet_base.specs.declared.edits.What.{What}
 use Rattle.sheet_base.specs.declared.edits.What.TheVariants.{WktList, WktRing}
 use Rattle.sheet_base.specs.Sheets.{Contents}
-use Rattle.sheet_base.specs.Fitting.{Runs, path_images}
+use Rattle.sheet_base.specs.Fitting.{Runs, path_positions}
 use Rattle.sheet_base.specs.ImageLists as lists
 
--- two numbers with a space between them
-abbrev pub image_text : Pt → List ℕ
-image_text image = written image.x ++ (32 ∷ written image.y)
+-- a space and the height, where there is one
+abbrev pub height_text : Height → List ℕ
+height_text None = []
+height_text (Some height) = 32 ∷ written height
+
+-- two numbers with a space between them, or three
+abbrev pub image_text : Position → List ℕ
+image_text image = written image.point.x ++ (32 ∷ (written image.point.y ++ height_text image.height))
 
 -- each of these images behind a comma and a space
-abbrev pub texts_behind : List Pt → List ℕ
+abbrev pub texts_behind : List Position → List ℕ
 texts_behind images = lists.texts_behind (codes ", ") image_text images
 
 -- images with a comma and a space between them
-abbrev pub list_text : List Pt → List ℕ
+abbrev pub list_text : List Position → List ℕ
 list_text images = lists.list_text (codes ", ") image_text images
 
 -- the same, and the first image again
-abbrev pub ring_text : List Pt → List ℕ
+abbrev pub ring_text : List Position → List ℕ
 ring_text images = lists.ring_text (codes ", ") image_text images
 
 -- the images of the path of a number, as a list or as a ring
@@ -39,8 +44,8 @@ writing_of what = None
 
 abbrev pub writing_text : List PathRow → Runs → Option Writing → List ℕ
 writing_text paths images None = []
-writing_text paths images (Some (list number)) = list_text (path_images paths images number)
-writing_text paths images (Some (ring number)) = ring_text (path_images paths images number)
+writing_text paths images (Some (list number)) = list_text (path_positions paths images number)
+writing_text paths images (Some (ring number)) = ring_text (path_positions paths images number)
 
 abbrev pub what_text : List PathRow → Runs → What → List ℕ
 what_text paths images what = writing_text paths images (writing_of what)

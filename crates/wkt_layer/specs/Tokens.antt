@@ -7,7 +7,7 @@ use Rattle.std.specs.Str.{str_eq_ignore_ascii_case}
 use Rattle.wkt_layer.specs.declared.words.Kind.TheVariants.{Point, LineString, Polygon, MultiPoint, MultiLineString}
 use Rattle.wkt_layer.specs.declared.words.Kind.TheVariants.{MultiPolygon, Collection}
 use Rattle.wkt_layer.specs.declared.words.Word.{Word}
-use Rattle.wkt_layer.specs.declared.words.Word.TheVariants.{Tag, Empty, Height, Other}
+use Rattle.wkt_layer.specs.declared.words.Word.TheVariants.{Tag, Empty, Z, Height, Other}
 
 -- a number's bytes, and the place in the text where they begin
 pub record Number : Type 0 where
@@ -47,8 +47,8 @@ word_of text =
     else if str_eq_ignore_ascii_case text (codes "MULTIPOLYGON") then Tag MultiPolygon
     else if str_eq_ignore_ascii_case text (codes "GEOMETRYCOLLECTION") then Tag Collection
     else if str_eq_ignore_ascii_case text (codes "EMPTY") then Empty
-    else if str_eq_ignore_ascii_case text (codes "Z") || str_eq_ignore_ascii_case text (codes "M") ||
-    str_eq_ignore_ascii_case text (codes "ZM") then Height
+    else if str_eq_ignore_ascii_case text (codes "Z") then Z
+    else if str_eq_ignore_ascii_case text (codes "M") || str_eq_ignore_ascii_case text (codes "ZM") then Height
     else Other
 
 -- how long the token is that begins with this byte before the others: a word is the longest run of letters, a number

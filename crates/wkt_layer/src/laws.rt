@@ -2,6 +2,7 @@
 
 ghost use Rattle.std.specs.Prelude.{◌≡◌, ℕ, List, Bool};
 ghost use Rattle.sheet_base.specs.Sheets.{Contents};
+ghost use Rattle.sheet_base.specs.ReadSheets.{IsSheetOf};
 ghost use Rattle.sheet_base.specs.Outcomes.{HasOutcome};
 ghost use Rattle.sheet_base.specs.declared.faults.LayerFault.{LayerFault};
 ghost use Rattle.wkt_layer.specs.declared.limits.TheConstants.{DEEPEST, LINE_FEED};
@@ -21,6 +22,12 @@ pub fn fault_is_one()
 /// Each text is a layer of some sheet, or has a first fault.
 pub fn text_outcome_exists()
     ensures { (exact : Bool) → (bytes : List ℕ) → HasOutcome (IsReadAs exact bytes) (IsRefusedBy exact bytes) }
+{}
+
+/// What is read of a text has paths that follow each other without a gap, no more points than the text has bytes, and
+/// edits that are in order inside the text.
+pub fn read_sheets_are_sheets()
+    ensures { (exact : Bool) → (bytes : List ℕ) → (sheet : Contents) → IsReadAs exact bytes sheet → IsSheetOf bytes sheet }
 {}
 
 /// Laws: collections nest at most so deep, and a line ends with this byte.

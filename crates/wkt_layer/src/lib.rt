@@ -1,4 +1,4 @@
-//! Layers of well-known text (OGC 06-103r4, seven plane kinds), one geometry a line.
+//! Layers of well-known text (OGC 06-103r4, seven kinds, in the plane or with Z), one geometry a line.
 #![tactic(auto)]
 
 mod laws;
@@ -13,5 +13,7 @@ mod texts;
 mod tokens;
 mod words;
 
-pub use laws::{fault_is_one, limits_are_stated, sheet_is_one, text_outcome_exists};
+pub use laws::{
+    fault_is_one, limits_are_stated, read_sheets_are_sheets, sheet_is_one, text_outcome_exists,
+};
 pub use layer::Wkt;

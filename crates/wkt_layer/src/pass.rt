@@ -1,18 +1,19 @@
 //! The sheet so far, while a layer is read.
 
 ghost use Rattle.plane_base.specs.declared.shapes.Pt.{Pt};
+ghost use Rattle.sheet_base.specs.PointHeights.{Height};
 ghost use Rattle.std.specs.Prelude.{if◌then◌else◌, ◌≡◌, ◌+◌, ◌-◌, ◌^◌, ◌<◌, ◌≤◌, [], ◌∷◌, ◌++◌, ℕ, List, length, OnOk};
 ghost use Rattle.std.specs.Prelude.{IfOk, Ok};
 ghost use Rattle.sheet_base.specs.declared.paths.PathKind.TheVariants.{Loop};
 ghost use Rattle.mm_decimal.specs.Measured.{measured};
-ghost use Rattle.wkt_layer.specs.Numbers.{Point, lost_in};
+ghost use Rattle.wkt_layer.specs.Numbers.{Point, past_of, lost_in};
 ghost use Rattle.wkt_layer.specs.Paths.{Path, text_for};
-ghost use Rattle.wkt_layer.specs.Passes.{Held};
+ghost use Rattle.wkt_layer.specs.Passes.{Held, IsThirdRead, height_read, lost_read};
 
 use crate::stack::Stack;
 use mm_decimal::MmRead;
 use plane_base::Pt;
-use sheet_base::{Edit, PathKind, PathRow, What};
+use sheet_base::{Edit, Heights, PathKind, PathRow, What};
 use std::alloc::{AllocError, Global};
 
 /// What was read so far: paths with their edits, and behind their points those of the path that is not whole yet.
@@ -21,6 +22,8 @@ pub struct Pass {
     pub stack: Stack,
     pub paths: Vec<PathRow>,
     pub points: Vec<Pt>,
+    /// Of each point its height, or none.
+    pub heights: Heights,
     pub edits: Vec<Edit>,
     pub inexact: u64,
     /// The number of the next path's first point.
@@ -67,17 +70,33 @@ fn start_of(is_first: bool, start: usize, before: usize) -> usize
 }
 
 /// Drops the closing point of a loop.
-fn drop_closing(points: &mut Vec<Pt>, kind: PathKind)
+fn drop_closing(points: &mut Vec<Pt>, heights: &mut Heights, kind: PathKind)
     ensures closing { kind ≡ Loop → (front : List Pt) → (last : Pt) → points.old.items ≡ front ++ last ∷ [] → points.new.items ≡ front }
+    ensures heights { kind ≡ Loop → (front : List Height) → (last : Height) → heights.old ≡ front ++ last ∷ [] → heights.new ≡ front }
     ensures others { (kind ≡ Loop → ⊥) → points.new.items ≡ points.old.items }
+    ensures other_heights { (kind ≡ Loop → ⊥) → heights.new ≡ heights.old }
     ensures few { length points.new.items ≤ length points.old.items }
+    ensures few_heights { length heights.new ≤ length heights.old }
 {
     match kind {
         PathKind::Dot => (),
         PathKind::Line => (),
         PathKind::Loop => {
             let _ = points.pop();
+            heights.pop();
         }
+    }
+}
+
+/// The height that was read, or none, and 1 where it lost digits.
+fn third_of(z: Option<MmRead>) -> (Option<i64>, u64)
+    ensures height { result.0 ≡ height_read z }
+    ensures lost { result.1 ≡ lost_read z }
+    ensures few { result.1 ≤ 1 }
+{
+    match z {
+        Some(read) => (Some(read.mm), lost(read)),
+        None => (None, 0),
     }
 }
 
@@ -95,6 +114,7 @@ impl Pass {
             stack: Stack::none(alloc),
             paths: Vec::with_capacity(alloc, size / 20)?,
             points: Vec::with_capacity(alloc, size / 16)?,
+            heights: Heights::none(alloc, 0),
             edits: Vec::with_capacity(alloc, size / 20)?,
             inexact: 0,
             first: 0,
@@ -104,31 +124,37 @@ impl Pass {
         })
     }
 
-    /// One point more of the path that is not whole yet; its numbers stand from `start` to before `end`.
+    /// One point more of the path that is not whole yet, with its height where it has one; its numbers stand from
+    /// `start` to before `end`.
     pub fn add_point(
         &mut self,
         x: MmRead,
         y: MmRead,
+        z: Option<MmRead>,
         start: usize,
         end: usize,
     ) -> Result<(), AllocError>
-        requires { self.old.inexact < 2 ^ 62 }
+        requires inexact { self.old.inexact < 2 ^ 62 }
+        requires heights { length self.old.heights < 2 ^ 32 }
         ensures held { OnOk result ((done : List Path) → (points : List Point) → (p : Point) → Held self.old done points
-            → measured p.x.text ≡ Ok x → measured p.y.text ≡ Ok y → start ≡ p.x.start → end ≡ p.y.start + length p.y.text
+            → measured p.x.text ≡ Ok x → measured p.y.text ≡ Ok y → IsThirdRead p.z z → start ≡ p.x.start → end ≡ past_of p
             → Held self.new done (points ++ p ∷ [])) }
         ensures points { OnOk result (length self.new.points.items ≡ length self.old.points.items + 1) }
+        ensures heights { OnOk result (length self.new.heights ≡ length self.old.heights + 1) }
         ensures paths { OnOk result (self.new.paths.items ≡ self.old.paths.items) }
         ensures first { OnOk result (self.new.first ≡ self.old.first) }
         ensures start { OnOk result ((bound : ℕ) → self.old.start ≤ bound → start ≤ bound → self.new.start ≤ bound) }
         ensures end { OnOk result (self.new.end ≡ end) }
-        ensures inexact { OnOk result (self.new.inexact ≤ self.old.inexact + 2) }
+        ensures inexact { OnOk result (self.new.inexact ≤ self.old.inexact + 3) }
         ensures stack { OnOk result (self.new.stack ≡ self.old.stack) }
         ensures opened { OnOk result (self.new.opened ≡ self.old.opened) }
     {
         self.start = start_of(self.points.len() == self.first, start, self.start);
         self.points.push(point_from(x, y))?;
+        let (height, lost_third) = third_of(z);
+        self.heights.push(height)?;
         self.end = end;
-        self.inexact += lost(x) + lost(y);
+        self.inexact += lost(x) + lost(y) + lost_third;
         Ok(())
     }
 
@@ -142,6 +168,7 @@ impl Pass {
         ensures held { OnOk result ((done : List Path) → (one : Point) → (more : List Point) → Held self.old done (one ∷ more)
             → Held self.new (done ++ record { kind = kind; first = one; more = more } ∷ []) []) }
         ensures points { OnOk result (length self.new.points.items ≤ length self.old.points.items) }
+        ensures heights { OnOk result (length self.new.heights ≤ length self.old.heights) }
         ensures paths { OnOk result (length self.new.paths.items ≡ length self.old.paths.items + 1) }
         ensures first { OnOk result (self.new.first ≡ length self.new.points.items) }
         ensures ends { OnOk result ((self.new.start ≡ self.old.start) × (self.new.end ≡ self.old.end)) }
@@ -149,7 +176,7 @@ impl Pass {
         ensures stack { OnOk result (self.new.stack ≡ self.old.stack) }
         ensures opened { OnOk result (self.new.opened ≡ self.old.opened) }
     {
-        drop_closing(&mut self.points, kind);
+        drop_closing(&mut self.points, &mut self.heights, kind);
         let number = self.paths.len() as u32;
         self.paths.push(PathRow {
             kind,

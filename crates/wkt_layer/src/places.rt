@@ -3,23 +3,24 @@
 use crate::words::Kind;
 use mm_decimal::MmRead;
 
-/// Points in brackets.
+/// Points in brackets; of a geometry with Z, whose points have heights, or without.
 #[derive(Clone, Copy, PartialEq, Eq)]
 pub enum Listing {
     /// One point at most.
-    Dot,
-    List,
-    Ring,
+    Dot { raised: bool },
+    List { raised: bool },
+    Ring { raised: bool },
 }
 
-/// What the items in brackets are, where they are no points of one path.
+/// What the items in brackets are, where they are no points of one path; those of a geometry with Z or without.
 #[derive(Clone, Copy, PartialEq, Eq)]
 pub enum Group {
-    Rings,
+    Rings { raised: bool },
     /// Dots, and points without brackets.
-    Dots,
-    Lists,
-    Polygons,
+    Dots { raised: bool },
+    Lists { raised: bool },
+    Polygons { raised: bool },
+    /// Each with a tag of its own.
     Geometries,
 }
 
@@ -35,16 +36,23 @@ pub enum Content {
 pub enum Place {
     /// An item of the innermost list that is open, or the line's geometry.
     Item,
-    /// The content of a tag that was read.
+    /// Z, or the content of a geometry without heights, behind a tag.
+    Tagged(Kind),
+    /// The content behind Z.
     Content(Content),
     /// A point in brackets.
     First(Listing),
     /// The second number of such a point. The first one begins at this place.
     Second(Listing, MmRead, usize),
+    /// The third number of such a point. The first one begins at this place.
+    Third(Listing, MmRead, MmRead, usize),
     /// A point in brackets was read.
     Whole(Listing),
-    /// The second number of a point without brackets. The first one begins at this place.
-    BareSecond(MmRead, usize),
+    /// The second number of a point without brackets, of a geometry with Z or without. The first one
+    /// begins at this place.
+    BareSecond(bool, MmRead, usize),
+    /// The third number of such a point. The first one begins at this place.
+    BareThird(MmRead, MmRead, usize),
     /// A point without brackets was read.
     BareWhole,
     /// An item was read that does not end in a point without brackets.
@@ -55,18 +63,34 @@ impl Kind {
     ghost use Rattle.std.specs.Prelude.{◌≡◌};
     ghost use Rattle.wkt_layer.specs.States.{content_of};
 
-    /// What stands behind the kind's tag.
-    pub fn content(self) -> Content
-        ensures { result ≡ content_of self }
+    /// What stands behind the kind's tag, with Z or without.
+    pub fn content(self, raised: bool) -> Content
+        ensures { result ≡ content_of self raised }
     {
         match self {
-            Kind::Point => Content::Points(Listing::Dot),
-            Kind::LineString => Content::Points(Listing::List),
-            Kind::Polygon => Content::Items(Group::Rings),
-            Kind::MultiPoint => Content::Items(Group::Dots),
-            Kind::MultiLineString => Content::Items(Group::Lists),
-            Kind::MultiPolygon => Content::Items(Group::Polygons),
+            Kind::Point => Content::Points(Listing::Dot { raised }),
+            Kind::LineString => Content::Points(Listing::List { raised }),
+            Kind::Polygon => Content::Items(Group::Rings { raised }),
+            Kind::MultiPoint => Content::Items(Group::Dots { raised }),
+            Kind::MultiLineString => Content::Items(Group::Lists { raised }),
+            Kind::MultiPolygon => Content::Items(Group::Polygons { raised }),
             Kind::Collection => Content::Items(Group::Geometries),
+        }
+    }
+}
+
+impl Listing {
+    ghost use Rattle.std.specs.Prelude.{◌≡◌};
+    ghost use Rattle.wkt_layer.specs.States.{is_raised};
+
+    /// Whether the points have heights.
+    pub fn is_raised(self) -> bool
+        ensures { result ≡ is_raised self }
+    {
+        match self {
+            Listing::Dot { raised } => raised,
+            Listing::List { raised } => raised,
+            Listing::Ring { raised } => raised,
         }
     }
 }

@@ -132,6 +132,7 @@ pub fn read(alloc: Global, bytes: &[u8], exact: bool) -> Result<Sheet, LayerFaul
     Ok(Sheet::of(
         Listed::of(pass.paths),
         Listed::of(pass.points),
+        pass.heights,
         Listed::of(pass.edits),
         pass.inexact,
         0,

@@ -4,15 +4,17 @@ ghost use Rattle.std.specs.Prelude.{◌≡◌, ◌<◌, ◌≤◌, ◌+◌, ◌^
 ghost use Rattle.std.specs.Prelude.{MatchOption, OnOk, IfOk, IsTrue, ◌↔◌, Option};
 ghost use Rattle.mm_decimal.specs.Measured.{measured};
 ghost use Rattle.wkt_layer.specs.Tokens.{Number};
-ghost use Rattle.wkt_layer.specs.Numbers.{Point, does_fit, place_of};
-ghost use Rattle.wkt_layer.specs.Paths.{Path, path_of};
-ghost use Rattle.wkt_layer.specs.States.{State, Spot, IsEnd, state, innermost, pair, kind_of, may_end};
+ghost use Rattle.sheet_base.specs.Rings.{is_closed, is_same_height};
+ghost use Rattle.wkt_layer.specs.Numbers.{Point, does_fit, place_of, height_of};
+ghost use Rattle.wkt_layer.specs.Geometries.{last_behind};
+ghost use Rattle.wkt_layer.specs.Paths.{Path};
+ghost use Rattle.wkt_layer.specs.States.{State, Spot, IsEnd, state, innermost, point_with, kind_of, may_close, may_end};
+ghost use Rattle.wkt_layer.specs.States.{is_raised, second_leads, bare_leads, bare_second_leads, tagged_step, may_nest};
 ghost use Rattle.wkt_layer.specs.States.{is_geometry_spot, other_fault, word_fault, answer_fault, number_fault};
 ghost use Rattle.wkt_layer.specs.States.{closing_fault, fault_of, tag_step, enter_step, number_step, item_step};
 ghost use Rattle.wkt_layer.specs.States.{whole_step, behind_step, step};
 ghost use Rattle.wkt_layer.specs.Passes.{token_for, IsFit, IsUnfit, Shows, Held, Stands, Goes, Leads, HasRoom};
 ghost use Rattle.wkt_layer.specs.Passes.{BeginsBefore, LeavesRoom, SameSheet};
-ghost use Rattle.sheet_base.specs.declared.paths.PathKind.TheVariants.{Dot};
 
 use crate::limits::DEEPEST;
 use crate::pass::Pass;
@@ -21,7 +23,7 @@ use crate::stack::Stack;
 use crate::tokens::{Sign, Token};
 use crate::words::{Kind, Word};
 use mm_decimal::{MmRead, read_mm};
-use sheet_base::{LayerFault, PathKind, is_closed};
+use sheet_base::{LayerFault, PathKind, are_same_heights, is_closed};
 use std::alloc::AllocError;
 
 /// What was read fits: where exact numbers are wanted it is exact.
@@ -60,29 +62,31 @@ fn innermost(stack: &Stack) -> Group
     }
 }
 
-/// What stands behind a geometry's tag, where one may stand so deep.
-fn tagged(stack: &Stack, sign: Sign) -> Option<Content>
+/// A geometry of this kind may stand so deep.
+fn may_nest(kind: Kind, stack: &Stack) -> bool
+    ensures { result ≡ may_nest kind stack.now }
+{
+    match kind {
+        Kind::Collection => stack.len() < DEEPEST,
+        _ => true,
+    }
+}
+
+/// The kind of a geometry's tag, where one may stand so deep.
+fn tagged(stack: &Stack, sign: Sign) -> Option<Kind>
     ensures { (paths : List Path) → (at : ℕ) → (text : List ℕ) → MatchOption result
         (tag_step stack.now paths (token_for at text sign) ≡ None)
-        (λ inner. tag_step stack.now paths (token_for at text sign) ≡ Some (state (Spot.content inner) stack.now paths)) }
+        (λ kind. tag_step stack.now paths (token_for at text sign) ≡ Some (state (Spot.tagged kind) stack.now paths)) }
 {
     match sign {
         Sign::Word(word) => match word {
-            Word::Tag(kind) => match kind {
-                Kind::Point => Some(kind.content()),
-                Kind::LineString => Some(kind.content()),
-                Kind::Polygon => Some(kind.content()),
-                Kind::MultiPoint => Some(kind.content()),
-                Kind::MultiLineString => Some(kind.content()),
-                Kind::MultiPolygon => Some(kind.content()),
-                Kind::Collection => {
-                    if stack.len() < DEEPEST {
-                        Some(Content::Items(Group::Geometries))
-                    } else {
-                        None
-                    }
+            Word::Tag(kind) => {
+                if may_nest(kind, stack) {
+                    Some(kind)
+                } else {
+                    None
                 }
-            },
+            }
             _ => None,
         },
         _ => None,
@@ -116,21 +120,38 @@ fn enter(pass: &mut Pass, content: Content, token: Token) -> Result<Option<Place
     }
 }
 
-/// Among dots: a point without brackets, or a dot.
+/// What stands behind a tag: Z, or the content of a geometry without heights.
+fn behind_tag(pass: &mut Pass, kind: Kind, token: Token) -> Result<Option<Place>, AllocError>
+    ensures goes { (before paths : List Path) → (text : List ℕ) → Held pass.old (before ++ paths) []
+        → Goes (tagged_step kind pass.old.stack paths (token_for token.start text token.sign)) (token_for token.start text token.sign) token.start before pass.old result pass.new }
+    ensures same { OnOk result (SameSheet pass.old pass.new) }
+    ensures begins { IfOk result (λ next. MatchOption next (None ≡ next) (λ place. BeginsBefore place 0)) }
+{
+    match token.sign {
+        Sign::Word(word) => match word {
+            Word::Z => Ok(Some(Place::Content(kind.content(true)))),
+            _ => enter(pass, kind.content(false), token),
+        },
+        _ => enter(pass, kind.content(false), token),
+    }
+}
+
+/// Among dots of a geometry with Z or without: a point without brackets, or a dot.
 fn dot_item(
     pass: &mut Pass,
+    raised: bool,
     token: Token,
     text: &[u8],
     exact: bool,
 ) -> Result<Option<Place>, AllocError>
     ensures goes { (before paths : List Path) → Held pass.old (before ++ paths) []
-        → Goes (item_step exact Group.Dots pass.old.stack paths (token_for token.start text.now token.sign)) (token_for token.start text.now token.sign) token.start before pass.old result pass.new }
+        → Goes (item_step exact (Group.Dots raised) pass.old.stack paths (token_for token.start text.now token.sign)) (token_for token.start text.now token.sign) token.start before pass.old result pass.new }
     ensures same { OnOk result (SameSheet pass.old pass.new) }
     ensures begins { IfOk result (λ next. MatchOption next (None ≡ next) (λ place. BeginsBefore place token.start)) }
 {
     match number(token.sign, text, exact) {
-        Some(x) => Ok(Some(Place::BareSecond(x, token.start))),
-        None => enter(pass, Content::Points(Listing::Dot), token),
+        Some(x) => Ok(Some(Place::BareSecond(raised, x, token.start))),
+        None => enter(pass, Content::Points(Listing::Dot { raised }), token),
     }
 }
 
@@ -147,12 +168,12 @@ fn item(
     ensures begins { IfOk result (λ next. MatchOption next (None ≡ next) (λ place. BeginsBefore place token.start)) }
 {
     match innermost(&pass.stack) {
-        Group::Rings => enter(pass, Content::Points(Listing::Ring), token),
-        Group::Lists => enter(pass, Content::Points(Listing::List), token),
-        Group::Polygons => enter(pass, Content::Items(Group::Rings), token),
-        Group::Dots => dot_item(pass, token, text, exact),
+        Group::Rings { raised } => enter(pass, Content::Points(Listing::Ring { raised }), token),
+        Group::Lists { raised } => enter(pass, Content::Points(Listing::List { raised }), token),
+        Group::Polygons { raised } => enter(pass, Content::Items(Group::Rings { raised }), token),
+        Group::Dots { raised } => dot_item(pass, raised, token, text, exact),
         Group::Geometries => match tagged(&pass.stack, token.sign) {
-            Some(content) => Ok(Some(Place::Content(content))),
+            Some(kind) => Ok(Some(Place::Tagged(kind))),
             None => Ok(None),
         },
     }
@@ -163,9 +184,38 @@ fn path_kind(listing: Listing) -> PathKind
     ensures { result ≡ kind_of listing }
 {
     match listing {
-        Listing::Dot => PathKind::Dot,
-        Listing::List => PathKind::Line,
-        Listing::Ring => PathKind::Loop,
+        Listing::Dot { .. } => PathKind::Dot,
+        Listing::List { .. } => PathKind::Line,
+        Listing::Ring { .. } => PathKind::Loop,
+    }
+}
+
+/// The points since the last whole path are those of a closed ring, in the plane.
+fn is_closed_plane(pass: &Pass) -> bool
+    requires { pass.now.first ≤ length pass.now.points.items }
+    ensures { (done : List Path) → (one : Point) → (more : List Point) → Held pass.now done (one ∷ more) → result ≡ is_closed (map place_of (one ∷ more)) }
+{
+    is_closed(&pass.points[pass.first..])
+}
+
+/// The first and the last of these points have one height, or neither has one.
+fn has_level_ends(pass: &Pass) -> bool
+    ensures { (done : List Path) → (one : Point) → (more : List Point) → Held pass.now done (one ∷ more)
+        → result ≡ is_same_height (height_of one) (height_of (last_behind one more)) }
+{
+    let last = pass.points.len().saturating_sub(1);
+    are_same_heights(pass.heights.at(pass.first), pass.heights.at(last))
+}
+
+/// They are those of a closed ring, in the plane and in height.
+fn may_close(pass: &Pass) -> bool
+    requires { pass.now.first ≤ length pass.now.points.items }
+    ensures { (done : List Path) → (one : Point) → (more : List Point) → Held pass.now done (one ∷ more) → result ≡ may_close (one ∷ more) }
+{
+    if is_closed_plane(pass) {
+        has_level_ends(pass)
+    } else {
+        false
     }
 }
 
@@ -175,9 +225,9 @@ fn may_end(pass: &Pass, listing: Listing) -> bool
     ensures { (done : List Path) → (one : Point) → (more : List Point) → Held pass.now done (one ∷ more) → result ≡ may_end listing (one ∷ more) }
 {
     match listing {
-        Listing::Dot => true,
-        Listing::List => true,
-        Listing::Ring => is_closed(&pass.points[pass.first..]),
+        Listing::Dot { .. } => true,
+        Listing::List { .. } => true,
+        Listing::Ring { .. } => may_close(pass),
     }
 }
 
@@ -195,9 +245,9 @@ fn behind_point(
 {
     match token.sign {
         Sign::Comma => match listing {
-            Listing::Dot => Ok(None),
-            Listing::List => Ok(Some(Place::First(Listing::List))),
-            Listing::Ring => Ok(Some(Place::First(Listing::Ring))),
+            Listing::Dot { .. } => Ok(None),
+            Listing::List { .. } => Ok(Some(Place::First(listing))),
+            Listing::Ring { .. } => Ok(Some(Place::First(listing))),
         },
         Sign::Closing => {
             if may_end(pass, listing) {
@@ -245,21 +295,52 @@ fn second(
     requires ends { (token.start < token.end) × (token.end < 2 ^ 32) }
     requires size { token.end ≡ token.start + length text.now }
     ensures goes { (before paths : List Path) → (points : List Point) → (x : Number) → Held pass.old (before ++ paths) points → measured x.text ≡ Ok first.0 → first.1 ≡ x.start
-        → Goes (number_step exact (λ y. state (Spot.whole listing (points ++ pair x y ∷ [])) pass.old.stack paths) (token_for token.start text.now token.sign)) (token_for token.start text.now token.sign) token.start before pass.old result pass.new }
+        → Goes (number_step exact (λ y. state (second_leads (is_raised listing) listing points x y) pass.old.stack paths) (token_for token.start text.now token.sign)) (token_for token.start text.now token.sign) token.start before pass.old result pass.new }
     ensures room { LeavesRoom result pass.new token.end }
 {
     match number(token.sign, text, exact) {
         Some(y) => {
-            pass.add_point(first.0, y, first.1, token.end)?;
+            if listing.is_raised() {
+                Ok(Some(Place::Third(listing, first.0, y, first.1)))
+            } else {
+                pass.add_point(first.0, y, None, first.1, token.end)?;
+                Ok(Some(Place::Whole(listing)))
+            }
+        }
+        None => Ok(None),
+    }
+}
+
+/// The third number of a point in brackets, of which the first two were read.
+fn third(
+    pass: &mut Pass,
+    listing: Listing,
+    read: (MmRead, MmRead, usize),
+    token: Token,
+    text: &[u8],
+    exact: bool,
+) -> Result<Option<Place>, AllocError>
+    requires room { HasRoom pass.old token.start }
+    requires begins { read.2 ≤ token.start }
+    requires ends { (token.start < token.end) × (token.end < 2 ^ 32) }
+    requires size { token.end ≡ token.start + length text.now }
+    ensures goes { (before paths : List Path) → (points : List Point) → (x y : Number) → Held pass.old (before ++ paths) points → measured x.text ≡ Ok read.0 → measured y.text ≡ Ok read.1 → read.2 ≡ x.start
+        → Goes (number_step exact (λ z. state (Spot.whole listing (points ++ point_with x y (Some z) ∷ [])) pass.old.stack paths) (token_for token.start text.now token.sign)) (token_for token.start text.now token.sign) token.start before pass.old result pass.new }
+    ensures room { LeavesRoom result pass.new token.end }
+{
+    match number(token.sign, text, exact) {
+        Some(z) => {
+            pass.add_point(read.0, read.1, Some(z), read.2, token.end)?;
             Ok(Some(Place::Whole(listing)))
         }
         None => Ok(None),
     }
 }
 
-/// The second number of a point without brackets, of which the first one was read.
+/// The second number of a point without brackets, of which the first one was read; of a geometry with Z or without.
 fn bare_second(
     pass: &mut Pass,
+    raised: bool,
     first: (MmRead, usize),
     token: Token,
     text: &[u8],
@@ -270,12 +351,42 @@ fn bare_second(
     requires ends { (token.start < token.end) × (token.end < 2 ^ 32) }
     requires size { token.end ≡ token.start + length text.now }
     ensures goes { (before paths : List Path) → (x : Number) → Held pass.old (before ++ paths) [] → measured x.text ≡ Ok first.0 → first.1 ≡ x.start
-        → Goes (number_step exact (λ y. state Spot.bare_whole pass.old.stack (paths ++ path_of Dot (pair x y ∷ []))) (token_for token.start text.now token.sign)) (token_for token.start text.now token.sign) token.start before pass.old result pass.new }
+        → Goes (number_step exact (λ y. bare_second_leads raised pass.old.stack paths x y) (token_for token.start text.now token.sign)) (token_for token.start text.now token.sign) token.start before pass.old result pass.new }
     ensures room { LeavesRoom result pass.new token.end }
 {
     match number(token.sign, text, exact) {
         Some(y) => {
-            pass.add_point(first.0, y, first.1, token.end)?;
+            if raised {
+                Ok(Some(Place::BareThird(first.0, y, first.1)))
+            } else {
+                pass.add_point(first.0, y, None, first.1, token.end)?;
+                pass.end_path(PathKind::Dot)?;
+                Ok(Some(Place::BareWhole))
+            }
+        }
+        None => Ok(None),
+    }
+}
+
+/// The third number of a point without brackets, of which the first two were read.
+fn bare_third(
+    pass: &mut Pass,
+    read: (MmRead, MmRead, usize),
+    token: Token,
+    text: &[u8],
+    exact: bool,
+) -> Result<Option<Place>, AllocError>
+    requires room { HasRoom pass.old token.start }
+    requires begins { read.2 ≤ token.start }
+    requires ends { (token.start < token.end) × (token.end < 2 ^ 32) }
+    requires size { token.end ≡ token.start + length text.now }
+    ensures goes { (before paths : List Path) → (x y : Number) → Held pass.old (before ++ paths) [] → measured x.text ≡ Ok read.0 → measured y.text ≡ Ok read.1 → read.2 ≡ x.start
+        → Goes (number_step exact (λ z. bare_leads pass.old.stack paths (point_with x y (Some z))) (token_for token.start text.now token.sign)) (token_for token.start text.now token.sign) token.start before pass.old result pass.new }
+    ensures room { LeavesRoom result pass.new token.end }
+{
+    match number(token.sign, text, exact) {
+        Some(z) => {
+            pass.add_point(read.0, read.1, Some(z), read.2, token.end)?;
             pass.end_path(PathKind::Dot)?;
             Ok(Some(Place::BareWhole))
         }
@@ -315,11 +426,18 @@ fn next(
 {
     match place {
         Place::Item => item(pass, token, text, exact),
+        Place::Tagged(kind) => behind_tag(pass, kind, token),
         Place::Content(content) => enter(pass, content, token),
         Place::First(listing) => Ok(first(pass, listing, token, text, exact)),
         Place::Second(listing, x, start) => second(pass, listing, (x, start), token, text, exact),
+        Place::Third(listing, x, y, start) => {
+            third(pass, listing, (x, y, start), token, text, exact)
+        }
         Place::Whole(listing) => behind_point(pass, listing, token),
-        Place::BareSecond(x, start) => bare_second(pass, (x, start), token, text, exact),
+        Place::BareSecond(raised, x, start) => {
+            bare_second(pass, raised, (x, start), token, text, exact)
+        }
+        Place::BareThird(x, y, start) => bare_third(pass, (x, y, start), token, text, exact),
         Place::BareWhole => Ok(behind_item(pass, token)),
         Place::Behind => Ok(behind_item(pass, token)),
     }
@@ -340,11 +458,11 @@ fn is_geometry_place(stack: &Stack, place: Place) -> bool
 
 /// The fault of a word that is no tag, where no geometry may stand.
 fn other_fault(place: Place, word: Word, at: u64) -> LayerFault
-    ensures { (spot : Spot) → Shows place spot → result ≡ other_fault spot word at }
+    ensures { (spot : Spot) → Shows place spot → result ≡ other_fault word spot at }
 {
-    match place {
-        Place::Content(_) => match word {
-            Word::Height => LayerFault::Height { at },
+    match word {
+        Word::Height => match place {
+            Place::Tagged(_) => LayerFault::Height { at },
             _ => LayerFault::Bad { at },
         },
         _ => LayerFault::Bad { at },

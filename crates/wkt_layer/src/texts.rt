@@ -1,12 +1,14 @@
 //! The texts that take the place of edits.
 
-ghost use Rattle.wkt_layer.specs.Texts.{edit_text};
+ghost use Rattle.std.specs.Prelude.{◌≡◌, ◌∷◌, ◌++◌, OnOk};
+ghost use Rattle.mm_decimal.specs.Writing.{written};
+ghost use Rattle.wkt_layer.specs.Texts.{height_text, edit_text};
 
 use plane_base::Pt;
 use sheet_base::{Edit, EditTexts, ImageText, Images, Sheet, What, push_list, push_mm, push_ring};
 use std::alloc::AllocError;
 
-/// No image is longer, in bytes, with the comma and the spaces between two.
+/// No image without a height is longer, in bytes, with the comma and the spaces between two.
 const IMAGE_ROOM: usize = 52;
 
 /// The images of a layer, as texts.
@@ -18,6 +20,27 @@ pub struct Texts<'a> {
 
 /// Points of well-known text.
 struct PointText;
+
+/// Appends two numbers with a space between them.
+fn push_point(out: &mut Vec<u8>, point: Pt) -> Result<(), AllocError>
+    ensures { OnOk result (out.new.items ≡ out.old.items ++ (written point.x ++ (32 ∷ written point.y))) }
+{
+    push_mm(out, point.x)?;
+    out.push(b' ')?;
+    push_mm(out, point.y)?;
+    Ok(())
+}
+
+/// Appends a space and the height, where there is one.
+fn push_height(out: &mut Vec<u8>, height: Option<i64>) -> Result<(), AllocError>
+    ensures { OnOk result (out.new.items ≡ out.old.items ++ height_text height) }
+{
+    if let Some(height) = height {
+        out.push(b' ')?;
+        push_mm(out, height)?;
+    }
+    Ok(())
+}
 
 impl ImageText for PointText {
     ghost use Rattle.std.specs.Prelude.{codes};
@@ -32,10 +55,9 @@ impl ImageText for PointText {
         Ok(())
     }
 
-    fn push_image(out: &mut Vec<u8>, image: Pt) -> Result<(), AllocError> {
-        push_mm(out, image.x)?;
-        out.push(b' ')?;
-        push_mm(out, image.y)?;
+    fn push_image(out: &mut Vec<u8>, image: Pt, height: Option<i64>) -> Result<(), AllocError> {
+        push_point(out, image)?;
+        push_height(out, height)?;
         Ok(())
     }
 }
@@ -56,10 +78,10 @@ impl<'a> EditTexts for Texts<'a> {
     fn push(&self, edit: Edit, out: &mut Vec<u8>) -> Result<(), AllocError> {
         match edit.what {
             What::WktList { path } => {
-                push_list::<PointText>(out, self.images.of_path(self.sheet.paths(), path))
+                push_list::<PointText>(out, self.images, self.sheet.paths(), path)
             }
             What::WktRing { path } => {
-                push_ring::<PointText>(out, self.images.of_path(self.sheet.paths(), path))
+                push_ring::<PointText>(out, self.images, self.sheet.paths(), path)
             }
             _ => Ok(()),
         }

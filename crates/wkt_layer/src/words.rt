@@ -22,7 +22,8 @@ pub enum Word {
     Tag(Kind),
     /// EMPTY.
     Empty,
-    /// Z, M or ZM.
+    Z,
+    /// M or ZM.
     Height,
     Other,
 }
@@ -49,10 +50,9 @@ impl Word {
             Word::Tag(Kind::Collection)
         } else if text.eq_ignore_ascii_case(b"EMPTY") {
             Word::Empty
-        } else if text.eq_ignore_ascii_case(b"Z")
-            || text.eq_ignore_ascii_case(b"M")
-            || text.eq_ignore_ascii_case(b"ZM")
-        {
+        } else if text.eq_ignore_ascii_case(b"Z") {
+            Word::Z
+        } else if text.eq_ignore_ascii_case(b"M") || text.eq_ignore_ascii_case(b"ZM") {
             Word::Height
         } else {
             Word::Other

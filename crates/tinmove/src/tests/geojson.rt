@@ -158,10 +158,10 @@ fn objects_of_files_in_folders_are_carried_or_named(rt: HostRuntime) {
 const REFUSED: &[Carried] = &[
     (
         TRIANGLE,
-        r#"{"type":"Point","coordinates":[5,0,1]}"#,
+        r#"{"type":"Point","coordinates":[5,0,1,1]}"#,
         Status::Layer,
         &[
-            ("-", Some("layer 0: height at 35\n")),
+            ("-", Some("layer 0: height at 37\n")),
             ("o/p.geojson", None),
         ],
     ),

@@ -199,7 +199,7 @@ fn the_report_counts_paths_segments_and_pieces(rt: HostRuntime) {
 const REFUSED: &[Carried] = &[
     (
         TRIANGLE,
-        "POINT Z (5 0 1)",
+        "POINT M (5 0 1)",
         Status::Layer,
         &[("-", Some("layer 0: height at 6\n")), ("o/nine.wkt", None)],
     ),

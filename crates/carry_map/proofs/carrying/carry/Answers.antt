@@ -1,12 +1,42 @@
 -- Answers to the goals of `carry` in src/carrying.rt.
-use Rattle.std.proofs.Common.{◌≡◌, ◌<◌, ◌^◌, length, vec_len, List, ap, ◌∙◌, subst, arith}
+use Rattle.std.proofs.Common.{◌≡◌, ◌<◌, ◌^◌, length, vec_len, List, All, ap, ◌∙◌, sym, subst, arith}
+use Rattle.std.proofs.lemmas.List.{length-map}
 use Rattle.plane_base.specs.declared.shapes.Pt.{Pt}
+use Rattle.sheet_base.specs.PointHeights.{Height, Position, IsHeightWithinReach}
 use Rattle.tin_base.specs.Triangulation.{Triangulation}
 use Rattle.tin_base.specs.Limits.{IsWithinLimits}
 use Rattle.tin_base.specs.Soundness.{IsSound}
+use Rattle.affine_image.specs.SheetImages.{joined}
 use Rattle.affine_image.proofs.Fitting.{images_fit}
+use Rattle.affine_image.proofs.RunReach.{heights_within}
 use Rattle.carry_map.proofs.Backing.{own_segments}
 use Rattle.carry_map.proofs.carrying.carry.Goals as goal
+
+pub of-requires-in-Ok-2 : goal.of-requires-in-Ok-2
+of-requires-in-Ok-2 c =
+    let carried = c.in-Ok.ensures.carried in
+    let known = c.sheet_known.ensures in
+    record {
+      each = ap (λ (zs : List Height). length zs) carried.heights_are
+          ∙ length-map (joined carried.runs) (λ (position : Position). position.height)
+          ∙ sym (length-map (joined carried.runs) (λ (position : Position). position.point))
+          ∙ ap (λ (ps : List Pt). length ps) (sym (c.of.ensures ∙ carried.points_are));
+      in_reach = subst (All IsHeightWithinReach) (sym carried.heights_are)
+          (heights_within c.args.index.now c.args.sheet.now carried.runs known.heights_in_reach carried.of_vertices);
+    }
+
+pub returns-in-Ok-clause-images : goal.returns-in-Ok-clause-images
+returns-in-Ok-clause-images c =
+    let carried = c.in-Ok.ensures.carried in
+    let points = c.of-in-Ok-2.ensures.points ∙ c.of.ensures in
+    let run = c.of-in-Ok-2.ensures.run ∙ c.of-in-Ok.ensures in
+    record {
+      runs = carried.runs;
+      of_vertices = carried.of_vertices;
+      points = points ∙ carried.points_are;
+      heights = c.of-in-Ok-2.ensures.heights ∙ carried.heights_are;
+      run = run ∙ carried.run_are;
+    }
 
 pub returns-in-Ok-clause-fits : goal.returns-in-Ok-clause-fits
 returns-in-Ok-clause-fits c =
@@ -19,13 +49,15 @@ returns-in-Ok-clause-fits c =
     let listed : length c.in-Ok.gathered.points.items ≡ vec_len c.in-Ok.gathered.points = omega arith in
     let below : length c.of-in-Ok-2.result.points < 2 ^ 32 = omega arith in
     images_fit c.args.index.now c.args.sheet.now c.of-in-Ok-2.result
-    (subst (λ (tin : Triangulation). IsWithinLimits tin) c.tin.ensures c.known.ensures.limits) c.sheet_known.ensures
+    (subst (λ (tin : Triangulation). IsWithinLimits tin) c.tin.ensures c.known.ensures.limits)
+    (subst (λ (tin : Triangulation). IsSound tin) c.tin.ensures c.known.ensures.sound) c.sheet_known.ensures
+    carried.inside
     (record {
       runs = carried.runs;
       of_vertices = carried.of_vertices;
       points = points ∙ carried.points_are;
-      run = run
-          ∙ carried.run_are;
+      heights = c.of-in-Ok-2.ensures.heights ∙ carried.heights_are;
+      run = run ∙ carried.run_are;
     }) below
 
 pub returns-in-Ok-clause-segments : goal.returns-in-Ok-clause-segments
@@ -42,6 +74,6 @@ returns-in-Ok-clause-segments c =
       runs = carried.runs;
       of_vertices = carried.of_vertices;
       points = points ∙ carried.points_are;
-      run = run
-          ∙ carried.run_are;
+      heights = c.of-in-Ok-2.ensures.heights ∙ carried.heights_are;
+      run = run ∙ carried.run_are;
     }) carried.of_segments carried.pieces_are count

@@ -1,7 +1,8 @@
 -- Answers to the goals of `carry_paths` in src/carrying.rt.
-use Rattle.std.proofs.Common.{◌≡◌, ℕ, ◌<◌, length, vec_len, get_or, List, sym, ap, subst, arith}
+use Rattle.std.proofs.Common.{◌≡◌, All, ℕ, ◌<◌, length, vec_len, get_or, List, sym, ap, subst, arith}
 use Rattle.plane_base.specs.declared.shapes.Pt.{Pt}
 use Rattle.sheet_base.specs.declared.paths.PathRow.{PathRow}
+use Rattle.sheet_base.specs.PointHeights.{Height, IsHeightWithinReach}
 use Rattle.affine_image.specs.SheetSegments.{path_vertices, vertices_from, segments_begun, sheet_segments}
 use Rattle.carry_map.specs.Causes.{IsCause}
 use Rattle.carry_map.proofs.Pathing.{exits}
@@ -28,6 +29,11 @@ carry_path-requires-clause-in_range c =
     let row = row_of c.args.sheet.now c.points-points.result.now c.paths-row-items.result.now c.loop-number.number
     c.points-points.ensures.sheet c.points-points.ensures.points c.paths-row-items.ensures.paths h in row.upto
 
+pub carry_path-requires-clause-reach : goal.carry_path-requires-clause-reach
+carry_path-requires-clause-reach c =
+    let kept = c.heights-heights.ensures.sheet in
+    subst (All IsHeightWithinReach) (sym c.heights-heights.ensures.heights) kept.heights_in_reach
+
 pub returns-in_err-carry_path-clause-cause : goal.returns-in_err-carry_path-clause-cause
 returns-in_err-carry_path-clause-cause c =
     let long : length c.loop-number.pieces.items ≡ vec_len c.loop-number.pieces = omega arith in
@@ -43,15 +49,21 @@ returns-in_err-carry_path-clause-cause c =
     (subst (λ (n : ℕ). IsCause c.args.index.now c.args.layer n c.args.most (sheet_segments c.args.sheet.now) fault)
     short
     (subst (λ (points : List Pt). IsCause c.args.index.now c.args.layer (length c.args.pieces.now.items) c.args.most
-    (segments_begun (vertices_from points 0 c.args.sheet.now.paths)) fault) c.points-points.ensures.points
-    (sheet_cause c.args.index.now c.args.layer c.points-points.result.now c.args.sheet.now.paths c.args.most
-    c.loop-number.gathered.points.items c.loop-number.gathered.run.items c.args.pieces.now.items
+    (segments_begun (vertices_from points c.args.sheet.now.heights 0 c.args.sheet.now.paths)) fault)
+    c.points-points.ensures.points
+    (subst (λ (heights : List Height). IsCause c.args.index.now c.args.layer (length c.args.pieces.now.items)
+    c.args.most (segments_begun (vertices_from c.points-points.result.now heights 0 c.args.sheet.now.paths)) fault)
+    c.heights-heights.ensures.heights
+    (sheet_cause c.args.index.now c.args.layer c.points-points.result.now c.heights-heights.result.now
+    c.args.sheet.now.paths c.args.most
+    c.loop-number.gathered.points.items c.loop-number.gathered.heights c.loop-number.gathered.run.items
+    c.args.pieces.now.items
     c.loop-number.pieces.items c.loop-number.number
     row fault h (row_read c.args.sheet.now.paths c.paths-row-items.result.now c.loop-number.number
     c.paths-row-items.ensures.paths read) c.loop-number.invariant
     (subst (λ (n : ℕ). IsCause c.args.index.now c.args.layer n c.args.most
-    (segments_begun (path_vertices c.points-points.result.now c.loop-number.number row)) fault) (sym long)
-    c.in_err-carry_path.ensures.cause))))
+    (segments_begun (path_vertices c.points-points.result.now c.heights-heights.result.now c.loop-number.number row))
+    fault) (sym long) c.in_err-carry_path.ensures.cause)))))
 
 pub loop-number-preserved : goal.loop-number-preserved
 loop-number-preserved c =
@@ -60,8 +72,10 @@ loop-number-preserved c =
     subst (λ (rs : List PathRow). c.loop-number.number < length rs) c.paths-row-items.ensures.paths read in
     let room = c.in_ok-carry_path.ensures.room in
     let few = c.in_ok-carry_path.ensures.few in
-    sheet_next c.args.index.now c.args.layer c.points-points.result.now c.args.sheet.now.paths c.args.most
-    c.loop-number.gathered.points.items c.carry_path.new.gathered.points.items c.loop-number.gathered.run.items
+    sheet_next c.args.index.now c.args.layer c.points-points.result.now c.heights-heights.result.now
+    c.args.sheet.now.paths c.args.most
+    c.loop-number.gathered.points.items c.carry_path.new.gathered.points.items c.loop-number.gathered.heights
+    c.carry_path.new.gathered.heights c.loop-number.gathered.run.items
     c.carry_path.new.gathered.run.items
     c.args.pieces.now.items c.loop-number.pieces.items c.carry_path.new.pieces.items c.loop-number.number
     (get_or c.paths-row-items.result.now c.loop-number.number no_row) h

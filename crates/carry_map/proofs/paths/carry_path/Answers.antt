@@ -14,18 +14,19 @@ returns-in_default-clause-cause c =
     let short : length c.args.pieces.now.items ≡ vec_len c.args.pieces.now = omega arith in
     let room : length c.args.pieces.now.items ≤ c.args.most = omega arith in
     subst (λ (n : ℕ). IsFirstOutside c.args.index.now c.args.track.from.layer n c.args.most
-    (segments_begun (path_vertices c.args.points.now c.args.track.from.path c.args.track.row))
+    (segments_begun (path_vertices c.args.points.now c.args.heights.now c.args.track.from.path c.args.track.row))
     c.args.track.from.path 0) short
-    (path_outside c.args.index.now c.args.points.now c.args.track c.args.most c.args.pieces.now.items c.requires.path
+    (path_outside c.args.index.now c.args.points.now c.args.heights.now c.args.track c.args.most c.args.pieces.now.items
+    c.requires.path
     room c.in_default.ensures.none)
 
 pub loop-number-init : goal.loop-number-init
 loop-number-init c =
     let room : length c.args.pieces.now.items ≤ c.args.most = omega arith in
-    path_start c.args.index.now c.args.track.from.layer c.args.points.now c.args.track.from.path c.args.track.row
-    c.args.most c.args.gathered.now.points.items c.args.gathered.now.run.items c.args.pieces.now.items
-    c.in-Some.found.image
-    c.in-Some.ensures.some room
+    path_start c.args.index.now c.args.track.from.layer c.args.points.now c.args.heights.now c.args.track.from.path
+    c.args.track.row c.args.most c.args.gathered.now.points.items c.args.gathered.now.heights
+    c.args.gathered.now.run.items c.args.pieces.now.items c.in-Some.found.image
+    c.in-Some.ensures.some room (let each = c.requires.each in omega (arith, each))
 
 pub carry_segment-requires-clause-image : goal.carry_segment-requires-clause-image
 carry_segment-requires-clause-image c =
@@ -40,13 +41,14 @@ returns-in_err-image-clause-cause c =
     let short : length c.args.pieces.now.items ≡ vec_len c.args.pieces.now = omega arith in
     let here : c.loop-number.number < segments_in c.args.track.row = omega arith in
     exits (λ fault. IsCause c.args.index.now c.args.track.from.layer (vec_len c.args.pieces.now) c.args.most
-    (segments_begun (path_vertices c.args.points.now c.args.track.from.path c.args.track.row)) fault)
+    (segments_begun (path_vertices c.args.points.now c.args.heights.now c.args.track.from.path c.args.track.row)) fault)
     c.in_err-image.field-0.0 c.from_residual-in_err-image.result c.from_residual-in_err-image.ensures.1
     (subst (λ (n : ℕ). IsCause c.args.index.now c.args.track.from.layer n c.args.most
-    (segments_begun (path_vertices c.args.points.now c.args.track.from.path c.args.track.row))
+    (segments_begun (path_vertices c.args.points.now c.args.heights.now c.args.track.from.path c.args.track.row))
     c.in_err-image.field-0.0) short
-    (path_cause c.args.index.now c.args.points.now c.args.track c.args.most c.args.gathered.now.points.items
-    c.loop-number.gathered.points.items c.args.gathered.now.run.items c.loop-number.gathered.run.items
+    (path_cause c.args.index.now c.args.points.now c.args.heights.now c.args.track c.args.most
+    c.args.gathered.now.points.items c.loop-number.gathered.points.items c.args.gathered.now.heights
+    c.loop-number.gathered.heights c.args.gathered.now.run.items c.loop-number.gathered.run.items
     c.args.pieces.now.items
     c.loop-number.pieces.items c.loop-number.number c.loop-number.image c.way_at-way.result c.in_err-image.field-0.0
     c.requires.path here c.loop-number.invariant
@@ -61,15 +63,17 @@ loop-number-preserved c =
     let grown = c.in_ok-image.ensures.count in
     let more = c.in_ok-image.ensures.more in
     let upto = c.in_ok-image.ensures.room in
-    path_next c.args.index.now c.args.points.now c.args.track c.args.most c.args.gathered.now.points.items
-    c.loop-number.gathered.points.items c.begin_run.new.gathered.points.items c.carry_segment.new.points.items
-    c.args.gathered.now.run.items
+    path_next c.args.index.now c.args.points.now c.args.heights.now c.args.track c.args.most
+    c.args.gathered.now.points.items c.loop-number.gathered.points.items c.begin_run.new.gathered.points.items
+    c.carry_segment.new.points.items c.args.gathered.now.heights c.loop-number.gathered.heights
+    c.begin_run.new.gathered.heights c.carry_segment.new.heights c.args.gathered.now.run.items
     c.loop-number.gathered.run.items c.begin_run.new.gathered.run.items c.args.pieces.now.items
     c.loop-number.pieces.items c.carry_segment.new.pieces.items c.loop-number.number c.loop-number.image
-    c.in_ok-image.image c.way_at-way.result
-    c.requires.path here c.loop-number.invariant
+    c.in_ok-image.image c.way_at-way.result (record { from = c.end_heights-ends.result.from; to = c.end_heights-ends.result.to })
+    c.requires.path here (let each = c.requires.each in omega (arith, each)) c.loop-number.invariant
     (record { a = c.way_at-way.ensures.a; b = c.way_at-way.ensures.b; from = c.way_at-way.ensures.from })
-    c.in_ok-begin_run.ensures.points
+    c.end_heights-ends.ensures.ends
+    c.in_ok-begin_run.ensures.points c.in_ok-begin_run.ensures.heights
     (c.in_ok-begin_run.ensures.run ∙ ap (λ (n : ℕ). c.loop-number.gathered.run.items ++ n ∷ []) (sym points))
     c.in_ok-image.ensures.carried c.in_ok-image.ensures.inside c.in_ok-image.ensures.end (omega arith) (omega arith)
     (omega arith)
@@ -77,11 +81,12 @@ loop-number-preserved c =
 pub returns-clause-carried : goal.returns-clause-carried
 returns-clause-carried c =
     let points : length c.loop-number.gathered.points.items ≡ vec_len c.loop-number.gathered.points = omega arith in
-    path_but_last c.args.index.now c.args.track.from.layer c.args.points.now c.args.track.from.path c.args.track.row
-    c.args.most c.args.gathered.now.points.items c.loop-number.gathered.points.items
-    c.begin_run-2.new.gathered.points.items
+    path_but_last c.args.index.now c.args.track.from.layer c.args.points.now c.args.heights.now c.args.track.from.path
+    c.args.track.row c.args.most c.args.gathered.now.points.items c.loop-number.gathered.points.items
+    c.begin_run-2.new.gathered.points.items c.args.gathered.now.heights c.loop-number.gathered.heights
+    c.begin_run-2.new.gathered.heights
     c.args.gathered.now.run.items c.loop-number.gathered.run.items c.begin_run-2.new.gathered.run.items
-    c.args.pieces.now.items c.loop-number.pieces.items c.loop-number.number c.loop-number.image c.requires.path
-    (omega arith) (λ e. omega arith) c.loop-number.invariant
-    c.in_ok-begin_run-2.ensures.points (c.in_ok-begin_run-2.ensures.run
+    c.args.pieces.now.items c.loop-number.pieces.items c.loop-number.number c.loop-number.image c.at.result
+    c.requires.path (omega arith) (λ e. omega arith) c.loop-number.invariant c.at.ensures
+    c.in_ok-begin_run-2.ensures.points c.in_ok-begin_run-2.ensures.heights (c.in_ok-begin_run-2.ensures.run
     ∙ ap (λ (n : ℕ). c.loop-number.gathered.run.items ++ n ∷ []) (sym points))

@@ -7,7 +7,8 @@ use Rattle.carry_map.proofs.segments.carry_segment.Goals as goal
 
 pub returns-clause-carried : goal.returns-clause-carried
 returns-clause-carried c =
-    let told = c.in_ok-end.ensures.told in
+    let high = c.in_ok-end.ensures.told in
+    let told = high.told in
     let count : c.len-before.result ≡ length c.args.pieces.now.items = omega arith in
     let own = behind_front c.args.pieces.now.items told.own c.deref.result.now c.len-before.result
     (c.deref.ensures.value ∙ told.are) count in
@@ -15,4 +16,5 @@ returns-clause-carried c =
       told = told;
       crossings = c.in_ok-push_ends.ensures.ok
           ∙ ap (λ (xs : List Piece). c.args.points.now.items ++ inner_images xs) own;
+      rises = high.rises;
     }

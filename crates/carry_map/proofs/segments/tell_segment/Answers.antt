@@ -1,9 +1,14 @@
 -- Answers to the goals of `tell_segment` in src/segments.rt.
-use Rattle.std.proofs.Common.{ap, length, List, sym, subst, arith}
+use Rattle.std.proofs.Common.{◌≡◌, ℕ, ◌-◌, ◌++◌, ap, length, map, take, List, sym, ◌∙◌, subst, arith}
 use Rattle.tin_base.specs.Triangulation.{Triangulation}
-use Rattle.tin_base.specs.Segments.{IsInside}
+use Rattle.sheet_base.specs.PointHeights.{Height}
+use Rattle.tin_base.specs.Limits.{IsWithinLimits}
+use Rattle.tin_base.specs.Segments.{Part, IsInside, ArePiecesOf}
 use Rattle.tin_base.specs.Soundness.{IsSound}
 use Rattle.seg_walk.specs.declared.steps.Step.{Step}
+use Rattle.affine_image.specs.SpotHeights.{param_height, crossing_heights}
+use Rattle.carry_map.specs.Carried.{AreSegmentTold}
+use Rattle.carry_map.proofs.StepHeights.{have_params, heights_are}
 use Rattle.carry_map.proofs.Telling.{some_steps, too_many}
 use Rattle.carry_map.proofs.segments.tell_segment.Goals as goal
 
@@ -13,9 +18,49 @@ returns-then-found-most-clause-cause c =
     c.in_ok-steps.ensures.inside c.in_ok-steps.ensures.steps
     (ap (λ (steps : List Step). length steps) c.as_slice-found.ensures) c.requires.room (omega arith)
 
+pub slice_bounds-push_heights-count : goal.slice_bounds-push_heights-count
+slice_bounds-push_heights-count c =
+    let sound = subst (λ (tin : Triangulation). IsSound tin) c.tin-tin.ensures c.known.ensures.sound in
+    let some = some_steps c.args.index.now c.args.way.a c.args.way.b c.in_ok-steps.steps.items sound
+    c.in_ok-steps.ensures.inside c.in_ok-steps.ensures.steps in
+    let many = ap (λ (steps : List Step). length steps) c.as_slice-found.ensures in
+    omega (arith, some, many)
+
 pub tell_pieces-requires-clause-inside : goal.tell_pieces-requires-clause-inside
 tell_pieces-requires-clause-inside c = subst (λ (tin : Triangulation). IsInside tin c.args.way.a c.args.way.b)
     (sym c.tin-tin.ensures) c.in_ok-steps.ensures.inside
+
+pub push_heights-requires-clause-between : goal.push_heights-requires-clause-between
+push_heights-requires-clause-between c =
+    let limits = subst (λ (tin : Triangulation). IsWithinLimits tin) c.tin-tin.ensures c.known.ensures.limits in
+    rw (c.as_slice-found.ensures)
+    (have_params c.args.index.now c.args.way.a c.args.way.b c.in_ok-steps.steps.items _ limits
+    c.in_ok-steps.ensures.steps)
+
+pub returns-clause-told : goal.returns-clause-told
+returns-clause-told c =
+    let sound = subst (λ (tin : Triangulation). IsSound tin) c.tin-tin.ensures c.known.ensures.sound in
+    let many : length c.as_slice-found.result.now ≡ length c.in_ok-steps.steps.items =
+    ap (λ (steps : List Step). length steps) c.as_slice-found.ensures in
+    let high : (parts : List Part) → ArePiecesOf c.args.index.now c.args.way.a c.args.way.b parts
+    → map (λ (step : Step). param_height c.args.ends.from c.args.ends.to step.slice.hi)
+    (take (length c.as_slice-found.result.now - 1) c.as_slice-found.result.now)
+    ≡ crossing_heights c.args.way.a c.args.way.b
+    (record { from = c.args.ends.from; to = c.args.ends.to }) parts = λ parts cut.
+    ap (λ (steps : List Step). map
+    (λ (step : Step). param_height c.args.ends.from c.args.ends.to step.slice.hi)
+    (take (length c.as_slice-found.result.now - 1) steps)) c.as_slice-found.ensures
+    ∙ heights_are c.args.index.now c.args.way.a c.args.way.b
+    (record { from = c.args.ends.from; to = c.args.ends.to }) c.in_ok-steps.steps.items
+    (length c.as_slice-found.result.now - 1) parts sound c.in_ok-steps.ensures.inside
+    c.in_ok-steps.ensures.steps cut (ap (λ (n : ℕ). n - 1) many) in
+    let told = subst (λ (tin : Triangulation). AreSegmentTold tin c.args.way.a c.args.way.b c.args.way.from
+    c.args.pieces.now.items c.tell_pieces.new.pieces.items) c.tin-tin.ensures c.in_ok-end.ensures.told in
+    record {
+      told = told;
+      rises = c.in_ok-push_heights.ensures.ok
+          ∙ ap (λ (zs : List Height). c.args.heights.now ++ zs) (high told.parts told.cut);
+    }
 
 pub returns-clause-more : goal.returns-clause-more
 returns-clause-more c =

@@ -1,7 +1,8 @@
 -- Answers to the goals of `number_at` in src/numbers.rt.
 use Rattle.std.specs.Char.{is_ascii_digit}
 use Rattle.std.proofs.lemmas.List.Sums.{prefix_len-le-length}
-use Rattle.cert_check.proofs.Digits.{are_front_digits, number_front, no_front}
+use Rattle.text_places.proofs.DigitFronts.{are_front_digits}
+use Rattle.cert_check.proofs.Digits.{number_front, no_front}
 use Rattle.cert_check.proofs.numbers.number_at.Goals as goal
 
 pub split_at-requires : goal.split_at-requires

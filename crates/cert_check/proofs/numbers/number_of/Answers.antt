@@ -1,8 +1,9 @@
 -- Answers to the goals of `number_of` in src/numbers.rt.
 use Rattle.std.proofs.Common.{subst}
 use Rattle.std.specs.Str.Parse.{ParsesUnsigned}
-use Rattle.cert_check.proofs.Digits.{digits_utf8, no_leading_zero, parsed_some, parsed_none}
+use Rattle.cert_check.proofs.Digits.{no_leading_zero, parsed_some, parsed_none}
 use Rattle.cert_check.proofs.numbers.number_of.Goals as goal
+use Rattle.plain_laws.proofs.Digits.{digits_utf8}
 
 pub returns-then-has_leading_zero-clause-none : goal.returns-then-has_leading_zero-clause-none
 returns-then-has_leading_zero-clause-none c =

@@ -6,8 +6,9 @@ use Rattle.cert_check.specs.SheetLists.{HasNoLineWithin}
 use Rattle.cert_check.proofs.FewNumbers.{wrong_within}
 use Rattle.cert_check.proofs.LineNumbers.{line_long}
 use Rattle.cert_check.proofs.Passing.{refused}
-use Rattle.cert_check.proofs.PathLists.{some_told, none_told, wrong_line}
+use Rattle.cert_check.proofs.PathLists.{wrong_line}
 use Rattle.cert_check.proofs.paths.pass_segment.Goals as goal
+use Rattle.plain_laws.proofs.Options.{some_told, none_told}
 
 pub returns-in_default-clause-cause : goal.returns-in_default-clause-cause
 returns-in_default-clause-cause c = (
@@ -30,6 +31,16 @@ returns-then-not-is_right-clause-cause c = (
       (refused c.is_right.result (IsRightList c.args.tin.now c.args.way.a c.args.way.b c.deref.result.now)
       c.if-not-is_right.true c.is_right.ensures),
 )
+
+pub push_run-requires-clause-few : goal.push_run-requires-clause-few
+push_run-requires-clause-few c =
+    let line = some_told (λ (rest : Bor (List ℕ)). IsLine c.args.gathered.now.rest.now c.read_line.new.numbers.items
+    rest.now) c.in_ok-rest.field-0 c.in-Some.rest c.in-Some.is c.in_ok-rest.ensures.some in
+    let long = line_long c.args.gathered.now.rest.now c.read_line.new.numbers.items c.in-Some.rest.now line in
+    let same = ap (λ (ns : List ℕ). length ns) c.deref-2.ensures.value in
+    let each = c.requires.each in
+    let few = c.requires.few in
+    omega (arith, long, same, each, few)
 
 pub returns-clause-few : goal.returns-clause-few
 returns-clause-few c =

@@ -1,9 +1,10 @@
 -- Answers to the goals of `read_drawing` in src/reading.rt.
-use Rattle.std.proofs.Common.{◌≡◌, ◌∙◌, ap, arith}
+use Rattle.std.proofs.Common.{◌≡◌, ◌∙◌, length, ap, arith}
 use Rattle.sheet_base.specs.Sheets.{Contents}
+use Rattle.sheet_base.specs.PointHeights.{IsHeightWithinReach}
 use Rattle.dxf_layer.specs.Shapes.{in_order}
 use Rattle.dxf_layer.specs.Held.{seen}
-use Rattle.dxf_layer.proofs.Whole.{few_pairs, read_whole}
+use Rattle.dxf_layer.proofs.Whole.{all_indexed, few_pairs, read_whole}
 use Rattle.dxf_layer.proofs.reading.read_drawing.Goals as goal
 
 pub read_entities-requires-clause-few : goal.read_entities-requires-clause-few
@@ -16,10 +17,13 @@ of-requires-4 c =
     c.seed_of-seed.result (seen c.in_ok-drawing.drawing) (seen c.read_entities.new.drawing)
     c.in-Ok.ensures.tile c.deref.ensures.value c.deref-2.ensures.value c.seed_of-seed.ensures c.in_ok-drawing.ensures
     c.in_ok-read_entities.ensures.reads in
+    let heights = made.2 in
     rw (c.of.ensures, c.of-2.ensures) (record {
       tiled = made.0;
       few =
           omega (arith, c.in_ok-read_entities.ensures.room.points);
+      one_height_each = heights.each;
+      heights_in_reach = all_indexed IsHeightWithinReach (seen c.read_entities.new.drawing).heights heights.reached;
     })
 
 pub returns-clause-edits : goal.returns-clause-edits

@@ -15,4 +15,4 @@ returns-clause-holds c own before done ending bare held =
     (done.edits ++ behinds content (listed one)) first.0 first.1 in
     end_holds c.args.pass.now _ c.args.ending own before done ending bare held _ c.edit_at.result c.edit_at-2.result one
     other c.len.result (c.len.ensures ∙ long) refl c.edit_at.ensures c.edit_at-2.ensures c.in_order-one.ensures
-    refl refl refl second.0
+    refl refl refl refl second.0

@@ -7,7 +7,8 @@ use Rattle.jtext.specs.declared.document.Kind.TheVariants as kinds
 use Rattle.sheet_base.specs.declared.paths.PathKind.TheVariants.{Line}
 use Rattle.gj_layer.specs.declared.forms.Trace.TheVariants as traces
 use Rattle.gj_layer.specs.Faults.{and_then}
-use Rattle.gj_layer.specs.Positions.{point_of}
+use Rattle.sheet_base.specs.PointHeights.{Position, points_of}
+use Rattle.gj_layer.specs.Positions.{position_of}
 use Rattle.gj_layer.specs.Paths.{nothing, joined, traced, part_of}
 use Rattle.gj_layer.specs.Standing.{Holds, path_part}
 use Rattle.gj_layer.proofs.There.{node_there, kind_within, array_here}
@@ -16,6 +17,10 @@ use Rattle.gj_layer.proofs.Giving.{give_fault}
 use Rattle.gj_layer.proofs.Holding.{held_more, held_empty, held_first}
 use Rattle.gj_layer.proofs.Tracing.{run_path, line_refused, line_traced, line_empty, none_of}
 use Rattle.gj_layer.proofs.paths.read_line.Goals as goal
+
+pub read_positions-requires-clause-room : goal.read_positions-requires-clause-room
+read_positions-requires-clause-room c node got =
+    let room = c.requires.room node got in omega (arith, room.heights)
 
 pub returns-in_err-run-clause-path : goal.returns-in_err-run-clause-path
 returns-in_err-run-clause-path c start is part h held =
@@ -62,25 +67,27 @@ returns-in_ok-end_path-clause-path c start is part h held =
     let (all, is_all, run) = c.in_ok-run.ensures.run start blank elements
     (subst (Stands c.args.doc.now.nodes c.args.bytes.now c.args.array start) same h) in
     let longer = c.if-first-len.true in
-    let size = length-append c.args.pass.now.points.items (map point_of all) in
+    let size = length-append c.args.pass.now.points.items (points_of (map position_of all)) in
+    let count = length-map (map position_of all) (λ (vertex : Position). vertex.point) in
     let some : 0 < length all = omega (
       arith,
       longer,
       c.len-first.ensures,
       c.len.ensures,
-      ap length run.points,
+      ap length run.points_are,
       size,
-      length-map all point_of,
+      count,
+      length-map all position_of,
     ) in
     let run' = c.in_ok-run.run' in
     let long : vec_len c.args.pass.now.points ≡ length c.args.pass.now.points.items = omega arith in (
-      path_part number (run_path Line (map point_of all) run'.lost run'.start run'.end),
+      path_part number (run_path Line (map position_of all) run'.lost run'.start run'.end),
       subst (λ v. and_then (part_of number) (traced c.args.exact traces.Line start v)
-          ≡ Ok (path_part number (run_path Line (map point_of all) run'.lost run'.start run'.end))) (sym same)
+          ≡ Ok (path_part number (run_path Line (map position_of all) run'.lost run'.start run'.end))) (sym same)
           (line_traced c.args.exact number start blank elements all run'.lost run'.start run'.end is_all some run.lost
           run.ends),
-      c.in_ok-end_path.ensures.holds part (map point_of all)
-          (held_more c.args.pass.now _ part (map point_of all) held refl run.points refl refl)
+      c.in_ok-end_path.ensures.holds part (map position_of all)
+          (held_more c.args.pass.now _ part (map position_of all) held refl run.points_are run.heights_are refl refl)
           (c.len-first.ensures ∙ long ∙ held_first c.args.pass.now part held),
     )
 
@@ -90,21 +97,22 @@ returns-else-first-len-clause-path c start is part h held =
     let (blank, elements, same) = array_here c.args.doc.now c.args.bytes.now c.args.array start is h c.requires.kind in
     let (all, is_all, run) = c.in_ok-run.ensures.run start blank elements
     (subst (Stands c.args.doc.now.nodes c.args.bytes.now c.args.array start) same h) in
-    let size = length-append c.args.pass.now.points.items (map point_of all) in
+    let size = length-append c.args.pass.now.points.items (points_of (map position_of all)) in
+    let count = length-map (map position_of all) (λ (vertex : Position). vertex.point) in
     let none : length all ≡ 0 = omega (
       arith,
       c.if-first-len.false,
       c.len-first.ensures,
       c.len.ensures,
-      ap length
-          run.points,
+      ap length run.points_are,
       size,
-      length-map all point_of,
+      count,
+      length-map all position_of,
     ) in
-    let no_more : map point_of all ≡ [] = none_of all none in (
+    let no_more : map position_of all ≡ [] = none_of all none in (
       nothing,
       subst (λ v. and_then (part_of number) (traced c.args.exact traces.Line start v) ≡ Ok nothing) (sym same)
           (line_empty c.args.exact number start blank elements all is_all none),
-      held_empty _ part (map point_of all) no_more
-          (held_more c.args.pass.now _ part (map point_of all) held refl run.points refl refl),
+      held_empty _ part (map position_of all) no_more
+          (held_more c.args.pass.now _ part (map position_of all) held refl run.points_are run.heights_are refl refl),
     )

@@ -7,11 +7,11 @@ use Rattle.jtext.specs.declared.document.Node.{Node}
 use Rattle.sheet_base.specs.declared.faults.LayerFault.TheVariants.{Shape}
 use Rattle.gj_layer.specs.Positions.{position}
 use Rattle.gj_layer.proofs.There.{first_is, array_of, kind_there, kind_not_there}
-use Rattle.gj_layer.proofs.Pairs.{no_position}
+use Rattle.gj_layer.proofs.PositionElements.{no_position}
 use Rattle.gj_layer.proofs.positions.read_position.Goals as goal
 
-pub read_pair-requires-clause-kind : goal.read_pair-requires-clause-kind
-read_pair-requires-clause-kind c = (
+pub read_array-requires-clause-kind : goal.read_array-requires-clause-kind
+read_array-requires-clause-kind c = (
   c.node_at-node.result,
   c.node_at-node.ensures,
   c.is_kind.ensures.0
@@ -24,7 +24,7 @@ returns-then-is_kind c start is h =
     c.node_at-node.ensures in
     let (blank, elements, same) = array_of is
     (kind_there nodes bytes c.args.value start is node kinds.Array h got (c.is_kind.ensures.0 c.if-is_kind.true)) in
-    c.read_pair.ensures start blank elements (subst (Stands nodes bytes c.args.value start) same h)
+    c.read_array.ensures start blank elements (subst (Stands nodes bytes c.args.value start) same h)
     ∙ ap (position c.args.exact start) (sym same)
 
 pub returns-else-is_kind : goal.returns-else-is_kind

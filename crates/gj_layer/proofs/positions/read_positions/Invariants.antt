@@ -13,11 +13,12 @@ invariant-loop-at l = record {
   within : l.at ≤ l.end;
   more : length l.fn.points.items ≤ length l.points.items;
   points : length l.points.items + (l.array + 1) ≤ length l.fn.points.items + l.at;
-  lost : l.run.lost + 2 * (l.array + 1) ≤ 2 * l.at;
+  heights : length l.heights + (l.array + 1) ≤ length l.fn.heights + l.at;
+  lost : l.run.lost + 3 * (l.array + 1) ≤ 3 * l.at;
   walked : (start : ℕ) (blank : List ℕ) (elements : Elements)
       → Stands l.doc.nodes l.bytes l.array start (array blank elements)
       → IsWalked l.doc.nodes l.bytes l.exact (positions l.exact (inner_place start blank) elements) (l.array + 1) l.at
-      l.end l.fn.points.items l.points.items l.run;
+      l.end l.fn.points.items l.points.items l.fn.heights l.heights l.run;
 }
 
 abbrev pub decreases-loop-at : goal.decreases-loop-at

@@ -3,7 +3,7 @@ use Rattle.std.proofs.Common.{◌≡◌, ◌++◌, ◌∷◌, [], List, ℕ, app
 use Rattle.std.specs.Prelude.{FitsSigned}
 use Rattle.std.proofs.lemmas.Int.{to_z-of_z}
 use mir.Syntax.{w64}
-use Rattle.gj_layer.specs.Texts.{pair_text}
+use Rattle.gj_layer.specs.Texts.{numbers_text, lowest_of, highest_of}
 use Rattle.gj_layer.proofs.texts.push_box.Goals as goal
 
 joined_box : (out a b : List ℕ) → (((((out ++ 91 ∷ []) ++ a) ++ 44 ∷ []) ++ b) ++ 93 ∷ []) ≡ out
@@ -12,15 +12,19 @@ joined_box out a b = simp append_assoc
 
 pub returns : goal.returns
 returns c =
-    let x0 : FitsSigned w64 c.args.bounds.x0 = search rules in
-    let y0 : FitsSigned w64 c.args.bounds.y0 = search rules in
-    let x1 : FitsSigned w64 c.args.bounds.x1 = search rules in
-    let y1 : FitsSigned w64 c.args.bounds.y1 = search rules in
-    let first = simp to_z-of_z at c.in_ok-push_pair.ensures in
-    let second = simp to_z-of_z at c.in_ok-push_pair-2.ensures in
+    let plane = c.args.bounds.plane in
+    let levels = c.args.bounds.levels in
+    let x0 : FitsSigned w64 plane.x0 = search rules in
+    let y0 : FitsSigned w64 plane.y0 = search rules in
+    let x1 : FitsSigned w64 plane.x1 = search rules in
+    let y1 : FitsSigned w64 plane.y1 = search rules in
+    let first = simp to_z-of_z at c.in_ok-push_numbers.ensures in
+    let second = simp to_z-of_z at c.in_ok-push_numbers-2.ensures in
+    let least = numbers_text plane.x0 plane.y0 (lowest_of levels) in
+    let greatest = numbers_text plane.x1 plane.y1 (highest_of levels) in
     c.in_ok-push-3.ensures.items ∙ ap (λ t. t ++ 93 ∷ [])
-    (second ∙ ap (λ t. t ++ pair_text c.args.bounds.x1 c.args.bounds.y1)
-    (c.in_ok-push-2.ensures.items ∙ ap (λ t. t ++ 44 ∷ [])
-    (first ∙ ap (λ t. t ++ pair_text c.args.bounds.x0 c.args.bounds.y0) c.in_ok-push.ensures.items)))
-    ∙ joined_box c.args.out.now.items (pair_text c.args.bounds.x0 c.args.bounds.y0)
-    (pair_text c.args.bounds.x1 c.args.bounds.y1)
+    (second ∙ ap (λ h. c.push-2.new.self.items ++ numbers_text plane.x1 plane.y1 h) c.highest_of.ensures
+    ∙ ap (λ t. t ++ greatest) (c.in_ok-push-2.ensures.items ∙ ap (λ t. t ++ 44 ∷ [])
+    (first ∙ ap (λ h. c.push.new.self.items ++ numbers_text plane.x0 plane.y0 h) c.lowest_of.ensures
+    ∙ ap (λ t. t ++ least) c.in_ok-push.ensures.items)))
+    ∙ joined_box c.args.out.now.items least greatest

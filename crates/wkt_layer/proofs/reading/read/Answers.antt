@@ -56,12 +56,14 @@ returns-clause-ok c =
     c.in_default.is on in (
       done,
       goes_end c.args.exact (lines_of c.args.bytes.now) c.loop-rest.base done here,
-      c.of-4.ensures ∙ (rw (c.of.ensures, c.of-2.ensures, c.of-3.ensures) (held_sheet c.loop-rest.pass done held)),
+      c.of-4.ensures ∙ (rw (c.of.ensures, c.of-2.ensures, c.of-3.ensures)
+          (held_sheet c.loop-rest.pass done held)),
     )
 
 pub returns-clause-edits : goal.returns-clause-edits
 returns-clause-edits c =
     let (done, held, none, on, order) = c.loop-rest.invariant.read in
     let same : c.of-4.result ≡ sheet_of done = c.of-4.ensures
-    ∙ (rw (c.of.ensures, c.of-2.ensures, c.of-3.ensures) (held_sheet c.loop-rest.pass done held)) in
+    ∙ (rw (c.of.ensures, c.of-2.ensures, c.of-3.ensures)
+    (held_sheet c.loop-rest.pass done held)) in
     sheet_order c.of-4.result done c.loop-rest.base (length c.args.bytes.now) same order

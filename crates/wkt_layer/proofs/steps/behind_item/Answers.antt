@@ -14,6 +14,7 @@ returns-in-Some-clause-goes c = λ before paths text held.
         held = record {
           paths = held.paths;
           points = held.points;
+          heights = held.heights;
           edits = held.edits;
           inexact =
               held.inexact;
@@ -35,6 +36,7 @@ returns-in-Some-pop-clause-goes c = λ before paths text held. (
     held = record {
       paths = held.paths;
       points = held.points;
+      heights = held.heights;
       edits = held.edits;
       inexact =
           held.inexact;

@@ -3,24 +3,23 @@ use Rattle.std.proofs.Common.{refl, sym, ◌∙◌, subst, [], ◌∷◌, ◌++�
 use Rattle.wkt_layer.specs.States.{state, first, behind, kind_of}
 use Rattle.wkt_layer.specs.Paths.{path_of}
 use Rattle.wkt_layer.specs.Passes.{Held}
-use Rattle.wkt_layer.specs.declared.places.Listing.TheVariants as listings
 use Rattle.wkt_layer.proofs.Going.{comma_goes, opened_comma, closing_goes, opened_closing}
 use Rattle.wkt_layer.proofs.steps.behind_point.Goals as goal
 
 pub returns-in-List-clause-goes : goal.returns-in-List-clause-goes
 returns-in-List-clause-goes c = λ before paths one more text held. (
-  state (first listings.List (one ∷ more)) c.args.pass.now.stack paths,
+  state (first c.args.listing (one ∷ more)) c.args.pass.now.stack paths,
   comma_goes c.args.listing (one ∷ more) c.args.pass.now.stack paths c.args.token.start text c.args.token.sign
-      listings.List c.in-Comma.is c.in-List.is (λ e. cc),
+      c.in-Comma.is (λ raised e. let f = sym c.in-List.is ∙ e in cc),
   record { stack = refl; held = held; shows = refl },
   opened_comma c.args.token.start c.args.pass.now.opened text c.args.token.sign c.in-Comma.is,
 )
 
 pub returns-in-Ring-clause-goes : goal.returns-in-Ring-clause-goes
 returns-in-Ring-clause-goes c = λ before paths one more text held. (
-  state (first listings.Ring (one ∷ more)) c.args.pass.now.stack paths,
+  state (first c.args.listing (one ∷ more)) c.args.pass.now.stack paths,
   comma_goes c.args.listing (one ∷ more) c.args.pass.now.stack paths c.args.token.start text c.args.token.sign
-      listings.Ring c.in-Comma.is c.in-Ring.is (λ e. cc),
+      c.in-Comma.is (λ raised e. let f = sym c.in-Ring.is ∙ e in cc),
   record { stack = refl; held = held; shows = refl },
   opened_comma c.args.token.start c.args.pass.now.opened text c.args.token.sign c.in-Comma.is,
 )

@@ -1,6 +1,6 @@
 -- Answers to the goals of `item` in src/steps.rt.
 use Rattle.std.proofs.Common.{◌≡◌, Some, refl, subst, sym, ◌∙◌}
-use Rattle.wkt_layer.specs.States.{state, content, item_step}
+use Rattle.wkt_layer.specs.States.{state, tagged, item_step}
 use Rattle.wkt_layer.specs.Passes.{Goes, token_for}
 use Rattle.wkt_layer.proofs.Going.{opened_tag}
 use Rattle.wkt_layer.proofs.steps.item.Goals as goal
@@ -29,7 +29,7 @@ returns-in-Polygons-clause-goes c = λ before paths held.
 pub returns-in-Some-clause-goes : goal.returns-in-Some-clause-goes
 returns-in-Some-clause-goes c = λ before paths held.
     let t = token_for c.args.token.start c.args.text.now c.args.token.sign in
-    let to = state (content c.in-Some.content) c.args.pass.now.stack paths in
+    let to = state (tagged c.in-Some.kind) c.args.pass.now.stack paths in
     let steps = c.in-Some.ensures paths c.args.token.start c.args.text.now in (
       to,
       subst (λ group. item_step c.args.exact group c.args.pass.now.stack paths t ≡ Some to)

@@ -2,7 +2,7 @@
 use Rattle.std.proofs.Common.{List, ℕ, length, sym, subst}
 use Rattle.sheet_base.specs.declared.edits.Edit.{Edit}
 use Rattle.sheet_base.specs.Splices.{AreInOrder}
-use Rattle.sheet_base.specs.ReadBack.{IsReadBack}
+use Rattle.sheet_base.specs.ReadBack.{AreTheSame, IsReadBack}
 use Rattle.sheet_base.proofs.WrittenLayers.{holds_written, rest_written}
 use Rattle.wkt_layer.specs.Layers.{IsReadAs}
 use Rattle.wkt_layer.specs.Texts.{edit_text}
@@ -24,6 +24,7 @@ pub returns-clause-back : goal.returns-clause-back
 returns-clause-back c =
     holds_written c.splice.result (λ out. out.items) c.args.bytes.now (edit_text c.args.sheet.now c.args.images.now)
     c.edits.result.now c.args.sheet.now.edits c.edits.ensures c.splice.ensures
-    (λ (out : List ℕ). Unit {0} → IsReadBack (IsReadAs c.args.how.exact) c.args.sheet.now c.args.images.now out)
+    (λ (out : List ℕ). Unit {0} → IsReadBack (IsReadAs c.args.how.exact) AreTheSame c.args.sheet.now
+    c.args.images.now out)
     (λ _. reads_back c.args.how.exact c.args.bytes.now c.args.sheet.now c.args.images.now c.requires.sheet
     c.requires.fits)

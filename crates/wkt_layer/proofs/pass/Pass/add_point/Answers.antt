@@ -2,6 +2,7 @@
 use Rattle.std.proofs.Common.{◌≡◌, refl, ap, ◌∙◌, ◌+◌, ◌++◌, ◌∷◌, [], ◌==◌, arith, length, vec_len}
 use Rattle.std.specs.Prelude.{if◌then◌else◌, Ok}
 use Rattle.wkt_layer.specs.Numbers.{lost_in}
+use Rattle.wkt_layer.specs.Passes.{lost_read}
 use Rattle.wkt_layer.proofs.Holding.{held_add}
 use Rattle.wkt_layer.proofs.pass.Pass.add_point.Goals as goal
 
@@ -9,12 +10,18 @@ pub returns-clause-held : goal.returns-clause-held
 returns-clause-held c =
     let items = c.in_ok-push.ensures.items in
     let starts = c.start_of-self.ensures in
-    let sum : c.args.self.now.inexact + (c.lost.result + c.lost-2.result) ≡ c.args.self.now.inexact
-    + (lost_in (Ok c.args.x) + lost_in (Ok c.args.y)) =
-    ap (λ n. c.args.self.now.inexact + (n + c.lost-2.result)) c.lost.ensures.value
-    ∙ ap (λ n. c.args.self.now.inexact + (lost_in (Ok c.args.x) + n)) c.lost-2.ensures.value in
+    let sum : c.args.self.now.inexact + (c.lost.result + c.lost-2.result + c.third_of-height.result.1)
+    ≡ c.args.self.now.inexact
+    + (lost_in (Ok c.args.x) + lost_in (Ok c.args.y) + lost_read c.args.z) =
+    ap (λ n. c.args.self.now.inexact + (n + c.lost-2.result + c.third_of-height.result.1)) c.lost.ensures.value
+    ∙ ap (λ n. c.args.self.now.inexact + (lost_in (Ok c.args.x) + n + c.third_of-height.result.1))
+    c.lost-2.ensures.value
+    ∙ ap (λ n. c.args.self.now.inexact + (lost_in (Ok c.args.x) + lost_in (Ok c.args.y) + n))
+    c.third_of-height.ensures.lost in
     let long : vec_len c.args.self.now.points ≡ length c.args.self.now.points.items = omega arith in
-    held_add c.args.self.now _ c.args.x c.args.y c.args.start c.args.end refl
-    (items ∙ ap (λ p. c.args.self.now.points.items ++ p ∷ []) c.point_from.ensures) refl sum refl
+    held_add c.args.self.now _ c.args.x c.args.y c.args.z c.args.start c.args.end refl
+    (items ∙ ap (λ p. c.args.self.now.points.items ++ p ∷ []) c.point_from.ensures)
+    (c.in_ok-push-2.ensures ∙ ap (λ h. c.args.self.now.heights ++ h ∷ []) c.third_of-height.ensures.height) refl sum
+    refl
     (starts ∙ ap (λ n. if (n == c.args.self.now.first) then c.args.start else c.args.self.now.start)
     (c.len.ensures ∙ long)) refl

@@ -19,4 +19,5 @@ returns-clause-held c =
     (c.len.ensures ∙ left))
     (ap (λ w. let r : Edit = record { start = c.args.self.now.start; end = c.args.self.now.end; what = w } in r)
     (c.text_for.ensures ∙ ap (text_for c.args.kind) (c.len-number.ensures ∙ long)))
-    rows edits c.drop_closing.ensures.closing c.drop_closing.ensures.others refl (c.len-self.ensures ∙ left)
+    rows edits c.drop_closing.ensures.closing c.drop_closing.ensures.others
+    c.drop_closing.ensures.heights c.drop_closing.ensures.other_heights refl (c.len-self.ensures ∙ left)

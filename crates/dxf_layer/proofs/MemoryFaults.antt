@@ -1,0 +1,477 @@
+-- That memory runs out is no fault of a drawing.
+use Rattle.std.proofs.Common.{◌≡◌, ℕ, ◌+◌, ℤ, pos, Bool, true, false, cond, List, [], ◌∷◌, ◌++◌, length, filter, ap}
+use Rattle.std.proofs.Common.{refl}
+use Rattle.std.specs.Prelude.{◌&&◌, ◌||◌, not, codes, nat_eq, Option, Some, None, Result, Ok, Err}
+use Rattle.std.specs.List.{starts_with, list_all}
+use Rattle.mm_decimal.specs.Measured.{measured}
+use Rattle.mm_decimal.specs.declared.reading.MmRead.{MmRead}
+use Rattle.mm_decimal.specs.declared.reading.NumFault.{NumFault}
+use Rattle.sheet_base.specs.declared.flags.How.{How}
+use Rattle.sheet_base.specs.declared.paths.PathKind.{PathKind}
+use Rattle.sheet_base.specs.declared.paths.PathKind.TheVariants as paths
+use Rattle.sheet_base.specs.declared.faults.LayerFault.{LayerFault}
+use Rattle.sheet_base.specs.declared.faults.LayerFault.TheVariants as faults
+use Rattle.dxf_pairs.specs.declared.pairs.Pair.{Pair}
+use Rattle.dxf_pairs.specs.declared.faults.PairFault.{PairFault}
+use Rattle.dxf_pairs.specs.declared.faults.PairFault.TheVariants as pair_faults
+use Rattle.dxf_pairs.specs.declared.reading.TheConstants.{BINARY}
+use Rattle.dxf_pairs.specs.Lines.{Line, lines}
+use Rattle.dxf_pairs.specs.Values.{value_of}
+use Rattle.dxf_pairs.specs.Codes.{code_of}
+use Rattle.dxf_pairs.specs.Groups.{value_in}
+use Rattle.dxf_pairs.specs.Pairs.{pair_of, is_last, behind, first_pair, of_two, of_one, drawing}
+use Rattle.dxf_pairs.specs.Pairs.{reading as pairs_in}
+use Rattle.dxf_layer.specs.declared.drawing.Rise.{Rise}
+use Rattle.dxf_layer.specs.declared.drawing.Spot.{Spot}
+use Rattle.dxf_layer.specs.declared.drawing.Vertex.{Vertex}
+use Rattle.dxf_layer.specs.declared.fields.Read.{Read}
+use Rattle.dxf_layer.specs.declared.points.LineEnds.{LineEnds}
+use Rattle.dxf_layer.specs.Entities.{Entity, entities_of, entity_end, has_code, is_kind, ends_section}
+use Rattle.dxf_layer.specs.Fields.{and_then, fields_of, at_most_one, field, there, wanted, read_of, coordinate}
+use Rattle.dxf_layer.specs.Fields.{coordinate_at, equals, is_there_as, is_not_zero, line_unless_zero, not_zero_at}
+use Rattle.dxf_layer.specs.Fields.{refused_at, zero_at}
+use Rattle.dxf_layer.specs.Handles.{seed_of, has_next, handle}
+use Rattle.dxf_layer.specs.Shapes.{Shape}
+use Rattle.dxf_layer.specs.Points.{spot_at, dot_of, dots_of, point_shapes, insert_shapes, second_by, second_spot}
+use Rattle.dxf_layer.specs.Points.{text_shapes, height, are_level, both_heights, unless_level, rise_of, line_of}
+use Rattle.dxf_layer.specs.Points.{line_ends, line_shapes}
+use Rattle.dxf_layer.specs.Polylines.{kind_by, kind_of, is_group_code, fault_in_group, first_fault, past_group}
+use Rattle.dxf_layer.specs.Polylines.{vertex_of}
+use Rattle.dxf_layer.specs.Polylines.{begins_vertex, is_number, vertices_in, as_count, count_of, light_shape}
+use Rattle.dxf_layer.specs.Polylines.{light_shapes, plain, entity_vertex, heavy_shape}
+use Rattle.dxf_layer.specs.Walks.{Place, free, staying, reading, Step, shapes_read, is_upright, repeated, no_second}
+use Rattle.dxf_layer.specs.Walks.{upright, other_kind, shapes_of, polyline_step, alone_step, is_read_alone, by_kind}
+use Rattle.dxf_layer.specs.Walks.{stays, step_free, step_staying, step_reading, step, walk_end, walked}
+use Rattle.dxf_layer.specs.Drawings.{sheet_of, from_pairs, drawing_sheet}
+use Rattle.dxf_layer.proofs.Ordered.{left_out}
+
+-- ---- pairs
+abbrev NeverPairs : Result (List Pair) PairFault → Type 0
+NeverPairs result = ◌≡◌ {A = Result (List Pair) PairFault} result (Err pair_faults.NoMemory) → ⊥
+
+never_one : (line : Line) (code : Option ℤ) → NeverPairs (of_one line code)
+never_one line None = λ is. cc
+never_one line (Some code) = λ is. cc
+
+never_behind : (front : List Pair) (rest : Result (List Pair) PairFault) → NeverPairs rest
+    → NeverPairs (behind front rest)
+never_behind front (Ok more) never = λ is. cc
+never_behind front (Err fault) never = λ is. let same : fault ≡ pair_faults.NoMemory = cc in never (ap Err same)
+
+never_first : (pair : Pair) (last : Bool) (rest : Result (List Pair) PairFault) → NeverPairs rest
+    → NeverPairs (first_pair pair last rest)
+never_first pair true rest never = λ is. cc
+never_first pair false rest never = never_behind (pair ∷ []) rest never
+
+never_two : (first second : Line) (code : Option ℤ) (rest : Result (List Pair) PairFault) → NeverPairs rest
+    → NeverPairs (of_two first second code rest)
+never_two first second None rest never = λ is. cc
+never_two first second (Some code) rest never =
+    never_first (pair_of code first second) (is_last code (value_of second.text)) rest never
+
+never_lines : (all : List Line) → NeverPairs (pairs_in all)
+never_lines [] = λ is. cc
+never_lines (first ∷ []) = never_one first (code_of first.text)
+never_lines (first ∷ second ∷ more) = never_two first second (code_of first.text) (pairs_in more) (never_lines more)
+
+never_drawing : (bytes : List ℕ) → NeverPairs (drawing bytes)
+never_drawing bytes = by (starts_with nat_eq bytes BINARY.now)
+  where
+    by : (test : Bool) → NeverPairs (cond test (Err pair_faults.Binary) (pairs_in (lines bytes)))
+    by true = λ is. cc
+    by false = never_lines (lines bytes)
+
+-- ---- fields
+abbrev Never : {A : Type 0} → Result A LayerFault → Type 0
+Never {A} result = ◌≡◌ {A = Result A LayerFault} result (Err faults.NoMemory) → ⊥
+
+never_then : {A B : Type 0} (f : A → Result B LayerFault) (result : Result A LayerFault) → Never result
+    → ((value : A) → Never (f value)) → Never (and_then f result)
+never_then f (Ok value) first later = later value
+never_then f (Err fault) first later = λ is. let same : fault ≡ faults.NoMemory = cc in first (ap Err same)
+
+never_either : {A : Type 0} (test : Bool) (one other : Result A LayerFault) → Never one → Never other
+    → Never (cond test one other)
+never_either true one other first second = first
+never_either false one other first second = second
+
+never_most : (found : List Pair) → Never (at_most_one found)
+never_most [] = λ is. cc
+never_most (pair ∷ []) = λ is. cc
+never_most (pair ∷ second ∷ pairs) = λ is. cc
+
+never_field : (code : ℤ) (entity : Entity) → Never (field code entity)
+never_field code entity = never_most (filter (has_code code) (fields_of entity))
+
+never_there : (entity : Entity) (found : Option Pair) → Never (there entity found)
+never_there entity None = λ is. cc
+never_there entity (Some pair) = λ is. cc
+
+never_wanted : (code : ℤ) (entity : Entity) → Never (wanted code entity)
+never_wanted code entity = never_then (there entity) (field code entity) (never_field code entity)
+    (λ found. never_there entity found)
+
+never_read : (exact : Bool) (pair : Pair) (result : Result MmRead NumFault) → Never (read_of exact pair result)
+never_read exact pair (Err fault) = λ is. cc
+never_read exact pair (Ok read) = never_either {A = Read} (exact && not read.exact) (Err (faults.Inexact pair.value))
+    (Ok (record { pair = pair; mm = read.mm; lost = not read.exact })) (λ is. cc) (λ is. cc)
+
+never_coordinate : (bytes : List ℕ) (exact : Bool) (pair : Pair) → Never (coordinate bytes exact pair)
+never_coordinate bytes exact pair = never_read exact pair (measured (value_in bytes pair))
+
+never_coordinate_at : (bytes : List ℕ) (exact : Bool) (code : ℤ) (entity : Entity)
+    → Never (coordinate_at bytes exact code entity)
+never_coordinate_at bytes exact code entity = never_then (coordinate bytes exact) (wanted code entity)
+    (never_wanted code entity) (λ pair. never_coordinate bytes exact pair)
+
+never_unless : (bytes : List ℕ) (found : Option Pair) → Never (line_unless_zero bytes found)
+never_unless bytes None = λ is. cc
+never_unless bytes (Some pair) = never_either {A = Option ℕ} (equals bytes 0 pair) (Ok None) (Ok (Some pair.line))
+    (λ is. cc)
+    (λ is. cc)
+
+never_refused : (fault : ℕ → LayerFault) → ((line : ℕ) → fault line ≡ faults.NoMemory → ⊥)
+    → (result : Result (Option ℕ) LayerFault) → Never result → Never (refused_at fault result)
+never_refused fault other (Ok None) never = λ is. cc
+never_refused fault other (Ok (Some line)) never = λ is. let same : fault line ≡ faults.NoMemory = cc in other line same
+never_refused fault other (Err why) never = λ is. let same : why ≡ faults.NoMemory = cc in never (ap Err same)
+
+never_zero : (bytes : List ℕ) (fault : ℕ → LayerFault) → ((line : ℕ) → fault line ≡ faults.NoMemory → ⊥) → (code : ℤ)
+    (entity : Entity) → Never (zero_at bytes fault code entity)
+never_zero bytes fault other code entity =
+    never_refused fault other (not_zero_at bytes code entity)
+    (never_then (line_unless_zero bytes) (field code entity) (never_field code entity)
+    (λ found. never_unless bytes found))
+
+-- ---- points, texts and lines
+never_spot : (bytes : List ℕ) (exact : Bool) (x y : ℤ) (entity : Entity) → Never (spot_at bytes exact x y entity)
+never_spot bytes exact x y entity =
+    never_then {B = Spot} (λ (east : Read). and_then (λ (north : Read). Ok (record { x = east; y = north }))
+    (coordinate_at bytes exact y entity)) (coordinate_at bytes exact x entity)
+    (never_coordinate_at bytes exact x entity)
+    (λ east. never_then {B = Spot} (λ (north : Read). Ok (record { x = east; y = north }))
+    (coordinate_at bytes exact y entity)
+    (never_coordinate_at bytes exact y entity) (λ north is. cc))
+
+never_point : (bytes : List ℕ) (exact : Bool) (entity : Entity) → Never (point_shapes bytes exact entity)
+never_point bytes exact entity =
+    never_then (λ (spot : Spot). Ok (dot_of spot ∷ [])) (spot_at bytes exact (pos 10) (pos 20) entity)
+    (never_spot bytes exact (pos 10) (pos 20) entity) (λ spot is. cc)
+
+never_insert : (bytes : List ℕ) (exact : Bool) (entity : Entity) → Never (insert_shapes bytes exact entity)
+never_insert bytes exact entity =
+    never_then (λ (none : Unit {0}). point_shapes bytes exact entity) (zero_at bytes faults.Attribs (pos 66) entity)
+    (never_zero bytes faults.Attribs (λ line is. cc) (pos 66) entity) (λ none. never_point bytes exact entity)
+
+never_second_by : (bytes : List ℕ) (exact : Bool) (entity : Entity) (across along : Option Pair)
+    → Never (second_by bytes exact entity across along)
+never_second_by bytes exact entity across along =
+    never_either {A = Option Spot} (is_not_zero bytes across || is_not_zero bytes along)
+    (and_then (λ (spot : Spot). Ok (Some spot)) (spot_at bytes exact (pos 11) (pos 21) entity)) (Ok None)
+    (never_then (λ (spot : Spot). Ok (Some spot)) (spot_at bytes exact (pos 11) (pos 21) entity)
+    (never_spot bytes exact (pos 11) (pos 21) entity) (λ spot is. cc)) (λ is. cc)
+
+never_second : (bytes : List ℕ) (exact : Bool) (entity : Entity) → Never (second_spot bytes exact entity)
+never_second bytes exact entity =
+    never_then (λ (across : Option Pair). and_then (λ (along : Option Pair). second_by bytes exact entity across along)
+    (field (pos 73) entity)) (field (pos 72) entity) (never_field (pos 72) entity)
+    (λ across. never_then (λ (along : Option Pair). second_by bytes exact entity across along) (field (pos 73) entity)
+    (never_field (pos 73) entity) (λ along. never_second_by bytes exact entity across along))
+
+never_text : (bytes : List ℕ) (exact : Bool) (entity : Entity) → Never (text_shapes bytes exact entity)
+never_text bytes exact entity =
+    never_then (λ (spot : Spot). and_then (λ (second : Option Spot). Ok (dot_of spot ∷ dots_of second))
+    (second_spot bytes exact entity)) (spot_at bytes exact (pos 10) (pos 20) entity)
+    (never_spot bytes exact (pos 10) (pos 20) entity)
+    (λ spot. never_then (λ (second : Option Spot). Ok (dot_of spot ∷ dots_of second)) (second_spot bytes exact entity)
+    (never_second bytes exact entity) (λ second is. cc))
+
+never_both : (bytes : List ℕ) (exact : Bool) (entity : Entity) (first second : Option Pair)
+    → Never (both_heights bytes exact entity first second)
+never_both bytes exact entity first second =
+    never_then {B = Rise} (λ (low : Pair). and_then (λ (high : Pair). and_then
+    (λ (begin : Read). and_then (λ (end : Read). Ok (record { begin = begin; end = end }))
+    (coordinate bytes exact high))
+    (coordinate bytes exact low)) (there entity second)) (there entity first) (never_there entity first)
+    (λ low. never_then {B = Rise} (λ (high : Pair). and_then
+    (λ (begin : Read). and_then (λ (end : Read). Ok (record { begin = begin; end = end }))
+    (coordinate bytes exact high))
+    (coordinate bytes exact low)) (there entity second) (never_there entity second)
+    (λ high. never_then {B = Rise} (λ (begin : Read). and_then
+    (λ (end : Read). Ok (record { begin = begin; end = end })) (coordinate bytes exact high))
+    (coordinate bytes exact low) (never_coordinate bytes exact low)
+    (λ begin. never_then {B = Rise} (λ (end : Read). Ok (record { begin = begin; end = end }))
+    (coordinate bytes exact high) (never_coordinate bytes exact high) (λ end is. cc))))
+
+never_unless_level : (bytes : List ℕ) (exact : Bool) (entity : Entity) (first second : Option Pair)
+    → Never (unless_level bytes exact entity first second)
+never_unless_level bytes exact entity first second =
+    never_either {A = Option Rise} (are_level (height bytes first) (height bytes second)) (Ok None)
+    (and_then (λ (rise : Rise). Ok (Some rise)) (both_heights bytes exact entity first second)) (λ is. cc)
+    (never_then {B = Option Rise} (λ (rise : Rise). Ok (Some rise)) (both_heights bytes exact entity first second)
+    (never_both bytes exact entity first second) (λ rise is. cc))
+
+never_rise : (bytes : List ℕ) (exact : Bool) (entity : Entity) → Never (rise_of bytes exact entity)
+never_rise bytes exact entity =
+    never_then (λ (first : Option Pair). and_then
+    (λ (second : Option Pair). unless_level bytes exact entity first second)
+    (field (pos 31) entity)) (field (pos 30) entity) (never_field (pos 30) entity)
+    (λ first. never_then (λ (second : Option Pair). unless_level bytes exact entity first second)
+    (field (pos 31) entity) (never_field (pos 31) entity)
+    (λ second. never_unless_level bytes exact entity first second))
+
+never_next : (seed found : Option Pair) → Never (has_next seed found)
+never_next None None = λ is. cc
+never_next (Some next) None = λ is. cc
+never_next None (Some own) = λ is. cc
+never_next (Some next) (Some own) = λ is. cc
+
+never_handle : (seed : Option Pair) (entity : Entity) → Never (handle seed entity)
+never_handle seed entity = never_then (has_next seed) (field (pos 5) entity) (never_field (pos 5) entity)
+    (λ found. never_next seed found)
+
+abbrev ends_with : Spot → Spot → Option Rise → Result LineEnds LayerFault
+ends_with begin end rise = Ok (record { begin = begin; end = end; rise = rise })
+
+never_ends : (bytes : List ℕ) (exact : Bool) (seed : Option Pair) (entity : Entity)
+    → Never (line_ends bytes exact seed entity)
+never_ends bytes exact seed entity =
+    never_then {B = LineEnds} (λ (own : Unit {0}). and_then (λ (begin : Spot). and_then (λ (end : Spot). and_then
+    (λ (rise : Option Rise). ends_with begin end rise) (rise_of bytes exact entity))
+    (spot_at bytes exact (pos 11) (pos 21) entity))
+    (spot_at bytes exact (pos 10) (pos 20) entity)) (handle seed entity) (never_handle seed entity)
+    (λ own. never_then {B = LineEnds} (λ (begin : Spot). and_then (λ (end : Spot). and_then
+    (λ (rise : Option Rise). ends_with begin end rise) (rise_of bytes exact entity))
+    (spot_at bytes exact (pos 11) (pos 21) entity))
+    (spot_at bytes exact (pos 10) (pos 20) entity) (never_spot bytes exact (pos 10) (pos 20) entity)
+    (λ begin. never_then {B = LineEnds} (λ (end : Spot). and_then (λ (rise : Option Rise). ends_with begin end rise)
+    (rise_of bytes exact entity))
+    (spot_at bytes exact (pos 11) (pos 21) entity) (never_spot bytes exact (pos 11) (pos 21) entity)
+    (λ end. never_then {B = LineEnds} (λ (rise : Option Rise). ends_with begin end rise) (rise_of bytes exact entity)
+    (never_rise bytes exact entity)
+    (λ rise is. cc))))
+
+never_line : (bytes : List ℕ) (exact : Bool) (seed : Option Pair) (entity : Entity)
+    → Never (line_shapes bytes exact seed entity)
+never_line bytes exact seed entity =
+    never_then (λ (ends : LineEnds). Ok (line_of entity ends.begin ends.end ends.rise ∷ []))
+    (line_ends bytes exact seed entity)
+    (never_ends bytes exact seed entity) (λ ends is. cc)
+
+-- ---- polylines
+never_kind_by : (bytes : List ℕ) (found : Option Pair) → Never (kind_by bytes found)
+never_kind_by bytes None = λ is. cc
+never_kind_by bytes (Some pair) =
+    never_either (equals bytes 0 pair || equals bytes 128 pair) (Ok paths.Line) _ (λ is. cc)
+    (never_either (equals bytes 1 pair || equals bytes 129 pair) (Ok paths.Loop) (Err (faults.Flags pair.line))
+    (λ is. cc) (λ is. cc))
+
+never_kind : (bytes : List ℕ) (entity : Entity) → Never (kind_of bytes entity)
+never_kind bytes entity = never_then (kind_by bytes) (field (pos 70) entity) (never_field (pos 70) entity)
+    (λ found. never_kind_by bytes found)
+
+never_group : (bytes : List ℕ) (past : ℕ) (pairs : List Pair) → Never (past_group bytes past pairs)
+never_group bytes past [] = λ is. cc
+never_group bytes past (pair ∷ pairs) =
+    never_either (is_group_code pair) (first_fault (fault_in_group bytes pair) (past_group bytes pair.end pairs))
+    (Ok past)
+    (by (equals bytes 0 pair) (has_code (pos 40) pair || has_code (pos 41) pair) (has_code (pos 42) pair)
+    (past_group bytes pair.end pairs) (never_group bytes pair.end pairs)) (λ is. cc)
+  where
+    by : (zero width bulge : Bool) (rest : Result ℕ LayerFault) → Never rest
+        → Never (first_fault (cond zero None (cond width (Some (faults.Width pair.line))
+        (cond bulge (Some (faults.Bulge pair.line)) None))) rest)
+    by true width bulge rest never = never
+    by false true bulge rest never = λ is. cc
+    by false false true rest never = λ is. cc
+    by false false false rest never = never
+
+never_vertex : (bytes : List ℕ) (exact : Bool) (x y : Pair) (behind : List Pair)
+    → Never (vertex_of bytes exact x y behind)
+never_vertex bytes exact x y behind =
+    never_then {B = Vertex} (λ (east : Read). and_then (λ (north : Read). and_then
+    (λ (past : ℕ). Ok (record { spot = record { x = east; y = north }; start = x.start; past = past }))
+    (past_group bytes y.end behind)) (coordinate bytes exact y)) (coordinate bytes exact x)
+    (never_coordinate bytes exact x)
+    (λ east. never_then {B = Vertex} (λ (north : Read). and_then
+    (λ (past : ℕ). Ok (record { spot = record { x = east; y = north }; start = x.start; past = past }))
+    (past_group bytes y.end behind)) (coordinate bytes exact y) (never_coordinate bytes exact y)
+    (λ north. never_then {B = Vertex}
+    (λ (past : ℕ). Ok (record { spot = record { x = east; y = north }; start = x.start; past = past }))
+    (past_group bytes y.end behind) (never_group bytes y.end behind) (λ past is. cc)))
+
+never_vertices : (bytes : List ℕ) (exact : Bool) (fields : List Pair) → Never (vertices_in bytes exact fields)
+never_vertices bytes exact [] = λ is. cc
+never_vertices bytes exact (pair ∷ []) =
+    never_either (is_number pair) (Err (faults.Count pair.line)) (Ok []) (λ is. cc) (λ is. cc)
+never_vertices bytes exact (pair ∷ next ∷ pairs) =
+    never_either (begins_vertex pair next)
+    (and_then (λ (vertex : Vertex). and_then (λ (more : List Vertex). Ok (vertex ∷ more))
+    (vertices_in bytes exact pairs)) (vertex_of bytes exact pair next pairs))
+    (cond (is_number pair) (Err (faults.Count pair.line)) (vertices_in bytes exact (next ∷ pairs)))
+    (never_then (λ (vertex : Vertex). and_then (λ (more : List Vertex). Ok (vertex ∷ more))
+    (vertices_in bytes exact pairs)) (vertex_of bytes exact pair next pairs)
+    (never_vertex bytes exact pair next pairs)
+    (λ vertex. never_then (λ (more : List Vertex). Ok (vertex ∷ more)) (vertices_in bytes exact pairs)
+    (never_vertices bytes exact pairs) (λ more is. cc)))
+    (never_either (is_number pair) (Err (faults.Count pair.line)) (vertices_in bytes exact (next ∷ pairs)) (λ is. cc)
+    (never_vertices bytes exact (next ∷ pairs)))
+
+never_count : (bytes : List ℕ) (number : ℕ) (entity : Entity) → Never (count_of bytes number entity)
+never_count bytes number entity =
+    never_then (as_count bytes number) (wanted (pos 90) entity) (never_wanted (pos 90) entity)
+    (λ pair. never_either (equals bytes number pair) (Ok pair) (Err (faults.Count pair.line)) (λ is. cc) (λ is. cc))
+
+never_light : (bytes : List ℕ) (exact : Bool) (entity : Entity) → Never (light_shapes bytes exact entity)
+never_light bytes exact entity =
+    never_then (λ (kind : PathKind). and_then (λ (vertices : List Vertex). and_then
+    (λ (count : Pair). Ok (light_shape kind vertices count ∷ [])) (count_of bytes (length vertices) entity))
+    (vertices_in bytes exact (fields_of entity))) (kind_of bytes entity) (never_kind bytes entity)
+    (λ kind. never_then (λ (vertices : List Vertex). and_then
+    (λ (count : Pair). Ok (light_shape kind vertices count ∷ [])) (count_of bytes (length vertices) entity))
+    (vertices_in bytes exact (fields_of entity)) (never_vertices bytes exact (fields_of entity))
+    (λ vertices. never_then (λ (count : Pair). Ok (light_shape kind vertices count ∷ []))
+    (count_of bytes (length vertices) entity) (never_count bytes (length vertices) entity) (λ count is. cc)))
+
+never_plain : (bytes : List ℕ) (entity : Entity) → Never (plain bytes entity)
+never_plain bytes entity =
+    never_then (λ (begin : Unit {0}). and_then (λ (end : Unit {0}). and_then
+    (λ (bulge : Unit {0}). zero_at bytes faults.Flags (pos 70) entity) (zero_at bytes faults.Bulge (pos 42) entity))
+    (zero_at bytes faults.Width (pos 41) entity)) (zero_at bytes faults.Width (pos 40) entity)
+    (never_zero bytes faults.Width (λ line is. cc) (pos 40) entity)
+    (λ begin. never_then (λ (end : Unit {0}). and_then
+    (λ (bulge : Unit {0}). zero_at bytes faults.Flags (pos 70) entity) (zero_at bytes faults.Bulge (pos 42) entity))
+    (zero_at bytes faults.Width (pos 41) entity) (never_zero bytes faults.Width (λ line is. cc) (pos 41) entity)
+    (λ end. never_then (λ (bulge : Unit {0}). zero_at bytes faults.Flags (pos 70) entity)
+    (zero_at bytes faults.Bulge (pos 42) entity) (never_zero bytes faults.Bulge (λ line is. cc) (pos 42) entity)
+    (λ bulge. never_zero bytes faults.Flags (λ line is. cc) (pos 70) entity)))
+
+never_own : (bytes : List ℕ) (exact : Bool) (seed : Option Pair) (entity : Entity)
+    → Never (entity_vertex bytes exact seed entity)
+never_own bytes exact seed entity =
+    let made : Spot → Vertex = λ spot. record { spot = spot; start = entity.head.start; past = entity_end entity } in
+    never_then (λ (own : Unit {0}). and_then (λ (spot : Spot). and_then (λ (flat : Unit {0}). Ok (made spot))
+    (plain bytes entity)) (spot_at bytes exact (pos 10) (pos 20) entity)) (handle seed entity)
+    (never_handle seed entity)
+    (λ own. never_then (λ (spot : Spot). and_then (λ (flat : Unit {0}). Ok (made spot)) (plain bytes entity))
+    (spot_at bytes exact (pos 10) (pos 20) entity) (never_spot bytes exact (pos 10) (pos 20) entity)
+    (λ spot. never_then (λ (flat : Unit {0}). Ok (made spot)) (plain bytes entity) (never_plain bytes entity)
+    (λ flat is. cc)))
+
+-- ---- entities
+never_no_second : (found : Option Pair) → Never (no_second found)
+never_no_second None = λ is. cc
+never_no_second (Some pair) = λ is. cc
+
+never_upright : (bytes : List ℕ) (entity : Entity) → Never (upright bytes entity)
+never_upright bytes entity =
+    never_either (list_all (is_upright bytes) (fields_of entity)) (no_second (repeated [] (fields_of entity)))
+    (Err (faults.Extrusion entity.head.line)) (never_no_second (repeated [] (fields_of entity))) (λ is. cc)
+
+never_other : (how : How) (entity : Entity) → Never (other_kind how entity)
+never_other how entity =
+    never_either how.drop_other (Ok (shapes_read (left_out entity ∷ []))) (Err (faults.Entity entity.head.line))
+    (λ is. cc) (λ is. cc)
+
+never_shapes : (bytes : List ℕ) (how : How) (seed : Option Pair) (entity : Entity)
+    → Never (shapes_of bytes how seed entity)
+never_shapes bytes how seed entity =
+    never_either (is_kind bytes (codes "POINT") entity) (point_shapes bytes how.exact entity) _
+    (never_point bytes how.exact entity)
+    (never_either (is_kind bytes (codes "LINE") entity) (line_shapes bytes how.exact seed entity) _
+    (never_line bytes how.exact seed entity)
+    (never_either (is_kind bytes (codes "LWPOLYLINE") entity) (light_shapes bytes how.exact entity) _
+    (never_light bytes how.exact entity)
+    (never_either (is_kind bytes (codes "TEXT") entity) (text_shapes bytes how.exact entity)
+    (insert_shapes bytes how.exact entity) (never_text bytes how.exact entity)
+    (never_insert bytes how.exact entity))))
+
+never_alone : (bytes : List ℕ) (how : How) (seed : Option Pair) (entity : Entity)
+    → Never (alone_step bytes how seed entity)
+never_alone bytes how seed entity =
+    never_then (λ (flat : Unit {0}). and_then (λ (shapes : List Shape). Ok (shapes_read shapes))
+    (shapes_of bytes how seed entity)) (upright bytes entity) (never_upright bytes entity)
+    (λ flat. never_then (λ (shapes : List Shape). Ok (shapes_read shapes)) (shapes_of bytes how seed entity)
+    (never_shapes bytes how seed entity) (λ shapes is. cc))
+
+never_polyline : (bytes : List ℕ) (entity : Entity) → Never (polyline_step bytes entity)
+never_polyline bytes entity =
+    never_then {B = Step} (λ (flat : Unit {0}). and_then
+    (λ (kind : PathKind). Ok (record { shapes = []; next = reading kind [] })) (kind_of bytes entity))
+    (upright bytes entity) (never_upright bytes entity)
+    (λ flat. never_then {B = Step} (λ (kind : PathKind). Ok (record { shapes = []; next = reading kind [] }))
+    (kind_of bytes entity) (never_kind bytes entity) (λ kind is. cc))
+
+never_by_kind : (bytes : List ℕ) (how : How) (seed : Option Pair) (entity : Entity)
+    → Never (by_kind bytes how seed entity)
+never_by_kind bytes how seed entity =
+    never_either (is_kind bytes (codes "POLYLINE") entity) (polyline_step bytes entity) _
+    (never_polyline bytes entity)
+    (never_either (is_read_alone bytes entity) (alone_step bytes how seed entity) (other_kind how entity)
+    (never_alone bytes how seed entity) (never_other how entity))
+
+never_free : (bytes : List ℕ) (how : How) (seed : Option Pair) (entity : Entity)
+    → Never (step_free bytes how seed entity)
+never_free bytes how seed entity =
+    never_either (ends_section bytes entity.head) (Ok (shapes_read [])) _ (λ is. cc)
+    (never_then (λ (paper : Option Pair). cond (is_there_as bytes 1 paper) (Ok (stays bytes entity))
+    (by_kind bytes how seed entity)) (field (pos 67) entity) (never_field (pos 67) entity)
+    (λ paper. never_either (is_there_as bytes 1 paper) (Ok (stays bytes entity)) (by_kind bytes how seed entity)
+    (λ is. cc) (never_by_kind bytes how seed entity)))
+
+never_staying : (bytes : List ℕ) (how : How) (seed : Option Pair) (entity : Entity)
+    → Never (step_staying bytes how seed entity)
+never_staying bytes how seed entity =
+    never_either {A = Step} (is_kind bytes (codes "VERTEX") entity) (Ok (record { shapes = []; next = staying })) _
+    (λ is. cc)
+    (never_either (is_kind bytes (codes "SEQEND") entity) (Ok (shapes_read [])) (step_free bytes how seed entity)
+    (λ is. cc) (never_free bytes how seed entity))
+
+never_reading : (bytes : List ℕ) (how : How) (seed : Option Pair) (kind : PathKind) (vertices : List Vertex)
+    (entity : Entity) → Never (step_reading bytes how seed kind vertices entity)
+never_reading bytes how seed kind vertices entity =
+    never_either {A = Step} (is_kind bytes (codes "VERTEX") entity)
+    (and_then (λ (vertex : Vertex). Ok (record { shapes = []; next = reading kind (vertices ++ vertex ∷ []) }))
+    (entity_vertex bytes how.exact seed entity)) _
+    (never_then {B = Step} (λ (vertex : Vertex). Ok
+    (record { shapes = []; next = reading kind (vertices ++ vertex ∷ []) }))
+    (entity_vertex bytes how.exact seed entity) (never_own bytes how.exact seed entity) (λ vertex is. cc))
+    (never_either (is_kind bytes (codes "SEQEND") entity) (Ok (shapes_read (heavy_shape kind vertices ∷ [])))
+    (Err (faults.Count entity.head.line)) (λ is. cc) (λ is. cc))
+
+never_step : (bytes : List ℕ) (how : How) (seed : Option Pair) (spot : Place) (entity : Entity)
+    → Never (step bytes how seed spot entity)
+never_step bytes how seed free entity = never_free bytes how seed entity
+never_step bytes how seed staying entity = never_staying bytes how seed entity
+never_step bytes how seed (reading kind vertices) entity = never_reading bytes how seed kind vertices entity
+
+never_end : (spot : Place) → Never (walk_end spot)
+never_end free = λ is. cc
+never_end staying = λ is. cc
+never_end (reading kind vertices) = λ is. cc
+
+never_walked : (bytes : List ℕ) (how : How) (seed : Option Pair) (entities : List Entity) (spot : Place)
+    → Never (walked bytes how seed spot entities)
+never_walked bytes how seed [] spot = never_end spot
+never_walked bytes how seed (entity ∷ entities) spot =
+    never_then (λ (here : Step). and_then (λ (more : List Shape). Ok (here.shapes ++ more))
+    (walked bytes how seed here.next entities)) (step bytes how seed spot entity)
+    (never_step bytes how seed spot entity)
+    (λ here. never_then (λ (more : List Shape). Ok (here.shapes ++ more)) (walked bytes how seed here.next entities)
+    (never_walked bytes how seed entities here.next) (λ more is. cc))
+
+-- ---- a drawing
+never_from : (bytes : List ℕ) (how : How) (result : Result (List Pair) PairFault) → NeverPairs result
+    → Never (from_pairs bytes how result)
+never_from bytes how (Ok pairs) never =
+    never_then (λ (shapes : List Shape). Ok (sheet_of (seed_of bytes pairs) shapes))
+    (walked bytes how (seed_of bytes pairs) free (entities_of bytes pairs))
+    (never_walked bytes how (seed_of bytes pairs) (entities_of bytes pairs) free) (λ shapes is. cc)
+never_from bytes how (Err pair_faults.Binary) never = λ is. cc
+never_from bytes how (Err (pair_faults.Code line)) never = λ is. cc
+never_from bytes how (Err (pair_faults.Odd line)) never = λ is. cc
+never_from bytes how (Err pair_faults.NoEof) never = λ is. cc
+never_from bytes how (Err pair_faults.NoMemory) never = λ is. never refl
+
+pub no_memory_fault : (how : How) (bytes : List ℕ) → drawing_sheet how bytes ≡ Err faults.NoMemory → ⊥
+no_memory_fault how bytes = never_from bytes how (drawing bytes) (never_drawing bytes)

@@ -1,0 +1,257 @@
+-- That memory runs out is no fault of a text.
+use Rattle.std.proofs.Common.{◌≡◌, ℕ, ◌+◌, Bool, true, false, ◌&&◌, inl, inr, List, [], ◌∷◌, length, map, take, ap}
+use Rattle.std.specs.Prelude.{◌-◌, not, codes, Option, Some, None, Result, Ok, Err, if◌then◌else◌}
+use Rattle.jtext.specs.Characters.{units_of}
+use Rattle.jtext.specs.Values.{Json, Elements, Members, null, truth, numeral, quoted, array, object, no_element}
+use Rattle.jtext.specs.Values.{element, no_member, member}
+use Rattle.jtext.specs.Nodes.{inner_place, element_start, member_start, next_place}
+use Rattle.jtext.specs.Lookups.{are_same}
+use Rattle.jtext.specs.Texts.{Whole}
+use Rattle.jtext.specs.Places.{whole_start}
+use Rattle.mm_decimal.specs.Measured.{measured}
+use Rattle.mm_decimal.specs.declared.reading.MmRead.{MmRead}
+use Rattle.mm_decimal.specs.declared.reading.NumFault.{NumFault}
+use Rattle.sheet_base.specs.declared.faults.LayerFault.{LayerFault}
+use Rattle.sheet_base.specs.declared.faults.LayerFault.TheVariants.{NoMemory, Inexact, Kind, Ring as RingFault}
+use Rattle.sheet_base.specs.declared.paths.PathKind.TheVariants as kinds
+use Rattle.gj_layer.specs.declared.forms.GeoType.{GeoType}
+use Rattle.gj_layer.specs.declared.forms.GeoType.TheVariants as types
+use Rattle.gj_layer.specs.declared.forms.Holder.{Holder}
+use Rattle.gj_layer.specs.declared.forms.Holder.TheVariants as holders
+use Rattle.gj_layer.specs.declared.forms.Trace.{Trace}
+use Rattle.gj_layer.specs.declared.forms.Trace.TheVariants as traces
+use Rattle.gj_layer.specs.declared.forms.Form.{Form}
+use Rattle.gj_layer.specs.declared.forms.Form.TheVariants as forms
+use Rattle.gj_layer.specs.declared.positions.PositionRead.{PositionRead}
+use Rattle.gj_layer.specs.Faults.{and_then}
+use Rattle.gj_layer.specs.Members.{Member, members_at, all_named, at_most_one, find_member}
+use Rattle.gj_layer.specs.Positions.{accepted, number, some_height, position_from, with_height}
+use Rattle.gj_layer.specs.Positions.{array_position, position, in_front, positions, position_of}
+use Rattle.gj_layer.specs.Paths.{path_of, dot_of, line_of, is_ring, ring_of, traced, Part, joined, part_of}
+use Rattle.gj_layer.specs.Objects.{type_named, is_allowed, content_key, content_form, allowed, type_of, type_in}
+use Rattle.gj_layer.specs.Objects.{find_crs, with_content, object_type, object_part}
+use Rattle.gj_layer.specs.Reading.{item_form, null_part, part_in, reading, readings, content_reading}
+use Rattle.gj_layer.specs.Layers.{layer_reading, IsRefusedBy}
+
+abbrev Never : {A : Type 0} → Result A LayerFault → Type 0
+Never {A} result = ◌≡◌ {A = Result A LayerFault} result (Err NoMemory) → ⊥
+
+never_then : {A B : Type 0} (f : A → Result B LayerFault) (result : Result A LayerFault) → Never result
+    → ((value : A) → Never (f value)) → Never (and_then f result)
+never_then f (Ok value) first later = later value
+never_then f (Err fault) first later = λ is. let same : fault ≡ NoMemory = cc in first (ap Err same)
+
+-- ---- numbers and positions
+never_accepted : (exact : Bool) (start : ℕ) (result : Result MmRead NumFault) → Never (accepted exact start result)
+never_accepted exact start (Ok read) = by (exact && not read.exact)
+  where
+    by : (test : Bool) → Never (if test then Err (Inexact start) else Ok read)
+    by true = λ is. cc
+    by false = λ is. cc
+never_accepted exact start (Err fault) = λ is. cc
+
+never_number : (exact : Bool) (start : ℕ) (value : Json) → Never (number exact start value)
+never_number exact start (numeral text) = never_accepted exact start (measured text)
+never_number exact start null = λ is. cc
+never_number exact start (truth b) = λ is. cc
+never_number exact start (quoted chars) = λ is. cc
+never_number exact start (array blank elements) = λ is. cc
+never_number exact start (object blank members) = λ is. cc
+
+never_height : (result : Result MmRead LayerFault) → Never result → Never (some_height result)
+never_height (Ok z) never = λ is. cc
+never_height (Err fault) never = λ is. let same : fault ≡ NoMemory = cc in never (ap Err same)
+
+never_from : (start end : ℕ) (x y : Result MmRead LayerFault) (z : Result (Option MmRead) LayerFault) → Never x
+    → Never y
+    → Never z → Never (position_from start end x y z)
+never_from start end (Ok x) (Ok y) (Ok z) first second third = λ is. cc
+never_from start end (Err fault) y z first second third = λ is. let same : fault ≡ NoMemory = cc in first (ap Err same)
+never_from start end (Ok x) (Err fault) z first second third =
+    λ is. let same : fault ≡ NoMemory = cc in second (ap Err same)
+never_from start end (Ok x) (Ok y) (Err fault) first second third =
+    λ is. let same : fault ≡ NoMemory = cc in third (ap Err same)
+
+never_with : (exact : Bool) (place : ℕ) (elements : Elements) (start end : ℕ) (x y : Result MmRead LayerFault) → Never x
+    → Never y → Never (with_height exact place elements (position_from start end x y))
+never_with exact place no_element start end x y first second =
+    never_from start end x y (Ok None) first second (λ is. cc)
+never_with exact place (element before z after no_element) start end x y first second =
+    never_from start end x y (some_height (number exact _ z)) first second
+    (never_height (number exact _ z) (never_number exact _ z))
+never_with exact place (element before z after (element blank fourth more rest)) start end x y first second = λ is. cc
+
+never_array : (exact : Bool) (start end place : ℕ) (elements : Elements)
+    → Never (array_position exact start end place elements)
+never_array exact start end place (element before x behind (element ahead y after rest)) =
+    never_with exact _ rest start end (number exact _ x) (number exact _ y) (never_number exact _ x)
+    (never_number exact _ y)
+never_array exact start end place (element before x behind no_element) = λ is. cc
+never_array exact start end place no_element = λ is. cc
+
+never_position : (exact : Bool) (start : ℕ) (value : Json) → Never (position exact start value)
+never_position exact start (array blank elements) = never_array exact start _ (inner_place start blank) elements
+never_position exact start null = λ is. cc
+never_position exact start (truth b) = λ is. cc
+never_position exact start (numeral text) = λ is. cc
+never_position exact start (quoted chars) = λ is. cc
+never_position exact start (object blank members) = λ is. cc
+
+never_positions : (exact : Bool) (place : ℕ) (elements : Elements) → Never (positions exact place elements)
+never_positions exact place no_element = λ is. cc
+never_positions exact place (element before value after rest) =
+    let start = element_start place before in
+    let next = next_place start value after in
+    never_then (λ one. and_then (in_front one) (positions exact next rest)) (position exact start value)
+    (never_position exact start value)
+    (λ one. never_then (in_front one) (positions exact next rest) (never_positions exact next rest)
+    (λ others is. cc))
+
+-- ---- paths
+never_dot : (exact : Bool) (start : ℕ) (value : Json) → Never (and_then dot_of (position exact start value))
+never_dot exact start value = never_then dot_of (position exact start value) (never_position exact start value)
+    (λ one is. cc)
+
+never_ring : (start : ℕ) (all : List PositionRead) → Never (ring_of start all)
+never_ring start all = by (is_ring (map position_of all))
+  where
+    by : (test : Bool) → Never (if test then Ok (path_of kinds.Loop (take (length (map position_of all) - 1)
+        (map position_of all)) all) else Err (RingFault start))
+    by true = λ is. cc
+    by false = λ is. cc
+
+never_traced : (exact : Bool) (trace : Trace) (start : ℕ) (blank : List ℕ) (elements : Elements)
+    → Never (traced exact trace start (array blank elements))
+never_traced exact traces.Point start blank no_element = λ is. cc
+never_traced exact traces.Point start blank (element before value after rest) =
+    never_dot exact start (array blank (element before value after rest))
+never_traced exact traces.Position start blank elements = never_dot exact start (array blank elements)
+never_traced exact traces.Line start blank elements =
+    never_then line_of (positions exact (inner_place start blank) elements)
+    (never_positions exact (inner_place start blank) elements) (λ all is. cc)
+never_traced exact traces.Ring start blank elements =
+    never_then (ring_of start) (positions exact (inner_place start blank) elements)
+    (never_positions exact (inner_place start blank) elements) (λ all. never_ring start all)
+
+-- ---- members
+never_most : (members : List Member) → Never (at_most_one members)
+never_most [] = λ is. cc
+never_most (one ∷ []) = λ is. cc
+never_most (one ∷ second ∷ more) = λ is. cc
+
+never_find : (name : List ℕ) (members : List Member) → Never (find_member name members)
+never_find name members = never_most (all_named name members)
+
+never_crs : (holder : Holder) (members : List Member) → Never (find_crs holder members)
+never_crs holders.Layer members = never_find (codes "crs") members
+never_crs holders.Features members = λ is. cc
+never_crs holders.Geometries members = λ is. cc
+
+never_allowed : (holder : Holder) (at : ℕ) (type : Option GeoType) → Never (allowed holder at type)
+never_allowed holder at None = λ is. cc
+never_allowed holder at (Some type) = by (is_allowed holder type)
+  where
+    by : (test : Bool) → Never (if test then Ok type else Err (Kind at))
+    by true = λ is. cc
+    by false = λ is. cc
+
+never_type_of : (holder : Holder) (start at : ℕ) (value : Json) → Never (type_of holder start at value)
+never_type_of holder start at (quoted chars) = never_allowed holder at (type_named (units_of chars))
+never_type_of holder start at null = λ is. cc
+never_type_of holder start at (truth b) = λ is. cc
+never_type_of holder start at (numeral text) = λ is. cc
+never_type_of holder start at (array blank elements) = λ is. cc
+never_type_of holder start at (object blank members) = λ is. cc
+
+never_type : (holder : Holder) (start : ℕ) (told : Option Member) → Never (type_in holder start told)
+never_type holder start None = λ is. cc
+never_type holder start (Some one) = never_type_of holder start one.start one.value
+
+never_content : (type : GeoType) (start : ℕ) (found : Option Member) → Never (with_content type start found)
+never_content types.Feature start found = λ is. cc
+never_content type start (Some one) = λ is. cc
+never_content type start None = λ is. cc
+
+never_object : (holder : Holder) (start : ℕ) (members : List Member) → Never (object_type holder start members)
+never_object holder start members =
+    never_then _ (find_member (codes "type") members) (never_find (codes "type") members)
+    (λ told. never_then _ (find_member (codes "bbox") members) (never_find (codes "bbox") members)
+    (λ bbox. never_then _ (find_crs holder members) (never_crs holder members)
+    (λ crs. never_then _ (type_in holder start told) (never_type holder start told)
+    (λ type. never_then (with_content type start) (find_member (content_key type) members)
+    (never_find (content_key type) members) (λ found. never_content type start found)))))
+
+-- ---- values
+never_null : (form : Form) (start : ℕ) → Never (null_part form start)
+never_null forms.Optional start = λ is. cc
+never_null (forms.Object holder) start = λ is. cc
+never_null (forms.Path trace) start = λ is. cc
+never_null (forms.List all) start = λ is. cc
+
+never_part : (exact : Bool) (holder : Holder) (number start place : ℕ) (members : Members)
+    → ((type : GeoType) → Never (content_reading exact number place members type))
+    → Never (part_in (Some holder) number start (members_at place members)
+    (content_reading exact number place members))
+never_part exact holder number start place members content =
+    let all = members_at place members in
+    never_then (λ type. and_then (λ inside. Ok (object_part holder type number all inside))
+    (content_reading exact number place members type)) (object_type holder start all) (never_object holder start all)
+    (λ type. never_then (λ inside. Ok (object_part holder type number all inside))
+    (content_reading exact number place members type) (content type) (λ inside is. cc))
+
+by_test : (test : Bool) (one other : Result Part LayerFault) → Never one → Never other
+    → Never (if test then one else other)
+by_test true one other first second = first
+by_test false one other first second = second
+
+mutual
+  never_value : (value : Json) (exact : Bool) (form : Form) (number start : ℕ)
+      → Never (reading exact form number start value)
+  never_value null exact form number start = never_null form start
+  never_value (truth b) exact form number start = λ is. cc
+  never_value (numeral text) exact form number start = λ is. cc
+  never_value (quoted chars) exact form number start = λ is. cc
+  never_value (array blank elements) exact (forms.List all) number start =
+      never_elements elements exact (item_form all) number (inner_place start blank)
+  never_value (array blank elements) exact (forms.Path trace) number start =
+      never_then (part_of number) (traced exact trace start (array blank elements))
+      (never_traced exact trace start blank elements) (λ paths is. cc)
+  never_value (array blank elements) exact (forms.Object holder) number start = λ is. cc
+  never_value (array blank elements) exact forms.Optional number start = λ is. cc
+  never_value (object blank members) exact (forms.Object holder) number start =
+      never_part exact holder number start (inner_place start blank) members
+      (λ type. never_contents members exact number (inner_place start blank) type)
+  never_value (object blank members) exact forms.Optional number start =
+      never_part exact holders.Geometries number start (inner_place start blank) members
+      (λ type. never_contents members exact number (inner_place start blank) type)
+  never_value (object blank members) exact (forms.Path trace) number start = λ is. cc
+  never_value (object blank members) exact (forms.List all) number start = λ is. cc
+
+  never_elements : (elements : Elements) (exact : Bool) (form : Form) (number place : ℕ)
+      → Never (readings exact form number place elements)
+  never_elements no_element exact form number place = λ is. cc
+  never_elements (element before value after rest) exact form number place =
+      let start = element_start place before in
+      let next = next_place start value after in
+      never_then (λ one. and_then (λ others. Ok (joined one others))
+      (readings exact form (number + length one.paths) next rest)) (reading exact form number start value)
+      (never_value value exact form number start)
+      (λ one. never_then (λ others. Ok (joined one others)) (readings exact form (number + length one.paths) next rest)
+      (never_elements rest exact form (number + length one.paths) next) (λ others is. cc))
+
+  never_contents : (members : Members) (exact : Bool) (number place : ℕ) (type : GeoType)
+      → Never (content_reading exact number place members type)
+  never_contents no_member exact number place type = λ is. cc
+  never_contents (member before key behind ahead value after rest) exact number place type =
+      let start = member_start place before key behind ahead in
+      let next = next_place start value after in
+      by_test (are_same (units_of key) (content_key type)) (reading exact (content_form type) number start value)
+      (content_reading exact number next rest type)
+      (never_value value exact (content_form type) number start) (never_contents rest exact number next type)
+
+never_layer : (exact : Bool) (whole : Whole) → Never (layer_reading exact whole)
+never_layer exact whole = never_value whole.value exact (forms.Object holders.Layer) 0 (whole_start whole)
+
+pub no_memory_fault : (exact : Bool) (bytes : List ℕ) → IsRefusedBy exact bytes NoMemory → ⊥
+no_memory_fault exact bytes (inl none) = none
+no_memory_fault exact bytes (inr (whole, text, is)) = never_layer exact whole is

@@ -1,0 +1,95 @@
+-- The height of a position that is read is within reach.
+use Rattle.std.proofs.Common.{◌≡◌, ℕ, ◌≤◌, Bool, true, false, ℤ, List, sym, ap, subst, refl}
+use Rattle.std.specs.Prelude.{◌&&◌, not, unsigned_abs, Option, Some, None, Result, Ok, Err, if◌then◌else◌}
+use Rattle.jtext.specs.Values.{Json, Elements, null, truth, numeral, quoted, array, object, no_element, element}
+use Rattle.jtext.specs.Nodes.{inner_place, element_start}
+use Rattle.mm_decimal.specs.Answers.{Answers}
+use Rattle.mm_decimal.specs.Measured.{measured}
+use Rattle.mm_decimal.specs.declared.limits.TheConstants.{LIMIT}
+use Rattle.mm_decimal.specs.declared.reading.MmRead.{MmRead}
+use Rattle.mm_decimal.specs.declared.reading.NumFault.{NumFault}
+use Rattle.mm_decimal.proofs.MeasuredAnswers.{measured_answers}
+use Rattle.sheet_base.specs.PointHeights.{IsHeightWithinReach}
+use Rattle.sheet_base.specs.declared.faults.LayerFault.{LayerFault}
+use Rattle.sheet_base.specs.declared.faults.LayerFault.TheVariants.{Inexact}
+use Rattle.gj_layer.specs.declared.positions.PositionRead.{PositionRead}
+use Rattle.gj_layer.specs.Positions.{accepted, number, some_height, position_from, with_height, array_position}
+use Rattle.gj_layer.specs.Positions.{position, height_from, height_of}
+
+accepted_is : (exact : Bool) (start : ℕ) (answer : Result MmRead NumFault) (read : MmRead)
+    → accepted exact start answer ≡ Ok read → answer ≡ Ok read
+accepted_is exact start (Ok other) read is = by (exact && not other.exact) is
+  where
+    by : (test : Bool)
+        → (let r : Result MmRead LayerFault = if test then Err (Inexact start) else Ok other in r) ≡ Ok read
+        → (let r : Result MmRead NumFault = Ok other in r) ≡ Ok read
+    by true is = cc
+    by false is = let same : other ≡ read = cc in ap Ok same
+accepted_is exact start (Err fault) read is = cc
+
+measured_reach : (text : List ℕ) (read : MmRead) → measured text ≡ Ok read → unsigned_abs read.mm ≤ LIMIT
+measured_reach text read is =
+    let (short, one) = subst (Answers text) is (measured_answers text) in
+    let (value, has, r) = one in
+    subst (λ (z : ℤ). unsigned_abs z ≤ LIMIT) (sym r.mm) r.limit
+
+number_reach : (exact : Bool) (start : ℕ) (value : Json) (read : MmRead) → number exact start value ≡ Ok read
+    → unsigned_abs read.mm ≤ LIMIT
+number_reach exact start (numeral text) read is =
+    measured_reach text read (accepted_is exact start (measured text) read is)
+number_reach exact start null read is = cc
+number_reach exact start (truth b) read is = cc
+number_reach exact start (quoted chars) read is = cc
+number_reach exact start (array blank elements) read is = cc
+number_reach exact start (object blank members) read is = cc
+
+height_reach : (exact : Bool) (start : ℕ) (value : Json) (r : Result MmRead LayerFault) → number exact start value ≡ r
+    → (z : Option MmRead) → some_height r ≡ Ok z → IsHeightWithinReach (height_from z)
+height_reach exact start value (Ok read) read_is z is =
+    let same : Some read ≡ z = cc in
+    subst (λ (o : Option MmRead). IsHeightWithinReach (height_from o)) same
+    (number_reach exact start value read read_is)
+height_reach exact start value (Err fault) read_is z is = cc
+
+none_reach : (z : Option MmRead) → (let height : Result (Option MmRead) LayerFault = Ok None in height) ≡ Ok z
+    → IsHeightWithinReach (height_from z)
+none_reach z is =
+    let same : None ≡ z = cc in subst (λ (o : Option MmRead). IsHeightWithinReach (height_from o)) same tt
+
+from_reach : (start end : ℕ) (x y : Result MmRead LayerFault) (z : Result (Option MmRead) LayerFault)
+    (one : PositionRead) → ((height : Option MmRead) → z ≡ Ok height → IsHeightWithinReach (height_from height))
+    → position_from start end x y z ≡ Ok one → IsHeightWithinReach (height_of one)
+from_reach start end (Ok x) (Ok y) (Ok z) one within is =
+    let same : (let p : PositionRead = record { x = x; y = y; z = z; start = start; end = end } in p) ≡ one = cc in
+    subst (λ (p : PositionRead). IsHeightWithinReach (height_of p)) same (within z refl)
+from_reach start end (Err fault) y z one within is = cc
+from_reach start end (Ok x) (Err fault) z one within is = cc
+from_reach start end (Ok x) (Ok y) (Err fault) one within is = cc
+
+with_reach : (exact : Bool) (place : ℕ) (elements : Elements) (start end : ℕ) (x y : Result MmRead LayerFault)
+    (one : PositionRead) → with_height exact place elements (position_from start end x y) ≡ Ok one
+    → IsHeightWithinReach (height_of one)
+with_reach exact place no_element start end x y one is = from_reach start end x y (Ok None) one none_reach is
+with_reach exact place (element before z after no_element) start end x y one is =
+    let at = element_start place before in
+    from_reach start end x y (some_height (number exact at z)) one
+    (height_reach exact at z (number exact at z) refl) is
+with_reach exact place (element before z after (element blank fourth more rest)) start end x y one is = cc
+
+array_reach : (exact : Bool) (start end place : ℕ) (elements : Elements) (one : PositionRead)
+    → array_position exact start end place elements ≡ Ok one → IsHeightWithinReach (height_of one)
+array_reach exact start end place (element before x behind (element ahead y after rest)) one is =
+    with_reach exact _ rest start end (number exact _ x) (number exact _ y) one is
+array_reach exact start end place (element before x behind no_element) one is = cc
+array_reach exact start end place no_element one is = cc
+
+pub position_reach : (exact : Bool) (start : ℕ) (value : Json) (one : PositionRead)
+    → position exact start value ≡ Ok one
+    → IsHeightWithinReach (height_of one)
+position_reach exact start (array blank elements) one is =
+    array_reach exact start _ (inner_place start blank) elements one is
+position_reach exact start null one is = cc
+position_reach exact start (truth b) one is = cc
+position_reach exact start (numeral text) one is = cc
+position_reach exact start (quoted chars) one is = cc
+position_reach exact start (object blank members) one is = cc

@@ -1,0 +1,225 @@
+//! What standard error says behind a refusal, of the words or of the file that was refused.
+
+ghost use Rattle.std.specs.Prelude.{◌≤◌, IfSome};
+ghost use Rattle.std.specs.Vec.{vec_len};
+ghost use Rattle.runs.specs.declared.loads.TheConstants.{MOST_BYTES};
+
+use crate::command_words::{Usage, Words};
+use crate::strays::{sheet_of, stray_of};
+use crate::word_flaws::flaw_of;
+use cert_check::CertFault;
+use job_words::{Job, WordsFault};
+use remarks::{Stray, WordFlaw, outside_lines, refusal_remarks, unread_line, word_lines};
+use runs::{MOST_BYTES, Refusal};
+use shelf_io::{FileShelf, load};
+use std::alloc::{AllocError, Global};
+use std::fs;
+use std::io::{Error, Read};
+use std::rt::Files;
+use std::str::from_utf8;
+use tin_file::read_tin;
+
+/// The number of the layer that a refusal is of.
+fn refused_layer(refusal: Refusal) -> Option<u32> {
+    match refusal {
+        Refusal::LayerUnread { layer } => Some(layer),
+        Refusal::Layer { layer, .. } => Some(layer),
+        Refusal::Outside { layer, .. } => Some(layer),
+        _ => None,
+    }
+}
+
+/// The name of the file that a refusal of the job is of: that of a layer, of a certificate, or of the triangulation.
+fn refused_name(job: &Job, refusal: Refusal) -> &str {
+    match job {
+        Job::Migrate { tin, layers, .. } => match refused_layer(refusal) {
+            None => tin.text(),
+            Some(layer) => match layers.items().get(layer as usize) {
+                None => "",
+                Some(name) => name.text(),
+            },
+        },
+        Job::Check { tin, .. } => tin.text(),
+        Job::Make { .. } => "",
+        Job::Verify {
+            tin,
+            source,
+            written,
+            cert,
+            ..
+        } => match refusal {
+            Refusal::LayerUnread { .. } | Refusal::LayersLong | Refusal::Layer { .. } =>
+                source.text(),
+            Refusal::WrittenUnread
+            | Refusal::WrittenLong
+            | Refusal::Certificate(CertFault::Differs { .. }) => written.text(),
+            Refusal::CertUnread | Refusal::CertLong | Refusal::Certificate(_) => cert.text(),
+            _ => tin.text(),
+        },
+    }
+}
+
+/// The bytes of a file that can be read once more: a pipe cannot.
+pub fn bytes_again<R: Files + AllocGlobal + Clone + Drop>(rt: &R, name: &str) -> Option<Vec<u8>>
+    ensures { IfSome result (λ bytes. vec_len bytes ≤ MOST_BYTES) }
+{
+    match fs::metadata(rt, name) {
+        Ok(kind) if kind.is_file() => {
+            let mut shelf = FileShelf::new(rt, rt.alloc()).ok()?;
+            load(rt.alloc(), &mut shelf, name, MOST_BYTES).ok()
+        }
+        _ => None,
+    }
+}
+
+/// The bytes of the refused file, where the refusal is of what stands in it.
+fn refused_bytes<R: Files + AllocGlobal + Clone + Drop>(
+    rt: &R,
+    name: &str,
+    refusal: Refusal,
+) -> Option<Vec<u8>> {
+    match refusal {
+        Refusal::Tin(_) | Refusal::Layer { .. } | Refusal::Certificate(CertFault::Differs { .. }) =>
+            bytes_again(rt, name),
+        _ => None,
+    }
+}
+
+/// Why the system does not let a file be read, where it is one that can be tried once more.
+fn read_error<R: Files>(rt: &R, name: &str) -> Option<Error> {
+    match fs::metadata(rt, name) {
+        Ok(kind) if kind.is_file() || kind.is_dir() => match fs::open(rt, name) {
+            Ok(mut file) => file.read(&mut [0u8; 1]).err(),
+            Err(error) => Some(error),
+        },
+        Ok(_) => None,
+        Err(error) => Some(error),
+    }
+}
+
+/// Says why the system does not let a file be read.
+fn say_read_error<R: Files + Eprint + AllocGlobal>(rt: &R, name: &str) {
+    let Some(error) = read_error(rt, name) else {
+        return;
+    };
+    let Ok(reason) = format!(in rt.alloc(); "{error}") else {
+        return;
+    };
+    if let Ok(text) = unread_line(rt.alloc(), name, reason.as_str()) {
+        let _ = rt.eprint(text.as_str());
+    }
+}
+
+/// The segment of a refusal, found in the files once more.
+fn found_stray<R: Files + AllocGlobal + Clone + Drop>(
+    rt: &R,
+    job: &Job,
+    refusal: Refusal,
+) -> Option<Stray> {
+    let Job::Migrate {
+        tin,
+        how,
+        inverse,
+        ..
+    } = job
+    else {
+        return None;
+    };
+    let Refusal::Outside { path, segment, .. } = refusal else {
+        return None;
+    };
+    let name = refused_name(job, refusal);
+    let bytes = bytes_again(rt, name)?;
+    let sheet = sheet_of(rt.alloc(), name, &bytes, *how)?;
+    let text = bytes_again(rt, tin.text())?;
+    let tin = read_tin(rt.alloc(), &text, *how).ok()?;
+    stray_of(&sheet, &bytes, path, segment, &tin, *inverse)
+}
+
+/// Says where a segment is that is outside, and where the triangles are.
+fn say_stray<R: Files + Eprint + AllocGlobal + Clone + Drop>(rt: &R, job: &Job, refusal: Refusal) {
+    let Some(stray) = found_stray(rt, job, refusal) else {
+        return;
+    };
+    if let Ok(bytes) = outside_lines(rt.alloc(), stray) {
+        if let Ok(text) = from_utf8(&bytes) {
+            let _ = rt.eprint(text);
+        }
+    }
+}
+
+/// The lines on a word, whose bytes are escaped where it has a control character.
+fn lines_on_word(alloc: Global, flaw: WordFlaw, word: &str) -> Result<String, AllocError> {
+    if word.bytes().any(|byte| byte.is_ascii_control()) {
+        let shown = word.as_bytes().escape_ascii();
+        let escaped = format!(in alloc; "{shown}")?;
+        word_lines(alloc, flaw, escaped.as_str())
+    } else {
+        word_lines(alloc, flaw, word)
+    }
+}
+
+/// Says which word is wrong or missing.
+fn say_flaw<R: Eprint + AllocGlobal>(rt: &R, words: &[String], has_modes: bool, fault: WordsFault) {
+    let found = match flaw_of(rt.alloc(), words, has_modes, fault) {
+        Ok(Some((flaw, word))) => lines_on_word(rt.alloc(), flaw, word),
+        _ => refusal_remarks(rt.alloc(), &Refusal::Words(fault), "", None),
+    };
+    if let Ok(text) = found {
+        let _ = rt.eprint(text.as_str());
+    }
+}
+
+/// Says which word is wrong or missing, where the words are those of the command line, and how words are used.
+fn say_words<R: Eprint + AllocGlobal>(rt: &R, words: &Words, usage: Usage<'_>, fault: WordsFault) {
+    if words.are_given {
+        say_flaw(rt, &words.words, usage.has_modes, fault);
+    }
+    let _ = rt.eprintln(usage.text);
+}
+
+/// Says where a file is refused, what was found, and what helps.
+fn say_file<R: Files + Eprint + AllocGlobal + Clone + Drop>(
+    rt: &R,
+    job: Option<&Job>,
+    refusal: Refusal,
+) {
+    let name = match job {
+        None => "",
+        Some(job) => refused_name(job, refusal),
+    };
+    let bytes = refused_bytes(rt, name, refusal);
+    let known = match &bytes {
+        None => None,
+        Some(bytes) => Some(bytes.as_slice()),
+    };
+    if let Ok(text) = refusal_remarks(rt.alloc(), &refusal, name, known) {
+        let _ = rt.eprint(text.as_str());
+    }
+    match refusal {
+        Refusal::TinUnread
+        | Refusal::LayerUnread { .. }
+        | Refusal::WrittenUnread
+        | Refusal::CertUnread => say_read_error(rt, name),
+        Refusal::Outside { .. } => {
+            if let Some(job) = job {
+                say_stray(rt, job, refusal);
+            }
+        }
+        _ => {}
+    }
+}
+
+/// Says why the words or a file are refused. That it cannot be said changes nothing.
+pub fn say_refusal<R: Files + Eprint + AllocGlobal + Clone + Drop>(
+    rt: &R,
+    words: &Words,
+    usage: Usage<'_>,
+    job: Option<&Job>,
+    refusal: Refusal,
+) {
+    match refusal {
+        Refusal::Words(fault) => say_words(rt, words, usage, fault),
+        _ => say_file(rt, job, refusal),
+    }
+}
