@@ -2,20 +2,22 @@
 # What standard error says beside a run, over real files: for each line of docs/messages.md under
 # 'Standard error' that no test over fakes shows, a run that prints it. Each run is done again with
 # standard error closed, and must then end and print as before.
-# usage: bench/standard_error.sh [PROGRAM]     PROGRAM is tinmove, else the launcher
+# usage: bench/standard_error.sh [TINMOVE [TINPLACES]]     the two programs, else the launchers
 # Needs script (Debian: bsdutils) for what is said on a terminal. Run it as a user other than root
 # to see the line of a folder that may not be written.
 # The last line is 'standard error says all lines'; the status is 1 where one is missing.
 set -u
 top=$(cd -- "$(dirname -- "$0")/.." && pwd)
-program=${1:-$top/tinmove}
+program=${1:-$top/tinmove} places=${2:-$top/tinplaces}
 case $program in /*) ;; *) program=$PWD/$program ;; esac
+case $places in /*) ;; *) places=$PWD/$places ;; esac
 folder=$(mktemp -d)
 trap 'chmod -R u+w "$folder"; rm -rf "$folder"' EXIT
 cd "$folder" || exit 1
 bad=0 count=0
 
-# Whether the words end with this status, and print these parts on standard error, in this order.
+# Whether $program with the words ends with this status, and prints these parts on standard error, in
+# this order.
 says() {
     local status=$1 words=() part
     shift
@@ -147,6 +149,46 @@ if command -v script >/dev/null; then
     done
     on_terminal make 2
     grep -qF 'making and carrying a map of 2 by 2 cells' terminal || { echo 'nothing on a terminal of make'; bad=1; }
+fi
+
+# the other program, which has no modes and writes no layer
+program=$places
+usage='usage: tinplaces --tin FILE [OPTION]... LAYER...'
+says 2 -- "'--tin FILE' is missing" 'nothing was written' "$usage"
+says 2 --tin t.json -- "'LAYER' is missing" "$usage"
+says 2 --tni t.json a.wkt -- "'--tni' is no option of this mode" "$usage"
+says 2 --tin t.json --out o a.wkt -- "'--out' is no option of this mode"
+says 2 --tin t.json --tin t.json a.wkt -- "'--tin' is there twice"
+says 2 a.wkt --tin -- "the value is missing behind '--tin'"
+says 2 --tin t.json roads.shp -- "'roads.shp': its name ends in none of" 'convert it by ogr2ogr, or rename it'
+says 2 --tin t.json a.wkt x/a.wkt -- "'x/a.wkt': the last part of its name is that of an earlier layer's"
+says 2 --tin $'t\001' a.wkt -- "'t\\x01': the name behind --tin is empty or has a control character"
+says 2 --tin $'\xff' -- 'word 2 is not UTF-8: \xff' "$usage"
+says 6 --tin none.json a.wkt -- 'none.json: the file is missing or could not be read' 'none.json: the system says: No such file or directory'
+says 6 --tin folder.json a.wkt -- 'folder.json: the system says: Is a directory'
+says 6 --tin t.json none.wkt -- 'none.wkt: the system says: No such file or directory'
+says 3 --tin a.wkt a.wkt -- 'a.wkt:1:1: text that may not stand here: POINT'
+says 4 --tin t.json mark.wkt -- 'mark.wkt:1:1: a byte order mark' 'save the file without it'
+says 5 --tin t.json out.wkt -- 'out.wkt: path 1 segment 0: not wholly inside the triangles' \
+    'it is on line 3, from 600001.000 200001.000 to 602000.000 200001.000' \
+    'triangles 1, from 600000.000 200000.000 to 601000.000 201000.000'
+says 5 --tin t.json carried.wkt -- 'carried already, or --inverse?'
+says 5 --tin t.json --inverse a.wkt -- 'triangles 1, from 2600000.000 1200000.000' 'carried already, or --inverse?'
+says 5 --tin t.json degrees.wkt -- "the layer's coordinates look like degrees"
+says 0 --tin degrees.json degrees.geojson -- 'degrees.geojson: 2 numbers were rounded to the millimetre' \
+    'degrees.json: all source corners are within 360: these look like degrees'
+says 0 --tin t.json --drop-other plan.dxf -- 'plan.dxf: 4 entities left out (HATCH 3, ARC 1): the written drawing is not whole'
+says 0 --tin t.json a.wkt --
+[ -s err ] && { echo 'something is said of a whole run of tinplaces'; bad=1; }
+"$program" --tin t.json a.wkt >/dev/full 2>err
+[ $? -eq 7 ] || { echo 'a full standard output of tinplaces is no status 7'; bad=1; }
+grep -qF 'standard output: could not be written' err || { echo 'a full standard output of tinplaces is not named'; bad=1; }
+if command -v script >/dev/null; then
+    on_terminal --tin t.json a.wkt
+    for part in 'step 1 of 4: reading t.json' 'step 2 of 4: checking the triangulation' 'step 3 of 4: reading a.wkt' \
+        'step 4 of 4: carrying layer 0 (1 of 1), then comparing' $'\r\033[K{"type":"FeatureCollection"'; do
+        grep -qF -- "$part" terminal || { echo "not on a terminal of tinplaces: $part"; cat -v terminal; bad=1; }
+    done
 fi
 
 echo "$count runs, each twice"

@@ -7,6 +7,7 @@ use Rattle.sheet_base.specs.declared.flags.How.{How}
 use Rattle.tin_base.specs.Triangulation.{Triangulation}
 use Rattle.tin_base.specs.Limits.{IsWithinLimits}
 use Rattle.topo_check.specs.Changes.{AreAllComparable}
+use Rattle.report_text.specs.declared.rows.LayerRow.{LayerRow}
 use Rattle.job_words.specs.declared.formats.Format.{Format}
 use Rattle.job_words.specs.Formats.{format_of}
 use Rattle.runs.specs.declared.status.Status.{Status}
@@ -26,7 +27,7 @@ use Rattle.migrate.specs.LayerRuns.{setting_of, at_changes}
 use Rattle.migrate.specs.Migrations.{MayRefuseMigration, by_layers}
 use Rattle.migrate.specs.RunContents.{AddsNone, HasCarried, IsOfLayers, IsUnlisted}
 use Rattle.migrate.proofs.ComparablePieces.{run_compared}
-use Rattle.tinplaces.specs.Places.{HasPathPlaces, HaveAllPlaces, IsPlacesDone}
+use Rattle.tinplaces.specs.Places.{HasPathPlaces, HaveAllPlaces, IsPlacesDone, AreRowsOf}
 use Rattle.tinplaces.specs.InsideLayers.{HasPlaces, LacksPlacesOf}
 use Rattle.tinplaces.specs.InsidePieces.{IsSaidOf, said_file}
 
@@ -164,4 +165,20 @@ places_done (Some files) migration tin run places said changed ready has have is
     status_is = ap end_of is.changed_is;
   };
   made_is = refl;
+}
+
+-- what a report would say of the layers that were carried
+pub rows_done : (told : Option Files) (migration : Migration) (tin : Triangulation) (run : Run) (rows : List LayerRow)
+    → IfSome told (λ files. HasDirected files migration.how migration.tin migration.inverse tin)
+    → HasCarried (setting_of told migration.how tin) false migration.out migration.layers run → rows ≡ run.rows.items
+    → IfSome told (λ files. AreRowsOf files migration rows)
+rows_done None migration tin run rows ready has is = tt
+rows_done (Some files) migration tin run rows ready has is = record {
+  tin = tin;
+  way = ready;
+  pieces = run.pieces.items;
+  done = has.done;
+  used = run.used;
+  carried = has.carried;
+  rows_are = is ∙ has.holds.rows;
 }

@@ -2,6 +2,7 @@
 use Rattle.std.specs.Prelude.{ℕ, List}
 use Rattle.shelf_io.specs.Files.{Files}
 use Rattle.job_words.specs.declared.faults.WordsFault.{WordsFault}
+use Rattle.report_text.specs.declared.rows.LayerRow.{LayerRow}
 use Rattle.runs.specs.declared.status.Status.{Status}
 use Rattle.runs.specs.declared.refusal.Refusal.{Refusal}
 use Rattle.runs.specs.declared.refusal.Refusal.TheVariants.{Words}
@@ -9,7 +10,7 @@ use Rattle.runs.specs.Refusals.{Refuses}
 use Rattle.migrate.specs.declared.migrations.Migration.{Migration}
 use Rattle.migrate.specs.Migrations.{IsMigrationRefused}
 use Rattle.tinplaces.specs.Words.{AsksPlaces, LacksPlaces}
-use Rattle.tinplaces.specs.Places.{IsPlacesDone}
+use Rattle.tinplaces.specs.Places.{IsPlacesDone, AreRowsOf}
 
 -- The status and the made files of a run, where no call of the outside fails and memory does not run out. Where the
 -- words ask for a migration, the files refuse it as `tinmove migrate` is refused, or its changes are printed.
@@ -20,3 +21,7 @@ pub data HasOutcome (words : List (List ℕ)) (files : Files) (status : Status) 
       → IsMigrationRefused files migration refusal → Refuses refusal status made → HasOutcome words files status made
   done : (migration : Migration) → AsksPlaces words migration → IsPlacesDone files migration status made
       → HasOutcome words files status made
+
+-- the words ask for a migration, and its report would say this of each layer
+abbrev pub HaveRows : List (List ℕ) → Files → List LayerRow → Type 0
+HaveRows words files rows = (migration : Migration) × AsksPlaces words migration × AreRowsOf files migration rows

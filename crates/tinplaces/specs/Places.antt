@@ -1,6 +1,6 @@
 -- The places of the changes of a migration: their written segments, how far these are from each other, and where in
 -- the layers their paths begin.
-use Rattle.std.specs.Prelude.{◌≡◌, ℕ, List, [], ◌∷◌, codes, Contains, get_or, Option, None, Some, IfSome}
+use Rattle.std.specs.Prelude.{◌≡◌, ℕ, List, [], ◌∷◌, codes, map, Contains, get_or, Option, None, Some, IfSome}
 use Rattle.shelf_io.specs.Files.{Files, bytes_of}
 use Rattle.sheet_base.specs.declared.flags.How.{How}
 use Rattle.sheet_base.specs.Sheets.{Contents}
@@ -9,6 +9,7 @@ use Rattle.tin_base.specs.declared.pieces.Piece.{Piece}
 use Rattle.tin_base.specs.declared.pieces.Place.{Place}
 use Rattle.tin_base.specs.Triangulation.{Triangulation}
 use Rattle.seg_gap.specs.Gaps.{IsGap}
+use Rattle.report_text.specs.declared.rows.LayerRow.{LayerRow}
 use Rattle.job_words.specs.declared.formats.Format.{Format}
 use Rattle.job_words.specs.Formats.{format_of}
 use Rattle.runs.specs.declared.status.Status.{Status}
@@ -16,7 +17,7 @@ use Rattle.migrate.specs.declared.migrations.Migration.{Migration}
 use Rattle.layer_formats.specs.LayerOutcomes.{IsLayerText}
 use Rattle.layer_formats.specs.LayerTexts.{is_drawing}
 use Rattle.migrate.specs.LayerRuns.{setting_of, Done, AreCarried}
-use Rattle.migrate.specs.Migrations.{HasWay}
+use Rattle.migrate.specs.Migrations.{HasWay, row_of}
 use Rattle.migrate.specs.RunChanges.{AreListed, end_with}
 use Rattle.change_places.specs.declared.spots.SideSpot.{SideSpot}
 use Rattle.change_places.specs.declared.spots.ChangeSpot.{ChangeSpot}
@@ -100,3 +101,13 @@ pub record IsPlacesDone (files : Files) (migration : Migration) (status : Status
   pub said : List ℕ
   pub are : ArePlacesOf (Some files) migration tin status said
   pub made_is : made ≡ (codes "-", said) ∷ []
+
+-- what the report of the migration would say of each layer
+pub record AreRowsOf (files : Files) (migration : Migration) (rows : List LayerRow) : Type 0 where
+  pub tin : Triangulation
+  pub way : HasWay files migration tin
+  pub pieces : List Piece
+  pub done : List Done
+  pub used : ℕ
+  pub carried : AreCarried (setting_of (Some files) migration.how tin) 0 0 [] migration.layers pieces done used
+  pub rows_are : rows ≡ map row_of done

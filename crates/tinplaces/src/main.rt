@@ -9,55 +9,85 @@ mod layers;
 mod output;
 mod pieces;
 mod places;
-mod refused_files;
 mod run;
 #[cfg(test)]
 mod tests;
 mod words;
 
 use help::{Help, USAGE, help_of};
-use refused_files::say_remarks;
-use run::run_to_end;
+use job_words::Job;
+use migrate::Migration;
+use run::{RunEnd, run_to_end};
+use run_notes::{
+    Steps, ToldPress, ToldShelf, Usage, Words, if_terminal, left_out_kinds, say_degrees,
+    say_layers, say_refusal, say_unwritten, words_of,
+};
 use runs::Status;
 use shelf_io::{FilePress, FileShelf};
-use std::env;
-use std::io::ErrorKind;
+use std::alloc::Global;
 use std::process::ExitCode;
 use words::read_migration;
 
-/// The words of the command line without the program's name. A word that is no text is refused as words that are not
-/// understood.
-fn words_of(rt: &HostRuntime) -> Result<Vec<String>, Status> {
-    let mut args = match env::args(rt) {
-        Ok(args) => args,
-        Err(fault) if fault.kind() == ErrorKind::OutOfMemory => return Err(Status::Memory),
-        Err(_) => return Ok(Vec::new(rt.alloc())),
-    };
-    let _ = args.next();
-    match args.collect(rt.alloc()) {
-        Ok(words) => Ok(words),
-        Err(_) => Err(Status::Memory),
-    }
+/// How the words are used.
+const USED: Usage<'static> = Usage {
+    text: USAGE,
+    has_modes: false,
+};
+
+/// The job of `tinmove` that the words ask for, without what is written.
+fn job_of(alloc: Global, words: &[String]) -> Option<Job> {
+    let Migration {
+        tin,
+        out,
+        how,
+        inverse,
+        cert,
+        layers,
+    } = read_migration(alloc, words).ok()?;
+    Some(Job::Migrate {
+        tin,
+        out,
+        how,
+        inverse,
+        cert,
+        layers,
+    })
 }
 
-/// Does what the words ask for over real files and standard output. What is to be said of a refusal, and behind words
-/// that are not understood a line of usage, go to standard error; that they cannot be written changes nothing.
-fn run_on_files(rt: &HostRuntime, words: &[String]) -> Status {
-    let Ok(mut shelf) = FileShelf::new(rt, rt.alloc()) else {
+/// Does what the words ask for over real files and standard output, and shows on a terminal what it is doing. What is
+/// to be said of a refusal, of standard output that could not be written and of what was carried goes to standard
+/// error; that it cannot be written changes nothing.
+fn run_on_files(rt: &HostRuntime, words: &Words) -> Status {
+    let Ok(shelf) = FileShelf::new(rt, rt.alloc()) else {
         return Status::Memory;
     };
-    let Ok(mut press) = FilePress::new(rt, rt.alloc()) else {
+    let Ok(press) = FilePress::new(rt, rt.alloc()) else {
         return Status::Memory;
     };
-    let migration = read_migration(rt.alloc(), words).ok();
-    let end = run_to_end(rt.alloc(), words, &mut shelf, &mut press);
-    if let Some(refusal) = end.refusal {
-        say_remarks(rt, migration.as_ref(), refusal);
+    let terminal = if_terminal(rt.stderr());
+    let job = job_of(rt.alloc(), &words.words);
+    let steps = Steps::of_job(job.as_ref(), false);
+    let mut shelf = ToldShelf::new(shelf, terminal, steps);
+    let mut press = ToldPress::new(press, terminal, steps);
+    let RunEnd {
+        status,
+        refusal,
+        rows,
+    } = run_to_end(rt.alloc(), &words.words, &mut shelf, &mut press);
+    if status == Status::Write {
+        press.clear();
+        say_unwritten(rt, "-");
     }
-    if end.status == Status::Words {
-        let _ = rt.eprintln(USAGE);
+    if let Some(refusal) = refusal {
+        say_refusal(rt, words, USED, job.as_ref(), refusal);
     }
-    end.status
+    if let Some(job) = &job {
+        if status == Status::Same || status == Status::Changed {
+            say_layers(rt, &rows, &left_out_kinds(rt, job));
+        }
+        say_degrees(rt, job);
+    }
+    status
 }
 
 /// Prints what the program says of itself.
@@ -74,7 +104,7 @@ fn answer(rt: &HostRuntime) -> Status {
         Ok(words) => words,
         Err(status) => return status,
     };
-    if let Some(help) = help_of(&words) {
+    if let Some(help) = help_of(&words.words) {
         return print_help(rt, help);
     }
     run_on_files(rt, &words)

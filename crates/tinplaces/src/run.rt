@@ -6,21 +6,25 @@ ghost use Rattle.job_words.specs.declared.faults.WordsFault.{WordsFault};
 ghost use Rattle.runs.specs.declared.loads.TheConstants.{MOST_BYTES};
 ghost use Rattle.runs.specs.Refusals.{line_of, status_of};
 ghost use Rattle.tinplaces.specs.Words.{LacksPlaces};
+ghost use Rattle.tinplaces.specs.Outcome.{HaveRows};
 ghost use Rattle.tinplaces.specs.Ends.{EndsTold, LacksWantedOf, TellsBytes};
 
 use crate::output::{end, refuse, say};
 use crate::places::prepare_places;
 use crate::words::read_migration;
+use report_text::LayerRow;
 use runs::{Refusal, Status};
 use shelf_io::{Press, Shelf};
 use std::alloc::Global;
 
-/// How a run ended, and why nothing was carried where that is so.
-#[derive(Clone, Copy, Debug, PartialEq, Eq)]
+/// How a run ended, why nothing was carried where that is so, and what was carried.
+#[derive(Drop)]
 pub struct RunEnd {
     pub status: Status,
     /// The refusal whose line was printed, or could not be printed: then the status is `Write`.
     pub refusal: Option<Refusal>,
+    /// What a report would say of each layer, in order; nothing behind a refusal.
+    pub rows: Vec<LayerRow>,
 }
 
 /// Prints the changes of the migration that the words ask for, and hands out the refusal where there is one.
@@ -56,6 +60,9 @@ pub fn run_to_end<S: Shelf, P: Press>(
     ensures refusal { IfSome result.refusal (λ refusal. (result.status ≡ status_of refusal) ⊎ (result.status ≡ Status.Write)) }
     ensures printed { IfSome result.refusal (λ refusal. result.status ≢ Status.Write → IfSome (P.made press.new) (λ made. made ≡ (codes "-", line_of refusal) ∷ [])) }
     ensures none { IfNone result.refusal ((result.status ≡ Status.Same) ⊎ ((result.status ≡ Status.Changed) ⊎ (result.status ≡ Status.Write))) }
+
+    // Where the shelf tells its files and nothing is refused, the rows are those of the migration's report.
+    ensures rows { IfNone result.refusal (IfSome (S.files shelf.old) (λ files. HaveRows (map string_bytes words.now) files result.rows.items)) }
 {
     let migration = match read_migration(alloc, words) {
         Ok(migration) => migration,
@@ -63,6 +70,7 @@ pub fn run_to_end<S: Shelf, P: Press>(
             return RunEnd {
                 status: refuse(press, Refusal::Words(fault)),
                 refusal: Some(Refusal::Words(fault)),
+                rows: Vec::new(alloc),
             };
         }
     };
@@ -70,10 +78,12 @@ pub fn run_to_end<S: Shelf, P: Press>(
         Ok(said) => RunEnd {
             status: say(press, said.text.items(), end(said.changed)),
             refusal: None,
+            rows: said.rows,
         },
         Err(refusal) => RunEnd {
             status: refuse(press, refusal),
             refusal: Some(refusal),
+            rows: Vec::new(alloc),
         },
     }
 }

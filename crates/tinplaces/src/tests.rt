@@ -1,6 +1,10 @@
 //! Runs of the whole program over files in memory. The expected texts are worked out by hand.
 
-use crate::run::run;
+use crate::run::{run, run_to_end};
+use crate::words::read_migration;
+use job_words::{Which, WordsFault};
+use remarks::WordFlaw;
+use run_notes::{Steps, ToldPress, ToldShelf, flaw_of};
 use runs::Status;
 use shelf_io::{MemPress, MemShelf, Shelf};
 use std::alloc::{AllocError, Global};
@@ -34,6 +38,27 @@ const NO_CHANGE: &str = "{\"type\":\"FeatureCollection\",\"crs\":null,\"features
 /// A call that no run makes.
 const NEVER: u64 = 1000;
 
+/// The words as a run takes them.
+fn words_of(alloc: Global, texts: &[&str]) -> Result<Vec<String>, AllocError> {
+    let mut words = Vec::new(alloc);
+    for text in texts {
+        words.push(String::from_str(alloc, text)?)?;
+    }
+    Ok(words)
+}
+
+/// A shelf of the square and these files, of which the first of a name counts.
+fn shelf_of(alloc: Global, files: &[(&str, &str)]) -> Result<MemShelf, AllocError> {
+    let mut shelf = MemShelf::new(alloc, 64);
+    shelf.add("s.json", SQUARE.as_bytes())?;
+    for (name, text) in files {
+        if shelf.begin(name) == Ok(false) {
+            shelf.add(name, text.as_bytes())?;
+        }
+    }
+    Ok(shelf)
+}
+
 /// How a run of these words over this square and these files ends, and what it makes, by writes of at most 64 bytes of
 /// which the call of this number fails.
 fn ran(
@@ -42,17 +67,8 @@ fn ran(
     files: &[(&str, &str)],
     fail: u64,
 ) -> Result<(Status, MemPress), AllocError> {
-    let mut words = Vec::new(alloc);
-    for text in texts {
-        words.push(String::from_str(alloc, text)?)?;
-    }
-    let mut shelf = MemShelf::new(alloc, 64);
-    shelf.add("s.json", SQUARE.as_bytes())?;
-    for (name, text) in files {
-        if shelf.begin(name) == Ok(false) {
-            shelf.add(name, text.as_bytes())?;
-        }
-    }
+    let words = words_of(alloc, texts)?;
+    let mut shelf = shelf_of(alloc, files)?;
     let mut press = MemPress::new(alloc, 64);
     press.fail_at(fail)?;
     let status = run(alloc, &words, &mut shelf, &mut press);
@@ -181,5 +197,117 @@ fn a_write_that_fails_leaves_a_first_part(rt: HostRuntime) -> Result<(), Fail> {
     assert_eq!(rt; status, Status::Write);
     assert_eq!(rt; press.faults(), 1);
     assert_eq!(rt; press.made_bytes("-"), FRONT.as_bytes().get(..64));
+    Ok(())
+}
+
+/// Words that are refused, why, what is wrong, and with which word.
+const REFUSED: &[(&[&str], WordsFault, WordFlaw, &str)] = &[
+    (&[], WordsFault::Parse, WordFlaw::Missing, "--tin FILE"),
+    (
+        &["--tin", "t"],
+        WordsFault::Parse,
+        WordFlaw::Missing,
+        "LAYER",
+    ),
+    (
+        &["--tin", "t", "--out", "o", "a.wkt"],
+        WordsFault::Parse,
+        WordFlaw::Unknown,
+        "--out",
+    ),
+    (
+        &["--tin", "t", "a.wkt", "--cert", "--cert"],
+        WordsFault::Parse,
+        WordFlaw::Twice,
+        "--cert",
+    ),
+    (
+        &["a.wkt", "--tin"],
+        WordsFault::Parse,
+        WordFlaw::NoValue,
+        "--tin",
+    ),
+    (
+        &["--tin=", "a.wkt"],
+        WordsFault::Name { which: Which::Tin },
+        WordFlaw::Refused(WordsFault::Name { which: Which::Tin }),
+        "",
+    ),
+    (
+        &["--tin", "t", "migrate", "a.wkt"],
+        WordsFault::Suffix { layer: 0 },
+        WordFlaw::Refused(WordsFault::Suffix { layer: 0 }),
+        "migrate",
+    ),
+    (
+        &["--tin", "t", "x/a.wkt", "--", "y/a.wkt"],
+        WordsFault::SameName { layer: 1 },
+        WordFlaw::Refused(WordsFault::SameName { layer: 1 }),
+        "y/a.wkt",
+    ),
+];
+
+#[test]
+fn the_word_that_is_wrong_or_missing_is_named(rt: HostRuntime) -> Result<(), Fail> {
+    let alloc = rt.alloc();
+    for (texts, fault, flaw, word) in REFUSED {
+        let words = words_of(alloc, texts)?;
+        assert_eq!(rt;
+            read_migration(alloc, &words).err(),
+            Some(*fault),
+            "at {texts:?}"
+        );
+        let found = flaw_of(alloc, &words, false, *fault)?;
+        assert_eq!(rt; found, Some((*flaw, *word)), "at {texts:?}");
+    }
+    Ok(())
+}
+
+/// What was said.
+fn said(to: &Option<Vec<u8>>) -> &[u8] {
+    match to {
+        Some(bytes) => bytes,
+        None => b"",
+    }
+}
+
+#[test]
+fn a_run_says_what_it_is_doing(rt: HostRuntime) -> Result<(), Fail> {
+    let alloc = rt.alloc();
+    let words = words_of(alloc, &["--tin", "s.json", "p.wkt"])?;
+    let steps = Steps {
+        layers: 1,
+        are_written: false,
+    };
+    let shelf = shelf_of(alloc, &[("p.wkt", "POINT (6 4)")])?;
+    let mut shelf = ToldShelf::new(shelf, Some(Vec::new(alloc)), steps);
+    let mut press = ToldPress::new(MemPress::new(alloc, 64), Some(Vec::new(alloc)), steps);
+    let end = run_to_end(alloc, &words, &mut shelf, &mut press);
+    assert_eq!(rt; end.status, Status::Same);
+    assert_eq!(rt;
+        said(&shelf.to),
+        b"\r\x1b[Ktinmove: step 1 of 4: reading s.json\r\x1b[Ktinmove: step 2 of 4: checking the triangulation\r\x1b[Ktinmove: step 3 of 4: reading p.wkt\r\x1b[Ktinmove: step 4 of 4: carrying layer 0 (1 of 1), then comparing".as_slice()
+    );
+    assert_eq!(rt; said(&press.to), b"\r\x1b[K".as_slice());
+    Ok(())
+}
+
+#[test]
+fn a_run_has_a_row_for_each_layer(rt: HostRuntime) -> Result<(), Fail> {
+    let alloc = rt.alloc();
+    let words = words_of(
+        alloc,
+        &["--tin", "s.json", "--drop-other", "a.json", "d.dxf"],
+    )?;
+    let drawing = "  0\nSECTION\n  2\nENTITIES\n  0\nHATCH\n  8\n0\n  0\nENDSEC\n  0\nEOF\n";
+    let layer = r#"{"type":"Point","coordinates":[6.0004,4]}"#;
+    let mut shelf = shelf_of(alloc, &[("a.json", layer), ("d.dxf", drawing)])?;
+    let mut press = MemPress::new(alloc, 64);
+    let end = run_to_end(alloc, &words, &mut shelf, &mut press);
+    let mut counts = Vec::new(alloc);
+    for row in end.rows.iter() {
+        counts.push((row.paths, row.inexact, row.dropped))?;
+    }
+    assert_eq!(rt; counts.as_slice(), [(1, 1, 0), (0, 0, 1)].as_slice());
     Ok(())
 }

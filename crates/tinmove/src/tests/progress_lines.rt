@@ -1,15 +1,22 @@
 //! What a run says of what it is doing, and that it is the same run whether or not it is heard.
 
-use crate::press_notes::PressNotes;
-use crate::progress::{ToldPress, ToldShelf, say_making};
 use crate::run::run;
 use crate::tests::memory_runs::{MIGRATE, NEVER, TRIANGLE, words_of};
+use run_notes::{PressNotes, Steps, ToldPress, ToldShelf, say_making};
 use runs::Status;
 use shelf_io::{MemPress, MemShelf, load, print};
 use std::alloc::{AllocError, Global};
 use std::io;
 use std::io::{ErrorKind, Write};
 use std::test::Fail;
+
+/// The steps of a migration of so many layers.
+fn migration_of(layers: usize) -> Steps {
+    Steps {
+        layers,
+        are_written: true,
+    }
+}
 
 /// A shelf with the files of these words, of which a call fails.
 fn shelf_of_two(alloc: Global, fail: u64) -> Result<MemShelf, AllocError> {
@@ -38,10 +45,10 @@ fn told_run<W: Write + Drop>(
     fails: (u64, u64),
     to: (Option<W>, Option<W>),
 ) -> Result<Told<W>, AllocError> {
-    let mut shelf = ToldShelf::new(shelf_of_two(alloc, fails.0)?, to.0, 1);
+    let mut shelf = ToldShelf::new(shelf_of_two(alloc, fails.0)?, to.0, migration_of(1));
     let mut press = MemPress::new(alloc, 4096);
     press.fail_at(fails.1)?;
-    let mut press = ToldPress::new(press, to.1, 1);
+    let mut press = ToldPress::new(press, to.1, migration_of(1));
     let status = run(alloc, &words_of(alloc, &MIGRATE)?, &mut shelf, &mut press);
     Ok((status, shelf, press))
 }
@@ -167,7 +174,7 @@ fn shelf_of_three(alloc: Global) -> Result<ToldShelf<MemShelf, Vec<u8>>, AllocEr
     shelf.add("t", b"12345")?;
     shelf.add("a", b"67")?;
     shelf.add("b", b"")?;
-    Ok(ToldShelf::new(shelf, Some(Vec::new(alloc)), 2))
+    Ok(ToldShelf::new(shelf, Some(Vec::new(alloc)), migration_of(2)))
 }
 
 #[test]
@@ -187,7 +194,11 @@ fn layers_are_counted_behind_the_triangulation(rt: HostRuntime) -> Result<(), Fa
 #[test]
 fn of_standard_output_nothing_is_said(rt: HostRuntime) -> Result<(), Fail> {
     let alloc = rt.alloc();
-    let mut press = ToldPress::new(MemPress::new(alloc, 2), Some(Vec::new(alloc)), 2);
+    let mut press = ToldPress::new(
+        MemPress::new(alloc, 2),
+        Some(Vec::new(alloc)),
+        migration_of(2),
+    );
     print(&mut press, "-", b"123")?;
     assert_eq!(rt; said(&press.to), b"\r\x1b[K".as_slice());
     print(&mut press, "o/three.wkt", b"456")?;
@@ -208,14 +219,18 @@ fn each_mebibyte_is_a_point(rt: HostRuntime) -> Result<(), Fail> {
     bytes.resize(2 * 1_048_576 + 5, b' ')?;
     let mut shelf = MemShelf::new(alloc, 65_536);
     shelf.add("t", &bytes)?;
-    let mut shelf = ToldShelf::new(shelf, Some(Vec::new(alloc)), 0);
+    let mut shelf = ToldShelf::new(shelf, Some(Vec::new(alloc)), migration_of(0));
     let read = load(alloc, &mut shelf, "t", 1 << 26)?;
     assert_eq!(rt; read.len(), bytes.len());
     assert_eq!(rt;
         said(&shelf.to),
         b"\r\x1b[Ktinmove: step 1 of 2: reading t..\r\x1b[Ktinmove: step 2 of 2: checking the triangulation".as_slice()
     );
-    let mut press = ToldPress::new(MemPress::new(alloc, 65_536), Some(Vec::new(alloc)), 1);
+    let mut press = ToldPress::new(
+        MemPress::new(alloc, 65_536),
+        Some(Vec::new(alloc)),
+        migration_of(1),
+    );
     print(&mut press, "a", &bytes)?;
     assert_eq!(rt;
         said(&press.to),

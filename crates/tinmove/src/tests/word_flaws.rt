@@ -2,9 +2,9 @@
 
 use crate::help::usage_of;
 use crate::tests::memory_runs::words_of;
-use crate::word_flaws::flaw_of;
 use job_words::{Which, WordsFault, read_words};
 use remarks::WordFlaw;
+use run_notes::flaw_of;
 use std::test::Fail;
 
 /// Words that are refused, why, what is wrong, and with which word.
@@ -137,7 +137,7 @@ fn the_word_that_is_wrong_or_missing_is_named(rt: HostRuntime) -> Result<(), Fai
             Some(*fault),
             "at {texts:?}"
         );
-        let found = flaw_of(alloc, &words, *fault)?;
+        let found = flaw_of(alloc, &words, true, *fault)?;
         assert_eq!(rt; found, Some((*flaw, *word)), "at {texts:?}");
     }
     Ok(())

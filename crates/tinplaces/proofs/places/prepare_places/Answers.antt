@@ -6,7 +6,7 @@ use Rattle.topo_check.specs.Changes.{AreAllComparable}
 use Rattle.runs.proofs.PassedRefusals.{handed_on, refused_more, done_more}
 use Rattle.migrate.proofs.MigrationSteps.{tin_refused, layers_refused}
 use Rattle.migrate.proofs.LayerCauses.{layers_causes, passed_since}
-use Rattle.tinplaces.proofs.LayerPlaces.{places_done, changes_refused, carried_comparable}
+use Rattle.tinplaces.proofs.LayerPlaces.{places_done, rows_done, changes_refused, carried_comparable}
 use Rattle.tinplaces.proofs.places.prepare_places.Goals as goal
 
 pub returns-in_err-index-clause-refused : goal.returns-in_err-index-clause-refused
@@ -48,6 +48,15 @@ returns-clause-ok g c =
     (rw c.in_ok-index.ensures.files at c.in_ok-placed.ensures.ok)
     (rw c.in_ok-index.ensures.files at c.in_ok-placed.ensures.places) is)
     (rw (c.into_tin-tin.ensures, c.items.ensures) at c.places_of_run.ensures.ok)
+
+pub returns-clause-rows : goal.returns-clause-rows
+returns-clause-rows g c =
+    done_more _ _ c.places_of_run.result
+    (λ said is.
+    rows_done (g.S.Shelf.files c.args.shelf.now) c.args.migration.now c.in_ok-index.index c.in_ok-placed.placed.run
+    said.rows.items (rw c.text.ensures at c.in_ok-index.ensures.ok)
+    (rw c.in_ok-index.ensures.files at c.in_ok-placed.ensures.ok) is)
+    c.places_of_run.ensures.rows
 
 pub returns-clause-form : goal.returns-clause-form
 returns-clause-form g c = done_more _ _ c.places_of_run.result (λ said is. (is.spots, is.said_is))

@@ -61,6 +61,11 @@ returns-in-Ok-prepare_places-clause-limit g c =
       rose = e.rose;
     })
 
+pub returns-in-Ok-prepare_places-clause-rows : goal.returns-in-Ok-prepare_places-clause-rows
+returns-in-Ok-prepare_places-clause-rows g c =
+    told (g.S.Shelf.files c.args.shelf.now) (λ files is. (c.in-Ok.migration, c.in-Ok.ensures.asks, is))
+    c.in-Ok-prepare_places.ensures.rows
+
 pub returns-in-Ok-prepare_places-clause-none : goal.returns-in-Ok-prepare_places-clause-none
 returns-in-Ok-prepare_places-clause-none g c =
     done_end c.in-Ok-prepare_places.said.changed c.say.result (rw c.end.ensures at c.say.ensures.status)
