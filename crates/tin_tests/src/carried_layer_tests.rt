@@ -135,18 +135,18 @@ fn refuses_a_layer_without_room(rt: HostRuntime) {
     assert_eq!(rt; (is_whole, is_refused, pieces.len()), (true, true, 2));
 }
 
-/// What refuses these bytes, and how many pieces there are then.
-fn refused(alloc: Global, bytes: &[u8]) -> Option<(CarryFault, usize)> {
+/// What refuses a layer of one byte, and how many pieces there are then.
+fn refused(alloc: Global) -> Option<(CarryFault, usize)> {
     let index = square(alloc)?;
     let mut pieces = Vec::new(alloc);
-    let fault = carry_layer::<Diagonal>(alloc, &index, bytes, how(), 0, 2, &mut pieces).err()?;
+    let fault = carry_layer::<Diagonal>(alloc, &index, b"k", how(), 0, 2, &mut pieces).err()?;
     Some((fault, pieces.len()))
 }
 
 /// Fewer bytes than two are refused by the format, and no piece is appended.
 #[test]
 fn refuses_a_layer(rt: HostRuntime) {
-    let refused = refused(rt.alloc(), b"k");
+    let refused = refused(rt.alloc());
     assert_eq!(rt;
         refused,
         Some((CarryFault::Layer(LayerFault::Bad { at: 0 }), 0))
