@@ -49,17 +49,17 @@ echo "grid_bench: $uses cell_grid anyhow" >> "$work/crates.txt"
 # The tests of the grid say which boxes they take. The same functions and proofs serve here.
 tests=$top/crates/tin_tests
 ours() {
-    sed -e 's/tin_tests\.proofs\.grid_tests/grid_bench.proofs.boxes/; s/tin_tests/grid_bench/g' "$1"
+    sed -e 's/tin_tests\.proofs\.cell_grid_tests/grid_bench.proofs.boxes/; s/tin_tests/grid_bench/g' "$1"
 }
 ours "$tests/specs/SmallBoxes.antt" > "$crate/specs/SmallBoxes.antt"
 echo 'pub mod SmallBoxes' > "$crate/specs/Lib.antt"
 for name in is_small are_small; do
     mkdir "$crate/proofs/boxes/$name"
-    for file in "$tests/proofs/grid_tests/$name"/*.antt; do
+    for file in "$tests/proofs/cell_grid_tests/$name"/*.antt; do
         ours "$file" > "$crate/proofs/boxes/$name/$(basename "$file")"
     done
 done
-ours "$tests/src/grid_tests.rt" | sed -e '/^fn near(/,$d' -e '/std::test::Fail/d' -e 's/^fn /pub fn /' > "$crate/src/boxes.rt"
+ours "$tests/src/cell_grid_tests.rt" | sed -e '/^fn near(/,$d' -e '/std::test::Fail/d' -e 's/^fn /pub fn /' > "$crate/src/boxes.rt"
 sed "s/@BOXES@/$boxes/" > "$crate/src/main.rt" <<'END'
 //! Measures the grid over boxes in several layouts.
 #![tactic(auto)]

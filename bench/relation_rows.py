@@ -1,5 +1,6 @@
 #!/usr/bin/env python3
-"""Prints the rows of meet_rel's tests: how two segments are related, and two pieces of segments in triangles.
+"""Prints the rows of the tests of meet_rel, which are in tin_tests: how two segments are related, and two pieces of
+segments in triangles.
 
 It works in rational numbers and from the definition alone. The common points of two segments are a convex set, so its extreme points
 are ends of the segments or the point where their lines meet: each of these is tried for being on both, and the ones that are counted.
@@ -132,15 +133,15 @@ def drawn(seed, count):
 
 if __name__ == "__main__":
     named, random_rows = NAMED, drawn(7, 32)
-    print("const NAMED: [([i16; 8], Rel); %d] = [" % len(named))
+    print("const NAMED: &[Row] = &[")
     for numbers in named:
         row(numbers)
     print("];\n")
-    print("const DRAWN: [([i16; 8], Rel); %d] = [" % len(random_rows))
+    print("const DRAWN: &[Row] = &[")
     for numbers in random_rows:
         row(numbers)
     print("];\n")
-    print("const PIECES: [([i16; 4], [i16; 6], [i16; 4], [i16; 6], Rel); %d] = [" % len(PIECES))
+    print("const PIECES: &[Row] = &[")
     for numbers in PIECES:
         piece_row(numbers)
     print("];")

@@ -6,14 +6,14 @@ top=$(cd "$(dirname "$0")/.." && pwd)
 work=$(mktemp -d)
 trap 'rm -rf "$work"' EXIT
 mkdir -p "$work/crates/relations_bench/src" "$work/crates/relations_bench/proofs/related"
-for name in integer_ring frac128 plane_base tin_base meet_rel; do
+for name in integer_ring plain_laws frac128 plane_base tin_base meet_rel; do
     cp -r "$top/crates/$name" "$work/crates/$name"
 done
 cat > "$work/crates/relations_bench/src/main.rt" <<'END'
 //! Finds the relation of ten million random pairs of segments of each kind, and prints the nanoseconds of one.
 #![tactic(auto)]
 
-ghost use Rattle.meet_rel.specs.Small.{IsSmall};
+ghost use Rattle.relations_bench.specs.Small.{IsSmall};
 
 use meet_rel::rel;
 use plane_base::Pt;
@@ -84,13 +84,42 @@ fn main(rt: HostRuntime) -> anyhow::Result<()> {
     Ok(())
 }
 END
-sed -e 's/meet_rel\.proofs\.tests\.met/relations_bench.proofs.related/' \
-    "$top/crates/meet_rel/proofs/tests/met/Answers.antt" > "$work/crates/relations_bench/proofs/related/Answers.antt"
 mkdir -p "$work/crates/relations_bench/specs"
-touch "$work/crates/relations_bench/proofs/Lib.antt" "$work/crates/relations_bench/specs/Lib.antt"
+cat > "$work/crates/relations_bench/specs/Small.antt" <<'END'
+-- Points near the origin.
+use Rattle.std.specs.Prelude.{◌≤◌, unsigned_abs}
+use Rattle.plane_base.specs.declared.shapes.Pt.{Pt}
+
+-- both numbers are small
+pub record IsSmall (p : Pt) : Type 0 where
+  pub x : unsigned_abs p.x ≤ 32768
+  pub y : unsigned_abs p.y ≤ 32768
+END
+cat > "$work/crates/relations_bench/proofs/related/Answers.antt" <<'END'
+-- Answers to the goals of `related` in src/main.rt.
+use Rattle.plane_base.specs.Plane.{IsNear}
+use Rattle.plane_base.specs.declared.shapes.Pt.{Pt}
+use Rattle.plane_base.proofs.NearPoints.{near_small}
+use Rattle.relations_bench.specs.Small.{IsSmall}
+use Rattle.relations_bench.proofs.related.Goals as goal
+
+near : (p q : Pt) → IsSmall p → IsSmall q → IsNear p q
+near p q h k = near_small p q h.x h.y k.x k.y
+
+pub rel-requires : goal.rel-requires
+rel-requires c =
+    let p = c.at.result in let q = c.at-2.result in let r = c.at-3.result in let s = c.at-4.result in
+    let hp = c.at.ensures in let hq = c.at-2.ensures in let hr = c.at-3.ensures in let hs = c.at-4.ensures in (
+      (near p q hp hq, near p r hp hr, near q r hq hr),
+      (near p q hp hq, near p s hp hs, near q s hq hs),
+      near r s hr hs,
+    )
+END
+echo '-- The files of lemmas: none.' > "$work/crates/relations_bench/proofs/Lib.antt"
+printf '%s\n' '-- The file of definitions.' 'pub mod Small' > "$work/crates/relations_bench/specs/Lib.antt"
 {
-    grep -E '^(integer_ring|frac128|plane_base|tin_base|meet_rel):' "$top/crates.txt"
-    echo 'relations_bench: integer_ring frac128 plane_base tin_base meet_rel anyhow'
+    grep -E '^(integer_ring|plain_laws|frac128|plane_base|tin_base|meet_rel):' "$top/crates.txt"
+    echo 'relations_bench: integer_ring plain_laws frac128 plane_base tin_base meet_rel anyhow'
 } > "$work/crates.txt"
 cd "$work/crates/relations_bench"
 rt run

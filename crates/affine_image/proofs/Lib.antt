@@ -1,31 +1,31 @@
 -- The files of lemmas of affine_image.
-pub mod HalfUp
-pub mod Sizes
+mod HalfUp
+mod Sizes
 pub mod Near
-pub mod Imaging
-pub mod Cutting
+mod WeightedImages
+mod CornerSegments
 pub mod Reach
-pub mod Rounding
-pub mod Moving
-pub mod Joining
-pub mod Told
-pub mod Fitting
+mod RoundedImages
+pub mod PlaceImages
+pub mod PartSequences
+pub mod PieceParts
+pub mod SheetImages
 pub mod PairedHeights
 pub mod SomeImages
-pub mod Bearing
+pub mod SinglePieces
 pub mod OneCut
-pub mod Segmenting
-pub mod SegmentImages
-pub mod Crossing
-pub mod Leaving
+pub mod PathSegments
+mod SegmentImages
+mod SideCrossings
+mod StepEnds
 pub mod PathVertices
 pub mod SheetPaths
 pub mod Runs
 pub mod PlaneRuns
 pub mod SpotHeights
-pub mod RunHeights
+mod RunHeights
 pub mod OneHeight
 pub mod RunReach
 pub mod OneSheet
-pub mod Counting
+pub mod SegmentCounts
 mod HeightLemmas

@@ -13,9 +13,9 @@ use Rattle.tin_base.proofs.Ends.{IsSpot, no_later_trans, not_both, no_later, bef
 use Rattle.affine_image.specs.Rounded.{IsRoundedImageAt}
 use Rattle.affine_image.specs.SheetImages.{AreEndsOfAllButLast}
 use Rattle.tin_base.proofs.Spots.{spot-w, same_of_spots}
-use Rattle.affine_image.proofs.Joining.{same_or}
-use Rattle.affine_image.proofs.Moving.{rounded_moved}
-use Rattle.affine_image.proofs.Rounding.{rounded_images_agree}
+use Rattle.affine_image.proofs.PartSequences.{same_or}
+use Rattle.affine_image.proofs.PlaceImages.{rounded_moved}
+use Rattle.affine_image.proofs.RoundedImages.{rounded_images_agree}
 use Rattle.plain_laws.proofs.Order.{trichotomy, equal_of_neither}
 use Rattle.tin_base.proofs.Ends.{up_to_same}
 

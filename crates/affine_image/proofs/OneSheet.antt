@@ -10,7 +10,7 @@ use Rattle.tin_base.specs.Soundness.{IsSound}
 use Rattle.tin_base.proofs.Spots.{one}
 use Rattle.affine_image.specs.SheetSegments.{Segment, PathVertex, sheet_vertices}
 use Rattle.affine_image.specs.SheetImages.{AreCrossings, IsRun, AreRuns, joined, begins_from, AreImagesOf}
-use Rattle.affine_image.proofs.Rounding.{rounded_images_agree}
+use Rattle.affine_image.proofs.RoundedImages.{rounded_images_agree}
 use Rattle.affine_image.proofs.OneCut.{cut_alike, ends_one}
 use Rattle.affine_image.proofs.OneHeight.{crossings_one}
 

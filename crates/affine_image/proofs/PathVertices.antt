@@ -14,7 +14,7 @@ use Rattle.sheet_base.specs.PointHeights.{Height}
 use Rattle.sheet_base.specs.Segments.{points_in, segments_of, segments_in, point_at, begin_of, end_of}
 use Rattle.sheet_base.specs.Sheets.{IsPathFrom}
 use Rattle.affine_image.specs.SheetSegments.{Segment, PathVertex, segment_at, vertex_at, path_vertices, segments_begun}
-use Rattle.affine_image.proofs.Segmenting.{begun_append}
+use Rattle.affine_image.proofs.PathSegments.{begun_append}
 
 -- ---- how many segments
 pub record AreFew (segments points : ℕ) : Type 0 where

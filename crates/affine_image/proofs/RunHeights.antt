@@ -31,7 +31,8 @@ pub vertex_height : (points : List Pt) (heights : List Height) (n : ℕ) (rows :
     → (get_or (vertices_from points heights n rows) k d).height ≡ height_in heights (k + first)
 vertex_height points heights n [] first past k d tiled h = absurd (omega (arith, tiled, h))
 vertex_height points heights n (row ∷ rows) first past k d tiled h =
-    by (cases_lt k (points_in row)) (λ m below. vertex_height points heights (n + 1) rows row.past past m d tiled.1 below)
+    by (cases_lt k (points_in row)) (λ m below. vertex_height points heights (n + 1) rows row.past past m d tiled.1
+    below)
   where
     front : List PathVertex
     front = path_vertices points heights n row

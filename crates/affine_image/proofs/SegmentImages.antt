@@ -20,12 +20,12 @@ use Rattle.tin_base.specs.Carried.{IsCarried}
 use Rattle.tin_base.specs.Segments.{Spot, spot_at, at_a, IsBefore, IsNotAfter, IsInside, IsPart, Part, part_at}
 use Rattle.tin_base.specs.Segments.{ArePieces, ArePiecesAt}
 use Rattle.tin_base.proofs.Agreement.{each_has_image}
-use Rattle.tin_base.proofs.Carrying.{images_between, each_between}
+use Rattle.tin_base.proofs.SegmentImages.{images_between, each_between}
 use Rattle.tin_base.proofs.Chain.{covered}
 use Rattle.tin_base.proofs.Spots.{one, spot-w, spot_of_point}
 use Rattle.affine_image.specs.SegmentImages.{IsImageOfSome, IsOnImageOf, PieceImagesAreTheImage}
-use Rattle.affine_image.proofs.Joining.{same_or}
-use Rattle.affine_image.proofs.Moving.{image_moved}
+use Rattle.affine_image.proofs.PartSequences.{same_or}
+use Rattle.affine_image.proofs.PlaceImages.{image_moved}
 
 -- ---- a spot between two others is a mix of them
 -- k of f and l of g are as s, on one axis; k + s2·g1 = s1·g2 and l + s1·f2 = s2·f1

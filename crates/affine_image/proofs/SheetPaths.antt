@@ -9,7 +9,7 @@ use Rattle.sheet_base.specs.PointHeights.{Height}
 use Rattle.sheet_base.specs.declared.paths.PathKind.TheVariants.{Dot}
 use Rattle.sheet_base.specs.Sheets.{Contents, IsPathFrom, AreTiled, IsSheet}
 use Rattle.affine_image.specs.SheetSegments.{Segment, PathVertex, path_vertices, vertices_from, segments_begun}
-use Rattle.affine_image.proofs.Segmenting.{begun_append}
+use Rattle.affine_image.proofs.PathSegments.{begun_append}
 
 -- ---- the paths of a sheet
 upto : (rows : List PathRow) (first past : ℕ) → AreTiled rows first past → first + length rows ≤ past

@@ -31,10 +31,10 @@ use Rattle.affine_image.specs.SheetLaws.{ImagesExist}
 use Rattle.affine_image.specs.SpotHeights.{crossing_heights}
 use Rattle.affine_image.proofs.SpotHeights.{crossing_count}
 use Rattle.affine_image.proofs.PairedHeights.{crossings_paired, ends_count}
-use Rattle.affine_image.proofs.Joining.{same_or}
+use Rattle.affine_image.proofs.PartSequences.{same_or}
 use Rattle.affine_image.proofs.PathVertices.{AreFew, few, next_begins}
-use Rattle.affine_image.proofs.Segmenting.{begun_append, split_inside}
-use Rattle.affine_image.proofs.Told.{end_images, inner_ends}
+use Rattle.affine_image.proofs.PathSegments.{begun_append, split_inside}
+use Rattle.affine_image.proofs.PieceParts.{end_images, inner_ends}
 
 -- ---- images
 two_some : (m n : ℕ) → 0 < m + n → 0 < sum (m ∷ n ∷ [])

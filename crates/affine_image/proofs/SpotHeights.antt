@@ -18,7 +18,7 @@ use Rattle.tin_base.specs.Segments.{Spot, Part, part_at, IsInside, ArePieces, Ar
 use Rattle.tin_base.specs.Segments.{ArePiecesOf}
 use Rattle.tin_base.proofs.Chain.{chain}
 use Rattle.affine_image.specs.SpotHeights.{mixed_height, weighed_height, spot_height, crossing_heights}
-use Rattle.affine_image.proofs.Joining.{same_or}
+use Rattle.affine_image.proofs.PartSequences.{same_or}
 
 -- ---- a spot between the ends
 same_points : (p q : Pt) → is_same p q ≡ true → p ≡ q

@@ -2,12 +2,12 @@
 pub mod Rounded
 pub mod Cuts
 pub mod Laws
-pub mod Weights
 pub mod SheetSegments
 pub mod SheetPieces
 pub mod SheetImages
 pub mod SheetLaws
 pub mod SegmentImages
-pub mod Sides
 pub mod Heights
 pub mod SpotHeights
+pub mod InsideWeights
+pub mod InsideSides

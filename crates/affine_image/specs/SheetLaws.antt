@@ -36,8 +36,8 @@ abbrev pub SheetPiecesArePieces : Type 0
 SheetPiecesArePieces = (tin : Triangulation) (layer : ℕ) (sheet : Contents) (pieces : List Piece)
     → ArePiecesOfSheet tin layer sheet pieces → All (IsImagedPiece tin) pieces
 
--- Of each sound triangulation: where all segments of a sheet are inside, whose paths follow each other without a gap, it
--- has images
+-- Of each sound triangulation: where all segments of a sheet are inside, whose paths follow each other without a gap,
+-- it has images
 abbrev pub ImagesExist : Type 0
 ImagesExist = (tin : Triangulation) → IsSound tin → (sheet : Contents) → AreTiled sheet.paths 0 (length sheet.points)
     → IsSheetInside tin sheet → (images : Runs) × AreImagesOf tin sheet images

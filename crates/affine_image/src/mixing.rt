@@ -6,7 +6,7 @@ ghost use Rattle.frac128.specs.Sizes.{IsSmall};
 ghost use Rattle.frac128.specs.declared.frac.TheConstants.{TURN};
 ghost use Rattle.plane_base.specs.Plane.{IsShort, IsNearAll};
 ghost use Rattle.plane_base.specs.declared.shapes.TheConstants.{SPAN};
-ghost use Rattle.affine_image.specs.Weights.{numerator};
+ghost use Rattle.affine_image.specs.InsideWeights.{numerator};
 
 use crate::quotients::round_half_up;
 use crate::weights::Weights;
@@ -22,6 +22,15 @@ fn part(weight: i128, way: i64) -> i128
     weight * i128::from(way)
 }
 
+// The mix of two ways, rounded.
+fn mixed_ways(w: Weights, to_second: i64, to_third: i64) -> i128
+    requires second { IsShort to_second }
+    requires third { IsShort to_third }
+    ensures { result ≡ half_up_of (w.second *ℤ to_second +ℤ w.third *ℤ to_third) w.whole }
+{
+    round_half_up(part(w.second, to_second) + part(w.third, to_third), w.whole)
+}
+
 // How far a mix is from the first corner on one axis, by the ways from it to the others.
 fn offset(w: Weights, to_second: i64, to_third: i64) -> i64
     requires second { IsShort to_second }
@@ -30,7 +39,7 @@ fn offset(w: Weights, to_second: i64, to_third: i64) -> i64
     ensures low { (least : ℤ) → least ≤ℤ pos 0 → least ≤ℤ to_second → least ≤ℤ to_third → least ≤ℤ result }
     ensures high { (most : ℤ) → pos 0 ≤ℤ most → to_second ≤ℤ most → to_third ≤ℤ most → result ≤ℤ most }
 {
-    round_half_up(part(w.second, to_second) + part(w.third, to_third), w.whole) as i64
+    mixed_ways(w, to_second, to_third) as i64
 }
 
 // The mix of three numbers, rounded.

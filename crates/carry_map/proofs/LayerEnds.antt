@@ -18,13 +18,13 @@ use Rattle.tin_base.specs.Segments.{Part}
 use Rattle.affine_image.specs.SheetSegments.{Segment, PathVertex, segments_begun, sheet_vertices, sheet_segments}
 use Rattle.affine_image.specs.SheetPieces.{first_place, ArePiecesOfAll}
 use Rattle.affine_image.specs.SheetImages.{AreEndsOfAllButLast, joined, AreImagesOf}
-use Rattle.affine_image.proofs.Fitting.{images_fit, run_many}
+use Rattle.affine_image.proofs.SheetImages.{images_fit, run_many}
 use Rattle.affine_image.proofs.OneCut.{cut_alike, alike_length}
 use Rattle.affine_image.proofs.PlaneRuns.{ArePlaneCrossings, ArePlaneRuns, plane, plane_runs, plane_joined}
-use Rattle.affine_image.proofs.Told.{told_length}
+use Rattle.affine_image.proofs.PieceParts.{told_length}
 use Rattle.carry_map.specs.Outcomes.{HasCarried, HasFirstFault}
 use Rattle.carry_map.specs.LayerEnds.{HasLayer, LacksLayer, LayerEndExists}
-use Rattle.carry_map.proofs.Backing.{own_segments}
+use Rattle.carry_map.proofs.ImageSegments.{own_segments}
 use Rattle.carry_map.proofs.Outcomes.{outcome}
 
 -- ---- how many images there are

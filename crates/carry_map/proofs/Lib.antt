@@ -1,10 +1,10 @@
 -- The files of lemmas of carry_map.
-pub mod Telling
-pub mod StepHeights
-pub mod Gathering
-pub mod Stopping
-pub mod Pathing
-pub mod Sheeting
-pub mod Backing
-pub mod Outcomes
-pub mod LayerEnds
+mod StepPieces
+mod StepHeights
+mod VertexLists
+mod LayerStops
+mod PathSteps
+mod SheetSteps
+mod ImageSegments
+mod Outcomes
+mod LayerEnds

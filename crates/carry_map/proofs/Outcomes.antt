@@ -11,11 +11,11 @@ use Rattle.tin_base.proofs.Outcomes as walks
 use Rattle.affine_image.specs.SheetSegments.{Segment, sheet_segments}
 use Rattle.affine_image.specs.SheetPieces.{AreTold, first_place, ArePiecesOfSegment}
 use Rattle.affine_image.proofs.SomeImages.{some_parts, told_parts, images_exist}
-use Rattle.affine_image.proofs.Told.{told_length}
+use Rattle.affine_image.proofs.PieceParts.{told_length}
 use Rattle.carry_map.specs.declared.faults.CarryFault.TheVariants.{Outside, TooMany}
 use Rattle.carry_map.specs.Causes.{HaveRoom, IsFirstOutside, IsFirstTooMany}
 use Rattle.carry_map.specs.Outcomes.{HasCarried, HasFirstFault, OutcomeExists}
-use Rattle.carry_map.proofs.Stopping.{cause_between}
+use Rattle.carry_map.proofs.LayerStops.{cause_between}
 
 -- ---- the pieces of all
 abbrev HaveOutcome : Triangulation → ℕ → ℕ → ℕ → List Segment → Type 0

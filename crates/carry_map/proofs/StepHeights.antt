@@ -15,12 +15,12 @@ use Rattle.tin_base.specs.Segments.{Part, part_at, IsInside, ArePiecesAt, ArePie
 use Rattle.tin_base.specs.Slices.{spot_of}
 use Rattle.tin_base.proofs.SlicedParts.{params}
 use Rattle.affine_image.specs.SpotHeights.{param_height, crossing_heights}
-use Rattle.affine_image.proofs.Joining.{same_or}
+use Rattle.affine_image.proofs.PartSequences.{same_or}
 use Rattle.affine_image.proofs.OneCut.{cut_alike}
 use Rattle.affine_image.proofs.OneHeight.{crossings_one}
 use Rattle.affine_image.proofs.SpotHeights.{IsInner, inner_height, cut_inner}
-use Rattle.carry_map.specs.StepHeights.{HaveParams}
-use Rattle.carry_map.proofs.Telling.{IsStepAt, step_told}
+use Rattle.carry_map.specs.InsideStepHeights.{HaveParams}
+use Rattle.carry_map.proofs.StepPieces.{IsStepAt, step_told}
 
 -- ---- the parameters of steps
 pub param_at : (steps : List Step) (i : ℕ) (step : Step) → HaveParams steps → i < length steps → IsStepAt steps i step

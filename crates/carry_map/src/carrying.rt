@@ -76,8 +76,8 @@ fn sheet_known(sheet: &Sheet)
     let _ = sheet.paths();
 }
 
-/// Carries a layer: the images of its sheet with their heights, and its pieces, which are appended in order. `layer` is its number, and
-/// with its pieces there are to be at most `most`. Each segment must be inside: all its points in source triangles.
+/// Carries a layer: the images of its sheet with their heights, and its pieces, which are appended in order. `layer` is
+/// its number, and with its pieces there are to be at most `most`. Each segment must be inside: all its points in source triangles.
 /// At the first segment that is not, or whose pieces find no room, the answer is `Outside` or `TooMany`; a segment that
 /// is outside is `Outside`. The paths with the images in place of their points have as segments, in order, those
 /// between the images of the ends of the appended pieces. After a refusal the pieces are as before.

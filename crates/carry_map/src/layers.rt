@@ -6,7 +6,9 @@ ghost use Rattle.sheet_base.specs.declared.faults.LayerFault.TheVariants.{NoMemo
 ghost use Rattle.sheet_base.specs.Splices.{AreInOrder};
 ghost use Rattle.affine_image.specs.SheetSegments.{sheet_segments};
 ghost use Rattle.carry_map.specs.declared.limits.TheConstants.{MOST_PIECES};
+ghost use Rattle.carry_map.specs.Causes.{IsFirstOutside, IsFirstTooMany};
 ghost use Rattle.carry_map.specs.Layers.{IsLayerCarried, IsLayerOutside, IsLayerTooMany, IsBackAsPieces};
+ghost use Rattle.carry_map.specs.InsideWrittenSheets.{IsSheetWritten};
 
 use crate::{CarryFault, carry};
 use affine_image::segment_total;
@@ -51,6 +53,64 @@ fn read_sheet<L: Layer>(alloc: Global, bytes: &[u8], how: How) -> Result<Sheet, 
     }
 }
 
+/// Carries the sheet of a layer, and gives the layer's bytes with the images in place of its points. After a refusal
+/// the pieces are as before.
+fn carry_sheet<L: Layer>(
+    alloc: Global,
+    index: &TinIndex,
+    bytes: &[u8],
+    how: How,
+    sheet: &Sheet,
+    layer: u32,
+    most: u32,
+    pieces: &mut Vec<Piece>,
+) -> Result<Vec<u8>, CarryFault>
+    requires small { length bytes.now ≤ 2 ^ 26 }
+    requires sheet { L.reads how bytes.now sheet.now }
+    requires room { vec_len pieces.old ≤ most }
+    requires most { most ≤ MOST_PIECES }
+    ensures written { IfOk result (λ text. IsSheetWritten index.now bytes.now (L.text bytes.now how) layer sheet.now
+        pieces.old.items pieces.new.items text.items) }
+    ensures room { OnOk result (vec_len pieces.new ≤ most) }
+    ensures back { IfOk result (λ text. IsBackAsPieces index.now bytes.now (L.reads how) (L.reads_back how bytes.now)
+        text.items (drop (vec_len pieces.old) pieces.new.items)) }
+    ensures no_layer { (fault : LayerFault) → ¬ IsErrOf result (CarryFault.Layer fault) }
+    ensures outside { (path segment : ℕ) → IsErrOf result (CarryFault.Outside path segment)
+        → IsFirstOutside index.now layer (vec_len pieces.old) most (sheet_segments sheet.now) path segment }
+    ensures too_many { IsErrOf result CarryFault.TooMany
+        → IsFirstTooMany index.now layer (vec_len pieces.old) most (sheet_segments sheet.now) }
+    ensures unchanged { OnErr result (pieces.new.items ≡ pieces.old.items) }
+{
+    let before = pieces.len();
+    let images = carry(alloc, index, sheet, layer, most, pieces)?;
+    match L::render(alloc, bytes, how, sheet, &images) {
+        Ok(text) => Ok(text),
+        Err(AllocError) => {
+            pieces.truncate(before);
+            Err(CarryFault::NoMemory)
+        }
+    }
+}
+
+/// What is said of a layer that was carried to this text and so many pieces.
+fn carried_of(sheet: &Sheet, text: Vec<u8>, pieces: u32) -> Carried
+    ensures text { result.text ≡ text.items }
+    ensures paths { result.paths ≡ length sheet.now.paths }
+    ensures segments { result.segments ≡ length (sheet_segments sheet.now) }
+    ensures pieces { result.pieces ≡ pieces }
+    ensures inexact { result.inexact ≡ sheet.now.inexact }
+    ensures dropped { result.dropped ≡ sheet.now.dropped }
+{
+    Carried {
+        text: Listed::of(text),
+        paths: path_count(sheet),
+        segments: segment_total(sheet),
+        pieces,
+        inexact: sheet.inexact(),
+        dropped: sheet.dropped(),
+    }
+}
+
 /// Reads a layer, carries it and writes its bytes with the images in place of its points. Its pieces are appended in
 /// order; `layer` is its number, and with its pieces there are to be at most `most`. A layer that the format refuses is
 /// `Layer`, with its first fault; else each segment must be inside, and the pieces must find room, as `carry` asks.
@@ -86,19 +146,6 @@ pub fn carry_layer<L: Layer>(
 {
     let sheet = read_sheet::<L>(alloc, bytes, how)?;
     let before = pieces.len();
-    let images = carry(alloc, index, &sheet, layer, most, pieces)?;
-    match L::render(alloc, bytes, how, &sheet, &images) {
-        Ok(text) => Ok(Carried {
-            text: Listed::of(text),
-            paths: path_count(&sheet),
-            segments: segment_total(&sheet),
-            pieces: (pieces.len() - before) as u32,
-            inexact: sheet.inexact(),
-            dropped: sheet.dropped(),
-        }),
-        Err(AllocError) => {
-            pieces.truncate(before);
-            Err(CarryFault::NoMemory)
-        }
-    }
+    let text = carry_sheet::<L>(alloc, index, bytes, how, &sheet, layer, most, pieces)?;
+    Ok(carried_of(&sheet, text, (pieces.len() - before) as u32))
 }

@@ -1,6 +1,7 @@
 //! One call carries a segment: it cuts it, and appends its pieces and the images of its crossings.
 
-ghost use Rattle.std.specs.Prelude.{◌≡◌, ◌↔◌, ◌+◌, ◌<◌, ◌≤◌, ◌^◌, ◌++◌, IsTrue, map, length, vec_len, IfOk, IfErr, OnOk};
+ghost use Rattle.std.specs.Prelude.{◌≡◌, ◌↔◌, ◌+◌, ◌<◌, ◌≤◌, ◌^◌, ◌++◌, IsTrue, map, length, vec_len, IfOk, IfErr};
+ghost use Rattle.std.specs.Prelude.{OnOk};
 ghost use Rattle.seg_walk.specs.Steps.{AreSteps};
 ghost use Rattle.tin_base.specs.Limits.{IsWithinLimits};
 ghost use Rattle.tin_base.specs.Segments.{IsInside, spot_at};
@@ -10,7 +11,7 @@ ghost use Rattle.affine_image.specs.Rounded.{IsRoundedImage, IsRoundedImageAt};
 ghost use Rattle.carry_map.specs.declared.limits.TheConstants.{MOST_PIECES};
 ghost use Rattle.carry_map.specs.Carried.{Grows, AreSegmentTold, IsSegmentTold, IsSegmentCarried};
 ghost use Rattle.affine_image.specs.SpotHeights.{param_height};
-ghost use Rattle.carry_map.specs.StepHeights.{HaveParams};
+ghost use Rattle.carry_map.specs.InsideStepHeights.{HaveParams};
 ghost use Rattle.sheet_base.specs.PointHeights.{IsHeightWithinReach};
 ghost use Rattle.carry_map.specs.Causes.{IsCutCause, IsWayCause};
 

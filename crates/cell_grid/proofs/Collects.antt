@@ -7,8 +7,8 @@ use Rattle.plane_base.specs.declared.shapes.Rect.{Rect}
 use Rattle.cell_grid.specs.Sizes.{longer_side}
 use Rattle.cell_grid.specs.Stripes.{IsPastCorner}
 use Rattle.cell_grid.specs.Cells.{IsPlaceOf}
-use Rattle.cell_grid.specs.Blocks.{IsBlockOf, place_at, index_of}
-use Rattle.cell_grid.specs.Entries.{ArePlacesOf, DoesKeep}
+use Rattle.cell_grid.specs.InsideBlocks.{IsBlockOf, place_at, index_of}
+use Rattle.cell_grid.specs.InsideEntries.{ArePlacesOf, DoesKeep}
 use Rattle.cell_grid.specs.declared.levels.Level.{Level}
 use Rattle.cell_grid.specs.declared.blocks.Block.{Block}
 use Rattle.cell_grid.proofs.Indices.{few, index_within, place_there}

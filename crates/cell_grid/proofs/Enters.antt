@@ -19,7 +19,7 @@ use Rattle.cell_grid.specs.Boxes.{box_at}
 use Rattle.cell_grid.specs.Sizes.{level_of}
 use Rattle.cell_grid.specs.Cells.{cell_of, IsPlaceOf, IsOnLevel}
 use Rattle.cell_grid.specs.LevelLists.{AreLaid}
-use Rattle.cell_grid.specs.Entries.{entered, ArePlacesOf, AreEntered}
+use Rattle.cell_grid.specs.InsideEntries.{entered, ArePlacesOf, AreEntered}
 use Rattle.cell_grid.specs.declared.levels.Level.{Level}
 use Rattle.plain_laws.proofs.Lists.{increasing_push}
 

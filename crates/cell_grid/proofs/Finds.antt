@@ -5,7 +5,7 @@ use Rattle.std.proofs.lemmas.List.{get_or_default}
 use Rattle.std.proofs.lemmas.List.Elements.{Contains-push, Contains-push_cases, Contains-append_left}
 use Rattle.plane_base.specs.declared.shapes.Rect.{Rect}
 use Rattle.cell_grid.specs.Boxes.{IsNear}
-use Rattle.cell_grid.specs.Searches.{DoesFind}
+use Rattle.cell_grid.specs.InsideSearches.{DoesFind}
 
 pub find_more : (boxes : List Rect) (r : Rect) (L M N : ℕ → Type 0) (xs ys zs : List ℕ) → DoesFind boxes r L xs ys
     → DoesFind boxes r M ys zs

@@ -8,7 +8,7 @@ use Rattle.plane_base.specs.Boxes.{HasPoint}
 use Rattle.cell_grid.specs.Sizes.{longer_side}
 use Rattle.cell_grid.specs.Stripes.{IsPastCorner}
 use Rattle.cell_grid.specs.Cells.{column_of, row_of, cell_of}
-use Rattle.cell_grid.specs.Blocks.{IsBlockOf, place_at, index_of}
+use Rattle.cell_grid.specs.InsideBlocks.{IsBlockOf, place_at, index_of}
 use Rattle.cell_grid.specs.declared.levels.Level.{Level}
 use Rattle.cell_grid.specs.declared.blocks.Block.{Block}
 use Rattle.cell_grid.proofs.Stripes.{stripe_up, stripe_next}

@@ -2,7 +2,7 @@
 use Rattle.std.proofs.Common.{ℕ, List, [], ◌∷◌, ◌++◌, Contains, inl, arith}
 use Rattle.std.proofs.lemmas.List.{length_push}
 use Rattle.std.proofs.lemmas.List.Elements.{Contains-push, Contains-push_cases, Contains-append_left}
-use Rattle.cell_grid.specs.Entries.{DoesKeep}
+use Rattle.cell_grid.specs.InsideEntries.{DoesKeep}
 use Rattle.cell_grid.proofs.Tells.{distinct_push}
 
 pub keeps_new : (place : ℕ) (xs : List ℕ) → (Contains xs place → ⊥) → DoesKeep place xs (xs ++ place ∷ [])

@@ -1,17 +1,17 @@
 -- The files of lemmas of cell_grid.
-pub mod Finds
-pub mod Spans
-pub mod Stripes
-pub mod Indices
-pub mod Sizes
-pub mod Places
-pub mod Placed
-pub mod Found
-pub mod Tells
-pub mod Windows
-pub mod Enters
-pub mod Keeps
-pub mod Collects
-pub mod Entered
-pub mod Kept
-pub mod UsedLevels
+mod Finds
+mod Spans
+mod Stripes
+mod Indices
+mod Sizes
+mod Places
+mod OffsetBoxes
+mod LevelFinds
+mod Tells
+mod Windows
+mod Enters
+mod Keeps
+mod Collects
+mod LevelEntries
+mod LevelFields
+mod UsedLevels

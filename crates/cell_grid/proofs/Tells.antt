@@ -19,10 +19,11 @@ use Rattle.cell_grid.specs.Boxes.{AreOrdered, box_at, no_box}
 use Rattle.cell_grid.specs.Sizes.{level_of}
 use Rattle.cell_grid.specs.Stripes.{IsPast}
 use Rattle.cell_grid.specs.Cells.{numbers_at, cell_of, IsLevelOf, IsPlaceOf}
-use Rattle.cell_grid.specs.Blocks.{place_at}
+use Rattle.cell_grid.specs.InsideBlocks.{place_at}
 use Rattle.cell_grid.specs.Partners.{ArePartners}
-use Rattle.cell_grid.specs.LevelPartners.{DoesTell, IsAsked, least, index_with, IsTellable, IsToldBefore, IsToldFrom}
-use Rattle.cell_grid.specs.LevelPartners.{IsPartnerOn, IsPartnerOnFirst}
+use Rattle.cell_grid.specs.InsideLevelPartners.{DoesTell, IsAsked, least, index_with, IsTellable, IsToldBefore}
+use Rattle.cell_grid.specs.InsideLevelPartners.{IsToldFrom}
+use Rattle.cell_grid.specs.InsideLevelPartners.{IsPartnerOn, IsPartnerOnFirst}
 use Rattle.cell_grid.specs.declared.level_partners.Asked.{Asked}
 use Rattle.cell_grid.proofs.Finds.{index_of_member}
 use Rattle.plane_base.proofs.BoxLemmas.{meeting}

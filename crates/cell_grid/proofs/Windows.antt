@@ -10,15 +10,15 @@ use Rattle.plane_base.specs.Boxes.{IsOrdered, ShareAPoint}
 use Rattle.plane_base.proofs.BoxLemmas.{shared, meeting}
 use Rattle.cell_grid.specs.Stripes.{IsPastCorner}
 use Rattle.cell_grid.specs.Cells.{column_of, row_of}
-use Rattle.cell_grid.specs.Offsets.{rect_of}
-use Rattle.cell_grid.specs.LevelPartners.{IsAsked, IsTold, least}
-use Rattle.cell_grid.specs.Windows.{IsBetween, AreBoundsOf, IsWindow}
+use Rattle.cell_grid.specs.InsideOffsets.{rect_of}
+use Rattle.cell_grid.specs.InsideLevelPartners.{IsAsked, IsTold, least}
+use Rattle.cell_grid.specs.InsideWindows.{IsBetween, AreBoundsOf, IsWindow}
 use Rattle.cell_grid.specs.declared.level_partners.Asked.{Asked}
 use Rattle.cell_grid.specs.declared.level_partners.Bounds.{Bounds}
 use Rattle.cell_grid.specs.declared.level_partners.Window.{Window}
 use Rattle.cell_grid.specs.declared.offsets.Offsets.{Offsets}
 use Rattle.cell_grid.proofs.Indices.{point_in, index_parts}
-use Rattle.cell_grid.proofs.Placed.{stripe_at, least_column, least_row}
+use Rattle.cell_grid.proofs.OffsetBoxes.{stripe_at, least_column, least_row}
 use Rattle.cell_grid.proofs.Tells.{least_has}
 
 -- ---- the numbers of a stripe

@@ -25,7 +25,7 @@ pub(crate) struct Block {
 }
 
 impl Block {
-    ghost use Rattle.cell_grid.specs.Blocks.{IsBlockOf, place_at};
+    ghost use Rattle.cell_grid.specs.InsideBlocks.{IsBlockOf, place_at};
     ghost use Rattle.cell_grid.specs.Stripes.{IsPastCorner};
 
     /// The cells that the box meets.

@@ -2,7 +2,7 @@
 ghost use Rattle.std.specs.Prelude.{◌≡◌, ◌<◌, ◌^◌, pos, ◌+ℤ◌, ◌<ℤ◌, length, IfOk};
 ghost use Rattle.cell_grid.specs.Boxes.{AreOrdered, box_at};
 ghost use Rattle.cell_grid.specs.Around.{IsAround, corner_of};
-ghost use Rattle.cell_grid.specs.Offsets.{rect_of};
+ghost use Rattle.cell_grid.specs.InsideOffsets.{rect_of};
 
 use crate::offsets::Offsets;
 use plane_base::Rect;
@@ -18,11 +18,11 @@ pub(crate) struct BoxList {
 }
 
 impl Model for BoxList {
-    ghost use Rattle.cell_grid.specs.Offsets.{PlacedBoxes};
+    ghost use Rattle.cell_grid.specs.InsideOffsets.{PlacedBoxes};
 
     ghost Value = { PlacedBoxes };
 
-    ghost use Rattle.cell_grid.specs.KeptOffsets.{seen, IsKept};
+    ghost use Rattle.cell_grid.specs.InsideOffsetLists.{seen, IsKept};
 
     ghost view = { seen };
 

@@ -6,7 +6,7 @@ ghost use Rattle.cell_grid.specs.Sizes.{longer_side, AreOfLevels};
 ghost use Rattle.cell_grid.specs.Stripes.{IsPastCorner};
 ghost use Rattle.cell_grid.specs.Cells.{IsLevelOf, DoAscend, HasNumbersBelow};
 ghost use Rattle.cell_grid.specs.LevelLists.{AreLaid};
-ghost use Rattle.cell_grid.specs.Entries.{ArePlacesOf, AreEntered, entered, DoesKeep};
+ghost use Rattle.cell_grid.specs.InsideEntries.{ArePlacesOf, AreEntered, entered, DoesKeep};
 
 use crate::blocks::Block;
 use crate::level_lists::place_count;

@@ -6,7 +6,7 @@ ghost use Rattle.plane_base.specs.Boxes.{IsOrdered};
 ghost use Rattle.cell_grid.specs.Boxes.{AreOrdered, AreWithinSpan, IsNearList, IsHolder, box_at};
 ghost use Rattle.cell_grid.specs.Sizes.{level_of};
 ghost use Rattle.cell_grid.specs.Partners.{ArePartners};
-ghost use Rattle.cell_grid.specs.LevelPartners.{DoesTell, IsPartnerOn};
+ghost use Rattle.cell_grid.specs.InsideLevelPartners.{DoesTell, IsPartnerOn};
 
 use crate::box_lists::BoxList;
 use crate::entries::cells_of;

@@ -8,10 +8,10 @@ ghost use Rattle.cell_grid.specs.Boxes.{box_at};
 ghost use Rattle.cell_grid.specs.Sizes.{level_of};
 ghost use Rattle.cell_grid.specs.Stripes.{IsPastCorner};
 ghost use Rattle.cell_grid.specs.Around.{corner_of};
-ghost use Rattle.cell_grid.specs.Offsets.{rect_of};
+ghost use Rattle.cell_grid.specs.InsideOffsets.{rect_of};
 ghost use Rattle.cell_grid.specs.Cells.{IsLevelOf, DoAscend};
-ghost use Rattle.cell_grid.specs.Windows.{IsBetween, AreBoundsOf, IsWindow};
-ghost use Rattle.cell_grid.specs.LevelPartners.{DoesTell, IsAsked, IsTold, IsTellable, IsToldFrom, IsPartnerOn};
+ghost use Rattle.cell_grid.specs.InsideWindows.{IsBetween, AreBoundsOf, IsWindow};
+ghost use Rattle.cell_grid.specs.InsideLevelPartners.{DoesTell, IsAsked, IsTold, IsTellable, IsToldFrom, IsPartnerOn};
 
 use crate::blocks::{Block, Cell};
 use crate::box_lists::BoxList;

@@ -2,7 +2,7 @@
 ghost use Rattle.std.specs.Prelude.{◌≡◌};
 ghost use Rattle.cell_grid.specs.Stripes.{IsPast, IsPastCorner};
 ghost use Rattle.cell_grid.specs.Around.{corner_of};
-ghost use Rattle.cell_grid.specs.Offsets.{rect_of, IsOffset};
+ghost use Rattle.cell_grid.specs.InsideOffsets.{rect_of, IsOffset};
 
 use plane_base::Rect;
 

@@ -5,8 +5,8 @@ ghost use Rattle.plane_base.specs.Boxes.{IsOrdered};
 ghost use Rattle.cell_grid.specs.Boxes.{AreOrdered};
 ghost use Rattle.cell_grid.specs.Stripes.{IsPastCorner};
 ghost use Rattle.cell_grid.specs.Cells.{HasPlacesOf, HasNumbersBelow};
-ghost use Rattle.cell_grid.specs.Blocks.{place_at};
-ghost use Rattle.cell_grid.specs.Searches.{DoesFind, StandsIn, StandsBefore};
+ghost use Rattle.cell_grid.specs.InsideBlocks.{place_at};
+ghost use Rattle.cell_grid.specs.InsideSearches.{DoesFind, StandsIn, StandsBefore};
 
 use crate::blocks::Block;
 use crate::box_lists::BoxList;

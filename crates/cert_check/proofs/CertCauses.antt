@@ -1,6 +1,6 @@
 -- A layer that is certified, and why one is not.
-use Rattle.std.proofs.Common.{◌≡◌, ℕ, List, [], ◌∷◌, Result, Ok, Err, sym, ◌∙◌, subst}
-use Rattle.std.specs.Prelude.{OnOk, IfErr}
+use Rattle.std.proofs.Common.{◌≡◌, ℕ, List, [], ◌∷◌, Result, Ok, Err, sym}
+use Rattle.std.specs.Prelude.{OnOk, length}
 use Rattle.sheet_base.specs.declared.edits.Edit.{Edit}
 use Rattle.sheet_base.specs.declared.faults.LayerFault.{LayerFault}
 use Rattle.sheet_base.specs.Sheets.{Contents}
@@ -12,12 +12,12 @@ use Rattle.affine_image.specs.SheetSegments.{Segment, sheet_segments}
 use Rattle.affine_image.specs.SheetPieces.{AreInside}
 use Rattle.affine_image.specs.SheetImages.{AreImagesOf}
 use Rattle.cert_check.specs.RightLists.{AreRightLists}
-use Rattle.cert_check.specs.Checks.{IsFirstDifference, IsMigrated, IsCertified, IsCertCause}
+use Rattle.cert_check.specs.Checks.{IsMigrated, IsCertified, IsCertCause}
 use Rattle.cert_check.specs.declared.faults.CertFault.{CertFault}
 use Rattle.cert_check.specs.declared.faults.CertFault.TheVariants.{Layer, Form, Count, Segment as WrongSegment, Differs}
 use Rattle.cert_check.specs.declared.faults.CertFault.TheVariants.{NoMemory}
-use Rattle.cert_check.specs.SheetLists.{HasRightLists, IsImageCause}
-use Rattle.cert_check.proofs.Following.{right_inside}
+use Rattle.cert_check.specs.InsideSheetLists.{HasRightLists, IsImageCause, IsSourceCause, IsCountCause, IsTextCause}
+use Rattle.cert_check.proofs.ListPoints.{right_inside}
 
 -- the segments of right lists are inside
 pub all_inside : (tin : Triangulation) (segments : List Segment) (lists : List (List ℕ)) → IsSound tin
@@ -43,54 +43,85 @@ image_cert tin source written reads refuses text cert sheet (WrongSegment p n) r
     (lists, certificate, counted, first) =
     record { sheet = sheet; read = read; lists = lists; certificate = certificate; counted = counted; first = first }
 
--- the text for the images, and the written bytes
-pub same_text : (tin : Triangulation) (source written items out : List ℕ) (reads : Contents → Type 0)
-    (text : Contents → Runs → Edit → List ℕ) (cert : List ℕ) (sheet : Contents) (images : Runs)
-    (answer : Result (Unit {0}) CertFault)
-    → IsSound tin → reads sheet → HasRightLists tin (sheet_segments sheet) cert → AreImagesOf tin sheet images
-    → items ≡ spliced source (text sheet images) sheet.edits → out ≡ items → OnOk answer (out ≡ written)
-    → OnOk answer (IsMigrated tin source written reads text)
-same_text tin source written items out reads text cert sheet images (Ok v) sound read right are is e same =
+-- a source that is not read
+pub source_cert : (tin : Triangulation) (source written : List ℕ) (reads : Contents → Type 0)
+    (refuses : LayerFault → Type 0) (text : Contents → Runs → Edit → List ℕ) (cert : List ℕ) (fault : CertFault)
+    → IsSourceCause refuses fault → IsCertCause tin source written reads refuses text cert fault
+source_cert tin source written reads refuses text cert (Layer f) cause = cause
+source_cert tin source written reads refuses text cert (Form f) cause = absurd cause
+source_cert tin source written reads refuses text cert (Count f h) cause = absurd cause
+source_cert tin source written reads refuses text cert (WrongSegment p n) cause = absurd cause
+source_cert tin source written reads refuses text cert (Differs f) cause = absurd cause
+source_cert tin source written reads refuses text cert NoMemory cause = tt
+
+-- a certificate with another number of lists
+pub count_cert : (tin : Triangulation) (source written : List ℕ) (reads : Contents → Type 0)
+    (refuses : LayerFault → Type 0) (text : Contents → Runs → Edit → List ℕ) (cert : List ℕ) (sheet : Contents)
+    (fault : CertFault)
+    → reads sheet → IsCountCause (length (sheet_segments sheet)) cert fault
+    → IsCertCause tin source written reads refuses text cert fault
+count_cert tin source written reads refuses text cert sheet (Layer f) read cause = absurd cause
+count_cert tin source written reads refuses text cert sheet (Form f) read cause = (sheet, read, cause)
+count_cert tin source written reads refuses text cert sheet (Count f h) read
+    (segments, (lists, lines, certificate), differ) =
     record {
       sheet = sheet;
       read = read;
-      inside = all_inside tin (sheet_segments sheet) right.0 sound right.2;
-      images =
-          images;
-      are_images = are;
-      written_is = sym same ∙ e ∙ is;
+      segments_are = segments;
+      lists = lists;
+      certificate = certificate;
+      lines_are = lines;
+      differ = differ;
     }
-same_text tin source written items out reads text cert sheet images (Err f) sound read right are is e same = tt
+count_cert tin source written reads refuses text cert sheet (WrongSegment p n) read cause = absurd cause
+count_cert tin source written reads refuses text cert sheet (Differs f) read cause = absurd cause
+count_cert tin source written reads refuses text cert sheet NoMemory read cause = tt
 
-pub certified_text : (tin : Triangulation) (source written items out : List ℕ) (reads : Contents → Type 0)
+-- what is certified was migrated
+pub migrated_of : (tin : Triangulation) (source written : List ℕ) (reads : Contents → Type 0)
+    (text : Contents → Runs → Edit → List ℕ) (cert : List ℕ) (answer : Result (Unit {0}) CertFault)
+    → OnOk answer (IsCertified tin source written reads text cert)
+    → OnOk answer (IsMigrated tin source written reads text)
+migrated_of tin source written reads text cert (Ok v) h = h.migrated
+migrated_of tin source written reads text cert (Err f) h = tt
+
+-- the text for the images, and the written bytes
+pub certified_text : (tin : Triangulation) (source written : List ℕ) (reads : Contents → Type 0)
     (text : Contents → Runs → Edit → List ℕ) (cert : List ℕ) (sheet : Contents) (images : Runs)
     (answer : Result (Unit {0}) CertFault)
     → IsSound tin → reads sheet → HasRightLists tin (sheet_segments sheet) cert → AreImagesOf tin sheet images
-    → items ≡ spliced source (text sheet images) sheet.edits → out ≡ items → OnOk answer (out ≡ written)
+    → OnOk answer (spliced source (text sheet images) sheet.edits ≡ written)
     → OnOk answer (IsCertified tin source written reads text cert)
-unfolding same_text
-certified_text tin source written items out reads text cert sheet images (Ok v) sound read right are is e same =
+certified_text tin source written reads text cert sheet images (Ok v) sound read right are same =
     record {
-      migrated = same_text tin source written items out reads text cert sheet images (Ok v) sound read right are is e
-          same;
+      migrated = record {
+        sheet = sheet;
+        read = read;
+        inside = all_inside tin (sheet_segments sheet) right.0 sound right.2;
+        images = images;
+        are_images = are;
+        written_is = sym same;
+      };
       lists = right.0;
       certificate = right.1;
       are_right = right.2;
     }
-certified_text tin source written items out reads text cert sheet images (Err f) sound read right are is e same = tt
+certified_text tin source written reads text cert sheet images (Err f) sound read right are same = tt
 
-pub other_text : (tin : Triangulation) (source written items out : List ℕ) (reads : Contents → Type 0)
+pub other_text : (tin : Triangulation) (source written : List ℕ) (reads : Contents → Type 0)
     (refuses : LayerFault → Type 0) (text : Contents → Runs → Edit → List ℕ) (cert : List ℕ) (sheet : Contents)
-    (images : Runs) (answer : Result (Unit {0}) CertFault)
+    (images : Runs) (fault : CertFault)
     → reads sheet → HasRightLists tin (sheet_segments sheet) cert → AreImagesOf tin sheet images
-    → items ≡ spliced source (text sheet images) sheet.edits → out ≡ items
-    → IfErr answer (λ fault. (at : ℕ) × (fault ≡ Differs at) × IsFirstDifference out written at)
-    → IfErr answer (λ fault. IsCertCause tin source written reads refuses text cert fault)
-other_text tin source written items out reads refuses text cert sheet images (Ok v) read right are is e differs = tt
-other_text tin source written items out reads refuses text cert sheet images (Err f) read right are is e
-    (at, fault, first) =
-    subst (λ (g : CertFault). IsCertCause tin source written reads refuses text cert g) (sym fault)
-    (record {
+    → IsTextCause (spliced source (text sheet images) sheet.edits) written fault
+    → IsCertCause tin source written reads refuses text cert fault
+other_text tin source written reads refuses text cert sheet images (Layer f) read right are cause = absurd cause
+other_text tin source written reads refuses text cert sheet images (Form f) read right are cause = absurd cause
+other_text tin source written reads refuses text cert sheet images (Count f h) read right are cause = absurd cause
+other_text tin source written reads refuses text cert sheet images (WrongSegment p n) read right are cause =
+    absurd cause
+other_text tin source written reads refuses text cert sheet images NoMemory read right are cause = tt
+other_text tin source written reads refuses text cert sheet images (Differs place) read right are first =
+    record {
       sheet = sheet;
       read = read;
       lists = right.0;
@@ -98,5 +129,5 @@ other_text tin source written items out reads refuses text cert sheet images (Er
       are_right = right.2;
       images = images;
       are_images = are;
-      first = subst (λ (xs : List ℕ). IsFirstDifference xs written at) (e ∙ is) first;
-    })
+      first = first;
+    }

@@ -16,7 +16,7 @@ use Rattle.plain_laws.proofs.Digits.{digit_texts}
 use Rattle.cert_check.specs.Certificates.{separator}
 use Rattle.text_places.specs.Digits.{Stops}
 use Rattle.text_places.proofs.DigitFronts.{front_stops, digits_end}
-use Rattle.cert_check.specs.Numbers.{HasLeadingZero, IsNumber, IsEnded}
+use Rattle.cert_check.specs.InsideNumbers.{HasLeadingZero, IsNumber, IsEnded}
 
 wide : (n : ℕ) → n < 2 ^ 32 → n < 2 ^ 64
 wide n h = omega arith

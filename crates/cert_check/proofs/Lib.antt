@@ -1,19 +1,19 @@
 -- The files of lemmas of cert_check.
-pub mod Digits
-pub mod LineLaws
-pub mod PieceLines
-pub mod Stretches
-pub mod Following
-pub mod Passing
-pub mod PieceRows
-pub mod RunLaws
-pub mod LineNumbers
-pub mod PathLists
-pub mod SheetLaws
-pub mod TextLaws
-pub mod CertCauses
-pub mod Accepting
-pub mod FewNumbers
+mod Digits
+mod LineLaws
+mod PieceLines
+mod Stretches
+mod ListPoints
+mod ListPasses
+mod PieceRows
+mod RunLaws
+mod LineNumbers
+mod PathLists
+mod SheetLaws
+mod TextLaws
+mod CertCauses
+mod SheetCertificates
+mod FewNumbers
 mod OneEnd
 mod SomeCertificate
 mod SomeEnd

@@ -8,7 +8,7 @@ use Rattle.std.proofs.lemmas.Grind.{flat_map-append}
 use Rattle.plain_laws.proofs.Lists.{all_append}
 use Rattle.cert_check.specs.Certificates.{head_text, separator, line_text, lines_text, IsList, IsCertificate}
 use Rattle.cert_check.specs.Lines.{IsLine, BeginsWithLine, HasNoLine, AreLines, IsBadBehind, IsBadLine, HasCount}
-use Rattle.cert_check.specs.Numbers.{IsEnded}
+use Rattle.cert_check.specs.InsideNumbers.{IsEnded}
 use Rattle.cert_check.proofs.Digits.{IsOneEnd, one_end}
 
 -- what is behind a number: nothing more of the line, or the line that the other numbers make

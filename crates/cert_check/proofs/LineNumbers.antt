@@ -8,8 +8,8 @@ use Rattle.std.proofs.lemmas.List.{length-append}
 use Rattle.std.proofs.lemmas.Fmt.{decimal_nonempty}
 use Rattle.cert_check.specs.Certificates.{line_text, lines_text, IsList}
 use Rattle.cert_check.specs.Lines.{IsLine, BeginsWithLine}
-use Rattle.cert_check.specs.Numbers.{IsEnded}
-use Rattle.cert_check.specs.SheetLists.{HasLines}
+use Rattle.cert_check.specs.InsideNumbers.{IsEnded}
+use Rattle.cert_check.specs.InsideSheetLists.{HasLines}
 use Rattle.cert_check.proofs.LineLaws.{IsOnLine, on_start, on_more, not_nothing, one_line}
 
 -- ---- a number before a line, and a line of one number

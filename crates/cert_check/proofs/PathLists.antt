@@ -20,7 +20,7 @@ use Rattle.affine_image.proofs.PathVertices.{few, first_vertices, one_vertex_mor
 use Rattle.affine_image.proofs.PathVertices.{split_at}
 use Rattle.affine_image.proofs.PlaneRuns.{items_on}
 use Rattle.affine_image.proofs.Runs.{runs_more, begins_more}
-use Rattle.affine_image.proofs.Segmenting.{begun_append}
+use Rattle.affine_image.proofs.PathSegments.{begun_append}
 use Rattle.cert_check.specs.Certificates.{line_text, lines_text, IsList}
 use Rattle.cert_check.specs.Lines.{IsLine, BeginsWithLine}
 use Rattle.cert_check.specs.RightLists.{IsRightList, AreRightLists}
@@ -29,8 +29,9 @@ use Rattle.cert_check.specs.declared.faults.CertFault.TheVariants.{Layer, Form, 
 use Rattle.cert_check.specs.declared.faults.CertFault.TheVariants.{NoMemory}
 use Rattle.cert_check.specs.declared.ways.Way.{Way}
 use Rattle.cert_check.specs.declared.ways.Track.{Track}
-use Rattle.cert_check.specs.SheetLists.{HasLines, IsRunBehind, AreImaged, IsStoppedAt, IsSegmentImaged, HasWrongLine}
-use Rattle.cert_check.specs.SheetLists.{IsWayCause, IsStopCause, IsTriangleWith}
+use Rattle.cert_check.specs.InsideSheetLists.{HasLines, IsRunBehind, AreImaged, IsStoppedAt, IsSegmentImaged}
+use Rattle.cert_check.specs.InsideSheetLists.{HasWrongLine}
+use Rattle.cert_check.specs.InsideSheetLists.{IsWayCause, IsStopCause, IsTriangleWith}
 use Rattle.cert_check.proofs.LineNumbers.{still_lines}
 
 -- ---- right lists
@@ -215,7 +216,8 @@ path_next tin points heights track x x' y u u' v r r' s a a' b j triangle triang
           ++ cons_option s [])) (begins_one points heights track.path track.row j h)
           ∙ length-append (segments_begun (first_vertices points heights track.path track.row j))
           (segment_at points heights track.path track.row j ∷ []) ∙ ap (λ (n : ℕ). n + 1) state.listed;
-      last = λ _ further. subst (λ (p : Pt). IsTriangleWith tin triangle' p) (is.b ∙ next_begins points track.row j further)
+      last = λ _ further. subst (λ (p : Pt). IsTriangleWith tin triangle' p)
+          (is.b ∙ next_begins points track.row j further)
           last;
       count = (let c = state.count in omega (arith, c, count));
     }

@@ -15,12 +15,12 @@ use Rattle.sheet_base.specs.Sheets.{Contents}
 use Rattle.affine_image.specs.SheetSegments.{Segment, sheet_segments}
 use Rattle.affine_image.specs.SheetPieces.{AreTold, ArePiecesOfSegment, ArePiecesOfAll, ArePiecesOfSheet, AreInside}
 use Rattle.affine_image.specs.SheetPieces.{IsSheetInside, next_place, first_place}
-use Rattle.affine_image.proofs.Joining.{same_or}
+use Rattle.affine_image.proofs.PartSequences.{same_or}
 use Rattle.cert_check.specs.Certificates.{IsList}
 use Rattle.cert_check.specs.Laws.{IsRightlyCertified}
 use Rattle.cert_check.specs.PieceLists.{ends_segment, onto_first, lists_of}
 use Rattle.cert_check.specs.RightLists.{AreFollowing, IsOneWith, IsRightList, AreRightLists}
-use Rattle.cert_check.proofs.Following.{pieces_right}
+use Rattle.cert_check.proofs.ListPoints.{pieces_right}
 
 -- the pieces are numbered on from this number
 AreNumbered : ℕ → List Piece → Type 0

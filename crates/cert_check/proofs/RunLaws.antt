@@ -25,15 +25,16 @@ use Rattle.tin_base.proofs.Spots.{spot-w, spot_first, spot_last}
 use Rattle.affine_image.specs.Rounded.{IsRoundedImage, IsRoundedImageAt}
 use Rattle.affine_image.specs.SheetImages.{AreEndsOfAllButLast}
 use Rattle.affine_image.specs.SpotHeights.{mixed_height, param_height, crossing_heights}
-use Rattle.affine_image.proofs.Joining.{same_or, same_of_spots}
-use Rattle.affine_image.proofs.Moving.{rounded_moved}
+use Rattle.affine_image.proofs.PartSequences.{same_or, same_of_spots}
+use Rattle.affine_image.proofs.PlaceImages.{rounded_moved}
 use Rattle.affine_image.proofs.OneHeight.{mixed_one}
 use Rattle.affine_image.proofs.SpotHeights.{IsInner, inner_height, cut_inner}
 use Rattle.cert_check.specs.RightLists.{AreFollowing, IsOneWith, IsRightList}
-use Rattle.cert_check.specs.SheetLists.{HasPart, IsEndImage, IsEndHeight, IsEndPosition, AreEndPositions, IsEndBehind}
-use Rattle.cert_check.specs.SheetLists.{IsRunBehind, IsTriangleWith}
-use Rattle.cert_check.proofs.Following.{IsRow, row_rest, row_of, right_inside}
-use Rattle.cert_check.proofs.Passing.{same_trans}
+use Rattle.cert_check.specs.InsideSheetLists.{HasPart, IsEndImage, IsEndHeight, IsEndPosition, AreEndPositions}
+use Rattle.cert_check.specs.InsideSheetLists.{IsEndBehind}
+use Rattle.cert_check.specs.InsideSheetLists.{IsRunBehind, IsTriangleWith}
+use Rattle.cert_check.proofs.ListPoints.{IsRow, row_rest, row_of, right_inside}
+use Rattle.cert_check.proofs.ListPasses.{same_trans}
 
 -- ---- the last spot of a slice is that of the part
 same_end : (tin : Triangulation) (a b : Pt) (t : ℕ) (slice : Stretch) (f l : Spot) → IsWithinLimits tin

@@ -9,7 +9,7 @@ use Rattle.sheet_base.specs.Segments.{segments_in}
 use Rattle.sheet_base.specs.Sheets.{IsPathFrom}
 use Rattle.tin_base.specs.Triangulation.{Triangulation}
 use Rattle.affine_image.specs.SheetSegments.{Segment, PathVertex, path_vertices, vertices_from, segments_begun}
-use Rattle.affine_image.proofs.Counting.{begun_in}
+use Rattle.affine_image.proofs.SegmentCounts.{begun_in}
 use Rattle.affine_image.proofs.SheetPaths.{IsRowAt, one_path_more, split_paths}
 use Rattle.cert_check.specs.Certificates.{head_text, line_text, lines_text}
 use Rattle.cert_check.specs.Lines.{HasCount}
@@ -18,7 +18,8 @@ use Rattle.cert_check.specs.Checks.{IsFirstNotRight}
 use Rattle.cert_check.specs.declared.faults.CertFault.{CertFault}
 use Rattle.cert_check.specs.declared.faults.CertFault.TheVariants.{Layer, Form, Count, Segment as WrongSegment, Differs}
 use Rattle.cert_check.specs.declared.faults.CertFault.TheVariants.{NoMemory}
-use Rattle.cert_check.specs.SheetLists.{HasLines, AreImaged, IsStoppedAt, IsStopCause, IsImageCause, HasRightLists}
+use Rattle.cert_check.specs.InsideSheetLists.{HasLines, AreImaged, IsStoppedAt, IsStopCause, IsImageCause}
+use Rattle.cert_check.specs.InsideSheetLists.{HasRightLists}
 use Rattle.cert_check.proofs.LineNumbers.{LinesLeft, lines_left, still_enough}
 use Rattle.cert_check.proofs.PathLists.{imaged_none, imaged_on, imaged_each, lists_more, texts_more, right_more}
 use Rattle.cert_check.proofs.PathLists.{right_length}

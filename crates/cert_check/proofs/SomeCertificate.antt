@@ -12,7 +12,7 @@ use Rattle.std.proofs.lemmas.Fmt.{decimal_is_IsNumeral, decimal-digits_value}
 use Rattle.plain_laws.proofs.Digits.{digit_texts}
 use Rattle.cert_check.specs.Certificates.{head_text, separator}
 use Rattle.cert_check.specs.Lines.{BeginsWithLine, HasNoLine, AreLines, IsBadBehind}
-use Rattle.cert_check.specs.Numbers.{IsNumber, IsEnded}
+use Rattle.cert_check.specs.InsideNumbers.{IsNumber, IsEnded}
 use Rattle.cert_check.specs.Laws.{TextOutcomeExists}
 use Rattle.text_places.proofs.DigitFronts.{are_front_digits}
 use Rattle.cert_check.proofs.Digits.{no_leading_zero, no_front, number_front, not_ended}

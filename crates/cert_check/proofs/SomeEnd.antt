@@ -18,7 +18,7 @@ use Rattle.tin_base.proofs.Ends.{IsSpot, same_of}
 use Rattle.tin_base.proofs.Outcomes.{BeginsAt, begins_or, has_or}
 use Rattle.affine_image.specs.SheetSegments.{Segment, sheet_segments}
 use Rattle.affine_image.specs.SheetImages.{AreImagesOf}
-use Rattle.affine_image.proofs.Joining.{same_or}
+use Rattle.affine_image.proofs.PartSequences.{same_or}
 use Rattle.affine_image.proofs.SomeImages.{images_exist}
 use Rattle.cert_check.specs.declared.faults.CertFault.{CertFault}
 use Rattle.cert_check.specs.declared.faults.CertFault.TheVariants.{Layer, Form, Count, Segment as WrongSegment, Differs}
@@ -28,7 +28,7 @@ use Rattle.cert_check.specs.RightLists.{AreFollowing, IsOneWith, IsRightList, Ar
 use Rattle.cert_check.specs.Checks.{IsFirstNotRight, IsFirstDifference}
 use Rattle.cert_check.specs.Laws.{IsCertEnd, TextOutcomeExists, CertificateEndExists}
 use Rattle.cert_check.proofs.CertCauses.{all_inside}
-use Rattle.cert_check.proofs.Passing.{following_moved}
+use Rattle.cert_check.proofs.ListPasses.{following_moved}
 use Rattle.cert_check.proofs.TextLaws.{AgreeTo, agree_start, agree_more, differ_at, differ_end, agree_all}
 
 -- ---- whether a list is right

@@ -13,10 +13,10 @@ use Rattle.tin_base.specs.Triangulation.{Triangulation, numbers_of, places}
 use Rattle.tin_base.specs.Limits.{IsWithinLimits}
 use Rattle.tin_base.specs.Segments.{Spot, spot_at, IsInside, IsShared}
 use Rattle.tin_base.specs.Slices.{spot_of, IsSliceIn, AreNearTriangle}
-use Rattle.tin_base.proofs.Slicing.{in_spot}
+use Rattle.tin_base.proofs.SegmentSlices.{in_spot}
 use Rattle.tin_base.proofs.Params.{same_spot}
 use Rattle.tin_base.proofs.SlicedParts.{part_told, params}
-use Rattle.cert_check.specs.Slices.{IsPartAt}
+use Rattle.cert_check.specs.InsideSlices.{IsPartAt}
 
 -- ---- a triangle without a common point shares no spot
 pub not_shared : (tin : Triangulation) (a b : Pt) (t : ℕ) (r : Tri) → corners r ≡ places tin Source (numbers_of tin t)

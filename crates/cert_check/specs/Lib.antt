@@ -3,8 +3,8 @@ pub mod Certificates
 pub mod Lines
 pub mod RightLists
 pub mod Checks
-pub mod SheetLists
 pub mod Laws
-pub mod Numbers
 pub mod PieceLists
-pub mod Slices
+pub mod InsideSheetLists
+pub mod InsideNumbers
+pub mod InsideSlices

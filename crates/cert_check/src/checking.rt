@@ -3,11 +3,13 @@
 ghost use Rattle.std.specs.Prelude.{◌≡◌, ℕ, ◌≤◌, ◌<◌, ◌^◌, [], length, vec_len, IfSome, IfNone, IfOk, IfErr, OnOk};
 ghost use Rattle.sheet_base.specs.Fitting.{DoFit};
 ghost use Rattle.sheet_base.specs.Sheets.{IsSheet};
+ghost use Rattle.sheet_base.specs.Splices.{spliced};
 ghost use Rattle.affine_image.specs.SheetSegments.{sheet_vertices, sheet_segments};
 ghost use Rattle.affine_image.specs.SheetImages.{AreImagesOf};
 ghost use Rattle.cert_check.specs.Checks.{IsFirstDifference, IsMigrated, IsCertified, IsCertCause};
 ghost use Rattle.cert_check.specs.Lines.{HasCount};
-ghost use Rattle.cert_check.specs.SheetLists.{HasLines, HasRightLists, AreImaged, IsStopCause, IsImageCause};
+ghost use Rattle.cert_check.specs.InsideSheetLists.{HasLines, HasRightLists, AreImaged, IsStopCause, IsImageCause};
+ghost use Rattle.cert_check.specs.InsideSheetLists.{IsSourceCause, IsCountCause, IsTextCause};
 
 use crate::CertFault;
 use crate::lines::{behind_head, list_count};
@@ -101,12 +103,83 @@ fn first_difference(text: &[u8], other: &[u8]) -> Option<u64>
 /// Whether the written bytes are the text.
 fn compare(text: &[u8], written: &[u8]) -> Result<(), CertFault>
     ensures same { OnOk result (text.now ≡ written.now) }
-    ensures differs { IfErr result (λ fault. (at : ℕ) × (fault ≡ CertFault.Differs at) × IsFirstDifference text.now written.now at) }
+    ensures cause { IfErr result (λ fault. IsTextCause text.now written.now fault) }
 {
     match first_difference(text, written) {
         Some(at) => Err(CertFault::Differs { at }),
         None => Ok(()),
     }
+}
+
+/// The sheet of the source layer.
+fn read_source<L: Layer>(alloc: Global, source: &[u8], how: How) -> Result<Sheet, CertFault>
+    requires { length source.now ≤ 2 ^ 26 }
+    ensures sheet { IfOk result (λ sheet. L.reads how source.now sheet) }
+    ensures cause { IfErr result (λ fault. IsSourceCause (L.refuses how source.now) fault) }
+{
+    match L::read(alloc, source, how) {
+        Ok(sheet) => Ok(sheet),
+        Err(LayerFault::NoMemory) => Err(CertFault::NoMemory),
+        Err(fault) => Err(CertFault::Layer(fault)),
+    }
+}
+
+/// Whether the certificate has a line for each segment of the sheet.
+fn count_lists(sheet: &Sheet, cert: &[u8]) -> Result<(), CertFault>
+    requires { length cert.now < 2 ^ 32 }
+    ensures counted { OnOk result (HasCount cert.now (length (sheet_segments sheet.now))) }
+    ensures cause { IfErr result (λ fault. IsCountCause (length (sheet_segments sheet.now)) cert.now fault) }
+{
+    let lines = match list_count(cert) {
+        Ok(lines) => lines,
+        Err(line) => return Err(CertFault::Form { line }),
+    };
+    let segments = segment_total(sheet);
+    if segments != lines {
+        return Err(CertFault::Count { segments, lines });
+    }
+    Ok(())
+}
+
+/// Whether the written layer is the source with the images in place of the sheet's points.
+fn compare_layer<L: Layer>(
+    alloc: Global,
+    source: &[u8],
+    how: How,
+    sheet: &Sheet,
+    images: &Images,
+    written: &[u8],
+) -> Result<(), CertFault>
+    requires small { length source.now ≤ 2 ^ 26 }
+    requires sheet { L.reads how source.now sheet.now }
+    requires fits { DoFit sheet.now images.now }
+    ensures same { OnOk result (spliced source.now (L.text source.now how sheet.now images.now) sheet.now.edits ≡ written.now) }
+    ensures cause { IfErr result (λ fault. IsTextCause (spliced source.now (L.text source.now how sheet.now images.now) sheet.now.edits) written.now fault) }
+{
+    let text = L::render(alloc, source, how, sheet, images)?;
+    compare(&text, written)
+}
+
+/// Whether a sheet's layer was migrated as its certificate says, in the order of the refusals.
+fn check_sheet<L: Layer>(
+    alloc: Global,
+    tin: &SoundTin,
+    source: &[u8],
+    written: &[u8],
+    how: How,
+    sheet: &Sheet,
+    cert: &[u8],
+) -> Result<(), CertFault>
+    requires small { length source.now ≤ 2 ^ 26 }
+    requires sheet { L.reads how source.now sheet.now }
+    requires few { length cert.now < 2 ^ 32 }
+    ensures certified { OnOk result (IsCertified tin.now source.now written.now (L.reads how source.now) (L.text source.now how) cert.now) }
+    ensures cause { IfErr result (λ fault. IsCertCause tin.now source.now written.now (L.reads how source.now) (L.refuses how source.now) (L.text source.now how) cert.now fault) }
+{
+    tin.known();
+    count_lists(sheet, cert)?;
+    let images = images_by(alloc, tin, sheet, cert)?;
+    compare_layer::<L>(alloc, source, how, sheet, &images, written)
 }
 
 /// Whether a layer was migrated as its certificate says: each segment of the source layer is inside, and the written
@@ -128,21 +201,6 @@ pub fn check_cert<L: Layer>(
     ensures certified { OnOk result (IsCertified tin.now source.now written.now (L.reads how source.now) (L.text source.now how) cert.now) }
     ensures cause { IfErr result (λ fault. IsCertCause tin.now source.now written.now (L.reads how source.now) (L.refuses how source.now) (L.text source.now how) cert.now fault) }
 {
-    tin.known();
-    let sheet = match L::read(alloc, source, how) {
-        Ok(sheet) => sheet,
-        Err(LayerFault::NoMemory) => return Err(CertFault::NoMemory),
-        Err(fault) => return Err(CertFault::Layer(fault)),
-    };
-    let lines = match list_count(cert) {
-        Ok(lines) => lines,
-        Err(line) => return Err(CertFault::Form { line }),
-    };
-    let segments = segment_total(&sheet);
-    if segments != lines {
-        return Err(CertFault::Count { segments, lines });
-    }
-    let images = images_by(alloc, tin, &sheet, cert)?;
-    let text = L::render(alloc, source, how, &sheet, &images)?;
-    compare(&text, written)
+    let sheet = read_source::<L>(alloc, source, how)?;
+    check_sheet::<L>(alloc, tin, source, written, how, &sheet, cert)
 }

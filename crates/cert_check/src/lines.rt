@@ -4,7 +4,7 @@ ghost use Rattle.std.specs.Prelude.{◌≡◌, ℕ, ◌+◌, ◌<◌, ◌^◌, L
 ghost use Rattle.std.specs.List.{AllByRecursion};
 ghost use Rattle.cert_check.specs.Certificates.{head_text, lines_text, IsList, IsCertificate};
 ghost use Rattle.cert_check.specs.Lines.{IsLine, BeginsWithLine, HasNoLine, AreLines, IsBadBehind, IsBadLine, HasCount};
-ghost use Rattle.cert_check.specs.SheetLists.{HasNoLineWithin};
+ghost use Rattle.cert_check.specs.InsideSheetLists.{HasNoLineWithin};
 
 use crate::numbers::ended_number;
 use std::alloc::AllocError;

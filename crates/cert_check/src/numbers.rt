@@ -6,7 +6,7 @@ ghost use Rattle.std.specs.Char.{is_ascii_digit};
 ghost use Rattle.std.specs.List.{prefix_len};
 ghost use Rattle.std.specs.Str.{all_ascii_digits};
 ghost use Rattle.cert_check.specs.Certificates.{separator};
-ghost use Rattle.cert_check.specs.Numbers.{HasLeadingZero, IsNumber, IsEnded};
+ghost use Rattle.cert_check.specs.InsideNumbers.{HasLeadingZero, IsNumber, IsEnded};
 
 /// Whether the first of several digits is 0.
 fn has_leading_zero(digits: &[u8]) -> bool

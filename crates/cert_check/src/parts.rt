@@ -5,7 +5,7 @@ ghost use Rattle.frac128.specs.Fractions.{IsSameValue, IsBelow};
 ghost use Rattle.plane_base.specs.Slices.{IsParam};
 ghost use Rattle.tin_base.specs.Segments.{Spot, at_b, IsSameSpot, IsInside, IsShared};
 ghost use Rattle.tin_base.specs.Slices.{spot_of, IsSliceIn, AreNearTriangle};
-ghost use Rattle.cert_check.specs.Slices.{spot_behind, IsPartAt, HasNoPartAt, EndsAtParam};
+ghost use Rattle.cert_check.specs.InsideSlices.{spot_behind, IsPartAt, HasNoPartAt, EndsAtParam};
 
 use crate::nearness::are_near;
 use frac128::{Frac, order};

@@ -9,8 +9,8 @@ ghost use Rattle.sheet_base.specs.Sheets.{IsPathFrom};
 ghost use Rattle.affine_image.specs.Rounded.{IsRoundedImage};
 ghost use Rattle.affine_image.specs.SheetSegments.{path_vertices, segments_begun};
 ghost use Rattle.cert_check.specs.Lines.{BeginsWithLine};
-ghost use Rattle.cert_check.specs.SheetLists.{HasLines, AreImaged, IsSegmentImaged, IsWayCause, IsStopCause};
-ghost use Rattle.cert_check.specs.SheetLists.{IsTriangleWith};
+ghost use Rattle.cert_check.specs.InsideSheetLists.{HasLines, AreImaged, IsSegmentImaged, IsWayCause, IsStopCause};
+ghost use Rattle.cert_check.specs.InsideSheetLists.{IsTriangleWith};
 
 use crate::CertFault;
 use crate::lines::read_line;

@@ -4,7 +4,7 @@ ghost use Rattle.std.specs.Prelude.{◌≡◌, ◌+◌, ◌<◌, ◌^◌, length
 ghost use Rattle.sheet_base.specs.PointHeights.{IsHeightWithinReach};
 ghost use Rattle.tin_base.specs.Segments.{IsInside};
 ghost use Rattle.cert_check.specs.RightLists.{IsRightList};
-ghost use Rattle.cert_check.specs.SheetLists.{HasPart, IsEndBehind, IsRunBehind, IsTriangleWith};
+ghost use Rattle.cert_check.specs.InsideSheetLists.{HasPart, IsEndBehind, IsRunBehind, IsTriangleWith};
 
 use crate::parts::stretch_in;
 use crate::ways::Way;

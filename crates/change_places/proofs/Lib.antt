@@ -3,7 +3,7 @@ mod Elements
 mod Parts
 mod MoreFeatures
 mod Names
-mod Spelled
+mod ChangeSpellings
 mod Valid
 mod PlacesJson
 mod Firsts

@@ -9,7 +9,7 @@ use Rattle.sheet_base.specs.declared.edits.Edit.{Edit}
 use Rattle.sheet_base.specs.Splices.{AreInOrder}
 use Rattle.change_places.specs.PathPlaces.{line_of, edit_in_lines}
 use Rattle.change_places.proofs.Elements.{element}
-use Rattle.sheet_base.proofs.Splicing.{by_the_end, order_earlier}
+use Rattle.sheet_base.proofs.SpliceLaws.{by_the_end, order_earlier}
 
 -- the edit at the front of those that are left
 pub record IsNextInOrder (at start : ℕ) (edits : List Edit) (next past : ℕ) : Type 0 where

@@ -8,7 +8,7 @@ use Rattle.change_places.specs.declared.spots.ChangeSpot.{ChangeSpot}
 use Rattle.change_places.specs.PlacesText.{places_text}
 use Rattle.change_places.specs.PlacesValue.{places_whole}
 use Rattle.change_places.specs.Laws.{IsPrintedName, IsSpotHeld, IsPlacesJson}
-use Rattle.change_places.proofs.Spelled.{places_spelled}
+use Rattle.change_places.proofs.ChangeSpellings.{places_spelled}
 use Rattle.change_places.proofs.Valid.{places_are}
 
 whole_is : (names : List (List ℕ)) (changes : List ChangeSpot) → AllByRecursion IsPrintedName names

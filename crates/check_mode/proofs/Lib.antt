@@ -1,3 +1,3 @@
 -- The files of lemmas of check_mode.
-pub mod CheckRefusals
+mod CheckRefusals
 mod CheckEndExists

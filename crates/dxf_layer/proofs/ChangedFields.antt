@@ -13,12 +13,12 @@ use Rattle.dxf_pairs.specs.Groups.{Group, group_in, value_in}
 use Rattle.dxf_layer.specs.Entities.{Entity, has_code}
 use Rattle.dxf_layer.specs.Fields.{fields_of, at_most_one, field, there, wanted}
 use Rattle.dxf_layer.proofs.Members.{went, some_there}
-use Rattle.dxf_layer.proofs.Telling.{next, filter_mapped, front_mapped}
-use Rattle.std.proofs.lemmas.List.{append-nil}
+use Rattle.dxf_layer.proofs.AnswerValues.{next, filter_mapped, front_mapped}
 use Rattle.dxf_layer.proofs.GroupFields.{is_number, coded, fields_in, itself, one_value, value_at, value_wanted}
 use Rattle.dxf_layer.proofs.GroupFields.{number_in, number_at, point_at}
-use Rattle.dxf_layer.proofs.GroupWalks.{is_of_extrusion, is_flat, not_repeated, flat_in}
+use Rattle.dxf_layer.proofs.GroupKinds.{is_of_extrusion, is_flat, not_repeated, flat_in}
 use Rattle.dxf_layer.proofs.WrittenNumbers.{number_written}
+use Rattle.std.proofs.lemmas.List.{append-nil}
 
 -- the codes under which values are changed
 abbrev pub may_change : ℤ → Bool

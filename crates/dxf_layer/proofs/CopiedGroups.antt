@@ -1,5 +1,5 @@
 -- The groups of copies of an entity: those of its pairs, with the values of some fields replaced.
-use Rattle.std.proofs.Common.{◌≡◌, ℕ, zero, suc, ◌+◌, ◌-◌, ◌≤◌, ◌<◌, pos, List, [], ◌∷◌, ◌++◌, take, drop, map, true}
+use Rattle.std.proofs.Common.{◌≡◌, ℕ, ◌+◌, ◌-◌, ◌≤◌, ◌<◌, pos, List, [], ◌∷◌, ◌++◌, take, drop, map}
 use Rattle.std.proofs.Common.{false, refl, ap, sym, ◌∙◌, subst, arith, Option, None, Some}
 use Rattle.std.specs.Prelude.{int_lt}
 use Rattle.std.specs.List.{prefix_len}
@@ -11,14 +11,13 @@ use Rattle.dxf_pairs.specs.Laws.{AreTiles}
 use Rattle.dxf_pairs.specs.InLines.{IsValue, StandsInLines, GroupsFollow}
 use Rattle.dxf_layer.specs.declared.copies.Copied.{Copied}
 use Rattle.dxf_layer.specs.declared.copies.Value.{Value}
-use Rattle.dxf_layer.specs.declared.copies.Value.TheVariants as values
 use Rattle.dxf_layer.specs.Entities.{Entity, has_code, entity_end}
 use Rattle.dxf_layer.specs.Fields.{fields_of}
 use Rattle.dxf_layer.specs.Rendering.{value_for, value_text, copied_with, copied_from, copy_text}
 use Rattle.dxf_layer.proofs.SplicedPairs.{between_both, not_last, pair_follows, pair_stays, tiles_upto}
-use Rattle.dxf_layer.proofs.ValueTexts.{plain_value, plain_digits, plain_written}
-use Rattle.dxf_layer.proofs.CopiedPairs.{AreBody, IsFront, copied_on}
+use Rattle.dxf_layer.proofs.CopiedPairs.{AreBody, IsFront, in_three, value_is, copied_on, copied_kept, copied_changed}
 use Rattle.dxf_layer.proofs.ChangedFields.{with_value}
+use Rattle.dxf_layer.proofs.CopiedPairs.{front_taken}
 
 -- a text that is these groups in front of those of any other
 abbrev pub AddsAs : List ℕ → List Group → Type 0
@@ -37,9 +36,6 @@ both_added text rest groups others first second more =
 -- the groups of such a text alone
 pub alone_added : (text : List ℕ) (groups : List Group) → AddsAs text groups → groups_of text ≡ groups
 alone_added text groups adds = ap groups_of (sym (append-nil text)) ∙ (adds [] ∙ append-nil groups)
-
-in_three : (a b c more : List ℕ) → (a ++ (b ++ c)) ++ more ≡ a ++ (b ++ (c ++ more))
-in_three a b c more = simp append_assoc
 
 pub value_added : GroupsFollow → (bytes : List ℕ) (pair : Pair) (value : List ℕ) → StandsInLines bytes pair
     → has_code (pos 0) pair ≡ false → IsValue value
@@ -77,10 +73,6 @@ copy_groups bytes copied (field ∷ fields) [] = []
 copy_groups bytes copied (field ∷ fields) (pair ∷ pairs) =
     with_value (copy_value bytes copied) pair ∷ copy_groups bytes copied fields pairs
 
-value_is : (value : Value) → IsValue (value_text value)
-value_is (values.Metres mm) = plain_value _ (plain_written mm)
-value_is (values.Handle number) = plain_value _ (plain_digits 16 true number)
-
 pub copied_added : GroupsFollow → (bytes : List ℕ) (copied : Copied) (past start line : ℕ) (fields pairs : List Pair)
     → AreTiles start line pairs past → AreBody bytes pairs → IsFront fields pairs
     → AddsAs (copied_from bytes copied past fields start) (copy_groups bytes copied fields pairs)
@@ -112,10 +104,7 @@ copied_added follow bytes copied past start line (field ∷ fields) (pair ∷ pa
           → AddsAs (copied_with (λ (f : Pair). copied_from bytes copied past fields f.value_end) bytes start field value
           (copied_from bytes copied past fields start)) (with_value (copy_value bytes copied) pair ∷ groups)
       by_value None none later =
-          let whole : copied_from bytes copied past fields start ≡ between pair.start pair.end bytes ++ rest =
-          copied_on bytes copied past start pair.end pair.end (line + 2) fields pairs
-          (omega (arith, tiles.2, tiles.3, tiles.4)) (omega arith) tiles.5 front.1
-          ∙ ap (λ (n : ℕ). between n pair.end bytes ++ rest) (sym tiles.0) in
+          let whole = copied_kept bytes copied past start line pair fields pairs tiles front.1 in
           let kept : value_for copied pair.code ≡ None = ap (λ (p : Pair). value_for copied p.code) (sym front.0)
           ∙ none in
           let own : value_in bytes pair ≡ copy_value bytes copied pair = sym (ap (value_of_copy bytes pair) kept) in
@@ -125,21 +114,7 @@ copied_added follow bytes copied past start line (field ∷ fields) (pair ∷ pa
           (both_added (between pair.start pair.end bytes) rest (group_in bytes pair ∷ []) groups
           (pair_added follow bytes pair body.0 (omega (arith, tiles.0, tiles.2)) tiles.3 tiles.4) later))
       by_value (Some value) some later =
-          let behind : copied_from bytes copied past fields pair.value_end ≡ between pair.value_end pair.end bytes
-          ++ rest =
-          copied_on bytes copied past pair.value_end pair.end pair.end (line + 2) fields pairs tiles.4 (omega arith)
-          tiles.5 front.1 in
-          let here : between start field.value bytes
-          ++ (value_text value ++ copied_from bytes copied past fields field.value_end)
-          ≡ between pair.start pair.value bytes ++ (value_text value
-          ++ (between pair.value_end pair.end bytes ++ rest)) =
-          ap (λ (f : Pair). between start f.value bytes
-          ++ (value_text value ++ copied_from bytes copied past fields f.value_end)) front.0
-          ∙ (ap (λ (n : ℕ). between n pair.value bytes
-          ++ (value_text value ++ copied_from bytes copied past fields pair.value_end)) (sym tiles.0)
-          ∙ ap (λ (t : List ℕ). between pair.start pair.value bytes ++ (value_text value ++ t)) behind) in
-          let whole = here ∙ sym (in_three (between pair.start pair.value bytes) (value_text value)
-          (between pair.value_end pair.end bytes) rest) in
+          let whole = copied_changed bytes copied past start line field pair fields pairs value tiles front.0 front.1 in
           let kept : value_for copied pair.code ≡ Some value = ap (λ (p : Pair). value_for copied p.code) (sym front.0)
           ∙ some in
           let own : value_text value ≡ copy_value bytes copied pair = sym (ap (value_of_copy bytes pair) kept) in
@@ -161,11 +136,6 @@ pub record IsInLines (bytes : List ℕ) (entity : Entity) : Type 0 where
   pub inside : entity.head.value_end ≤ entity.head.end
   pub line : ℕ
   pub tiles : AreTiles entity.head.end line entity.pairs (entity_end entity)
-
-front_taken : (n : ℕ) (pairs : List Pair) → IsFront (take n pairs) pairs
-front_taken zero pairs = tt
-front_taken (suc n) [] = tt
-front_taken (suc n) (pair ∷ pairs) = (refl, front_taken n pairs)
 
 -- a copy of the entity
 pub copy_added : GroupsFollow → (bytes : List ℕ) (entity : Entity) (copied : Copied) → IsInLines bytes entity

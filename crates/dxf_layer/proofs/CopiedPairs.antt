@@ -1,6 +1,6 @@
 -- Copies of pairs with other values are whole pairs.
 use Rattle.std.proofs.Common.{◌≡◌, ℕ, ◌+◌, ◌-◌, ◌≤◌, ◌<◌, pos, List, [], ◌∷◌, ◌++◌, take, drop, true, false, refl, ap}
-use Rattle.std.proofs.Common.{sym, ◌∙◌, subst, arith, Option, None, Some}
+use Rattle.std.proofs.Common.{zero, suc, sym, ◌∙◌, subst, arith, Option, None, Some}
 use Rattle.std.specs.Prelude.{⊤}
 use Rattle.std.proofs.lemmas.List.{append_assoc, append-nil}
 use Rattle.dxf_pairs.specs.declared.pairs.Pair.{Pair}
@@ -35,7 +35,7 @@ one_adds text group is more =
     let alone : groups_of text ≡ group ∷ [] = ap groups_of (sym (append-nil text)) ∙ is [] in
     is more ∙ ap (λ (groups : List Group). groups ++ groups_of more) (sym alone)
 
-in_three : (a b c more : List ℕ) → (a ++ (b ++ c)) ++ more ≡ a ++ (b ++ (c ++ more))
+pub in_three : (a b c more : List ℕ) → (a ++ (b ++ c)) ++ more ≡ a ++ (b ++ (c ++ more))
 in_three a b c more = simp append_assoc
 
 -- a pair of the bytes with another value, and with its own
@@ -73,7 +73,12 @@ IsFront [] pairs = ⊤
 IsFront (field ∷ fields) [] = ⊥
 IsFront (field ∷ fields) (pair ∷ pairs) = (field ≡ pair) × IsFront fields pairs
 
-value_is : (value : Value) → IsValue (value_text value)
+pub front_taken : (n : ℕ) (pairs : List Pair) → IsFront (take n pairs) pairs
+front_taken zero pairs = tt
+front_taken (suc n) [] = tt
+front_taken (suc n) (pair ∷ pairs) = (refl, front_taken n pairs)
+
+pub value_is : (value : Value) → IsValue (value_text value)
 value_is (values.Metres mm) = plain_value _ (plain_written mm)
 value_is (values.Handle number) = plain_value _ (plain_digits 16 true number)
 
@@ -106,6 +111,36 @@ copied_on bytes copied past from middle start line (field ∷ fields) (pair ∷ 
           (between_both bytes from middle field.value first value_at)
           ∙ append_assoc (between from middle bytes) (between middle field.value bytes) (value_text value ++ rest)
 
+-- a copy from the first pair on, which keeps its value
+pub copied_kept : (bytes : List ℕ) (copied : Copied) (past start line : ℕ) (pair : Pair) (fields pairs : List Pair)
+    → AreTiles start line (pair ∷ pairs) past → IsFront fields pairs
+    → copied_from bytes copied past fields start ≡ between pair.start pair.end bytes
+    ++ copied_from bytes copied past fields pair.end
+copied_kept bytes copied past start line pair fields pairs tiles front =
+    copied_on bytes copied past start pair.end pair.end (line + 2) fields pairs
+    (omega (arith, tiles.2, tiles.3, tiles.4)) (omega arith) tiles.5 front
+    ∙ ap (λ (n : ℕ). between n pair.end bytes ++ copied_from bytes copied past fields pair.end) (sym tiles.0)
+
+-- and which has another one
+pub copied_changed : (bytes : List ℕ) (copied : Copied) (past start line : ℕ) (field pair : Pair)
+    (fields pairs : List Pair) (value : Value) → AreTiles start line (pair ∷ pairs) past → field ≡ pair
+    → IsFront fields pairs
+    → between start field.value bytes ++ (value_text value ++ copied_from bytes copied past fields field.value_end)
+    ≡ (between pair.start pair.value bytes ++ (value_text value ++ between pair.value_end pair.end bytes))
+    ++ copied_from bytes copied past fields pair.end
+copied_changed bytes copied past start line field pair fields pairs value tiles same front =
+    let behind : copied_from bytes copied past fields pair.value_end ≡ between pair.value_end pair.end bytes
+    ++ copied_from bytes copied past fields pair.end =
+    copied_on bytes copied past pair.value_end pair.end pair.end (line + 2) fields pairs tiles.4 (omega arith)
+    tiles.5 front in
+    ap (λ (f : Pair). between start f.value bytes
+    ++ (value_text value ++ copied_from bytes copied past fields f.value_end)) same
+    ∙ (ap (λ (n : ℕ). between n pair.value bytes
+    ++ (value_text value ++ copied_from bytes copied past fields pair.value_end)) (sym tiles.0)
+    ∙ (ap (λ (t : List ℕ). between pair.start pair.value bytes ++ (value_text value ++ t)) behind
+    ∙ sym (in_three (between pair.start pair.value bytes) (value_text value) (between pair.value_end pair.end bytes)
+    (copied_from bytes copied past fields pair.end))))
+
 pub copied_adds : GroupsFollow → (bytes : List ℕ) (copied : Copied) (past start line : ℕ) (fields pairs : List Pair)
     → AreTiles start line pairs past → AreBody bytes pairs → IsFront fields pairs
     → AddsGroups (copied_from bytes copied past fields start)
@@ -132,28 +167,11 @@ copied_adds follow bytes copied past start line (field ∷ fields) (pair ∷ pai
           → AddsGroups (copied_with (λ (f : Pair). copied_from bytes copied past fields f.value_end) bytes start field
           value (copied_from bytes copied past fields start))
       by_value None later =
-          let whole : copied_from bytes copied past fields start ≡ between pair.start pair.end bytes ++ rest =
-          copied_on bytes copied past start pair.end pair.end (line + 2) fields pairs
-          (omega (arith, tiles.2, tiles.3, tiles.4)) (omega arith) tiles.5 front.1
-          ∙ ap (λ (n : ℕ). between n pair.end bytes ++ rest) (sym tiles.0) in
+          let whole = copied_kept bytes copied past start line pair fields pairs tiles front.1 in
           subst AddsGroups (sym whole) (both_add (between pair.start pair.end bytes) rest
           (pair_adds follow bytes pair body.0 (omega (arith, tiles.0, tiles.2)) tiles.3 tiles.4) later)
       by_value (Some value) later =
-          let behind : copied_from bytes copied past fields pair.value_end ≡ between pair.value_end pair.end bytes
-          ++ rest =
-          copied_on bytes copied past pair.value_end pair.end pair.end (line + 2) fields pairs tiles.4 (omega arith)
-          tiles.5 front.1 in
-          let here : between start field.value bytes
-          ++ (value_text value ++ copied_from bytes copied past fields field.value_end)
-          ≡ between pair.start pair.value bytes ++ (value_text value
-          ++ (between pair.value_end pair.end bytes ++ rest)) =
-          ap (λ (f : Pair). between start f.value bytes
-          ++ (value_text value ++ copied_from bytes copied past fields f.value_end)) front.0
-          ∙ (ap (λ (n : ℕ). between n pair.value bytes
-          ++ (value_text value ++ copied_from bytes copied past fields pair.value_end)) (sym tiles.0)
-          ∙ ap (λ (t : List ℕ). between pair.start pair.value bytes ++ (value_text value ++ t)) behind) in
-          let whole = here ∙ sym (in_three (between pair.start pair.value bytes) (value_text value)
-          (between pair.value_end pair.end bytes) rest) in
+          let whole = copied_changed bytes copied past start line field pair fields pairs value tiles front.0 front.1 in
           subst AddsGroups (sym whole)
           (both_add (between pair.start pair.value bytes ++ (value_text value ++ between pair.value_end pair.end bytes))
           rest (value_adds follow bytes pair (value_text value) body.0 body.1.0 (value_is value)) later)

@@ -22,7 +22,8 @@ use Rattle.dxf_layer.proofs.CopiedPairs.{IsFront}
 use Rattle.dxf_layer.proofs.CopiedGroups.{AddsAs, none_added, both_added, alone_added, value_of_copy, copy_groups}
 use Rattle.dxf_layer.proofs.CopiedGroups.{IsInLines, copy_added}
 use Rattle.dxf_layer.proofs.PairPlaces.{tiles_behind, lines_behind}
-use Rattle.dxf_layer.proofs.EntityPlaces.{of_entity, front_taken}
+use Rattle.dxf_layer.proofs.EntityPlaces.{of_entity}
+use Rattle.dxf_layer.proofs.CopiedPairs.{front_taken}
 
 -- ---- an entity of a drawing stands on its lines
 pub in_lines : (bytes : List ℕ) (past : ℕ) (pairs front : List Pair) (head next : Pair) (behind : List Pair)

@@ -21,7 +21,8 @@ use Rattle.dxf_layer.specs.declared.drawing.Spot.{Spot as Read_point}
 use Rattle.dxf_layer.specs.declared.fields.Read.{Read}
 use Rattle.dxf_layer.specs.declared.points.LineEnds.{LineEnds}
 use Rattle.dxf_layer.specs.Entities.{Entity}
-use Rattle.dxf_layer.specs.Fields.{and_then, fields_of, field, wanted, coordinate, coordinate_at}
+use Rattle.sheet_base.specs.Faults.{and_then}
+use Rattle.dxf_layer.specs.Fields.{fields_of, field, wanted, coordinate, coordinate_at}
 use Rattle.dxf_layer.specs.Handles.{handle, has_next}
 use Rattle.dxf_layer.specs.Points.{spot_at, height_of, rise_of}
 use Rattle.dxf_layer.specs.Polylines.{plain}
@@ -29,7 +30,7 @@ use Rattle.dxf_layer.specs.Rendering.{value_for, value_text, line_copy}
 use Rattle.dxf_layer.proofs.Members.{went, field_is, wanted_is, coordinate_is}
 use Rattle.dxf_layer.proofs.LineRises.{has_heights, both_carried, HasLine}
 use Rattle.dxf_layer.proofs.WrittenNumbers.{measured_written, number_written}
-use Rattle.dxf_layer.proofs.Telling.{next, told}
+use Rattle.dxf_layer.proofs.AnswerValues.{next, told}
 use Rattle.dxf_layer.proofs.GroupFields.{fields_in, groups_in, fields_told, itself, value_at, value_wanted, point_at}
 use Rattle.dxf_layer.proofs.GroupFields.{zero_in}
 use Rattle.dxf_layer.proofs.GroupShapes.{is_seeded, next_with, handle_in, height_by, mm_ends, unless_with, rise_in}
@@ -286,7 +287,7 @@ pub record IsVertexRead (bytes : List ℕ) (exact : Bool) (seed : Option Pair) (
   pub spot_is : spot_at bytes exact (pos 10) (pos 20) entity ≡ Ok spot
   pub plain_is : plain bytes entity ≡ Ok tt
 
-zero_agrees : (old new : List Group) (code : ℤ) → Agree old new → may_change code ≡ false
+pub zero_agrees : (old new : List Group) (code : ℤ) → Agree old new → may_change code ≡ false
     → zero_in code new ≡ zero_in code old
 zero_agrees old new code agree stays = rw (value_same old new code agree stays) refl
 

@@ -1,5 +1,6 @@
 -- The walk over copies of a line's entity, and over copies of a vertex's.
-use Rattle.std.proofs.Common.{◌≡◌, ℕ, ℤ, zero, suc, ◌+◌, ◌-◌, ◌<◌, Bool, true, false, refl, ap, sym, ◌∙◌, subst, List, []}
+use Rattle.std.proofs.Common.{◌≡◌, ℕ, ℤ, zero, suc, ◌+◌, ◌-◌, ◌<◌, Bool, true, false, refl, ap, sym, ◌∙◌, subst}
+use Rattle.std.proofs.Common.{List, []}
 use Rattle.std.proofs.Common.{◌∷◌, ◌++◌, map, length, Option, None, Some, codes, arith, max, cond, ◌≤◌}
 use Rattle.std.specs.Prelude.{⊤, nat_lt, slice_index_or}
 use Rattle.std.specs.Option.{is_some}
@@ -28,9 +29,10 @@ use Rattle.dxf_layer.specs.Points.{line_of}
 use Rattle.dxf_layer.specs.ReadBack.{level_again}
 use Rattle.dxf_layer.specs.Rendering.{new_handle, handle_behind, line_copies, vertex_copies, copy_text, line_copy}
 use Rattle.dxf_layer.specs.Rendering.{vertex_copy}
-use Rattle.dxf_layer.proofs.Telling.{next}
+use Rattle.dxf_layer.proofs.AnswerValues.{next}
 use Rattle.dxf_layer.proofs.GroupShapes.{Outline, is_seeded, end_heights, line_outline}
-use Rattle.dxf_layer.proofs.GroupWalks.{Told, alone, open_line, turn_of, outlines_in}
+use Rattle.dxf_layer.proofs.GroupKinds.{Told, outlines_in}
+use Rattle.dxf_layer.proofs.GroupWalks.{alone, open_line, turn_of}
 use Rattle.dxf_layer.proofs.GroupDrawings.{in_front, walk, turn, with_more}
 use Rattle.dxf_layer.proofs.LineRises.{HasLine}
 use Rattle.dxf_layer.proofs.OutlineEnds.{own_row, both_at, both_in, both_by, no_height, all_ends, all_heights, AreAll}

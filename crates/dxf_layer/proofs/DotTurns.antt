@@ -21,19 +21,20 @@ use Rattle.dxf_layer.specs.Shapes.{Shape, value_edit, spot_edits}
 use Rattle.dxf_layer.specs.Points.{spot_at, dot_of}
 use Rattle.dxf_layer.specs.Rendering.{Reading, image_of}
 use Rattle.dxf_layer.proofs.Members.{IsIn, Follow, wanted_is, in_taken, lies}
-use Rattle.dxf_layer.proofs.Telling.{told}
+use Rattle.dxf_layer.proofs.AnswerValues.{told}
 use Rattle.dxf_layer.proofs.GroupFields.{fields_in, groups_in, fields_told, itself, value_wanted, point_at, zero_in}
 use Rattle.dxf_layer.proofs.GroupFields.{zero_told}
 use Rattle.dxf_layer.proofs.GroupShapes.{Outline, flat_outline, is_seeded, dot_outline}
-use Rattle.dxf_layer.proofs.GroupWalks.{Told, alone, turn_of, outlines_in, ends_sections}
-use Rattle.dxf_layer.proofs.ChangedFields.{may_change, with_value, changed_fields, Agree, value_same, wanted_changed}
+use Rattle.dxf_layer.proofs.GroupKinds.{Told, outlines_in}
+use Rattle.dxf_layer.proofs.GroupWalks.{alone, turn_of, ends_sections}
+use Rattle.dxf_layer.proofs.ChangedFields.{may_change, with_value, changed_fields, Agree, wanted_changed}
 use Rattle.dxf_layer.proofs.ChangedFields.{point_changed, agree_by}
 use Rattle.dxf_layer.proofs.StandingEdits.{stand, stand_silent, AreSilent, IsPlaced, edit_behind}
 use Rattle.dxf_layer.proofs.ValueTurns.{AreSome, IsValueEdit, AreValueEdits, own_value, all_valued, others_stay}
 use Rattle.dxf_layer.proofs.ValueTurns.{other_place, first_value, later_value, AreGoodImages, image_within, alone_image}
 use Rattle.dxf_layer.proofs.CopiedPairs.{AreBody}
 use Rattle.dxf_layer.proofs.CopiedGroups.{IsInLines}
-use Rattle.dxf_layer.proofs.CopyTurns.{HasWanted, spot_wanted}
+use Rattle.dxf_layer.proofs.CopyTurns.{HasWanted, spot_wanted, zero_agrees}
 use Rattle.dxf_layer.proofs.TurnsKept.{IsReadSo, turn_kept}
 use Rattle.dxf_layer.proofs.EntityTurns.{HaveNoHead, IsWritten, one_written, told_groups}
 use Rattle.dxf_layer.proofs.OutlineEnds.{imaged_outlines}
@@ -151,10 +152,6 @@ point_valued read exact x y entity own spot point has within east north =
     point_changed exact x y (fields_in (valued read own entity).groups) point within
     (ap (value_wanted x) fields ∙ (wanted_changed (own_value read own) x entity spot.x.pair has.east ∙ ap Some east))
     (ap (value_wanted y) fields ∙ (wanted_changed (own_value read own) y entity spot.y.pair has.north ∙ ap Some north))
-
-zero_agrees : (old new : List Group) (code : ℤ) → Agree old new → may_change code ≡ false
-    → zero_in code new ≡ zero_in code old
-zero_agrees old new code agree stays = rw (value_same old new code agree stays) refl
 
 twenty_ten : pos 20 ≡ pos 10 → ⊥
 twenty_ten is = cc

@@ -1,5 +1,6 @@
 -- What is written of a drawing reads back: its segments are those between the images, with their heights.
-use Rattle.std.proofs.Common.{◌≡◌, ℕ, ◌+◌, ◌≤◌, ◌<◌, ◌^◌, Bool, true, refl, ap, sym, ◌∙◌, subst, List, [], ◌∷◌, map, flat_map}
+use Rattle.std.proofs.Common.{◌≡◌, ℕ, ◌+◌, ◌≤◌, ◌<◌, ◌^◌, Bool, true, refl, ap, sym, ◌∙◌, subst, List, [], ◌∷◌, map}
+use Rattle.std.proofs.Common.{flat_map}
 use Rattle.std.proofs.Common.{length, Option, Some, Result, Ok, Err, All, arith, inl}
 use Rattle.std.specs.List.{list_any}
 use Rattle.plane_base.specs.declared.shapes.Pt.{Pt}
@@ -19,17 +20,18 @@ use Rattle.dxf_pairs.specs.Laws.{AreTiles, PairsTile, PairsAreTheGroups}
 use Rattle.dxf_pairs.specs.InLines.{AreInLines, PairsAreInLines, GroupsFollow}
 use Rattle.dxf_layer.specs.declared.entities.Where.TheVariants.{Outside}
 use Rattle.dxf_layer.specs.declared.handles.TheConstants.{MOST_DIGITS}
-use Rattle.dxf_layer.specs.Entities.{entities_of}
-use Rattle.dxf_layer.specs.Fields.{and_then}
-use Rattle.dxf_layer.specs.Handles.{seed_of}
+use Rattle.dxf_layer.specs.InsideSections.{entities_of}
+use Rattle.dxf_layer.specs.Seeds.{seed_of}
+use Rattle.sheet_base.specs.Faults.{and_then}
 use Rattle.dxf_layer.specs.Shapes.{Shape}
-use Rattle.dxf_layer.specs.Walks.{free, walked}
-use Rattle.dxf_layer.specs.Drawings.{begun, sheet_of, from_pairs, drawing_sheet}
+use Rattle.dxf_layer.specs.InsideWalks.{free, walked}
+use Rattle.dxf_layer.specs.Drawings.{begun, drawing_sheet}
 use Rattle.dxf_layer.specs.Rendering.{Reading, next_behind, drawing_text}
 use Rattle.dxf_layer.specs.ReadBack.{IsNextShort, DoesReadBack, groups_for, level_again, AreReadAgain}
+use Rattle.dxf_layer.specs.InsideSheets.{walked_sheet_of}
 use Rattle.dxf_layer.proofs.Members.{tiles_follow}
-use Rattle.dxf_layer.proofs.Telling.{told}
-use Rattle.dxf_layer.proofs.GroupShapes.{Outline, outlines}
+use Rattle.dxf_layer.proofs.AnswerValues.{told}
+use Rattle.dxf_layer.proofs.GroupShapes.{is_seeded, Outline, outlines}
 use Rattle.dxf_layer.proofs.GroupWalks.{alone}
 use Rattle.dxf_layer.proofs.GroupDrawings.{walk, entities_told, outlines_of, drawing_told}
 use Rattle.dxf_layer.proofs.OutlineEnds.{all_ends, all_heights, imaged_outlines, rows_behind, points_of, heights_of}
@@ -41,6 +43,8 @@ use Rattle.dxf_layer.proofs.WrittenGroups.{AreRead, ends, is_drawing}
 use Rattle.dxf_layer.proofs.WrittenPairs.{written}
 use Rattle.dxf_layer.proofs.KeptSeeds.{HasSome}
 use Rattle.dxf_layer.proofs.ReadAgain.{shapes_whole, groups_again}
+use Rattle.dxf_layer.proofs.SectionSeeds.{seed_found}
+use Rattle.dxf_layer.proofs.WalkedSheets.{sheet_read, sheet_walked}
 
 -- the ends of the segments of a drawing's sheet, and their heights
 record HasEnds (sheet : Contents) (outs : List Outline) : Type 0 where
@@ -49,14 +53,15 @@ record HasEnds (sheet : Contents) (outs : List Outline) : Type 0 where
 
 sheet_ends : (bytes : List ℕ) (how : How) (pairs : List Pair) (past : ℕ) → AreTiles 0 1 pairs past
     → (seed : Option Pair) (shapes : List Shape) → walked bytes how seed free (entities_of bytes pairs) ≡ Ok shapes
-    → HasEnds (sheet_of seed shapes) (outlines shapes)
+    → HasEnds (walked_sheet_of seed shapes) (outlines shapes)
 sheet_ends bytes how pairs past tiles seed shapes is =
     let whole = shapes_whole bytes how pairs past (tiles_follow 0 1 pairs past tiles) seed shapes is in
     record {
-      points = ap (λ (points : List Pt). ends_of points (sheet_of seed shapes).paths) (points_are (begun seed) shapes)
+      points = ap (λ (points : List Pt). ends_of points (walked_sheet_of seed shapes).paths)
+          (points_are (begun seed) shapes)
           ∙ (ap (λ (rows : List PathRow). ends_of (points_of shapes) rows) (rows_are (begun seed) shapes)
           ∙ shapes_points shapes whole);
-      heights = ap (λ (heights : List Height). height_ends_of heights (sheet_of seed shapes).paths)
+      heights = ap (λ (heights : List Height). height_ends_of heights (walked_sheet_of seed shapes).paths)
           (heights_are (begun seed) shapes)
           ∙ (ap (λ (rows : List PathRow). height_ends_of (heights_of shapes) rows) (rows_are (begun seed) shapes)
           ∙ shapes_heights shapes whole);
@@ -69,7 +74,7 @@ record HaveEnds (sheet : Contents) (images : Runs) (outs : List Outline) : Type 
 
 image_ends : (bytes : List ℕ) (how : How) (pairs : List Pair) (past : ℕ) → AreTiles 0 1 pairs past
     → (seed : Option Pair) (shapes : List Shape) → walked bytes how seed free (entities_of bytes pairs) ≡ Ok shapes
-    → (sheet : Contents) (images : Runs) → sheet ≡ sheet_of seed shapes → DoFit sheet images
+    → (sheet : Contents) (images : Runs) → sheet ≡ walked_sheet_of seed shapes → DoFit sheet images
     → HaveEnds sheet images (imaged_outlines images 0 shapes)
 image_ends bytes how pairs past tiles seed shapes is sheet images sheet_is fits =
     let whole = shapes_whole bytes how pairs past (tiles_follow 0 1 pairs past tiles) seed shapes is in
@@ -102,8 +107,10 @@ by_groups : PairsTile → PairsAreTheGroups → (how : How) (text : List ℕ) (g
     → IsBack how sheet images text
 by_groups tile pairs_are how text groups groups_are some outs wanted walk_is sheet images same have =
     by_walk (walked text how (seed_of text new.pairs) free (entities_of text new.pairs)) refl
-    (drawing_told text how new.pairs ∙ (ap (outlines_of how) (pairs_are text new.pairs new.is ∙ groups_are)
-    ∙ walk_is)) where
+    (ap (λ (seed : Option Pair). told outlines (walked text how seed free (entities_of text new.pairs)))
+    (seed_found text new.pairs)
+    ∙ (drawing_told text how new.pairs ∙ (ap (outlines_of how) (pairs_are text new.pairs new.is ∙ groups_are)
+    ∙ walk_is))) where
       new : AreRead (drawing text)
       new = is_drawing text (subst (λ (g : List Group). list_any ends g ≡ true) (sym groups_are) some)
 
@@ -115,11 +122,10 @@ by_groups tile pairs_are how text groups groups_are some outs wanted walk_is she
           let (past, inside, tiles) = tile text new.pairs new.is in
           let list_is : outlines shapes ≡ outs = cc in
           let own = sheet_ends text how new.pairs past tiles (seed_of text new.pairs) shapes is in
-          let back = sheet_of (seed_of text new.pairs) shapes in
+          let back = walked_sheet_of (seed_of text new.pairs) shapes in
           record {
             back = back;
-            is_read = ap (from_pairs text how) new.is
-                ∙ ap (and_then (λ (s : List Shape). Ok (sheet_of (seed_of text new.pairs) s))) is;
+            is_read = sheet_read text how new.pairs shapes (past, inside, tiles) new.is is;
             segments = own.points ∙ (ap all_ends list_is ∙ (same.ends ∙ sym have.points));
             heights = mapped_match (height_ends_of images.heights (map (imaged images) sheet.paths))
                 (height_ends_of back.heights back.paths)
@@ -144,7 +150,7 @@ read_back tile in_lines follow are_groups how bytes sheet images sheet_is fits s
           (λ (r : Result (List Pair) PairFault). IsNextShort r bytes sheet images) pairs_are short)
       by_pairs (Ok pairs) pairs_are =
           by_walk (walked bytes how (seed_of bytes pairs) free (entities_of bytes pairs)) refl
-          (subst (λ (r : Result (List Pair) PairFault). from_pairs bytes how r ≡ Ok sheet) pairs_are sheet_is) where
+          (sheet_walked bytes how pairs sheet (tile bytes pairs pairs_are) pairs_are sheet_is) where
             read : Reading
             read = record { bytes = bytes; pairs = pairs; sheet = sheet; images = images }
 
@@ -153,19 +159,20 @@ read_back tile in_lines follow are_groups how bytes sheet images sheet_is fits s
 
             by_walk : (result : Result (List Shape) LayerFault)
                 → walked bytes how (seed_of bytes pairs) free (entities_of bytes pairs) ≡ result
-                → and_then (λ (s : List Shape). Ok (sheet_of (seed_of bytes pairs) s)) result ≡ Ok sheet
+                → and_then (λ (s : List Shape). Ok (walked_sheet_of (seed_of bytes pairs) s)) result ≡ Ok sheet
                 → IsBack how sheet images (spliced bytes (drawing_text bytes sheet images) sheet.edits)
             by_walk (Err fault) walk_is made = absurd (cc)
             by_walk (Ok shapes) walk_is made =
                 let (past, inside, tiles) = tile bytes pairs pairs_are in
-                let same : sheet ≡ sheet_of (seed_of bytes pairs) shapes = cc in
+                let same : sheet ≡ walked_sheet_of (seed_of bytes pairs) shapes = cc in
                 let again = groups_again follow read how past tiles (in_lines bytes pairs pairs_are)
                 (seed_of bytes pairs)
                 refl shapes walk_is same fits few in
                 let walks = again.again alone (inl refl) in
                 let groups = flat_map (groups_for read) pairs in
                 let outs : outlines_of how groups ≡ Some walks.outs =
-                ap (λ (seeded : Bool). walk how seeded alone (entities_told Outside groups)) again.kept.seeded
+                ap (λ (seeded : Bool). walk how seeded alone (entities_told Outside groups)) (again.kept.seeded
+                ∙ ap is_seeded (sym (seed_found bytes pairs)))
                 ∙ walks.walk_is in
                 by_groups tile are_groups how (spliced bytes (drawing_text bytes sheet images) sheet.edits) groups
                 (written tile in_lines follow how bytes pairs sheet images pairs_are sheet_is fits)

@@ -12,17 +12,18 @@ use Rattle.dxf_pairs.specs.Groups.{Group}
 use Rattle.dxf_pairs.specs.InLines.{GroupsFollow, AreInLines}
 use Rattle.dxf_layer.specs.declared.entities.Where.{Where}
 use Rattle.dxf_layer.specs.declared.entities.Where.TheVariants.{Outside, Begun, Header, Entities, Other}
-use Rattle.dxf_layer.specs.Entities.{Entity, has_code, ends_section, entity_of, behind, begins_entity, entities_from}
-use Rattle.dxf_layer.specs.Entities.{entity_end}
+use Rattle.dxf_layer.specs.Entities.{Entity, has_code, entity_of, entity_end, past_pairs}
+use Rattle.dxf_layer.specs.Sections.{ends_section}
+use Rattle.dxf_layer.specs.InsideSections.{behind, begins_entity, entities_from}
 use Rattle.dxf_layer.specs.Rendering.{Reading}
 use Rattle.dxf_layer.specs.Shapes.{Shape}
-use Rattle.dxf_layer.specs.Walks.{Place, free, staying, reading, walked}
+use Rattle.dxf_layer.specs.InsideWalks.{Place, free, staying, reading, walked}
 use Rattle.dxf_layer.proofs.Members.{IsIn, Follow, tiles_follow}
-use Rattle.dxf_layer.proofs.Telling.{next}
+use Rattle.dxf_layer.proofs.AnswerValues.{next}
 use Rattle.dxf_layer.proofs.GroupShapes.{is_seeded}
 use Rattle.dxf_layer.proofs.GroupWalks.{Spot, alone, kept}
 use Rattle.dxf_layer.proofs.GroupDrawings.{in_front, walk, entities_told}
-use Rattle.dxf_layer.proofs.Shaped.{paths_past, points_past}
+use Rattle.dxf_layer.proofs.WholeShapes.{paths_past, points_past}
 use Rattle.dxf_layer.proofs.StandingEdits.{stand}
 use Rattle.dxf_layer.proofs.ValueTurns.{AreGoodImages}
 use Rattle.dxf_layer.proofs.WalkTrails.{walked_on, trail}
@@ -34,7 +35,6 @@ use Rattle.dxf_layer.proofs.WalkJoins.{IsHeaded}
 use Rattle.dxf_layer.proofs.WalkJoins.{entities_front, headed_front, imaged_both}
 use Rattle.dxf_layer.proofs.EntityWritten.{written_for, imaged_spot}
 use Rattle.dxf_layer.proofs.EntityCases.{IsFound, IsNumbered}
-use Rattle.dxf_layer.specs.Entities.{past_pairs}
 use Rattle.dxf_layer.proofs.EntitySplits.{set_of, last_ends, IsHeadFirst, IsSplit, split_of, more_behind}
 use Rattle.dxf_layer.proofs.EntitySplits.{entities_behind}
 use Rattle.dxf_layer.proofs.EntityPlaces.{of_entity}

@@ -18,9 +18,9 @@ use Rattle.dxf_pairs.specs.InLines.{GroupsFollow}
 use Rattle.dxf_layer.specs.declared.drawing.Spot.{Spot as Read_point}
 use Rattle.dxf_layer.specs.declared.drawing.Vertex.{Vertex}
 use Rattle.dxf_layer.specs.Entities.{Entity, is_kind, entity_end}
-use Rattle.dxf_layer.specs.Fields.{and_then, fields_of, is_not_zero, zero_at}
+use Rattle.sheet_base.specs.Faults.{and_then}
+use Rattle.dxf_layer.specs.Fields.{fields_of, is_not_zero, zero_at}
 use Rattle.std.proofs.lemmas.List.{length-append}
-use Rattle.dxf_layer.specs.Handles.{handle}
 use Rattle.dxf_layer.specs.Shapes.{Shape, point_of, spot_edits}
 use Rattle.dxf_layer.specs.Points.{spot_at, dot_of, point_shapes, insert_shapes, second_spot, dots_of, text_shapes}
 use Rattle.dxf_layer.specs.declared.points.LineEnds.{LineEnds}
@@ -39,10 +39,11 @@ use Rattle.dxf_layer.proofs.TurnsKept.{IsReadSo}
 use Rattle.dxf_layer.proofs.DotTurns.{IsSet, spot_value_edits, point_written, insert_written}
 use Rattle.dxf_layer.proofs.TextTurns.{IsSecond, is_second, text_written, text_both}
 use Rattle.dxf_layer.proofs.WholeTurns.{whole_of, line_written}
-use Rattle.dxf_layer.proofs.Shaped.{edits_with}
+use Rattle.dxf_layer.proofs.WholeShapes.{edits_with}
 use Rattle.dxf_layer.proofs.OutlineEnds.{imaged_outlines, rows_behind, points_of, run_heights, AreAll}
 use Rattle.dxf_layer.proofs.EntityTurns.{IsWritten}
-use Rattle.dxf_layer.proofs.EntityWritten.{is_at, written_for, behind_whole, positions_found, length_mapped}
+use Rattle.dxf_layer.proofs.EntityWritten.{is_at, written_for, behind_whole, positions_found}
+use Rattle.dxf_layer.proofs.GroupPolylines.{length_mapped}
 
 -- each dot's image is alone, and the images of a line that has heights have some, all others none
 abbrev pub AloneFor : Option PathKind → Runs → ℕ → Type 0

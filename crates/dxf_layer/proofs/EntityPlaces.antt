@@ -1,6 +1,6 @@
 -- The edits of an entity stand at the pairs of the drawing.
-use Rattle.std.proofs.Common.{◌≡◌, ℕ, zero, suc, ◌+◌, ◌<◌, pos, List, [], ◌∷◌, ◌++◌, take, Bool, true, false, cond}
-use Rattle.std.proofs.Common.{refl, ap, sym, ◌∙◌, subst, arith, inl, inr, Ok, Option, None, Some}
+use Rattle.std.proofs.Common.{◌≡◌, ℕ, ◌+◌, ◌<◌, pos, List, [], ◌∷◌, ◌++◌, Bool, true, false, cond}
+use Rattle.std.proofs.Common.{refl, ap, sym, ◌∙◌, subst, arith, inl, inr, Ok, Option, Some}
 use Rattle.std.specs.Prelude.{◌⊎◌, ⊤, codes, take_while, int_lt}
 use Rattle.std.specs.List.{prefix_len}
 use Rattle.std.proofs.lemmas.List.{append_assoc}
@@ -18,8 +18,9 @@ use Rattle.sheet_base.specs.Fitting.{path_positions}
 use Rattle.dxf_layer.specs.declared.copies.Copied.{Copied}
 use Rattle.dxf_layer.specs.declared.drawing.Vertex.{Vertex}
 use Rattle.dxf_layer.specs.declared.entities.Where.{Where}
-use Rattle.dxf_layer.specs.Entities.{Entity, has_code, is_pair, is_no_head, ends_section, behind, begins_entity}
-use Rattle.dxf_layer.specs.Entities.{entity_of, entities_from, entity_end, past_pairs}
+use Rattle.dxf_layer.specs.Entities.{Entity, has_code, is_pair, is_no_head, entity_of, entity_end, past_pairs}
+use Rattle.dxf_layer.specs.Sections.{ends_section}
+use Rattle.dxf_layer.specs.InsideSections.{behind, begins_entity, entities_from}
 use Rattle.dxf_layer.specs.Fields.{fields_of}
 use Rattle.dxf_layer.specs.Shapes.{value_edit}
 use Rattle.dxf_layer.specs.Polylines.{vertices_in, vertex_edits}
@@ -31,6 +32,7 @@ use Rattle.dxf_layer.proofs.EditedPairs.{AddsGroups, IsOfValue, StartsAt, Stands
 use Rattle.dxf_layer.proofs.SplicedPairs.{no_end}
 use Rattle.dxf_layer.proofs.ValueTexts.{plain_value, plain_digits, plain_written}
 use Rattle.dxf_layer.proofs.CopiedPairs.{nothing_adds, both_add, pair_adds, AreBody, IsFront, copied_on, copied_adds}
+use Rattle.dxf_layer.proofs.CopiedPairs.{front_taken}
 use Rattle.dxf_layer.proofs.PairPlaces.{entity_is, stands_whole, tiles_behind, lines_behind}
 use Rattle.dxf_layer.proofs.VertexPlaces.{IsProper, vertices_stand}
 use Rattle.std.proofs.lemmas.Bool.{or_right}
@@ -73,11 +75,6 @@ of_entity bytes start line past (pair ∷ next ∷ pairs) tiles lines =
             starts = inr rest.starts;
             proper = (refl, rest.proper);
           })
-
-pub front_taken : (n : ℕ) (pairs : List Pair) → IsFront (take n pairs) pairs
-front_taken zero pairs = tt
-front_taken (suc n) [] = tt
-front_taken (suc n) (pair ∷ pairs) = (refl, front_taken n pairs)
 
 pub front_proper : (fields body pairs : List Pair) → IsFront fields body → IsProper body pairs → IsProper fields pairs
 front_proper [] [] [] front proper = proper

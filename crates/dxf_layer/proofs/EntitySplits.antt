@@ -12,7 +12,9 @@ use Rattle.dxf_pairs.specs.Laws.{AreTiles}
 use Rattle.dxf_pairs.specs.InLines.{StandsInLines, EndsDrawing, AreInLines}
 use Rattle.dxf_pairs.specs.Groups.{value_in}
 use Rattle.dxf_layer.specs.declared.entities.Where.TheVariants.{Entities}
-use Rattle.dxf_layer.specs.Entities.{has_code, is_no_head, ends_section, entity_of, entities_from, past_pairs}
+use Rattle.dxf_layer.specs.Entities.{has_code, is_no_head, entity_of, past_pairs}
+use Rattle.dxf_layer.specs.Sections.{ends_section}
+use Rattle.dxf_layer.specs.InsideSections.{entities_from}
 use Rattle.dxf_layer.proofs.Members.{tiles_follow}
 use Rattle.dxf_layer.proofs.CopiedPairs.{AreBody}
 use Rattle.dxf_layer.proofs.EntityPlaces.{AreOfEntity, of_entity}

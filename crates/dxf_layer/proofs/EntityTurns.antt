@@ -1,14 +1,15 @@
 -- What is written in the place of an entity, as entities without places, and what the walk reads of it.
-use Rattle.std.proofs.Common.{◌≡◌, Bool, true, false, refl, ap, sym, ◌∙◌, List, [], ◌∷◌, ◌++◌, flat_map, Option, None}
+use Rattle.std.proofs.Common.{◌≡◌, Bool, true, false, refl, ap, sym, List, [], ◌∷◌, ◌++◌, flat_map, Option, None}
 use Rattle.std.proofs.Common.{Some, pos}
 use Rattle.std.specs.Prelude.{⊤}
 use Rattle.std.proofs.lemmas.List.{append_assoc}
 use Rattle.sheet_base.specs.declared.flags.How.{How}
 use Rattle.dxf_pairs.specs.Groups.{Group}
-use Rattle.dxf_layer.proofs.Telling.{next}
+use Rattle.dxf_layer.proofs.AnswerValues.{next}
 use Rattle.dxf_layer.proofs.GroupFields.{coded}
 use Rattle.dxf_layer.proofs.GroupShapes.{Outline}
-use Rattle.dxf_layer.proofs.GroupWalks.{Told, Spot, Turn, ends_sections}
+use Rattle.dxf_layer.proofs.GroupKinds.{Told}
+use Rattle.dxf_layer.proofs.GroupWalks.{Spot, Turn, ends_sections}
 use Rattle.dxf_layer.proofs.GroupDrawings.{in_front, walk, turn}
 use Rattle.dxf_layer.proofs.LevelOutlines.{AreBack}
 

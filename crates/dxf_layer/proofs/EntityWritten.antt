@@ -16,10 +16,11 @@ use Rattle.dxf_layer.specs.Entities.{Entity, is_kind, entity_end}
 use Rattle.dxf_layer.specs.Shapes.{point_of}
 use Rattle.dxf_layer.specs.Polylines.{kind_with, heavy_shape}
 use Rattle.dxf_layer.specs.Rendering.{Reading}
-use Rattle.dxf_layer.specs.Walks.{Place, free, staying, reading}
+use Rattle.dxf_layer.specs.InsideWalks.{Place, free, staying, reading}
 use Rattle.dxf_layer.proofs.GroupShapes.{Outline, flat_outline, is_seeded}
-use Rattle.dxf_layer.proofs.GroupPolylines.{kind_of_points, light_outline}
-use Rattle.dxf_layer.proofs.GroupWalks.{entity_told, Spot, alone, kept, open_line, Turn, turn_of, ends_sections}
+use Rattle.dxf_layer.proofs.GroupPolylines.{kind_of_points, light_outline, length_mapped}
+use Rattle.dxf_layer.proofs.GroupKinds.{entity_told}
+use Rattle.dxf_layer.proofs.GroupWalks.{Spot, alone, kept, open_line, Turn, turn_of, ends_sections}
 use Rattle.dxf_layer.proofs.GroupDrawings.{turn}
 use Rattle.dxf_layer.proofs.StandingEdits.{stand, texts_in}
 use Rattle.dxf_layer.proofs.ValueTurns.{AreGoodImages}
@@ -141,10 +142,6 @@ kinds_same images count first kind (vertex ∷ vertices) good inside =
     some_points : (points : List Pt) → 0 < length points → kind_of_points kind points ≡ Some kind
     some_points [] some = absurd (omega arith)
     some_points (point ∷ points) some = refl
-
-pub length_mapped : {A B : Type 0} (f : A → B) (items : List A) → length (map f items) ≡ length items
-length_mapped f [] = refl
-length_mapped f (item ∷ items) = ap suc (length_mapped f items)
 
 pub end_written : (read : Reading) (how : How) (seed : Option Pair) (entity : Entity) (kind : PathKind)
     (vertices : List Vertex) (count first : ℕ) → IsSet read.bytes entity

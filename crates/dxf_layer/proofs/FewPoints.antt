@@ -15,21 +15,24 @@ use Rattle.dxf_pairs.specs.declared.pairs.Pair.{Pair}
 use Rattle.dxf_layer.specs.declared.drawing.Spot.{Spot}
 use Rattle.dxf_layer.specs.declared.points.LineEnds.{LineEnds}
 use Rattle.dxf_layer.specs.declared.drawing.Vertex.{Vertex}
-use Rattle.dxf_layer.specs.Entities.{Entity, entity_end, is_kind, ends_section}
-use Rattle.dxf_layer.specs.Fields.{and_then, fields_of, field, zero_at, is_there_as}
+use Rattle.dxf_layer.specs.Entities.{Entity, entity_end, is_kind}
+use Rattle.dxf_layer.specs.Sections.{ends_section}
+use Rattle.dxf_layer.specs.Fields.{fields_of, field, zero_at, is_there_as}
+use Rattle.sheet_base.specs.Faults.{and_then}
 use Rattle.dxf_layer.specs.Handles.{handle}
 use Rattle.dxf_layer.specs.Shapes.{Shape, point_of, with_shape, with_shapes}
-use Rattle.dxf_layer.specs.Points.{spot_at, dot_of, dots_of, point_shapes, insert_shapes, second_spot}
-use Rattle.dxf_layer.specs.Points.{text_shapes, line_of, line_ends, line_shapes}
+use Rattle.dxf_layer.specs.Points.{spot_at, dot_of, dots_of, point_shapes, insert_shapes, second_spot, text_shapes}
+use Rattle.dxf_layer.specs.Points.{line_of, line_ends, line_shapes}
 use Rattle.dxf_layer.specs.Polylines.{kind_of, count_of, begins_vertex, is_number, vertex_of, vertices_in, light_shape}
 use Rattle.dxf_layer.specs.Polylines.{light_shapes, plain, entity_vertex, heavy_shape}
-use Rattle.dxf_layer.specs.Walks.{Place, free, staying, reading, Step, shapes_read, upright, other_kind, shapes_of}
-use Rattle.dxf_layer.specs.Walks.{polyline_step, alone_step, is_read_alone, by_kind, stays, step_free, step_staying}
-use Rattle.dxf_layer.specs.Walks.{step_reading, step, walk_end, walked}
+use Rattle.dxf_layer.specs.InsideWalks.{Place, free, staying, reading, Step, shapes_read, other_kind, polyline_step}
+use Rattle.dxf_layer.specs.InsideWalks.{alone_step, by_kind, stays, step_free, step_staying, step_reading, step}
+use Rattle.dxf_layer.specs.InsideWalks.{walk_end, walked}
+use Rattle.dxf_layer.specs.Kinds.{upright, shapes_of, is_read_alone}
+use Rattle.dxf_layer.specs.Kinds.{left_out}
 use Rattle.dxf_layer.proofs.Members.{went, Follow, Lies, lies, one_before, IsField, spot_fields}
 use Rattle.dxf_layer.proofs.LineRises.{line_parts}
-use Rattle.dxf_layer.proofs.Entered.{either, IsLaid}
-use Rattle.dxf_layer.proofs.Ordered.{left_out}
+use Rattle.dxf_layer.proofs.EntityEdits.{either, IsLaid}
 use Rattle.dxf_layer.proofs.Sections.{AreSpread}
 
 -- the points of shapes

@@ -18,7 +18,7 @@ use Rattle.sheet_base.proofs.HeightLists.{none_in}
 use Rattle.sheet_base.proofs.ImageRuns.{spread, ends_within}
 use Rattle.dxf_layer.specs.declared.drawing.Rise.{Rise}
 use Rattle.dxf_layer.specs.Shapes.{Shape, heights_by, rows_of}
-use Rattle.dxf_layer.proofs.Shaped.{IsWholeBy, AreWhole}
+use Rattle.dxf_layer.proofs.WholeShapes.{IsWholeBy, AreWhole}
 use Rattle.dxf_layer.proofs.OutlineEnds.{rows_behind, points_of, heights_in, heights_of, one_each, run_heights, AreAll}
 use Rattle.dxf_layer.proofs.OutlineEnds.{RisesFit}
 use Rattle.dxf_layer.proofs.ValueTurns.{AreGoodImages}

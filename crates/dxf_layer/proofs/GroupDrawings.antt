@@ -11,20 +11,22 @@ use Rattle.dxf_pairs.specs.Groups.{Group, group_in, value_in}
 use Rattle.dxf_layer.specs.declared.drawing.Vertex.{Vertex}
 use Rattle.dxf_layer.specs.declared.entities.Where.{Where}
 use Rattle.dxf_layer.specs.declared.entities.Where.TheVariants.{Outside, Begun, Header, Entities, Other}
-use Rattle.dxf_layer.specs.Entities.{Entity, has_code, is_kind, section, behind, is_no_head, entity_of, begins_entity}
-use Rattle.dxf_layer.specs.Entities.{entities_from}
-use Rattle.dxf_layer.specs.Fields.{and_then}
-use Rattle.dxf_layer.specs.Handles.{is_handle, as_seed, names_seed, seed_from}
+use Rattle.dxf_layer.specs.Entities.{Entity, has_code, is_kind, is_no_head, entity_of}
+use Rattle.dxf_layer.specs.InsideSections.{section, behind, begins_entity, entities_from, names_seed, seed_from}
+use Rattle.dxf_layer.specs.Handles.{is_handle}
+use Rattle.dxf_layer.specs.Seeds.{as_seed}
+use Rattle.sheet_base.specs.Faults.{and_then}
 use Rattle.dxf_layer.specs.Shapes.{Shape}
 use Rattle.dxf_layer.specs.Polylines.{entity_vertex, heavy_shape}
-use Rattle.dxf_layer.specs.Walks.{Place, free, staying, reading, Step, shapes_read, step_reading, step, walk_end}
-use Rattle.dxf_layer.specs.Walks.{walked}
-use Rattle.dxf_layer.proofs.Telling.{next, told, chain, either_told, front_mapped}
+use Rattle.dxf_layer.specs.InsideWalks.{Place, free, staying, reading, Step, shapes_read, step_reading, step, walk_end}
+use Rattle.dxf_layer.specs.InsideWalks.{walked}
+use Rattle.dxf_layer.proofs.AnswerValues.{next, told, chain, either_told, front_mapped}
 use Rattle.dxf_layer.proofs.GroupFields.{coded, fields_in, groups_in}
 use Rattle.dxf_layer.proofs.GroupShapes.{Outline, outline, flat_outline, outlines, is_seeded}
 use Rattle.dxf_layer.proofs.GroupPolylines.{kind_with_told, spots_of, spot_point, light_outline, own_point, own_told}
-use Rattle.dxf_layer.proofs.GroupWalks.{Told, entity_told, has_kind, Spot, alone, kept, open_line, spot_told, Turn}
-use Rattle.dxf_layer.proofs.GroupWalks.{turn_told, turn_of, ends_sections, free_turn, free_told, kept_turn, kept_told}
+use Rattle.dxf_layer.proofs.GroupKinds.{Told, entity_told, has_kind}
+use Rattle.dxf_layer.proofs.GroupWalks.{Spot, alone, kept, open_line, spot_told, Turn, turn_told, turn_of}
+use Rattle.dxf_layer.proofs.GroupWalks.{ends_sections, free_turn, free_told, kept_turn, kept_told}
 
 -- an entity behind the points so far of a polyline
 abbrev pub with_more : PathKind → List Pt → Pt → Option Turn

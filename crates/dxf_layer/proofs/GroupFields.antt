@@ -13,12 +13,13 @@ use Rattle.dxf_pairs.specs.declared.pairs.Pair.{Pair}
 use Rattle.dxf_pairs.specs.Groups.{Group, group_in, value_in}
 use Rattle.dxf_layer.specs.declared.fields.Read.{Read}
 use Rattle.dxf_layer.specs.Entities.{Entity, has_code}
-use Rattle.dxf_layer.specs.Fields.{and_then, fields_of, at_most_one, field, there, wanted, read_of, coordinate}
+use Rattle.sheet_base.specs.Faults.{and_then}
+use Rattle.dxf_layer.specs.Fields.{fields_of, at_most_one, field, there, wanted, read_of, coordinate}
 use Rattle.dxf_layer.specs.Fields.{coordinate_at, is_exactly, equals, is_there_as, is_not_zero, line_unless_zero}
 use Rattle.dxf_layer.specs.Fields.{refused_at, zero_at}
 use Rattle.dxf_layer.specs.Shapes.{point_of}
 use Rattle.dxf_layer.specs.Points.{spot_at}
-use Rattle.dxf_layer.proofs.Telling.{next, told, chain, either_told, filter_mapped, front_mapped}
+use Rattle.dxf_layer.proofs.AnswerValues.{next, told, chain, either_told, filter_mapped, front_mapped}
 
 abbrev pub coded : ℤ → Group → Bool
 coded code group = int_eq group.code code

@@ -1,5 +1,6 @@
 -- What is read of the groups of polylines and their vertices, without places.
-use Rattle.std.proofs.Common.{◌≡◌, ℕ, suc, ℤ, pos, Bool, true, false, cond, refl, ap, sym, ◌∙◌, List, [], ◌∷◌, map, length}
+use Rattle.std.proofs.Common.{◌≡◌, ℕ, suc, ℤ, pos, Bool, true, false, cond, refl, ap, sym, ◌∙◌, List, [], ◌∷◌, map}
+use Rattle.std.proofs.Common.{length}
 use Rattle.std.proofs.Common.{option_map, Option, None, Some, Result, Ok, Err}
 use Rattle.std.specs.Prelude.{◌&&◌, ◌||◌, not, if◌then◌else◌}
 use Rattle.plane_base.specs.declared.shapes.Pt.{Pt}
@@ -13,14 +14,15 @@ use Rattle.dxf_layer.specs.declared.drawing.Spot.{Spot}
 use Rattle.dxf_layer.specs.declared.drawing.Vertex.{Vertex}
 use Rattle.dxf_layer.specs.declared.fields.Read.{Read}
 use Rattle.dxf_layer.specs.Entities.{Entity, has_code, entity_end}
-use Rattle.dxf_layer.specs.Fields.{and_then, fields_of, field, wanted, coordinate, equals, zero_at}
+use Rattle.sheet_base.specs.Faults.{and_then}
+use Rattle.dxf_layer.specs.Fields.{fields_of, field, wanted, coordinate, equals, zero_at}
 use Rattle.dxf_layer.specs.Handles.{handle}
 use Rattle.dxf_layer.specs.Shapes.{point_of}
 use Rattle.dxf_layer.specs.Points.{spot_at}
 use Rattle.dxf_layer.specs.Polylines.{kind_by, kind_of, kind_with, is_group_code, fault_in_group, first_fault}
 use Rattle.dxf_layer.specs.Polylines.{past_group, vertex_of, begins_vertex, is_number as is_number_pair, vertices_in}
 use Rattle.dxf_layer.specs.Polylines.{as_count, count_of, light_shape, light_shapes, plain, entity_vertex}
-use Rattle.dxf_layer.proofs.Telling.{next, told, chain, either_told}
+use Rattle.dxf_layer.proofs.AnswerValues.{next, told, chain, either_told}
 use Rattle.dxf_layer.proofs.GroupFields.{coded, groups_in, fields_told, itself, value_at, field_told, value_wanted}
 use Rattle.dxf_layer.proofs.GroupFields.{wanted_told, number_in, mm_of, coordinate_told, point_at, point_told}
 use Rattle.dxf_layer.proofs.GroupFields.{is_number, zero_in, zero_told, done_unless}
@@ -228,7 +230,7 @@ light_from exact fields kind = next (light_with fields kind) (points_in exact fi
 abbrev pub light_outlines : Bool → List Group → Option (List Outline)
 light_outlines exact fields = next (light_from exact fields) (kind_in fields)
 
-length_mapped : {A B : Type 0} (f : A → B) (items : List A) → length (map f items) ≡ length items
+pub length_mapped : {A B : Type 0} (f : A → B) (items : List A) → length (map f items) ≡ length items
 length_mapped f [] = refl
 length_mapped f (item ∷ items) = ap suc (length_mapped f items)
 

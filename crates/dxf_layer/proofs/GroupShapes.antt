@@ -17,13 +17,14 @@ use Rattle.dxf_layer.specs.declared.drawing.Spot.{Spot}
 use Rattle.dxf_layer.specs.declared.fields.Read.{Read}
 use Rattle.dxf_layer.specs.declared.points.LineEnds.{LineEnds}
 use Rattle.dxf_layer.specs.Entities.{Entity}
-use Rattle.dxf_layer.specs.Fields.{and_then, field, there, coordinate, is_not_zero, zero_at}
+use Rattle.sheet_base.specs.Faults.{and_then}
+use Rattle.dxf_layer.specs.Fields.{field, there, coordinate, is_not_zero, zero_at}
 use Rattle.dxf_layer.specs.Handles.{handle, has_next}
 use Rattle.dxf_layer.specs.Shapes.{Shape, point_of, heights_by}
 use Rattle.dxf_layer.specs.Points.{spot_at, dot_of, point_shapes, insert_shapes, second_by, second_spot, dots_of}
 use Rattle.dxf_layer.specs.Points.{text_shapes, height_of, height, are_level, both_heights, unless_level, rise_of}
 use Rattle.dxf_layer.specs.Points.{line_of, line_ends, line_shapes}
-use Rattle.dxf_layer.proofs.Telling.{next, told, chain, either_told}
+use Rattle.dxf_layer.proofs.AnswerValues.{next, told, chain, either_told}
 use Rattle.dxf_layer.proofs.GroupFields.{groups_in, itself, value_at, field_told, point_at, point_told}
 use Rattle.dxf_layer.proofs.GroupFields.{is_other_than_zero, not_zero_told, zero_in, zero_told, done_unless}
 use Rattle.dxf_layer.proofs.GroupFields.{there_told, number_in, mm_of, coordinate_told}

@@ -7,10 +7,11 @@ use Rattle.dxf_pairs.specs.declared.pairs.Pair.{Pair}
 use Rattle.dxf_pairs.specs.Groups.{Group}
 use Rattle.dxf_layer.specs.declared.entities.Where.{Where}
 use Rattle.dxf_layer.specs.declared.entities.Where.TheVariants.{Outside, Header, Entities}
-use Rattle.dxf_layer.specs.Entities.{ends_section}
-use Rattle.dxf_layer.specs.Handles.{as_seed, seed_from}
+use Rattle.dxf_layer.specs.Sections.{ends_section}
+use Rattle.dxf_layer.specs.Seeds.{as_seed}
+use Rattle.dxf_layer.specs.InsideSections.{seed_from}
 use Rattle.dxf_layer.proofs.GroupShapes.{is_seeded}
-use Rattle.dxf_layer.proofs.GroupWalks.{Told}
+use Rattle.dxf_layer.proofs.GroupKinds.{Told}
 use Rattle.dxf_layer.proofs.GroupDrawings.{begins_seeded, seeded_from}
 use Rattle.dxf_layer.proofs.CopiedPairs.{AreBody}
 use Rattle.dxf_layer.proofs.EntityTurns.{groups_told, HaveNoHead, AreWholeTold}
@@ -30,7 +31,7 @@ pub record IsKept (bytes : List ℕ) (place : Where) (pairs : List Pair) (groups
 pub kept_none : (bytes : List ℕ) (place : Where) → IsKept bytes place [] []
 kept_none bytes place = record { begins = λ is. refl; seeded = refl; ending = λ some. absurd some }
 
-any_behind : (groups more : List Group) → list_any ends more ≡ true → list_any ends (groups ++ more) ≡ true
+pub any_behind : (groups more : List Group) → list_any ends more ≡ true → list_any ends (groups ++ more) ≡ true
 any_behind [] more is = is
 any_behind (group ∷ groups) more is = or_right (ends group) (list_any ends (groups ++ more))
     (any_behind groups more is)

@@ -1,5 +1,5 @@
 -- What is written of a drawing is a drawing: its last pair stays.
-use Rattle.std.proofs.Common.{◌≡◌, ℕ, ◌+◌, ◌≤◌, ◌<◌, true, false, refl, sym, subst, List, [], ◌∷◌, ◌++◌, flat_map}
+use Rattle.std.proofs.Common.{◌≡◌, ℕ, ◌+◌, ◌≤◌, ◌<◌, true, false, refl, sym, subst, List, [], ◌∷◌, flat_map}
 use Rattle.std.proofs.Common.{filter, Result, Ok, Err, arith, inl, inr, None, find}
 use Rattle.std.specs.Prelude.{⊤}
 use Rattle.std.specs.List.{list_any}
@@ -21,7 +21,7 @@ use Rattle.dxf_layer.proofs.EditedPairs.{StartsAt, StandsOn, StandOn, groups_in}
 use Rattle.dxf_layer.proofs.SplicedPairs.{no_end}
 use Rattle.dxf_layer.proofs.WrittenGroups.{ends, is_drawing}
 use Rattle.dxf_layer.proofs.WrittenPairs.{edits_stand, written}
-use Rattle.std.proofs.lemmas.Bool.{or_right}
+use Rattle.dxf_layer.proofs.KeptSeeds.{any_behind}
 
 -- ---- no edit is at the last pair
 pub record IsAside (pair : Pair) (edit : Edit) : Type 0 where
@@ -97,10 +97,6 @@ none_replaces pair [] aside = refl
 none_replaces pair (edit ∷ edits) aside = let here = aside.0.of_value in rw here (none_replaces pair edits aside.1)
 
 -- ---- so the groups come to an end
-any_behind : (groups more : List Group) → list_any ends more ≡ true → list_any ends (groups ++ more) ≡ true
-any_behind [] more is = is
-any_behind (group ∷ groups) more is = or_right (ends group) (list_any ends (groups ++ more))
-    (any_behind groups more is)
 
 abbrev AllAsideLast : List Pair → List Edit → Type 0
 AllAsideLast pairs [] = ⊤
@@ -152,7 +148,7 @@ written_is_a_drawing tile in_lines follow how bytes sheet images sheet_is fits =
         let read : Reading = record { bytes = bytes; pairs = pairs; sheet = sheet; images = images } in
         let (past, inside, tiles) = tile bytes pairs pairs_are in
         let lines = in_lines bytes pairs pairs_are in
-        let stand = edits_stand follow how read past tiles lines pairs_are sheet sheet_is in
+        let stand = edits_stand follow how read past inside tiles lines pairs_are sheet sheet_is in
         let some : list_any ends (flat_map (groups_for read) pairs) ≡ true =
         last_ends read pairs sheet.edits lines (all_aside read 0 1 past pairs sheet.edits lines tiles stand) in
         let found = is_drawing text (subst (λ (groups : List Group). list_any ends groups ≡ true)

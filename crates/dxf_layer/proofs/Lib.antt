@@ -1,87 +1,94 @@
 -- The files of lemmas of dxf_layer.
-pub mod Rows
-pub mod Lists
-pub mod Vertices
-pub mod Growing
-pub mod Light
-pub mod Stepping
-pub mod Settling
-pub mod Visits
-pub mod Apart
-pub mod Members
-pub mod Shaped
-pub mod LineRises
-pub mod VertexOrder
-pub mod Entered
-pub mod Ordered
-pub mod Sections
-pub mod Whole
-pub mod Copying
-pub mod Fronts
-pub mod Numbers
-pub mod SeedForm
-pub mod Taking
-pub mod Telling
-pub mod GroupFields
-pub mod GroupShapes
-pub mod GroupPolylines
-pub mod GroupWalks
-pub mod GroupDrawings
-pub mod WrittenGroups
-pub mod WrittenNumbers
-pub mod OutlineEnds
-pub mod LevelOutlines
-pub mod StandingEdits
-pub mod ChangedFields
-pub mod TurnsKept
-pub mod EditedPairs
-pub mod SplicedPairs
-pub mod ValueTexts
-pub mod CopiedPairs
-pub mod PairPlaces
-pub mod VertexPlaces
-pub mod EntityPlaces
-pub mod ShapeEdits
-pub mod WalkedEdits
-pub mod WrittenPairs
-pub mod CopiedGroups
-pub mod CopyTurns
-pub mod EntityTurns
-pub mod CopyWalks
-pub mod ValueTurns
-pub mod DotTurns
-pub mod TextTurns
-pub mod WholeTurns
-pub mod StepKinds
-pub mod WalkTrails
-pub mod EntityWritten
-pub mod EntityCases
-pub mod StepWritten
-pub mod TrailPlaces
-pub mod WalkJoins
-pub mod EntitySplits
-pub mod WrittenWalks
-pub mod WalkAgain
-pub mod EntitiesAgain
-pub mod EntityGroups
-pub mod FittingImages
-pub mod SeedEdits
-pub mod KeptSeeds
-pub mod SeedAgain
-pub mod SeedSilent
-pub mod ReadAgain
-pub mod DrawingsReadBack
-pub mod LightGroups
-pub mod LightPoints
-pub mod LightVertices
-pub mod LightRooms
-pub mod LightPlaces
-pub mod LightWritten
-pub mod LastPairs
-pub mod CopyLaws
-pub mod GivenHandles
-pub mod OwnFields
+mod Rows
+mod Lists
+mod Vertices
+mod ReadSizes
+mod Light
+mod WalkSteps
+mod EditMoves
+mod Visits
+mod Apart
+mod SortedEdits
+mod Members
+mod WholeShapes
+mod LineRises
+mod VertexOrder
+mod EntityEdits
+mod SheetOrder
+mod Sections
+mod ItemWalks
+mod SectionWalks
+mod SectionSeeds
+mod EditPlaces
+mod Whole
+pub mod WalkedSheets
+mod CopyLists
+mod Fronts
+mod Numbers
+mod SeedForm
+mod HandleCounts
+mod AnswerValues
+mod GroupFields
+mod GroupShapes
+mod GroupPolylines
+mod GroupKinds
+mod GroupWalks
+mod GroupDrawings
+mod WrittenGroups
+mod WrittenNumbers
+mod OutlineEnds
+mod LevelOutlines
+mod StandingEdits
+mod ChangedFields
+mod TurnsKept
+mod EditedPairs
+mod SplicedPairs
+mod ValueTexts
+mod CopiedPairs
+mod PairPlaces
+mod VertexPlaces
+mod EntityPlaces
+mod ShapeEdits
+mod WalkedEdits
+mod WrittenPairs
+mod CopiedGroups
+mod CopyTurns
+mod EntityTurns
+mod CopyWalks
+mod ValueTurns
+mod DotTurns
+mod TextTurns
+mod WholeTurns
+mod StepKinds
+mod WalkTrails
+mod EntityWritten
+mod EntityCases
+mod StepWritten
+mod TrailPlaces
+mod WalkJoins
+mod EntitySplits
+mod WrittenWalks
+mod WalkAgain
+mod EntitiesAgain
+mod EntityGroups
+mod FittingImages
+mod SeedEdits
+mod KeptSeeds
+mod SeedAgain
+mod SeedSilent
+mod ReadAgain
+mod DrawingsReadBack
+mod LightGroups
+mod LightPoints
+mod LightVertices
+mod LightRooms
+mod LightPlaces
+mod LightWritten
+mod LastPairs
+mod CopyLaws
+mod GivenHandles
+mod OwnFields
 mod DrawingOutcomes
-pub mod FewPoints
+mod FewPoints
 mod ReadSheets
 mod MemoryFaults

@@ -12,11 +12,12 @@ use Rattle.sheet_base.specs.declared.edits.What.TheVariants.{Tally}
 use Rattle.dxf_pairs.specs.declared.pairs.Pair.{Pair}
 use Rattle.dxf_layer.specs.declared.drawing.Vertex.{Vertex}
 use Rattle.dxf_layer.specs.Entities.{Entity}
-use Rattle.dxf_layer.specs.Fields.{and_then, fields_of}
+use Rattle.sheet_base.specs.Faults.{and_then}
+use Rattle.dxf_layer.specs.Fields.{fields_of}
 use Rattle.dxf_layer.specs.Shapes.{Shape, point_of, value_edit, rows_of, with_shape}
 use Rattle.dxf_layer.specs.Polylines.{kind_of, kind_with, rows_from, vertices_in, vertex_edits, count_of, light_shape}
 use Rattle.dxf_layer.specs.Polylines.{light_shapes}
-use Rattle.dxf_layer.specs.Held.{with_vertices, with_edits, with_rows, AddsAs, AddsVertices}
+use Rattle.dxf_layer.specs.InsideContents.{with_vertices, with_edits, with_rows, AddsAs, AddsVertices}
 use Rattle.dxf_layer.proofs.Vertices.{same_contents}
 
 pub rows_same : (kind : PathKind) (first : ℕ) (vertices : List Vertex)

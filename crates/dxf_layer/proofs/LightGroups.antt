@@ -10,7 +10,7 @@ use Rattle.dxf_pairs.specs.declared.pairs.Pair.{Pair}
 use Rattle.dxf_pairs.specs.Groups.{Group, group_in}
 use Rattle.dxf_layer.proofs.GroupFields.{coded, fields_in}
 use Rattle.dxf_layer.proofs.GroupPolylines.{is_coordinate}
-use Rattle.dxf_layer.proofs.GroupWalks.{is_of_extrusion}
+use Rattle.dxf_layer.proofs.GroupKinds.{is_of_extrusion}
 use Rattle.dxf_layer.proofs.ChangedFields.{may_change, with_value, DoStay, Agree, agree_by, same_flat}
 
 abbrev pub is_small : Pair → Bool

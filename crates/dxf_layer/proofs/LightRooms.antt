@@ -19,7 +19,7 @@ use Rattle.dxf_pairs.specs.Laws.{AreTiles}
 use Rattle.dxf_pairs.specs.InLines.{StandsInLines, GroupsFollow}
 use Rattle.dxf_layer.specs.declared.drawing.Vertex.{Vertex}
 use Rattle.dxf_layer.specs.Entities.{has_code, past_pairs}
-use Rattle.dxf_layer.specs.Fields.{and_then}
+use Rattle.sheet_base.specs.Faults.{and_then}
 use Rattle.dxf_layer.specs.Polylines.{is_group_code, fault_in_group, first_fault, past_group, vertex_of, begins_vertex}
 use Rattle.dxf_layer.specs.Polylines.{is_number, vertices_in, vertex_edits}
 use Rattle.dxf_layer.specs.Rendering.{Reading, starts_before, coded_before, last_coded, field_copy, field_copies}
@@ -40,7 +40,7 @@ use Rattle.std.proofs.lemmas.Bool.{and_parts}
 abbrev pub room : ℕ → Vertex → Edit
 room n vertex = record { start = vertex.past; end = vertex.past; what = edits.Vertices n }
 
-in_six : (a b c d e f : List ℕ) → a ++ (b ++ ((c ++ d) ++ (e ++ f))) ≡ (a ++ (b ++ c)) ++ (d ++ (e ++ f))
+pub in_six : (a b c d e f : List ℕ) → a ++ (b ++ ((c ++ d) ++ (e ++ f))) ≡ (a ++ (b ++ c)) ++ (d ++ (e ++ f))
 in_six a b c d e f = simp append_assoc
 
 -- two fields that follow each other, the numbers of a point

@@ -11,7 +11,7 @@ use Rattle.dxf_pairs.specs.declared.pairs.Pair.{Pair}
 use Rattle.dxf_pairs.specs.Groups.{Group, value_in}
 use Rattle.dxf_layer.specs.declared.drawing.Vertex.{Vertex}
 use Rattle.dxf_layer.specs.Entities.{has_code}
-use Rattle.dxf_layer.specs.Fields.{and_then}
+use Rattle.sheet_base.specs.Faults.{and_then}
 use Rattle.dxf_layer.specs.Polylines.{is_group_code, fault_in_group, first_fault, past_group, vertex_of, begins_vertex}
 use Rattle.dxf_layer.specs.Polylines.{is_number, vertices_in}
 use Rattle.dxf_layer.specs.Rendering.{image_of, crossings_of}

@@ -24,13 +24,14 @@ use Rattle.dxf_layer.specs.Shapes.{value_edit, point_of}
 use Rattle.dxf_layer.specs.Polylines.{kind_of, kind_with, vertices_in, vertex_edits, count_of, as_count, light_shape}
 use Rattle.dxf_layer.specs.Rendering.{Reading, image_of, crossings_of}
 use Rattle.dxf_layer.proofs.Members.{IsIn, Follow, went, wanted_is, lies}
-use Rattle.dxf_layer.proofs.Telling.{next, told}
+use Rattle.dxf_layer.proofs.AnswerValues.{next, told}
 use Rattle.dxf_layer.proofs.Sections.{front_follows}
 use Rattle.dxf_layer.proofs.GroupFields.{coded, fields_in, groups_in, fields_told, itself, one_value, value_wanted}
 use Rattle.dxf_layer.proofs.GroupShapes.{flat_outline, is_seeded}
 use Rattle.dxf_layer.proofs.GroupPolylines.{kind_from, kind_in, kind_told, points_in, count_in, light_outline}
-use Rattle.dxf_layer.proofs.GroupPolylines.{light_outlines}
-use Rattle.dxf_layer.proofs.GroupWalks.{Told, alone, turn_of}
+use Rattle.dxf_layer.proofs.GroupPolylines.{light_outlines, length_mapped}
+use Rattle.dxf_layer.proofs.GroupKinds.{Told}
+use Rattle.dxf_layer.proofs.GroupWalks.{alone, turn_of}
 use Rattle.dxf_layer.proofs.ChangedFields.{with_value, DoStay, Agree, value_same, wanted_changed}
 use Rattle.dxf_layer.proofs.WrittenNumbers.{count_written}
 use Rattle.dxf_layer.proofs.StandingEdits.{stand, texts_in, stand_silent, silent_both, edit_behind, all_behind}
@@ -43,9 +44,8 @@ use Rattle.dxf_layer.proofs.EntityTurns.{HaveNoHead, no_head_both, IsWritten, on
 use Rattle.dxf_layer.proofs.OutlineEnds.{imaged_outlines}
 use Rattle.dxf_layer.proofs.LevelOutlines.{flat_back}
 use Rattle.dxf_layer.proofs.DotTurns.{IsSet, in_body, wanted_edit}
-use Rattle.dxf_layer.proofs.Shaped.{edits_with}
+use Rattle.dxf_layer.proofs.WholeShapes.{edits_with}
 use Rattle.dxf_layer.proofs.EntityWritten.{written_for, texts_at, is_at, no_images, images_both, kinds_same}
-use Rattle.dxf_layer.proofs.EntityWritten.{length_mapped}
 use Rattle.dxf_layer.proofs.EntityCases.{IsFound, LightsAreWritten, not_at_end}
 use Rattle.dxf_layer.proofs.LightGroups.{is_small, made, left, made_both, AreNumbers, fields_made, filter_made}
 use Rattle.dxf_layer.proofs.LightGroups.{other_code, made_agrees}

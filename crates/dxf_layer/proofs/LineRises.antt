@@ -1,13 +1,12 @@
 -- The heights of a line's two ends: which fields they are read of, and that they are within reach.
-use Rattle.std.proofs.Common.{◌≡◌, ◌≤◌, ℕ, pos, unsigned_abs, Bool, true, false, cond, List, refl, sym, subst}
+use Rattle.std.proofs.Common.{◌≡◌, ◌≤◌, ℕ, pos, unsigned_abs, Bool, true, false, cond, List, refl, subst}
 use Rattle.std.proofs.Common.{Option, None, Some, Result, Ok, Err}
 use Rattle.std.specs.Prelude.{◌&&◌, not}
 use Rattle.mm_decimal.specs.declared.limits.TheConstants.{LIMIT}
 use Rattle.mm_decimal.specs.declared.reading.MmRead.{MmRead}
 use Rattle.mm_decimal.specs.declared.reading.NumFault.{NumFault}
 use Rattle.mm_decimal.specs.Measured.{measured}
-use Rattle.mm_decimal.specs.Answers.{Answers}
-use Rattle.mm_decimal.proofs.MeasuredAnswers.{measured_answers}
+use Rattle.mm_decimal.proofs.MeasuredAnswers.{read_within}
 use Rattle.sheet_base.specs.declared.faults.LayerFault.{LayerFault}
 use Rattle.sheet_base.specs.declared.faults.LayerFault.TheVariants as faults
 use Rattle.dxf_pairs.specs.declared.pairs.Pair.{Pair}
@@ -17,21 +16,16 @@ use Rattle.dxf_layer.specs.declared.drawing.Spot.{Spot}
 use Rattle.dxf_layer.specs.declared.fields.Read.{Read}
 use Rattle.dxf_layer.specs.declared.points.LineEnds.{LineEnds}
 use Rattle.dxf_layer.specs.Entities.{Entity}
-use Rattle.dxf_layer.specs.Fields.{and_then, field, there, read_of, coordinate}
+use Rattle.sheet_base.specs.Faults.{and_then}
+use Rattle.dxf_layer.specs.Fields.{field, there, read_of, coordinate}
 use Rattle.dxf_layer.specs.Handles.{handle}
 use Rattle.dxf_layer.specs.Points.{spot_at, height, are_level, both_heights, unless_level, rise_of, line_ends}
 use Rattle.dxf_layer.proofs.Members.{went, some_there}
-use Rattle.dxf_layer.proofs.Shaped.{IsRiseWithin}
+use Rattle.dxf_layer.proofs.WholeShapes.{IsRiseWithin}
 
-within_limit : (text : List ℕ) (read : MmRead) → measured text ≡ Ok read → unsigned_abs read.mm ≤ LIMIT
-within_limit text read is =
-    let (short, found) = subst (Answers text) is (measured_answers text) in
-    let (value, has, known) = found in
-    subst (λ z. unsigned_abs z ≤ LIMIT) (sym known.mm) known.limit
-
-read_within : (bytes : List ℕ) (exact : Bool) (pair : Pair) (read : Read) → coordinate bytes exact pair ≡ Ok read
+coordinate_within : (bytes : List ℕ) (exact : Bool) (pair : Pair) (read : Read) → coordinate bytes exact pair ≡ Ok read
     → unsigned_abs read.mm ≤ LIMIT
-read_within bytes exact pair read is = by_number (measured (value_in bytes pair)) refl is
+coordinate_within bytes exact pair read is = by_number (measured (value_in bytes pair)) refl is
   where
     by_number : (found : Result MmRead NumFault) → measured (value_in bytes pair) ≡ found
         → read_of exact pair found ≡ Ok read → unsigned_abs read.mm ≤ LIMIT
@@ -45,7 +39,7 @@ read_within bytes exact pair read is = by_number (measured (value_in bytes pair)
         by_test false same =
             let is : record { pair = pair; mm = number.mm; lost = not number.exact } ≡ read = cc in
             subst (λ (r : Read). unsigned_abs r.mm ≤ LIMIT) is
-            (within_limit (value_in bytes pair) number found_is)
+            (read_within (value_in bytes pair) number found_is)
 
 -- both heights are there, and are read
 pub record AreBoth (bytes : List ℕ) (exact : Bool) (first second : Option Pair) (rise : Rise) : Type 0 where
@@ -141,8 +135,8 @@ rise_within bytes exact entity None is = tt
 rise_within bytes exact entity (Some rise) is =
     let fields = has_heights bytes exact entity (Some rise) is in
     let both = both_carried bytes exact entity fields.first fields.second rise fields.by in (
-      read_within bytes exact both.low rise.begin both.begin_is,
-      read_within bytes exact both.high rise.end both.end_is,
+      coordinate_within bytes exact both.low rise.begin both.begin_is,
+      coordinate_within bytes exact both.high rise.end both.end_is,
     )
 
 -- the parts of a line that is read

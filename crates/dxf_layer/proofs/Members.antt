@@ -10,7 +10,8 @@ use Rattle.dxf_pairs.specs.Laws.{AreTiles}
 use Rattle.dxf_layer.specs.declared.fields.Read.{Read}
 use Rattle.dxf_layer.specs.declared.drawing.Spot.{Spot}
 use Rattle.dxf_layer.specs.Entities.{Entity, has_code}
-use Rattle.dxf_layer.specs.Fields.{and_then, at_most_one, fields_of, field, there, wanted, read_of, coordinate}
+use Rattle.sheet_base.specs.Faults.{and_then}
+use Rattle.dxf_layer.specs.Fields.{at_most_one, fields_of, field, there, wanted, read_of, coordinate}
 use Rattle.dxf_layer.specs.Fields.{coordinate_at}
 use Rattle.dxf_layer.specs.Points.{spot_at}
 use Rattle.mm_decimal.specs.Measured.{measured}

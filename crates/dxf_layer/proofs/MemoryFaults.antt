@@ -1,8 +1,10 @@
 -- That memory runs out is no fault of a drawing.
-use Rattle.std.proofs.Common.{◌≡◌, ℕ, ◌+◌, ℤ, pos, Bool, true, false, cond, List, [], ◌∷◌, ◌++◌, length, filter, ap}
+use Rattle.std.proofs.Common.{◌≡◌, ℕ, ℤ, pos, Bool, true, false, cond, List, [], ◌∷◌, ◌++◌, length, filter}
+use Rattle.std.proofs.Common.{ap}
 use Rattle.std.proofs.Common.{refl}
 use Rattle.std.specs.Prelude.{◌&&◌, ◌||◌, not, codes, nat_eq, Option, Some, None, Result, Ok, Err}
 use Rattle.std.specs.List.{starts_with, list_all}
+use Rattle.std.specs.Str.{bytes_eq}
 use Rattle.mm_decimal.specs.Measured.{measured}
 use Rattle.mm_decimal.specs.declared.reading.MmRead.{MmRead}
 use Rattle.mm_decimal.specs.declared.reading.NumFault.{NumFault}
@@ -26,24 +28,26 @@ use Rattle.dxf_layer.specs.declared.drawing.Spot.{Spot}
 use Rattle.dxf_layer.specs.declared.drawing.Vertex.{Vertex}
 use Rattle.dxf_layer.specs.declared.fields.Read.{Read}
 use Rattle.dxf_layer.specs.declared.points.LineEnds.{LineEnds}
-use Rattle.dxf_layer.specs.Entities.{Entity, entities_of, entity_end, has_code, is_kind, ends_section}
-use Rattle.dxf_layer.specs.Fields.{and_then, fields_of, at_most_one, field, there, wanted, read_of, coordinate}
+use Rattle.dxf_layer.specs.Entities.{Entity, entity_end, has_code, is_kind}
+use Rattle.dxf_layer.specs.Fields.{fields_of, at_most_one, field, there, wanted, read_of, coordinate}
+use Rattle.sheet_base.specs.Faults.{and_then}
 use Rattle.dxf_layer.specs.Fields.{coordinate_at, equals, is_there_as, is_not_zero, line_unless_zero, not_zero_at}
-use Rattle.dxf_layer.specs.Fields.{refused_at, zero_at}
-use Rattle.dxf_layer.specs.Handles.{seed_of, has_next, handle}
+use Rattle.dxf_layer.specs.Fields.{refused_at, zero_at, in_turn}
+use Rattle.dxf_layer.specs.Seeds.{seed_of}
+use Rattle.dxf_layer.specs.Handles.{has_next, handle}
 use Rattle.dxf_layer.specs.Shapes.{Shape}
 use Rattle.dxf_layer.specs.Points.{spot_at, dot_of, dots_of, point_shapes, insert_shapes, second_by, second_spot}
 use Rattle.dxf_layer.specs.Points.{text_shapes, height, are_level, both_heights, unless_level, rise_of, line_of}
 use Rattle.dxf_layer.specs.Points.{line_ends, line_shapes}
 use Rattle.dxf_layer.specs.Polylines.{kind_by, kind_of, is_group_code, fault_in_group, first_fault, past_group}
-use Rattle.dxf_layer.specs.Polylines.{vertex_of}
-use Rattle.dxf_layer.specs.Polylines.{begins_vertex, is_number, vertices_in, as_count, count_of, light_shape}
-use Rattle.dxf_layer.specs.Polylines.{light_shapes, plain, entity_vertex, heavy_shape}
-use Rattle.dxf_layer.specs.Walks.{Place, free, staying, reading, Step, shapes_read, is_upright, repeated, no_second}
-use Rattle.dxf_layer.specs.Walks.{upright, other_kind, shapes_of, polyline_step, alone_step, is_read_alone, by_kind}
-use Rattle.dxf_layer.specs.Walks.{stays, step_free, step_staying, step_reading, step, walk_end, walked}
+use Rattle.dxf_layer.specs.Polylines.{vertex_of, begins_vertex, is_number, vertices_in, as_count, count_of, light_shape}
+use Rattle.dxf_layer.specs.Polylines.{light_shapes, plain, entity_vertex, heavy_shape, own_vertices, ends_polyline}
+use Rattle.dxf_layer.specs.Polylines.{heavy_shapes}
+use Rattle.dxf_layer.specs.Kinds.{is_upright, repeated, no_second, upright, shapes_of, is_read_alone, left_out}
+use Rattle.dxf_layer.specs.Kinds.{unless_on_paper, other_shapes, single_shapes, polyline_shapes, shapes_of_item}
 use Rattle.dxf_layer.specs.Drawings.{sheet_of, from_pairs, drawing_sheet}
-use Rattle.dxf_layer.proofs.Ordered.{left_out}
+use Rattle.dxf_layer.specs.Items.{Item, single, polyline, items_of}
+use Rattle.sheet_base.proofs.MemoryFaults.{Never, never_then, never_either}
 
 -- ---- pairs
 abbrev NeverPairs : Result (List Pair) PairFault → Type 0
@@ -82,19 +86,6 @@ never_drawing bytes = by (starts_with nat_eq bytes BINARY.now)
     by false = never_lines (lines bytes)
 
 -- ---- fields
-abbrev Never : {A : Type 0} → Result A LayerFault → Type 0
-Never {A} result = ◌≡◌ {A = Result A LayerFault} result (Err faults.NoMemory) → ⊥
-
-never_then : {A B : Type 0} (f : A → Result B LayerFault) (result : Result A LayerFault) → Never result
-    → ((value : A) → Never (f value)) → Never (and_then f result)
-never_then f (Ok value) first later = later value
-never_then f (Err fault) first later = λ is. let same : fault ≡ faults.NoMemory = cc in first (ap Err same)
-
-never_either : {A : Type 0} (test : Bool) (one other : Result A LayerFault) → Never one → Never other
-    → Never (cond test one other)
-never_either true one other first second = first
-never_either false one other first second = second
-
 never_most : (found : List Pair) → Never (at_most_one found)
 never_most [] = λ is. cc
 never_most (pair ∷ []) = λ is. cc
@@ -368,10 +359,9 @@ never_upright bytes entity =
     never_either (list_all (is_upright bytes) (fields_of entity)) (no_second (repeated [] (fields_of entity)))
     (Err (faults.Extrusion entity.head.line)) (never_no_second (repeated [] (fields_of entity))) (λ is. cc)
 
-never_other : (how : How) (entity : Entity) → Never (other_kind how entity)
+never_other : (how : How) (entity : Entity) → Never (other_shapes how entity)
 never_other how entity =
-    never_either how.drop_other (Ok (shapes_read (left_out entity ∷ []))) (Err (faults.Entity entity.head.line))
-    (λ is. cc) (λ is. cc)
+    never_either how.drop_other (Ok (left_out entity ∷ [])) (Err (faults.Entity entity.head.line)) (λ is. cc) (λ is. cc)
 
 never_shapes : (bytes : List ℕ) (how : How) (seed : Option Pair) (entity : Entity)
     → Never (shapes_of bytes how seed entity)
@@ -386,87 +376,67 @@ never_shapes bytes how seed entity =
     (insert_shapes bytes how.exact entity) (never_text bytes how.exact entity)
     (never_insert bytes how.exact entity))))
 
-never_alone : (bytes : List ℕ) (how : How) (seed : Option Pair) (entity : Entity)
-    → Never (alone_step bytes how seed entity)
-never_alone bytes how seed entity =
-    never_then (λ (flat : Unit {0}). and_then (λ (shapes : List Shape). Ok (shapes_read shapes))
-    (shapes_of bytes how seed entity)) (upright bytes entity) (never_upright bytes entity)
-    (λ flat. never_then (λ (shapes : List Shape). Ok (shapes_read shapes)) (shapes_of bytes how seed entity)
-    (never_shapes bytes how seed entity) (λ shapes is. cc))
+never_single : (bytes : List ℕ) (how : How) (seed : Option Pair) (entity : Entity)
+    → Never (single_shapes bytes how seed entity)
+never_single bytes how seed entity =
+    never_either (is_read_alone bytes entity) _ (other_shapes how entity)
+    (never_then (λ (flat : Unit {0}). shapes_of bytes how seed entity) (upright bytes entity)
+    (never_upright bytes entity) (λ flat. never_shapes bytes how seed entity)) (never_other how entity)
 
-never_polyline : (bytes : List ℕ) (entity : Entity) → Never (polyline_step bytes entity)
-never_polyline bytes entity =
-    never_then {B = Step} (λ (flat : Unit {0}). and_then
-    (λ (kind : PathKind). Ok (record { shapes = []; next = reading kind [] })) (kind_of bytes entity))
-    (upright bytes entity) (never_upright bytes entity)
-    (λ flat. never_then {B = Step} (λ (kind : PathKind). Ok (record { shapes = []; next = reading kind [] }))
-    (kind_of bytes entity) (never_kind bytes entity) (λ kind is. cc))
+never_in_turn : {A B : Type 0} (f : A → Result (List B) LayerFault) → ((item : A) → Never (f item))
+    → (items : List A) → Never (in_turn f items)
+never_in_turn f never [] = λ is. cc
+never_in_turn {A} {B} f never (item ∷ items) =
+    never_then (λ (here : List B). and_then (λ (more : List B). Ok (here ++ more)) (in_turn f items)) (f item)
+    (never item)
+    (λ here. never_then (λ (more : List B). Ok (here ++ more)) (in_turn f items) (never_in_turn f never items)
+    (λ more is. cc))
 
-never_by_kind : (bytes : List ℕ) (how : How) (seed : Option Pair) (entity : Entity)
-    → Never (by_kind bytes how seed entity)
-never_by_kind bytes how seed entity =
-    never_either (is_kind bytes (codes "POLYLINE") entity) (polyline_step bytes entity) _
-    (never_polyline bytes entity)
-    (never_either (is_read_alone bytes entity) (alone_step bytes how seed entity) (other_kind how entity)
-    (never_alone bytes how seed entity) (never_other how entity))
+never_ended : (bytes : List ℕ) (behind : Option Pair) → Never (ends_polyline bytes behind)
+never_ended bytes None = λ is. cc
+never_ended bytes (Some pair) =
+    never_either {A = Unit {0}} (bytes_eq (value_in bytes pair) (codes "SEQEND")) (Ok tt)
+    (Err (faults.Count pair.line)) (λ is. cc) (λ is. cc)
 
-never_free : (bytes : List ℕ) (how : How) (seed : Option Pair) (entity : Entity)
-    → Never (step_free bytes how seed entity)
-never_free bytes how seed entity =
-    never_either (ends_section bytes entity.head) (Ok (shapes_read [])) _ (λ is. cc)
-    (never_then (λ (paper : Option Pair). cond (is_there_as bytes 1 paper) (Ok (stays bytes entity))
-    (by_kind bytes how seed entity)) (field (pos 67) entity) (never_field (pos 67) entity)
-    (λ paper. never_either (is_there_as bytes 1 paper) (Ok (stays bytes entity)) (by_kind bytes how seed entity)
-    (λ is. cc) (never_by_kind bytes how seed entity)))
+never_heavy : (bytes : List ℕ) (exact : Bool) (seed : Option Pair) (entity : Entity) (vertices : List Entity)
+    (behind : Option Pair) → Never (heavy_shapes bytes exact seed entity vertices behind)
+never_heavy bytes exact seed entity vertices behind =
+    never_then (λ (kind : PathKind). and_then (λ (read : List Vertex). and_then
+    (λ (ends : Unit {0}). Ok (heavy_shape kind read ∷ [])) (ends_polyline bytes behind))
+    (own_vertices bytes exact seed vertices)) (kind_of bytes entity) (never_kind bytes entity)
+    (λ kind. never_then (λ (read : List Vertex). and_then (λ (ends : Unit {0}). Ok (heavy_shape kind read ∷ []))
+    (ends_polyline bytes behind)) (own_vertices bytes exact seed vertices)
+    (never_in_turn (λ (entity : Entity). and_then (λ (vertex : Vertex). Ok (vertex ∷ []))
+    (entity_vertex bytes exact seed entity))
+    (λ entity. never_then (λ (vertex : Vertex). Ok (vertex ∷ [])) (entity_vertex bytes exact seed entity)
+    (never_own bytes exact seed entity) (λ vertex is. cc)) vertices)
+    (λ read. never_then (λ (ends : Unit {0}). Ok (heavy_shape kind read ∷ [])) (ends_polyline bytes behind)
+    (never_ended bytes behind) (λ ends is. cc)))
 
-never_staying : (bytes : List ℕ) (how : How) (seed : Option Pair) (entity : Entity)
-    → Never (step_staying bytes how seed entity)
-never_staying bytes how seed entity =
-    never_either {A = Step} (is_kind bytes (codes "VERTEX") entity) (Ok (record { shapes = []; next = staying })) _
-    (λ is. cc)
-    (never_either (is_kind bytes (codes "SEQEND") entity) (Ok (shapes_read [])) (step_free bytes how seed entity)
-    (λ is. cc) (never_free bytes how seed entity))
+never_on_paper : (bytes : List ℕ) (entity : Entity) (rest : Result (List Shape) LayerFault) → Never rest
+    → Never (unless_on_paper bytes entity rest)
+never_on_paper bytes entity rest never =
+    never_then (λ (paper : Option Pair). cond (is_there_as bytes 1 paper) (Ok []) rest) (field (pos 67) entity)
+    (never_field (pos 67) entity)
+    (λ paper. never_either (is_there_as bytes 1 paper) (Ok []) rest (λ is. cc) never)
 
-never_reading : (bytes : List ℕ) (how : How) (seed : Option Pair) (kind : PathKind) (vertices : List Vertex)
-    (entity : Entity) → Never (step_reading bytes how seed kind vertices entity)
-never_reading bytes how seed kind vertices entity =
-    never_either {A = Step} (is_kind bytes (codes "VERTEX") entity)
-    (and_then (λ (vertex : Vertex). Ok (record { shapes = []; next = reading kind (vertices ++ vertex ∷ []) }))
-    (entity_vertex bytes how.exact seed entity)) _
-    (never_then {B = Step} (λ (vertex : Vertex). Ok
-    (record { shapes = []; next = reading kind (vertices ++ vertex ∷ []) }))
-    (entity_vertex bytes how.exact seed entity) (never_own bytes how.exact seed entity) (λ vertex is. cc))
-    (never_either (is_kind bytes (codes "SEQEND") entity) (Ok (shapes_read (heavy_shape kind vertices ∷ [])))
-    (Err (faults.Count entity.head.line)) (λ is. cc) (λ is. cc))
-
-never_step : (bytes : List ℕ) (how : How) (seed : Option Pair) (spot : Place) (entity : Entity)
-    → Never (step bytes how seed spot entity)
-never_step bytes how seed free entity = never_free bytes how seed entity
-never_step bytes how seed staying entity = never_staying bytes how seed entity
-never_step bytes how seed (reading kind vertices) entity = never_reading bytes how seed kind vertices entity
-
-never_end : (spot : Place) → Never (walk_end spot)
-never_end free = λ is. cc
-never_end staying = λ is. cc
-never_end (reading kind vertices) = λ is. cc
-
-never_walked : (bytes : List ℕ) (how : How) (seed : Option Pair) (entities : List Entity) (spot : Place)
-    → Never (walked bytes how seed spot entities)
-never_walked bytes how seed [] spot = never_end spot
-never_walked bytes how seed (entity ∷ entities) spot =
-    never_then (λ (here : Step). and_then (λ (more : List Shape). Ok (here.shapes ++ more))
-    (walked bytes how seed here.next entities)) (step bytes how seed spot entity)
-    (never_step bytes how seed spot entity)
-    (λ here. never_then (λ (more : List Shape). Ok (here.shapes ++ more)) (walked bytes how seed here.next entities)
-    (never_walked bytes how seed entities here.next) (λ more is. cc))
+never_item : (bytes : List ℕ) (how : How) (seed : Option Pair) (item : Item)
+    → Never (shapes_of_item bytes how seed item)
+never_item bytes how seed (single entity) =
+    never_on_paper bytes entity (single_shapes bytes how seed entity) (never_single bytes how seed entity)
+never_item bytes how seed (polyline entity vertices behind) =
+    never_on_paper bytes entity (polyline_shapes bytes how seed entity vertices behind)
+    (never_then (λ (flat : Unit {0}). heavy_shapes bytes how.exact seed entity vertices behind) (upright bytes entity)
+    (never_upright bytes entity) (λ flat. never_heavy bytes how.exact seed entity vertices behind))
 
 -- ---- a drawing
 never_from : (bytes : List ℕ) (how : How) (result : Result (List Pair) PairFault) → NeverPairs result
     → Never (from_pairs bytes how result)
 never_from bytes how (Ok pairs) never =
-    never_then (λ (shapes : List Shape). Ok (sheet_of (seed_of bytes pairs) shapes))
-    (walked bytes how (seed_of bytes pairs) free (entities_of bytes pairs))
-    (never_walked bytes how (seed_of bytes pairs) (entities_of bytes pairs) free) (λ shapes is. cc)
+    never_then (λ (shapes : List Shape). Ok (sheet_of (length bytes) (seed_of bytes pairs) shapes))
+    (in_turn (shapes_of_item bytes how (seed_of bytes pairs)) (items_of bytes pairs))
+    (never_in_turn (shapes_of_item bytes how (seed_of bytes pairs)) (never_item bytes how (seed_of bytes pairs))
+    (items_of bytes pairs)) (λ shapes is. cc)
 never_from bytes how (Err pair_faults.Binary) never = λ is. cc
 never_from bytes how (Err (pair_faults.Code line)) never = λ is. cc
 never_from bytes how (Err (pair_faults.Odd line)) never = λ is. cc

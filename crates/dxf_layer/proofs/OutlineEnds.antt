@@ -1,6 +1,7 @@
 -- The ends of the segments of paths are those of their outlines: their points, and their heights.
 use Rattle.std.proofs.Common.{◌≡◌, ℕ, zero, suc, ◌+◌, ◌-◌, ◌<◌, ◌≤◌, Bool, true, false, cond, refl, ap, sym, ◌∙◌, subst}
-use Rattle.std.proofs.Common.{List, [], ◌∷◌, ◌++◌, length, map, take, drop, flat_map, get_or, min, Option, None, Some, arith}
+use Rattle.std.proofs.Common.{List, [], ◌∷◌, ◌++◌, length, map, take, drop, flat_map, min, Option, None}
+use Rattle.std.proofs.Common.{Some, arith}
 use Rattle.std.specs.Prelude.{nat_lt, ⊤, slice_index_or}
 use Rattle.std.specs.List.{range_with_len}
 use Rattle.std.specs.Option.{is_some}
@@ -19,8 +20,8 @@ use Rattle.sheet_base.specs.Fitting.{Runs, run_begin, images_of}
 use Rattle.dxf_layer.specs.declared.drawing.Rise.{Rise}
 use Rattle.dxf_layer.specs.Shapes.{Shape, heights_by, rows_of, with_shape, with_shapes}
 use Rattle.std.proofs.Math.Seq.{take-append_seam, drop-append_seam}
-use Rattle.dxf_layer.proofs.Shaped.{IsWholeBy, AreWhole}
-use Rattle.dxf_layer.proofs.GroupShapes.{Outline, outline, outlines}
+use Rattle.dxf_layer.proofs.WholeShapes.{IsWholeBy, AreWhole}
+use Rattle.dxf_layer.proofs.GroupShapes.{Outline, outlines}
 
 -- ---- over a list of any kind, in order of the points
 -- those of a row

@@ -9,18 +9,18 @@ use Rattle.dxf_pairs.specs.declared.pairs.Pair.{Pair}
 use Rattle.dxf_pairs.specs.Laws.{AreTiles, PairsTile}
 use Rattle.dxf_pairs.specs.InLines.{AreInLines, PairsAreInLines}
 use Rattle.dxf_layer.specs.declared.drawing.Vertex.{Vertex}
-use Rattle.dxf_layer.specs.Entities.{Entity, has_code, entity_of}
-use Rattle.dxf_layer.specs.Fields.{and_then, fields_of}
+use Rattle.dxf_layer.specs.Entities.{Entity, entity_of}
+use Rattle.sheet_base.specs.Faults.{and_then}
+use Rattle.dxf_layer.specs.Fields.{fields_of}
 use Rattle.dxf_layer.specs.Polylines.{vertex_of, begins_vertex, is_number, vertices_in}
 use Rattle.dxf_layer.specs.Rendering.{Reading, coded_before}
 use Rattle.dxf_layer.specs.Copies.{HasOwnFields, VerticesCopyOwnFields}
-use Rattle.dxf_layer.proofs.Members.{went}
-use Rattle.dxf_layer.proofs.VertexOrder.{IsVertex, vertex_is}
+use Rattle.dxf_layer.proofs.VertexOrder.{IsVertex}
 use Rattle.dxf_layer.proofs.CopiedPairs.{IsFront}
-use Rattle.dxf_layer.proofs.PairPlaces.{before_is, coded, last_ten, last_twenty, tiles_behind, lines_behind}
-use Rattle.dxf_layer.proofs.VertexPlaces.{IsProper, ends_at, in_front_of, in_front_one, in_front_two}
-use Rattle.dxf_layer.proofs.EntityPlaces.{of_entity, front_taken, front_proper}
-use Rattle.std.proofs.lemmas.Bool.{and_parts}
+use Rattle.dxf_layer.proofs.PairPlaces.{before_is, last_ten, last_twenty, tiles_behind, lines_behind}
+use Rattle.dxf_layer.proofs.VertexPlaces.{IsProper, ends_at, in_front_of, in_front_one, in_front_two, first_vertex}
+use Rattle.dxf_layer.proofs.EntityPlaces.{of_entity, front_proper}
+use Rattle.dxf_layer.proofs.CopiedPairs.{front_taken}
 
 -- one vertex, with the fields of its group behind it
 one_vertex : (read : Reading) (past : ℕ) → AreTiles 0 1 read.pairs past
@@ -71,22 +71,10 @@ all_vertices read past tiles exact front (first ∷ second ∷ fields) (x ∷ y 
           → (vertices_in read.bytes exact (second ∷ fields) ≡ Ok vertices → AllByRecursion (HasOwnFields read) vertices)
           → AllByRecursion (HasOwnFields read) vertices
       by_tests true number begins made behind later =
-          let one = went (λ (vertex : Vertex). and_then (λ (more : List Vertex). Ok (vertex ∷ more))
-          (vertices_in read.bytes exact fields)) (vertex_of read.bytes exact first second fields) vertices made in
-          let more = went (λ (more : List Vertex). Ok (one.value ∷ more)) (vertices_in read.bytes exact fields) vertices
-          one.gives in
-          let whole : one.value ∷ more.value ≡ vertices = cc in
-          let codes = and_parts (has_code (pos 10) first) (has_code (pos 20) second) begins in
-          let vertex : IsVertex read.bytes x y fields one.value =
-          subst (λ (p : Pair). IsVertex read.bytes p y fields one.value) proper.0
-          (subst (λ (p : Pair). IsVertex read.bytes first p fields one.value) proper.1.0
-          (vertex_is read.bytes exact first second fields one.value one.is)) in
-          let ten : x.code ≡ pos 10 = sym (ap (λ (p : Pair). p.code) proper.0) ∙ coded first (pos 10) codes.0 in
-          let twenty : y.code ≡ pos 20 = sym (ap (λ (p : Pair). p.code) proper.1.0) ∙ coded second (pos 20) codes.1 in
-          subst (AllByRecursion (HasOwnFields read)) whole (
-            one_vertex read past tiles front fields x y pairs one.value are proper.1.1 ten twenty vertex,
-            behind
-                more.value more.is,
+          let v = first_vertex read.bytes exact first second x y fields vertices proper.0 proper.1.0 begins made in
+          subst (AllByRecursion (HasOwnFields read)) v.whole (
+            one_vertex read past tiles front fields x y pairs v.value are proper.1.1 v.ten v.twenty v.vertex,
+            behind v.more v.behind,
           )
       by_tests false true begins made behind later = absurd (cc)
       by_tests false false begins made behind later = later made

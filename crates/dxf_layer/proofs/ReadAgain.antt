@@ -12,18 +12,20 @@ use Rattle.dxf_pairs.specs.Laws.{AreTiles}
 use Rattle.dxf_pairs.specs.InLines.{AreInLines, GroupsFollow}
 use Rattle.dxf_layer.specs.declared.entities.Where.TheVariants.{Outside}
 use Rattle.dxf_layer.specs.declared.handles.TheConstants.{MOST_DIGITS}
-use Rattle.dxf_layer.specs.Entities.{entities_of}
-use Rattle.dxf_layer.specs.Handles.{seed_of, seed_edits}
-use Rattle.dxf_layer.specs.Shapes.{Shape, in_order, with_shapes}
-use Rattle.dxf_layer.specs.Walks.{free, walked}
-use Rattle.dxf_layer.specs.Drawings.{begun, sheet_of}
+use Rattle.dxf_layer.specs.InsideSections.{entities_of}
+use Rattle.dxf_layer.specs.Seeds.{seed_of, seed_edits}
+use Rattle.dxf_layer.specs.Shapes.{Shape, with_shapes}
+use Rattle.dxf_layer.specs.InsideOrdering.{in_order}
+use Rattle.dxf_layer.specs.InsideWalks.{free, walked}
+use Rattle.dxf_layer.specs.Drawings.{begun}
 use Rattle.dxf_layer.specs.Rendering.{Reading, next_behind}
 use Rattle.dxf_layer.specs.ReadBack.{groups_for}
+use Rattle.dxf_layer.specs.InsideSheets.{walked_sheet_of}
 use Rattle.dxf_layer.proofs.Members.{Follow, tiles_follow}
 use Rattle.dxf_layer.proofs.GroupShapes.{is_seeded}
-use Rattle.dxf_layer.proofs.Shaped.{AreWhole, edits_are}
+use Rattle.dxf_layer.proofs.WholeShapes.{AreWhole, edits_are}
 use Rattle.dxf_layer.proofs.Sections.{all_aside}
-use Rattle.dxf_layer.proofs.Ordered.{walk_good}
+use Rattle.dxf_layer.proofs.SheetOrder.{walk_good}
 use Rattle.dxf_layer.proofs.Whole.{entities_spread}
 use Rattle.dxf_layer.proofs.StandingEdits.{stand, stands_for, stand_in_order}
 use Rattle.dxf_layer.proofs.WalkTrails.{trail, trail_edits}
@@ -46,7 +48,7 @@ shapes_whole bytes how pairs past follow seed shapes is =
 -- the edits of a drawing's sheet are those of the next handle and of its entities
 edits_same : (read : Reading) (how : How) (seed : Option Pair) (shapes : List Shape)
     → walked read.bytes how seed free (entities_of read.bytes read.pairs) ≡ Ok shapes
-    → read.sheet ≡ sheet_of seed shapes
+    → read.sheet ≡ walked_sheet_of seed shapes
     → flat_map (groups_for read) read.pairs ≡ flat_map
     (stand read (seed_edits seed ++ trail read.bytes how seed 0 0 free (entities_of read.bytes read.pairs))) read.pairs
 edits_same read how seed shapes walk sheet_is =
@@ -65,7 +67,7 @@ pub groups_again : GroupsFollow → (read : Reading) (how : How) (past : ℕ) �
     → AreInLines read.bytes read.pairs → (seed : Option Pair) → seed_of read.bytes read.pairs ≡ seed
     → (shapes : List Shape)
     → walked read.bytes how seed free (entities_of read.bytes read.pairs) ≡ Ok shapes
-    → read.sheet ≡ sheet_of seed shapes → DoFit read.sheet read.images → next_behind read < 16 ^ MOST_DIGITS
+    → read.sheet ≡ walked_sheet_of seed shapes → DoFit read.sheet read.images → next_behind read < 16 ^ MOST_DIGITS
     → AreAgain read.bytes how (is_seeded seed) read.images 0 free Outside read.pairs
     (imaged_outlines read.images 0 shapes) (flat_map (groups_for read) read.pairs)
 groups_again follow read how past tiles lines seed seed_is shapes walk sheet_is fits few =

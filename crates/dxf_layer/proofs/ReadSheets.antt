@@ -2,6 +2,7 @@
 -- point, and its edits are in order.
 use Rattle.std.proofs.Common.{◌≡◌, ℕ, List, length, refl, sym, subst, arith}
 use Rattle.std.proofs.Common.{Result, Ok, Err}
+use Rattle.std.proofs.lemmas.List.Elements.{All-from_recursion}
 use Rattle.sheet_base.specs.declared.flags.How.{How}
 use Rattle.sheet_base.specs.declared.faults.LayerFault.{LayerFault}
 use Rattle.sheet_base.specs.Sheets.{Contents}
@@ -11,23 +12,25 @@ use Rattle.dxf_pairs.specs.declared.pairs.Pair.{Pair}
 use Rattle.dxf_pairs.specs.declared.faults.PairFault.{PairFault}
 use Rattle.dxf_pairs.specs.Pairs.{drawing}
 use Rattle.dxf_pairs.specs.Laws.{PairsTile, Tile}
-use Rattle.dxf_layer.specs.Entities.{entities_of}
-use Rattle.dxf_layer.specs.Fields.{and_then}
-use Rattle.dxf_layer.specs.Handles.{seed_of}
+use Rattle.dxf_layer.specs.InsideSections.{entities_of}
+use Rattle.dxf_layer.specs.Seeds.{seed_of}
+use Rattle.sheet_base.specs.Faults.{and_then}
 use Rattle.dxf_layer.specs.Shapes.{Shape, with_shapes}
-use Rattle.dxf_layer.specs.Walks.{free, walked}
-use Rattle.dxf_layer.specs.Drawings.{begun, sheet_of, from_pairs, drawing_sheet}
-use Rattle.dxf_layer.proofs.Whole.{pairs_follow, entities_spread, all_indexed, read_made}
+use Rattle.dxf_layer.specs.InsideWalks.{free, walked}
+use Rattle.dxf_layer.specs.Drawings.{begun, from_pairs, drawing_sheet}
+use Rattle.dxf_layer.specs.InsideSheets.{walked_sheet_of}
+use Rattle.dxf_layer.proofs.Whole.{pairs_follow, entities_spread, read_made}
 use Rattle.dxf_layer.proofs.FewPoints.{shapes_points, walk_few}
+use Rattle.dxf_layer.proofs.WalkedSheets.{sheet_walked}
 
 by_pairs : (bytes : List ℕ) (how : How) (pairs : List Pair) (sheet : Contents) → Tile bytes pairs
     → drawing bytes ≡ Ok pairs → drawing_sheet how bytes ≡ Ok sheet → IsSheetOf bytes sheet
 by_pairs bytes how pairs sheet tile pairs_are is =
     by_read (walked bytes how (seed_of bytes pairs) free (entities_of bytes pairs)) refl
-    (subst (λ read. from_pairs bytes how read ≡ Ok sheet) pairs_are is) where
+    (sheet_walked bytes how pairs sheet tile pairs_are is) where
       by_read : (read : Result (List Shape) LayerFault)
           → walked bytes how (seed_of bytes pairs) free (entities_of bytes pairs) ≡ read
-          → and_then (λ shapes. Ok (sheet_of (seed_of bytes pairs) shapes)) read ≡ Ok sheet
+          → and_then (λ shapes. Ok (walked_sheet_of (seed_of bytes pairs) shapes)) read ≡ Ok sheet
           → IsSheetOf bytes sheet
       by_read (Ok shapes) walk made =
           let seed = seed_of bytes pairs in
@@ -35,12 +38,12 @@ by_pairs bytes how pairs sheet tile pairs_are is =
           let few = walk_few bytes how seed (entities_of bytes pairs) free 0 (length bytes) shapes
           (entities_spread bytes pairs (length bytes) (pairs_follow bytes pairs tile)) walk in
           let count = shapes_points (begun seed) shapes in
-          let same : sheet ≡ sheet_of seed shapes = cc in
+          let same : sheet ≡ walked_sheet_of seed shapes = cc in
           subst (λ (s : Contents). IsSheetOf bytes s) (sym same) (record {
             tiled = whole.0;
             points = omega (arith, few, count);
             one_height_each = whole.2.each;
-            heights_in_reach = all_indexed IsHeightWithinReach (with_shapes (begun seed) shapes).heights
+            heights_in_reach = All-from_recursion IsHeightWithinReach (with_shapes (begun seed) shapes).heights
                 whole.2.reached;
             edits = whole.1;
           })

@@ -10,12 +10,14 @@ use Rattle.dxf_pairs.specs.declared.pairs.Pair.{Pair}
 use Rattle.dxf_pairs.specs.Groups.{value_in}
 use Rattle.dxf_layer.specs.declared.entities.Where.{Where}
 use Rattle.dxf_layer.specs.declared.entities.Where.TheVariants.{Outside, Begun, Header, Entities, Other}
-use Rattle.dxf_layer.specs.Entities.{Entity, has_code, is_no_head, is_kind, ends_section, behind, begins_entity}
-use Rattle.dxf_layer.specs.Entities.{entity_of, entities_from, entity_end, past_pairs}
-use Rattle.dxf_layer.specs.Handles.{is_handle, as_seed, names_seed, seed_from}
+use Rattle.dxf_layer.specs.Entities.{Entity, has_code, is_no_head, is_kind, entity_of, entity_end, past_pairs}
+use Rattle.dxf_layer.specs.Sections.{ends_section}
+use Rattle.dxf_layer.specs.InsideSections.{behind, begins_entity, entities_from, names_seed, seed_from}
+use Rattle.dxf_layer.specs.Handles.{is_handle}
+use Rattle.dxf_layer.specs.Seeds.{as_seed}
 use Rattle.dxf_layer.proofs.Members.{Follow, by_past, IsIn, lies}
-use Rattle.dxf_layer.proofs.Shaped.{IsClear}
-use Rattle.dxf_layer.proofs.Entered.{IsLaid}
+use Rattle.dxf_layer.proofs.WholeShapes.{IsClear}
+use Rattle.dxf_layer.proofs.EntityEdits.{IsLaid}
 
 -- the entities follow each other from one place to another
 abbrev pub AreSpread : ℕ → List Entity → ℕ → Type 0
@@ -236,3 +238,29 @@ vertex_ends_none bytes entity kind ends =
     never_both (has_code (pos 0) entity.head) (has_code (pos 0) entity.head)
     (subst (λ (v : List ℕ). ((has_code (pos 0) entity.head && bytes_eq v (codes "ENDSEC")) ||
     (has_code (pos 0) entity.head && bytes_eq v (codes "EOF"))) ≡ true) value ends)
+
+pub sequence_ends_none : (bytes : List ℕ) (entity : Entity) → is_kind bytes (codes "SEQEND") entity ≡ true
+    → ends_section bytes entity.head ≡ true → ⊥
+sequence_ends_none bytes entity kind ends =
+    let value : value_in bytes entity.head ≡ codes "SEQEND" =
+    (bytes_eq-Decides (value_in bytes entity.head) (codes "SEQEND")).0 kind in
+    never_both (has_code (pos 0) entity.head) (has_code (pos 0) entity.head)
+    (subst (λ (v : List ℕ). ((has_code (pos 0) entity.head && bytes_eq v (codes "ENDSEC")) ||
+    (has_code (pos 0) entity.head && bytes_eq v (codes "EOF"))) ≡ true) value ends)
+
+-- what ends a section is neither
+pub no_vertex : (bytes : List ℕ) (entity : Entity) → ends_section bytes entity.head ≡ true
+    → is_kind bytes (codes "VERTEX") entity ≡ false
+no_vertex bytes entity ends = by_test (is_kind bytes (codes "VERTEX") entity) refl where
+  by_test : (vertex : Bool) → is_kind bytes (codes "VERTEX") entity ≡ vertex
+      → is_kind bytes (codes "VERTEX") entity ≡ false
+  by_test true is = absurd (vertex_ends_none bytes entity is ends)
+  by_test false is = is
+
+pub no_sequence_end : (bytes : List ℕ) (entity : Entity) → ends_section bytes entity.head ≡ true
+    → is_kind bytes (codes "SEQEND") entity ≡ false
+no_sequence_end bytes entity ends = by_test (is_kind bytes (codes "SEQEND") entity) refl where
+  by_test : (last : Bool) → is_kind bytes (codes "SEQEND") entity ≡ last
+      → is_kind bytes (codes "SEQEND") entity ≡ false
+  by_test true is = absurd (sequence_ends_none bytes entity is ends)
+  by_test false is = is

@@ -12,8 +12,10 @@ use Rattle.dxf_pairs.specs.Groups.{Group, value_in}
 use Rattle.dxf_pairs.specs.InLines.{AreInLines}
 use Rattle.dxf_layer.specs.declared.entities.Where.{Where}
 use Rattle.dxf_layer.specs.declared.entities.Where.TheVariants.{Outside, Begun, Header, Entities, Other}
-use Rattle.dxf_layer.specs.Entities.{has_code, is_pair, behind}
-use Rattle.dxf_layer.specs.Handles.{is_handle, as_seed, names_seed, seed_from}
+use Rattle.dxf_layer.specs.Entities.{has_code, is_pair}
+use Rattle.dxf_layer.specs.InsideSections.{behind, names_seed, seed_from}
+use Rattle.dxf_layer.specs.Handles.{is_handle}
+use Rattle.dxf_layer.specs.Seeds.{as_seed}
 use Rattle.dxf_layer.specs.Rendering.{Reading}
 use Rattle.dxf_layer.proofs.GroupShapes.{is_seeded}
 use Rattle.dxf_layer.proofs.GroupDrawings.{behind_group, begins_seeded, is_group, names_next, seeded_from}

@@ -3,8 +3,10 @@ use Rattle.std.proofs.Common.{◌≡◌, ℕ, pos, List, [], ◌∷◌, Bool, tr
 use Rattle.dxf_pairs.specs.declared.pairs.Pair.{Pair}
 use Rattle.dxf_pairs.specs.Groups.{value_in}
 use Rattle.dxf_layer.specs.declared.entities.Where.{Where}
-use Rattle.dxf_layer.specs.Entities.{has_code, behind}
-use Rattle.dxf_layer.specs.Handles.{is_handle, as_seed, names_seed, seed_from}
+use Rattle.dxf_layer.specs.Entities.{has_code}
+use Rattle.dxf_layer.specs.InsideSections.{behind, names_seed, seed_from}
+use Rattle.dxf_layer.specs.Handles.{is_handle}
+use Rattle.dxf_layer.specs.Seeds.{as_seed}
 
 first_is : (bytes : List ℕ) (pairs : List Pair) (seed : Pair) → as_seed bytes pairs ≡ Some seed
     → is_handle (value_in bytes seed) ≡ true

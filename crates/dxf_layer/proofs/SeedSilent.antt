@@ -13,9 +13,11 @@ use Rattle.dxf_pairs.specs.InLines.{EndsDrawing, AreInLines}
 use Rattle.dxf_layer.specs.declared.entities.Where.{Where}
 use Rattle.dxf_layer.specs.declared.entities.Where.TheVariants.{Outside}
 use Rattle.dxf_layer.specs.declared.handles.TheConstants.{MOST_DIGITS}
-use Rattle.dxf_layer.specs.Entities.{Entity, has_code, is_no_head, ends_section, behind, begins_entity, entity_of}
-use Rattle.dxf_layer.specs.Entities.{entities_from, entities_of, entity_end}
-use Rattle.dxf_layer.specs.Handles.{is_handle, as_seed, names_seed, seed_from, seed_of, seed_edits}
+use Rattle.dxf_layer.specs.Entities.{Entity, has_code, is_no_head, entity_of, entity_end}
+use Rattle.dxf_layer.specs.Sections.{ends_section}
+use Rattle.dxf_layer.specs.InsideSections.{behind, begins_entity, entities_from, entities_of, names_seed, seed_from}
+use Rattle.dxf_layer.specs.Handles.{is_handle}
+use Rattle.dxf_layer.specs.Seeds.{as_seed, seed_of, seed_edits}
 use Rattle.dxf_layer.specs.Shapes.{value_edit}
 use Rattle.dxf_layer.specs.Rendering.{Reading, next_behind}
 use Rattle.dxf_layer.proofs.Members.{Follow, IsIn, Lies, lies}
@@ -27,6 +29,7 @@ use Rattle.dxf_layer.proofs.ValueTurns.{AreSome, some_at}
 use Rattle.dxf_layer.proofs.VertexPlaces.{some_between}
 use Rattle.dxf_layer.proofs.EntitySplits.{ends_later}
 use Rattle.dxf_layer.proofs.WrittenWalks.{IsHarmless, SilentOn}
+use Rattle.dxf_layer.proofs.SectionSeeds.{found_as}
 
 never_both : (b : Bool) → (b && false) ≡ true → ⊥
 never_both true is = cc
@@ -127,9 +130,10 @@ pub seed_silent : (bytes : List ℕ) (pairs : List Pair) (past : ℕ) → Follow
     → (seed : Option Pair) → seed_of bytes pairs ≡ seed → SilentOn bytes (seed_edits seed) (entities_of bytes pairs)
 seed_silent bytes pairs past follow some None is = nothing_silent bytes (entities_of bytes pairs)
 seed_silent bytes pairs past follow some (Some seed) is =
-    let is_in = seed_in bytes pairs Outside seed is in
+    let found = found_as bytes pairs (Some seed) is in
+    let is_in = seed_in bytes pairs Outside seed found in
     silent_from bytes seed 0 past (lies 0 seed pairs past follow is_in) (some_at seed pairs some is_in) pairs Outside 0
-    past follow some (seed_aside bytes pairs seed Outside 0 past follow is)
+    past follow some (seed_aside bytes pairs seed Outside 0 past follow found)
 
 -- the next handle has its code
 first_five : (bytes : List ℕ) (pairs : List Pair) (seed : Pair) → as_seed bytes pairs ≡ Some seed
@@ -160,5 +164,7 @@ pub seed_no_harm : (read : Reading) (past : ℕ) → Follow 0 read.pairs past �
     → IsIn pair read.pairs → IsHarmless read (seed_edits seed) pair
 seed_no_harm read past follow some few None is pair is_in = none_harmless read pair
 seed_no_harm read past follow some few (Some seed) is pair is_in =
-    seed_harmless read 0 past follow some seed (seed_in read.bytes read.pairs Outside seed is)
-    (seed_five read.bytes Outside read.pairs seed is) (seed_is read.bytes Outside read.pairs seed is) few pair is_in
+    let found = found_as read.bytes read.pairs (Some seed) is in
+    seed_harmless read 0 past follow some seed (seed_in read.bytes read.pairs Outside seed found)
+    (seed_five read.bytes Outside read.pairs seed found) (seed_is read.bytes Outside read.pairs seed found) few pair
+    is_in

@@ -15,17 +15,18 @@ use Rattle.dxf_layer.specs.declared.drawing.Spot.{Spot}
 use Rattle.dxf_layer.specs.declared.points.LineEnds.{LineEnds}
 use Rattle.dxf_layer.specs.declared.drawing.Vertex.{Vertex}
 use Rattle.dxf_layer.specs.Entities.{Entity, is_kind}
-use Rattle.dxf_layer.specs.Fields.{and_then, fields_of, field, wanted, coordinate, coordinate_at, zero_at, is_exactly}
+use Rattle.sheet_base.specs.Faults.{and_then}
+use Rattle.dxf_layer.specs.Fields.{fields_of, field, wanted, coordinate, coordinate_at, zero_at, is_exactly}
 use Rattle.dxf_layer.specs.Fields.{equals, is_not_zero}
 use Rattle.dxf_layer.specs.Shapes.{Shape, value_edit, spot_edits}
 use Rattle.dxf_layer.specs.Points.{spot_at, dot_of, dots_of, point_shapes, insert_shapes, second_by, second_spot}
 use Rattle.dxf_layer.specs.Points.{text_shapes, line_of, line_ends, line_shapes}
 use Rattle.dxf_layer.specs.Polylines.{kind_of, as_count, count_of, vertices_in, vertex_edits, light_shape, light_shapes}
-use Rattle.dxf_layer.specs.Walks.{shapes_of}
+use Rattle.dxf_layer.specs.Kinds.{shapes_of}
 use Rattle.dxf_layer.specs.Rendering.{Reading}
 use Rattle.dxf_layer.proofs.Members.{went, IsIn, wanted_is, coordinate_is}
-use Rattle.dxf_layer.proofs.Shaped.{path_behind, edits_with}
-use Rattle.dxf_layer.proofs.Entered.{either}
+use Rattle.dxf_layer.proofs.WholeShapes.{path_behind, edits_with}
+use Rattle.dxf_layer.proofs.EntityEdits.{either}
 use Rattle.dxf_layer.proofs.EditedPairs.{StandOn}
 use Rattle.dxf_layer.proofs.VertexPlaces.{some_between, some_value, nothing_measured}
 use Rattle.dxf_layer.proofs.EntityPlaces.{IsSource}

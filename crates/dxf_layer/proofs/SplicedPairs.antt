@@ -20,7 +20,7 @@ use Rattle.dxf_layer.proofs.EditedPairs.{AddsGroups, IsOfValue, StartsAt, Stands
 use Rattle.dxf_layer.proofs.EditedPairs.{starts_behind, stand_later, kept, passed, covered_first}
 use Rattle.dxf_layer.proofs.EditedPairs.{covered_later, inserted, replaced}
 use Rattle.plain_laws.proofs.Booleans.{and_first}
-use Rattle.sheet_base.proofs.Splicing.{order_earlier}
+use Rattle.sheet_base.proofs.SpliceLaws.{order_earlier}
 
 -- bytes from one place to another, by a place between them
 pub between_both : (bytes : List ℕ) (from middle past : ℕ) → from ≤ middle → middle ≤ past

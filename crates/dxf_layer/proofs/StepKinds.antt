@@ -7,12 +7,15 @@ use Rattle.sheet_base.specs.declared.paths.PathKind.{PathKind}
 use Rattle.sheet_base.specs.declared.faults.LayerFault.{LayerFault}
 use Rattle.sheet_base.specs.declared.faults.LayerFault.TheVariants as faults
 use Rattle.dxf_pairs.specs.declared.pairs.Pair.{Pair}
-use Rattle.dxf_layer.specs.Entities.{Entity, entity_end, is_kind, ends_section}
-use Rattle.dxf_layer.specs.Fields.{and_then, field, is_there_as}
+use Rattle.dxf_layer.specs.Entities.{Entity, entity_end, is_kind}
+use Rattle.dxf_layer.specs.Sections.{ends_section}
+use Rattle.dxf_layer.specs.Fields.{field, is_there_as}
+use Rattle.sheet_base.specs.Faults.{and_then}
 use Rattle.dxf_layer.specs.Shapes.{Shape}
 use Rattle.dxf_layer.specs.Polylines.{kind_of}
-use Rattle.dxf_layer.specs.Walks.{staying, reading, Step, shapes_read, upright, shapes_of, is_read_alone, stays}
-use Rattle.dxf_layer.specs.Walks.{polyline_step, alone_step, by_kind, step_free, step_staying}
+use Rattle.dxf_layer.specs.InsideWalks.{staying, reading, Step, shapes_read, stays, polyline_step, alone_step, by_kind}
+use Rattle.dxf_layer.specs.InsideWalks.{step_free, step_staying}
+use Rattle.dxf_layer.specs.Kinds.{upright, shapes_of, is_read_alone}
 use Rattle.dxf_layer.proofs.Members.{went}
 use Rattle.dxf_layer.proofs.TurnsKept.{IsReadSo}
 

@@ -14,23 +14,23 @@ use Rattle.dxf_pairs.specs.InLines.{GroupsFollow}
 use Rattle.dxf_layer.specs.declared.drawing.Spot.{Spot as Read_point}
 use Rattle.dxf_layer.specs.declared.drawing.Vertex.{Vertex}
 use Rattle.dxf_layer.specs.Entities.{Entity, is_kind, entity_end}
-use Rattle.dxf_layer.specs.Fields.{and_then}
+use Rattle.sheet_base.specs.Faults.{and_then}
 use Rattle.dxf_layer.specs.Handles.{handle}
 use Rattle.dxf_layer.specs.Points.{spot_at}
 use Rattle.dxf_layer.specs.Polylines.{plain}
 use Rattle.dxf_layer.specs.Rendering.{Reading, run_of}
-use Rattle.dxf_layer.specs.Walks.{Place, free, staying, reading, Step, shapes_read, stays, step}
+use Rattle.dxf_layer.specs.InsideWalks.{Place, free, staying, reading, Step, shapes_read, stays, step}
 use Rattle.dxf_layer.proofs.Members.{went}
-use Rattle.dxf_layer.proofs.Telling.{next, told}
+use Rattle.dxf_layer.proofs.AnswerValues.{next, told}
 use Rattle.dxf_layer.proofs.GroupShapes.{Outline, is_seeded}
-use Rattle.dxf_layer.proofs.GroupWalks.{Told, entity_told, has_kind, Spot, alone, kept, open_line, Turn, turn_told}
-use Rattle.dxf_layer.proofs.GroupWalks.{free_turn}
+use Rattle.dxf_layer.proofs.GroupKinds.{Told, entity_told, has_kind}
+use Rattle.dxf_layer.proofs.GroupWalks.{Spot, alone, kept, open_line, Turn, turn_told, free_turn}
 use Rattle.dxf_layer.proofs.GroupDrawings.{in_front, walk, turn, step_told}
 use Rattle.dxf_layer.proofs.ValueTurns.{AreGoodImages}
 use Rattle.dxf_layer.proofs.StepKinds.{FreeStep, at_end, on_paper, opens, by_itself, left_out, free_step, KeptStep}
 use Rattle.dxf_layer.proofs.StepKinds.{kept_vertex, kept_end, as_free, kept_step, dropped}
 use Rattle.dxf_layer.proofs.WalkTrails.{own_edits, ReadingStep, one_vertex, the_end, reading_step}
-use Rattle.dxf_layer.proofs.Shaped.{points_past}
+use Rattle.dxf_layer.proofs.WholeShapes.{points_past}
 use Rattle.dxf_layer.proofs.WholeTurns.{whole_of, vertex_written, dropped_written}
 use Rattle.dxf_layer.proofs.OutlineEnds.{imaged_outlines}
 use Rattle.dxf_layer.proofs.LevelOutlines.{AreBack, none_back}

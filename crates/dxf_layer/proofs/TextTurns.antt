@@ -11,12 +11,13 @@ use Rattle.dxf_pairs.specs.declared.pairs.Pair.{Pair}
 use Rattle.dxf_pairs.specs.Groups.{Group, group_in, value_in}
 use Rattle.dxf_layer.specs.declared.drawing.Spot.{Spot as Read_point}
 use Rattle.dxf_layer.specs.Entities.{Entity, is_kind}
-use Rattle.dxf_layer.specs.Fields.{and_then, field, is_not_zero}
+use Rattle.sheet_base.specs.Faults.{and_then}
+use Rattle.dxf_layer.specs.Fields.{field, is_not_zero}
 use Rattle.dxf_layer.specs.Shapes.{value_edit, spot_edits}
 use Rattle.dxf_layer.specs.Points.{spot_at, dot_of, second_by, second_spot}
 use Rattle.dxf_layer.specs.Rendering.{Reading, image_of}
 use Rattle.dxf_layer.proofs.Members.{went}
-use Rattle.dxf_layer.proofs.Telling.{next, told}
+use Rattle.dxf_layer.proofs.AnswerValues.{next, told}
 use Rattle.dxf_layer.proofs.GroupFields.{fields_in, groups_in, value_at, field_told, point_at, not_zero_told}
 use Rattle.dxf_layer.proofs.GroupShapes.{Outline, flat_outline, is_seeded, dot_outline, some_point, second_in}
 use Rattle.dxf_layer.proofs.GroupWalks.{alone, ends_sections}

@@ -1,6 +1,6 @@
 -- The edits of an entity, and of the entities behind it, stand in them; what stands for the pairs behind an entity.
 use Rattle.std.proofs.Common.{◌≡◌, ℕ, ◌+◌, ◌<◌, ◌≤◌, false, refl, ap, sym, ◌∙◌, subst, List, [], ◌∷◌, ◌++◌, filter}
-use Rattle.std.proofs.Common.{length, Option, Ok, arith, inl, inr}
+use Rattle.std.proofs.Common.{Bool, length, Option, Ok, arith, inl, inr}
 use Rattle.std.proofs.lemmas.List.{append_assoc}
 use Rattle.std.proofs.lemmas.List.Elements.{filter-append}
 use Rattle.std.proofs.lemmas.Bool.Decides.{nat_tests}
@@ -13,22 +13,17 @@ use Rattle.dxf_layer.specs.Entities.{Entity, entity_end}
 use Rattle.dxf_layer.specs.ReadBack.{begins_at, covers, is_of_value}
 use Rattle.dxf_layer.specs.Rendering.{Reading, text_of}
 use Rattle.dxf_layer.specs.Shapes.{Shape}
-use Rattle.dxf_layer.specs.Walks.{Place, free, staying, reading, Step, step_free, step, walked}
+use Rattle.dxf_layer.specs.InsideWalks.{Place, free, staying, reading, Step, step_free, step, walked}
 use Rattle.dxf_layer.proofs.Apart.{AreWithin, StandApart, wider, no_edits, both_apart}
-use Rattle.dxf_layer.proofs.Shaped.{edits_with, paths_past, points_past}
-use Rattle.dxf_layer.proofs.Entered.{IsLaid, whole_edit}
-use Rattle.dxf_layer.proofs.Ordered.{IsOpen, IsStepGood, free_steps}
+use Rattle.dxf_layer.proofs.WholeShapes.{edits_with, paths_past, points_past}
+use Rattle.dxf_layer.proofs.EntityEdits.{IsLaid, whole_edit}
+use Rattle.dxf_layer.proofs.SheetOrder.{IsStepGood, free_steps, open_order}
 use Rattle.dxf_layer.proofs.Sections.{AreSpread}
 use Rattle.dxf_layer.proofs.StepKinds.{KeptStep, kept_vertex, kept_end, as_free, kept_step}
 use Rattle.dxf_layer.proofs.WalkTrails.{own_edits, reading_edits, trail, trail_on, walked_on, ReadingStep, one_vertex}
 use Rattle.dxf_layer.proofs.WalkTrails.{the_end, reading_step}
 use Rattle.dxf_layer.proofs.StandingEdits.{stand, texts_in, itself_in}
 use Rattle.dxf_layer.proofs.EntityWritten.{texts_at}
-
-open_order : (low high : ℕ) (place : Place) (from past : ℕ) → IsOpen low high place from past → from ≤ past
-open_order low high free from past opened = opened
-open_order low high staying from past opened = opened
-open_order low high (reading kind vertices) from past opened = opened.1
 
 free_apart : (bytes : List ℕ) (how : How) (seed : Option Pair) (path first : ℕ) (entity : Entity) (here : Step)
     → IsLaid entity → step_free bytes how seed entity ≡ Ok here
@@ -117,6 +112,12 @@ texts_both read (edit ∷ first) second = ap (λ (g : List Group). groups_of (te
     (texts_both read first second) ∙ sym (append_assoc (groups_of (text_of read edit)) (texts_in read first)
     (texts_in read second))
 
+-- edits of which a test takes none may stand among others
+none_taken : (p : Edit → Bool) (extra own rest : List Edit) → filter p own ≡ []
+    → filter p (extra ++ (own ++ rest)) ≡ filter p (extra ++ rest)
+none_taken p extra own rest none =
+    rw (filter-append p extra (own ++ rest), filter-append p own rest, filter-append p extra rest, none) refl
+
 -- at the first pair behind an entity
 pub behind_first : (read : Reading) (pair : Pair) (extra own rest : List Edit) (low high : ℕ)
     → filter (begins_at pair) extra ≡ [] → AreWithin low own high → high ≤ pair.start → pair.start < pair.value
@@ -129,19 +130,12 @@ behind_first read pair extra own rest low high silent within before code =
       filter-append (begins_at pair) own rest,
       filter-append (begins_at pair) extra rest,
       silent,
-      filter-append (covers pair) extra (own ++ rest),
-      filter-append (covers pair) own rest,
-      filter-append (covers pair) extra rest,
-      covering,
-      filter-append (is_of_value pair) extra (own ++ rest),
-      filter-append (is_of_value pair) own rest,
-      filter-append (is_of_value pair) extra rest,
-      of_value,
+      none_taken (covers pair) extra own rest covering,
+      none_taken (is_of_value pair) extra own rest of_value,
       texts_both read (filter (begins_at pair) own) (filter (begins_at pair) rest),
     )
     (append_assoc (texts_in read (filter (begins_at pair) own)) (texts_in read (filter (begins_at pair) rest))
-    (itself_in read pair (filter (covers pair) extra ++ filter (covers pair) rest)
-    (filter (is_of_value pair) extra ++ filter (is_of_value pair) rest)))
+    (itself_in read pair (filter (covers pair) (extra ++ rest)) (filter (is_of_value pair) (extra ++ rest))))
 
 none_begin : (pair : Pair) (low high : ℕ) (own : List Edit) → AreWithin low own high → high < pair.start
     → filter (begins_at pair) own ≡ []
@@ -161,16 +155,7 @@ behind_later read pair extra own rest low high within before code =
     let covering = no_cover pair low high own within (omega arith) in
     let of_value = no_value pair low high own within (omega arith) code in
     rw (
-      filter-append (begins_at pair) extra (own ++ rest),
-      filter-append (begins_at pair) own rest,
-      filter-append (begins_at pair) extra rest,
-      begins,
-      filter-append (covers pair) extra (own ++ rest),
-      filter-append (covers pair) own rest,
-      filter-append (covers pair) extra rest,
-      covering,
-      filter-append (is_of_value pair) extra (own ++ rest),
-      filter-append (is_of_value pair) own rest,
-      filter-append (is_of_value pair) extra rest,
-      of_value,
+      none_taken (begins_at pair) extra own rest begins,
+      none_taken (covers pair) extra own rest covering,
+      none_taken (is_of_value pair) extra own rest of_value,
     ) refl

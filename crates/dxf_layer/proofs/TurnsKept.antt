@@ -3,14 +3,16 @@ use Rattle.std.proofs.Common.{◌≡◌, ℕ, pos, true, false, refl, ap, sym, �
 use Rattle.sheet_base.specs.declared.flags.How.{How}
 use Rattle.dxf_pairs.specs.declared.pairs.Pair.{Pair}
 use Rattle.dxf_pairs.specs.Groups.{Group, group_in, value_in}
-use Rattle.dxf_layer.specs.Entities.{Entity, is_kind, ends_section}
+use Rattle.dxf_layer.specs.Entities.{Entity, is_kind}
+use Rattle.dxf_layer.specs.Sections.{ends_section}
 use Rattle.dxf_layer.specs.Fields.{field, is_there_as}
 use Rattle.dxf_layer.specs.Shapes.{Shape}
-use Rattle.dxf_layer.specs.Walks.{upright, shapes_of, is_read_alone}
-use Rattle.dxf_layer.proofs.Telling.{told}
+use Rattle.dxf_layer.specs.Kinds.{upright, shapes_of, is_read_alone}
+use Rattle.dxf_layer.proofs.AnswerValues.{told}
 use Rattle.dxf_layer.proofs.GroupFields.{fields_in, groups_in, itself, value_at, field_told, is_value, there_as_told}
 use Rattle.dxf_layer.proofs.GroupShapes.{Outline, is_seeded}
-use Rattle.dxf_layer.proofs.GroupWalks.{Told, turn_of, flat_in, upright_told, outlines_in, turn_by_kind, free_turn}
+use Rattle.dxf_layer.proofs.GroupKinds.{Told, flat_in, upright_told, outlines_in}
+use Rattle.dxf_layer.proofs.GroupWalks.{turn_of, turn_by_kind, free_turn}
 use Rattle.dxf_layer.proofs.ChangedFields.{Agree, value_same}
 
 -- an entity that is read by itself, and not on paper

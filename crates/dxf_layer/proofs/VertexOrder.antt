@@ -13,7 +13,8 @@ use Rattle.dxf_pairs.specs.declared.pairs.Pair.{Pair}
 use Rattle.dxf_layer.specs.declared.fields.Read.{Read}
 use Rattle.dxf_layer.specs.declared.drawing.Vertex.{Vertex}
 use Rattle.dxf_layer.specs.Entities.{has_code}
-use Rattle.dxf_layer.specs.Fields.{and_then, coordinate}
+use Rattle.sheet_base.specs.Faults.{and_then}
+use Rattle.dxf_layer.specs.Fields.{coordinate}
 use Rattle.dxf_layer.specs.Shapes.{value_edit}
 use Rattle.dxf_layer.specs.Polylines.{is_group_code, fault_in_group, first_fault, past_group, vertex_of, begins_vertex}
 use Rattle.dxf_layer.specs.Polylines.{is_number, vertices_in, vertex_edits}
@@ -239,7 +240,19 @@ one_ordered bytes x y pairs from past vertex vertices follow ten twenty is rest 
       → (tally.end ≤ from) ⊎ IsIn tally (x ∷ y ∷ pairs)
       → AreOff (vertex_edits n (vertex ∷ vertices)) (value_edit what tally)
   off_all what tally n tallied (inl before) =
-      let own = here in (
+      let own = here in
+      let later : from ≤ vertex.past = omega (
+        arith,
+        follow.0,
+        follow.1,
+        follow.2,
+        follow.3,
+        follow.4.0,
+        follow.4.1,
+        follow.4.2,
+        follow.4.3,
+        own.below,
+      ) in (
         inr (
           omega (arith, tallied.inside, follow.0, follow.1, ap (λ (p : Pair). p.value) is.east),
           omega
@@ -273,35 +286,7 @@ one_ordered bytes x y pairs from past vertex vertices follow ten twenty is rest 
             ),
           ),
           (
-            inr (
-              omega (
-                arith,
-                tallied.inside,
-                follow.0,
-                follow.1,
-                follow.2,
-                follow.3,
-                follow.4.0,
-                follow.4.1,
-                follow.4.2,
-                follow.4.3,
-                own.below,
-              ),
-              omega (
-                arith,
-                tallied.value,
-                tallied.inside,
-                follow.0,
-                follow.1,
-                follow.2,
-                follow.3,
-                follow.4.0,
-                follow.4.1,
-                follow.4.2,
-                follow.4.3,
-                own.below,
-              ),
-            ),
+            inr (omega (arith, tallied.inside, later), omega (arith, tallied.value, tallied.inside, later)),
             rest.off what tally (record {
               code = tallied.code;
               start = tallied.start;

@@ -20,7 +20,8 @@ use Rattle.dxf_pairs.specs.InLines.{IsValue, StandsInLines, AreInLines, GroupsFo
 use Rattle.dxf_layer.specs.declared.fields.Read.{Read}
 use Rattle.dxf_layer.specs.declared.drawing.Vertex.{Vertex}
 use Rattle.dxf_layer.specs.Entities.{has_code}
-use Rattle.dxf_layer.specs.Fields.{and_then, read_of, coordinate}
+use Rattle.sheet_base.specs.Faults.{and_then}
+use Rattle.dxf_layer.specs.Fields.{read_of, coordinate}
 use Rattle.dxf_layer.specs.Shapes.{value_edit}
 use Rattle.dxf_layer.specs.Polylines.{is_group_code, fault_in_group, past_group, vertex_of, begins_vertex, is_number}
 use Rattle.dxf_layer.specs.Polylines.{vertices_in, vertex_edits}
@@ -34,6 +35,7 @@ use Rattle.dxf_layer.proofs.CopiedPairs.{nothing_adds, both_add, value_adds}
 use Rattle.dxf_layer.proofs.PairPlaces.{before_is, AreGroup, coded, last_ten, last_twenty, stands_whole, tiles_behind}
 use Rattle.dxf_layer.proofs.PairPlaces.{lines_behind}
 use Rattle.std.proofs.lemmas.Bool.{and_parts}
+use Rattle.dxf_layer.proofs.LightRooms.{in_six}
 
 -- these are the first of the pairs, and there are more
 abbrev pub IsProper : List Pair → List Pair → Type 0
@@ -109,9 +111,6 @@ ends_at bytes start line past upto (field ∷ fields) (pair ∷ pairs) tiles pro
       by_test false out goes_on later =
           let same : start ≡ upto = let e : Ok start ≡ Ok upto = rw out at goes_on in cc in
           record { group = []; next = pair; rest = pairs; whole = refl; starts = tiles.0 ∙ same; are = tt }
-
-in_six : (a b c d e f : List ℕ) → a ++ (b ++ ((c ++ d) ++ (e ++ f))) ≡ (a ++ (b ++ c)) ++ (d ++ (e ++ f))
-in_six a b c d e f = simp append_assoc
 
 -- copies of a vertex's two fields
 field_adds : GroupsFollow → (bytes : List ℕ) (x y : Pair) (image : Pt) → StandsInLines bytes x → StandsInLines bytes y
@@ -245,6 +244,44 @@ one_vertex follow read past tiles lines front fields x y (next ∷ pairs) vertex
       ),
     )
 
+-- what is read of fields that begin a vertex: the first vertex, and those behind it
+pub record FirstVertex (bytes : List ℕ) (exact : Bool) (first second x y : Pair) (fields : List Pair)
+    (vertices : List Vertex) : Type 0 where
+  pub value : Vertex
+  pub made : vertex_of bytes exact first second fields ≡ Ok value
+  pub more : List Vertex
+  pub behind : vertices_in bytes exact fields ≡ Ok more
+  pub whole : value ∷ more ≡ vertices
+  pub vertex : IsVertex bytes x y fields value
+  pub ten : x.code ≡ pos 10
+  pub twenty : y.code ≡ pos 20
+
+pub first_vertex : (bytes : List ℕ) (exact : Bool) (first second x y : Pair) (fields : List Pair)
+    (vertices : List Vertex)
+    → first ≡ x → second ≡ y → begins_vertex first second ≡ true
+    → and_then (λ (vertex : Vertex). and_then (λ (more : List Vertex). Ok (vertex ∷ more))
+    (vertices_in bytes exact fields)) (vertex_of bytes exact first second fields) ≡ Ok vertices
+    → FirstVertex bytes exact first second x y fields vertices
+first_vertex bytes exact first second x y fields vertices first_is second_is begins made =
+    let one = went (λ (vertex : Vertex). and_then (λ (more : List Vertex). Ok (vertex ∷ more))
+    (vertices_in bytes exact fields)) (vertex_of bytes exact first second fields) vertices made in
+    let more = went (λ (more : List Vertex). Ok (one.value ∷ more)) (vertices_in bytes exact fields) vertices
+    one.gives in
+    let whole : one.value ∷ more.value ≡ vertices = cc in
+    let codes = and_parts (has_code (pos 10) first) (has_code (pos 20) second) begins in
+    record {
+      value = one.value;
+      made = one.is;
+      more = more.value;
+      behind = more.is;
+      whole = whole;
+      vertex = subst (λ (p : Pair). IsVertex bytes p y fields one.value) first_is
+          (subst (λ (p : Pair). IsVertex bytes first p fields one.value) second_is
+          (vertex_is bytes exact first second fields one.value one.is));
+      ten = sym (ap (λ (p : Pair). p.code) first_is) ∙ coded first (pos 10) codes.0;
+      twenty = sym (ap (λ (p : Pair). p.code) second_is) ∙ coded second (pos 20) codes.1;
+    }
+
 -- the edits of vertices that were read of the first of the pairs
 pub vertices_stand : GroupsFollow → (read : Reading) (past : ℕ) → AreTiles 0 1 read.pairs past
     → AreInLines read.bytes read.pairs → (exact : Bool) (front fields pairs : List Pair) (vertices : List Vertex)
@@ -279,23 +316,12 @@ vertices_stand follow read past tiles lines exact front (first ∷ second ∷ fi
           → (vertices_in read.bytes exact (second ∷ fields) ≡ Ok vertices
           → StandOn read read.pairs (vertex_edits n vertices)) → StandOn read read.pairs (vertex_edits n vertices)
       by_tests true number begins made behind later =
-          let one = went (λ (vertex : Vertex). and_then (λ (more : List Vertex). Ok (vertex ∷ more))
-          (vertices_in read.bytes exact fields)) (vertex_of read.bytes exact first second fields) vertices made in
-          let more = went (λ (more : List Vertex). Ok (one.value ∷ more)) (vertices_in read.bytes exact fields) vertices
-          one.gives in
-          let whole : one.value ∷ more.value ≡ vertices = cc in
-          let codes = and_parts (has_code (pos 10) first) (has_code (pos 20) second) begins in
-          let vertex : IsVertex read.bytes x y fields one.value =
-          subst (λ (p : Pair). IsVertex read.bytes p y fields one.value) proper.0
-          (subst (λ (p : Pair). IsVertex read.bytes first p fields one.value) proper.1.0
-          (vertex_is read.bytes exact first second fields one.value one.is)) in
+          let v = first_vertex read.bytes exact first second x y fields vertices proper.0 proper.1.0 begins made in
           let some : AreSome x y = subst (λ (p : Pair). AreSome p y) proper.0
           (subst (λ (p : Pair). AreSome first p) proper.1.0
-          (some_numbers read.bytes exact first second fields one.value one.is)) in
-          let ten : x.code ≡ pos 10 = sym (ap (λ (p : Pair). p.code) proper.0) ∙ coded first (pos 10) codes.0 in
-          let twenty : y.code ≡ pos 20 = sym (ap (λ (p : Pair). p.code) proper.1.0) ∙ coded second (pos 20) codes.1 in
-          subst (λ (vs : List Vertex). StandOn read read.pairs (vertex_edits n vs)) whole
-          (one_vertex follow read past tiles lines front fields x y pairs one.value more.value are proper.1.1 ten twenty
-          vertex some (behind more.value more.is) n)
+          (some_numbers read.bytes exact first second fields v.value v.made)) in
+          subst (λ (vs : List Vertex). StandOn read read.pairs (vertex_edits n vs)) v.whole
+          (one_vertex follow read past tiles lines front fields x y pairs v.value v.more are proper.1.1 v.ten v.twenty
+          v.vertex some (behind v.more v.behind) n)
       by_tests false true begins made behind later = absurd (cc)
       by_tests false false begins made behind later = later made

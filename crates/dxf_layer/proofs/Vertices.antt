@@ -7,16 +7,16 @@ use Rattle.std.proofs.lemmas.List.{map-append}
 use Rattle.std.proofs.Math.Seq.{take-length}
 use Rattle.std.proofs.lemmas.List.Sums.{sum_by-append}
 use Rattle.plane_base.specs.declared.shapes.Pt.{Pt}
-use Rattle.dxf_layer.proofs.Growing.{holds_more, grows_more}
+use Rattle.dxf_layer.proofs.ReadSizes.{holds_more, grows_more}
 use Rattle.sheet_base.specs.PointHeights.{Height, no_heights}
 use Rattle.sheet_base.specs.Sheets.{Contents}
 use Rattle.sheet_base.specs.declared.faults.LayerFault.{LayerFault}
 use Rattle.dxf_pairs.specs.declared.pairs.Pair.{Pair}
 use Rattle.dxf_layer.specs.declared.drawing.Vertex.{Vertex}
-use Rattle.dxf_layer.specs.Fields.{and_then}
+use Rattle.sheet_base.specs.Faults.{and_then}
 use Rattle.dxf_layer.specs.Shapes.{point_of, lost_of}
 use Rattle.dxf_layer.specs.Polylines.{vertices_in, vertex_edits}
-use Rattle.dxf_layer.specs.Held.{with_vertices, vertices_by, GrowsBy}
+use Rattle.dxf_layer.specs.InsideContents.{with_vertices, vertices_by, GrowsBy}
 
 abbrev pub behind_all : List Vertex → Result (List Vertex) LayerFault → Result (List Vertex) LayerFault
 behind_all done rest = and_then (λ more. Ok (done ++ more)) rest

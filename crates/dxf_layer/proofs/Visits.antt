@@ -12,11 +12,13 @@ use Rattle.dxf_layer.specs.declared.entities.Where.{Where}
 use Rattle.dxf_layer.specs.declared.entities.Where.TheVariants.{Outside, Begun, Header, Entities, Other}
 use Rattle.dxf_layer.specs.declared.walking.Place.{Place as Held}
 use Rattle.dxf_layer.specs.declared.walking.Place.TheVariants.{Free}
-use Rattle.dxf_layer.specs.Fields.{and_then}
-use Rattle.dxf_layer.specs.Entities.{is_no_head, begins_entity, behind, entities_from, entities_of}
+use Rattle.dxf_layer.specs.Entities.{is_no_head}
+use Rattle.dxf_layer.specs.InsideSections.{begins_entity, behind, entities_from, entities_of}
+use Rattle.sheet_base.specs.Faults.{and_then}
 use Rattle.dxf_layer.specs.Shapes.{Shape, with_shape, with_shapes}
-use Rattle.dxf_layer.specs.Walks.{Place, free, Step, visited, walked}
-use Rattle.dxf_layer.specs.Held.{HoldsAtMost, GrowsBy, GrowsAlong, Stands, GoesTo, room_before}
+use Rattle.dxf_layer.specs.InsideWalks.{Place, free, Step, visited, walked}
+use Rattle.dxf_layer.specs.InsideContents.{HoldsAtMost, GrowsBy}
+use Rattle.dxf_layer.specs.InsideStands.{GrowsAlong, Stands, GoesTo, room_before}
 
 abbrev pub behind_shapes : List Shape → Result (List Shape) LayerFault → Result (List Shape) LayerFault
 behind_shapes done rest = and_then (λ more. Ok (done ++ more)) rest

@@ -15,48 +15,45 @@ use Rattle.dxf_pairs.specs.InLines.{GroupsFollow, AreInLines}
 use Rattle.dxf_layer.specs.declared.drawing.Vertex.{Vertex}
 use Rattle.dxf_layer.specs.declared.entities.Where.{Where}
 use Rattle.dxf_layer.specs.declared.entities.Where.TheVariants.{Outside, Entities}
-use Rattle.dxf_layer.specs.Entities.{Entity, has_code, is_no_head, ends_section, entity_of, behind, begins_entity}
-use Rattle.dxf_layer.specs.Entities.{entities_from}
+use Rattle.dxf_layer.specs.Entities.{Entity, has_code, is_no_head, entity_of, past_pairs}
+use Rattle.dxf_layer.specs.Sections.{ends_section}
+use Rattle.dxf_layer.specs.InsideSections.{behind, begins_entity, entities_from}
 use Rattle.dxf_layer.specs.Rendering.{Reading}
 use Rattle.dxf_layer.specs.Shapes.{Shape}
-use Rattle.dxf_layer.specs.Walks.{Place, free, staying, reading, Step, step, walked}
-use Rattle.dxf_layer.proofs.Members.{IsIn, Follow, tiles_follow}
+use Rattle.dxf_layer.specs.InsideWalks.{Place, free, staying, reading, Step, step, walked, shapes_read, stays, by_kind}
+use Rattle.dxf_layer.specs.InsideWalks.{step_free, step_staying}
+use Rattle.sheet_base.specs.Faults.{and_then}
+use Rattle.dxf_layer.specs.Fields.{field, is_there_as}
+use Rattle.dxf_layer.proofs.Members.{IsIn, Follow, tiles_follow, by_past}
 use Rattle.dxf_layer.proofs.GroupShapes.{is_seeded}
-use Rattle.dxf_layer.proofs.GroupWalks.{Told, Spot, alone, kept, turn_of, ends_sections}
+use Rattle.dxf_layer.proofs.GroupKinds.{Told}
+use Rattle.dxf_layer.proofs.GroupWalks.{Spot, alone, kept, turn_of, ends_sections}
 use Rattle.dxf_layer.proofs.GroupDrawings.{walk, turn, entities_told, behind_group, begins_told, told_from}
-use Rattle.dxf_layer.proofs.Shaped.{paths_past, points_past}
+use Rattle.dxf_layer.proofs.WholeShapes.{paths_past, points_past, edits_with}
 use Rattle.dxf_layer.proofs.StandingEdits.{stand, IsPlaced, silent_behind, all_behind}
 use Rattle.dxf_layer.proofs.ValueTurns.{AreGoodImages}
-use Rattle.dxf_layer.proofs.WalkTrails.{ReadingStep, one_vertex, the_end, reading_step, walked_on, trail}
+use Rattle.dxf_layer.proofs.WalkTrails.{ReadingStep, one_vertex, the_end, reading_step, walked_on, trail, own_edits}
+use Rattle.dxf_layer.proofs.WalkTrails.{trail_on}
 use Rattle.dxf_layer.proofs.OutlineEnds.{imaged_outlines, rows_behind, points_of}
 use Rattle.dxf_layer.proofs.LevelOutlines.{AreBack, none_back}
-use Rattle.dxf_layer.proofs.EntityCases.{DotsAlone, LightsAreWritten}
-use Rattle.dxf_layer.proofs.StepWritten.{IsNear}
+use Rattle.dxf_layer.proofs.EntityCases.{DotsAlone, LightsAreWritten, IsFound, IsNumbered}
+use Rattle.dxf_layer.proofs.StepWritten.{IsNear, other_value, StepWritten, free_written, kept_written, reading_written}
 use Rattle.dxf_layer.proofs.WalkJoins.{IsHeaded}
-use Rattle.std.specs.Prelude.{◌&&◌, ◌||◌, bytes_eq}
-use Rattle.std.specs.Ordering.{int_eq}
-use Rattle.dxf_layer.specs.Fields.{and_then, field, is_there_as}
-use Rattle.dxf_layer.specs.Walks.{shapes_read, stays, by_kind, step_free, step_staying}
 use Rattle.dxf_layer.proofs.GroupFields.{coded}
-use Rattle.dxf_layer.proofs.Shaped.{edits_with}
-use Rattle.dxf_layer.proofs.StepWritten.{other_value}
-use Rattle.dxf_layer.proofs.StepWritten.{StepWritten, free_written, kept_written, reading_written}
 use Rattle.dxf_layer.proofs.EntityTurns.{none_in_front, turn_walks}
 use Rattle.dxf_layer.proofs.EntityWritten.{written_for}
-use Rattle.dxf_layer.proofs.EntityCases.{IsFound, IsNumbered}
 use Rattle.dxf_layer.proofs.Apart.{AreWithin}
-use Rattle.std.specs.List.{prefix_len}
-use Rattle.dxf_layer.specs.Entities.{past_pairs}
-use Rattle.dxf_layer.proofs.Members.{by_past}
 use Rattle.dxf_layer.proofs.EntitySplits.{ends_later}
 use Rattle.dxf_layer.proofs.PairPlaces.{tiles_behind, lines_behind}
 use Rattle.dxf_layer.proofs.Sections.{front_follows, spread, spread_earlier}
 use Rattle.dxf_layer.proofs.TrailPlaces.{trail_apart}
-use Rattle.dxf_layer.proofs.WalkTrails.{own_edits, trail_on}
 use Rattle.dxf_layer.proofs.KeptSeeds.{IsKept, kept_none}
 use Rattle.dxf_layer.proofs.SeedAgain.{kept_single}
 use Rattle.dxf_layer.proofs.WrittenWalks.{enough_points, IsHarmless, harmless_behind, begins_same, SilentOn, AreAgain}
 use Rattle.dxf_layer.proofs.WrittenWalks.{in_middle}
+use Rattle.std.specs.Prelude.{◌&&◌, ◌||◌, bytes_eq}
+use Rattle.std.specs.Ordering.{int_eq}
+use Rattle.std.specs.List.{prefix_len}
 
 -- one step, wherever the walk stands
 pub step_written : (read : Reading) (how : How) (seed : Option Pair) (count : ℕ) → GroupsFollow

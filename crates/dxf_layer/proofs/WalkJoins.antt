@@ -9,9 +9,10 @@ use Rattle.dxf_layer.specs.declared.entities.Where.TheVariants.{Entities}
 use Rattle.dxf_layer.specs.Shapes.{Shape}
 use Rattle.dxf_layer.proofs.GroupFields.{coded}
 use Rattle.dxf_layer.proofs.GroupShapes.{Outline}
-use Rattle.dxf_layer.proofs.GroupWalks.{Told, ends_sections}
+use Rattle.dxf_layer.proofs.GroupKinds.{Told}
+use Rattle.dxf_layer.proofs.GroupWalks.{ends_sections}
 use Rattle.dxf_layer.proofs.GroupDrawings.{not_head, entities_told}
-use Rattle.dxf_layer.proofs.Shaped.{points_past}
+use Rattle.dxf_layer.proofs.WholeShapes.{points_past}
 use Rattle.dxf_layer.proofs.EntityTurns.{groups_told, HaveNoHead, AreWholeTold}
 use Rattle.dxf_layer.proofs.OutlineEnds.{imaged_outline, imaged_outlines}
 

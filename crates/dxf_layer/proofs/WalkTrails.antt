@@ -11,17 +11,17 @@ use Rattle.sheet_base.specs.declared.faults.LayerFault.TheVariants as faults
 use Rattle.dxf_pairs.specs.declared.pairs.Pair.{Pair}
 use Rattle.dxf_layer.specs.declared.drawing.Vertex.{Vertex}
 use Rattle.dxf_layer.specs.Entities.{Entity, is_kind}
-use Rattle.dxf_layer.specs.Fields.{and_then}
+use Rattle.sheet_base.specs.Faults.{and_then}
 use Rattle.dxf_layer.specs.Shapes.{Shape}
 use Rattle.dxf_layer.specs.Polylines.{entity_vertex, heavy_shape, copy_edits}
-use Rattle.dxf_layer.specs.Walks.{Place, free, staying, reading, Step, shapes_read, step_free, step_staying}
-use Rattle.dxf_layer.specs.Walks.{step_reading, step, walked}
+use Rattle.dxf_layer.specs.InsideWalks.{Place, free, staying, reading, Step, shapes_read, step_free, step_staying}
+use Rattle.dxf_layer.specs.InsideWalks.{step_reading, step, walked}
 use Rattle.dxf_layer.proofs.StepKinds.{FreeStep, at_end, on_paper, opens, by_itself, left_out, free_step, KeptStep}
 use Rattle.dxf_layer.proofs.StepKinds.{kept_vertex, kept_end, as_free, kept_step}
 use Rattle.dxf_layer.proofs.Members.{went}
-use Rattle.dxf_layer.proofs.Stepping.{copies_behind}
-use Rattle.dxf_layer.proofs.Ordered.{own_vertex}
-use Rattle.dxf_layer.proofs.Shaped.{edits_with, paths_past, points_past, edits_both}
+use Rattle.dxf_layer.proofs.WalkSteps.{copies_behind}
+use Rattle.dxf_layer.proofs.SheetOrder.{own_vertex}
+use Rattle.dxf_layer.proofs.WholeShapes.{edits_with, paths_past, points_past, edits_both}
 use Rattle.dxf_layer.proofs.WholeTurns.{whole_of}
 
 -- the edit of a vertex's entity

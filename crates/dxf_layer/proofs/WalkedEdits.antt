@@ -10,19 +10,23 @@ use Rattle.sheet_base.specs.declared.faults.LayerFault.{LayerFault}
 use Rattle.sheet_base.specs.declared.faults.LayerFault.TheVariants as faults
 use Rattle.dxf_pairs.specs.declared.pairs.Pair.{Pair}
 use Rattle.dxf_layer.specs.declared.drawing.Vertex.{Vertex}
-use Rattle.dxf_layer.specs.Entities.{Entity, entity_end, is_kind, ends_section}
-use Rattle.dxf_layer.specs.Fields.{and_then, field, is_there_as}
+use Rattle.dxf_layer.specs.Entities.{Entity, entity_end, is_kind}
+use Rattle.dxf_layer.specs.Sections.{ends_section}
+use Rattle.dxf_layer.specs.Fields.{field, is_there_as}
+use Rattle.sheet_base.specs.Faults.{and_then}
 use Rattle.dxf_layer.specs.Shapes.{Shape}
 use Rattle.dxf_layer.specs.Polylines.{kind_of, entity_vertex, copy_edits, heavy_shape}
-use Rattle.dxf_layer.specs.Walks.{Place, free, staying, reading, Step, shapes_read, upright, other_kind, shapes_of}
-use Rattle.dxf_layer.specs.Walks.{polyline_step, alone_step, is_read_alone, by_kind, stays, step_free, step_staying}
-use Rattle.dxf_layer.specs.Walks.{step_reading, step, walk_end, walked}
+use Rattle.dxf_layer.specs.InsideWalks.{Place, free, staying, reading, Step, shapes_read, other_kind, polyline_step}
+use Rattle.dxf_layer.specs.InsideWalks.{alone_step, by_kind, stays, step_free, step_staying, step_reading, step}
+use Rattle.dxf_layer.specs.InsideWalks.{walk_end, walked}
+use Rattle.dxf_layer.specs.Kinds.{upright, shapes_of, is_read_alone}
+use Rattle.dxf_layer.specs.Kinds.{left_out}
 use Rattle.dxf_layer.specs.Rendering.{Reading}
 use Rattle.dxf_layer.proofs.Members.{went}
-use Rattle.dxf_layer.proofs.Stepping.{copies_behind}
+use Rattle.dxf_layer.proofs.WalkSteps.{copies_behind}
 use Rattle.dxf_layer.proofs.Sections.{vertex_ends_none}
-use Rattle.dxf_layer.proofs.Entered.{either}
-use Rattle.dxf_layer.proofs.Ordered.{left_out, own_vertex}
+use Rattle.dxf_layer.proofs.EntityEdits.{either}
+use Rattle.dxf_layer.proofs.SheetOrder.{own_vertex}
 use Rattle.dxf_layer.proofs.EditedPairs.{StandsOn, StandOn}
 use Rattle.dxf_layer.proofs.EntityPlaces.{IsSource, AreSources}
 use Rattle.dxf_layer.proofs.ShapeEdits.{stand_both, AreStanding, standing_both, DoStand, shapes_stand}

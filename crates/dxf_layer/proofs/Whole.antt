@@ -1,7 +1,7 @@
 -- What is read of a drawing makes a sheet whose edits are in order.
 use Rattle.std.proofs.Common.{◌≡◌, ℕ, ◌+◌, ◌≤◌, List, [], ◌∷◌, length, refl, ap, sym, ◌∙◌, subst, arith, inl, inr}
-use Rattle.std.proofs.Common.{zero, suc, All, Result, Ok, Err, Option, None, Some}
-use Rattle.std.specs.Prelude.{take_while, map, ◌++◌}
+use Rattle.std.proofs.Common.{Result, Ok, Err, Option, None, Some}
+use Rattle.std.specs.Prelude.{take_while, map}
 use Rattle.std.specs.List.{AllByRecursion}
 use Rattle.std.proofs.lemmas.List.{length-append}
 use Rattle.sheet_base.specs.declared.edits.Edit.{Edit}
@@ -9,28 +9,33 @@ use Rattle.sheet_base.specs.declared.edits.What.TheVariants.{NextHandle}
 use Rattle.sheet_base.specs.declared.flags.How.{How}
 use Rattle.sheet_base.specs.declared.faults.LayerFault.{LayerFault}
 use Rattle.plane_base.specs.declared.shapes.Pt.{Pt}
-use Rattle.sheet_base.specs.PointHeights.{Height, IsHeightWithinReach}
+use Rattle.sheet_base.specs.PointHeights.{IsHeightWithinReach}
 use Rattle.sheet_base.specs.Sheets.{Contents}
 use Rattle.sheet_base.specs.Splices.{AreInOrder}
 use Rattle.dxf_pairs.specs.declared.pairs.Pair.{Pair}
-use Rattle.dxf_pairs.specs.Pairs.{drawing}
 use Rattle.dxf_pairs.specs.Laws.{AreTiles, Tile}
 use Rattle.dxf_layer.specs.declared.entities.Where.TheVariants.{Outside}
-use Rattle.dxf_layer.specs.Entities.{Entity, is_no_head, entities_of, past_pairs}
-use Rattle.dxf_layer.specs.Fields.{and_then}
-use Rattle.dxf_layer.specs.Handles.{seed_of}
+use Rattle.dxf_layer.specs.Entities.{Entity, is_no_head, past_pairs}
+use Rattle.dxf_layer.specs.InsideSections.{entities_of}
+use Rattle.dxf_layer.specs.Seeds.{seed_of}
+use Rattle.dxf_layer.specs.Shapes.{Shape, value_edit, heights_by, with_shapes}
+use Rattle.dxf_layer.specs.InsideOrdering.{in_order}
+use Rattle.dxf_layer.specs.InsideWalks.{free, walked}
+use Rattle.dxf_layer.specs.Drawings.{begun}
+use Rattle.sheet_base.specs.Faults.{and_then}
+use Rattle.dxf_layer.specs.InsideContents.{AddsAs}
+use Rattle.dxf_layer.specs.InsideSheets.{walked_sheet_of, walked_of_pairs}
 use Rattle.dxf_layer.specs.declared.drawing.Rise.{Rise}
-use Rattle.dxf_layer.specs.Shapes.{Shape, value_edit, heights_by, in_order, with_shapes}
-use Rattle.dxf_layer.specs.Walks.{free, walked}
-use Rattle.dxf_layer.specs.Drawings.{begun, sheet_of, from_pairs, drawing_sheet}
-use Rattle.dxf_layer.specs.Held.{AddsAs}
-use Rattle.dxf_layer.proofs.Apart.{IsApart, IsApartFromAll, AreWithin, StandApart, sorted_in_order}
+use Rattle.dxf_layer.proofs.Apart.{IsApart, IsApartFromAll, AreWithin, StandApart}
+use Rattle.dxf_layer.proofs.SortedEdits.{sorted_in_order}
 use Rattle.dxf_layer.proofs.Members.{Follow, tiles_follow, Lies, lies}
-use Rattle.dxf_layer.proofs.Shaped.{IsClear, AreClear, AreGood, IsRiseWithin, AreRisesWithin, IsTiled, whole_tiles}
-use Rattle.dxf_layer.proofs.Shaped.{edits_with, edits_are}
+use Rattle.dxf_layer.proofs.WholeShapes.{IsClear, AreClear, AreGood, IsRiseWithin, AreRisesWithin, IsTiled, whole_tiles}
+use Rattle.dxf_layer.proofs.WholeShapes.{edits_with, edits_are}
 use Rattle.dxf_layer.proofs.OutlineEnds.{points_of, heights_in, heights_of, one_each, points_are, heights_are}
 use Rattle.dxf_layer.proofs.Sections.{AreSpread, spread, all_aside, seed_in, seed_aside}
-use Rattle.dxf_layer.proofs.Ordered.{walk_good}
+use Rattle.dxf_layer.proofs.SheetOrder.{walk_good}
+use Rattle.dxf_layer.proofs.SectionSeeds.{seed_found}
+use Rattle.plain_laws.proofs.Lists.{all_append}
 
 tiles_short : (start line : ℕ) (pairs : List Pair) (past : ℕ) → AreTiles start line pairs past
     → start + length pairs ≤ past
@@ -72,17 +77,6 @@ pub record HasHeights (contents : Contents) : Type 0 where
   pub each : length contents.heights ≡ length contents.points
   pub reached : AllByRecursion IsHeightWithinReach contents.heights
 
--- a property of each member, by its number
-pub all_indexed : {X : Type 0} (P : X → Type 0) (xs : List X) → AllByRecursion P xs → All P xs
-all_indexed P [] all i d within = absurd (omega (arith, within))
-all_indexed P (x ∷ xs) all zero d within = all.0
-all_indexed P (x ∷ xs) all (suc i) d within = all_indexed P xs all.1 i d (omega (arith, within))
-
-reached_both : (heights more : List Height) → AllByRecursion IsHeightWithinReach heights
-    → AllByRecursion IsHeightWithinReach more → AllByRecursion IsHeightWithinReach (heights ++ more)
-reached_both [] more first second = second
-reached_both (height ∷ heights) more first second = (first.0, reached_both heights more first.1 second)
-
 shape_reached : (rise : Option Rise) (points : List Pt) → IsRiseWithin rise
     → AllByRecursion IsHeightWithinReach (heights_by rise points)
 shape_reached None [] within = tt
@@ -98,8 +92,8 @@ shape_reached (Some rise) (begin ∷ points) within = (within.0, ends points)
 all_reached : (shapes : List Shape) → AreRisesWithin shapes → AllByRecursion IsHeightWithinReach (heights_of shapes)
 all_reached [] within = tt
 all_reached (shape ∷ shapes) within =
-    reached_both (heights_in shape) (heights_of shapes) (shape_reached shape.rise shape.points within.0)
-    (all_reached shapes within.1)
+    all_append IsHeightWithinReach (heights_in shape) (heights_of shapes)
+    (shape_reached shape.rise shape.points within.0) (all_reached shapes within.1)
 
 counts_same : (shapes : List Shape) → length (heights_of shapes) ≡ length (points_of shapes)
 counts_same [] = refl
@@ -141,16 +135,19 @@ made_with seed size shapes at good =
       heights_made (Some seed) shapes good.rises,
     )
 
-shapes_made : (bytes : List ℕ) (how : How) (pairs : List Pair) (size : ℕ) (shapes : List Shape) → Follow 0 pairs size
+pub shapes_made : (bytes : List ℕ) (how : How) (pairs : List Pair) (size : ℕ) (shapes : List Shape)
+    → Follow 0 pairs size
     → (seed : Option Pair) → seed_of bytes pairs ≡ seed
     → walked bytes how seed free (entities_of bytes pairs) ≡ Ok shapes → IsMade size (with_shapes (begun seed) shapes)
 shapes_made bytes how pairs size shapes follow None seed_is is =
     made_without 0 0 size shapes (walk_good 0 0 bytes how None (entities_of bytes pairs) free 0 0 size shapes
     (omega arith) (entities_spread bytes pairs size follow) (all_aside bytes (entities_of bytes pairs)) is)
 shapes_made bytes how pairs size shapes follow (Some seed) seed_is is =
-    made_with seed size shapes (lies 0 seed pairs size follow (seed_in bytes pairs Outside seed seed_is))
+    made_with seed size shapes (lies 0 seed pairs size follow
+    (seed_in bytes pairs Outside seed (sym (seed_found bytes pairs) ∙ seed_is)))
     (walk_good seed.start seed.end bytes how (Some seed) (entities_of bytes pairs) free 0 0 size shapes (omega arith)
-    (entities_spread bytes pairs size follow) (seed_aside bytes pairs seed Outside 0 size follow seed_is) is)
+    (entities_spread bytes pairs size follow) (seed_aside bytes pairs seed Outside 0 size follow
+    (sym (seed_found bytes pairs) ∙ seed_is)) is)
 
 -- what was read makes a sheet whose edits are in order
 pub read_made : (bytes : List ℕ) (how : How) (pairs : List Pair) (now : Contents) → Tile bytes pairs
@@ -187,20 +184,19 @@ read_whole bytes how pairs first left seed start now tile first_is left_is seed_
     read_made bytes how pairs now tile (subst
     (λ s. AddsAs (begun s) (walked bytes how s free (entities_of bytes pairs)) now) known two)
 
--- the edits of a drawing's sheet are in order
-pub sheet_in_order : (bytes : List ℕ) (how : How) (pairs : List Pair) (sheet : Contents) → Tile bytes pairs
-    → drawing bytes ≡ Ok pairs → drawing_sheet how bytes ≡ Ok sheet → AreInOrder 0 sheet.edits (length bytes)
-sheet_in_order bytes how pairs sheet tile pairs_are is =
-    by_read (walked bytes how (seed_of bytes pairs) free (entities_of bytes pairs)) refl
-    (subst (λ read. from_pairs bytes how read ≡ Ok sheet) pairs_are is) where
+-- the edits of the sheet that the code makes are in order
+pub walked_in_order : (bytes : List ℕ) (how : How) (pairs : List Pair) (sheet : Contents) → Tile bytes pairs
+    → walked_of_pairs bytes how pairs ≡ Ok sheet → AreInOrder 0 sheet.edits (length bytes)
+walked_in_order bytes how pairs sheet tile is =
+    by_read (walked bytes how (seed_of bytes pairs) free (entities_of bytes pairs)) refl is where
       by_read : (read : Result (List Shape) LayerFault)
           → walked bytes how (seed_of bytes pairs) free (entities_of bytes pairs) ≡ read
-          → and_then (λ shapes. Ok (sheet_of (seed_of bytes pairs) shapes)) read ≡ Ok sheet
+          → and_then (λ shapes. Ok (walked_sheet_of (seed_of bytes pairs) shapes)) read ≡ Ok sheet
           → AreInOrder 0 sheet.edits (length bytes)
       by_read (Ok shapes) walk made =
           let good = shapes_made bytes how pairs (length bytes) shapes (pairs_follow bytes pairs tile)
           (seed_of bytes pairs) refl walk in
-          let same : sheet ≡ sheet_of (seed_of bytes pairs) shapes = cc in
+          let same : sheet ≡ walked_sheet_of (seed_of bytes pairs) shapes = cc in
           subst (λ (s : Contents). AreInOrder 0 s.edits (length bytes)) (sym same)
           (sorted_in_order (length bytes) (with_shapes (begun (seed_of bytes pairs)) shapes).edits good.1)
       by_read (Err fault) walk made = absurd (cc)
@@ -208,7 +204,7 @@ sheet_in_order bytes how pairs sheet tile pairs_are is =
 -- and its paths follow each other without a gap
 pub sheet_tiled : (bytes : List ℕ) (how : How) (pairs : List Pair) (shapes : List Shape) → Tile bytes pairs
     → walked bytes how (seed_of bytes pairs) free (entities_of bytes pairs) ≡ Ok shapes
-    → IsTiled (sheet_of (seed_of bytes pairs) shapes)
+    → IsTiled (walked_sheet_of (seed_of bytes pairs) shapes)
 sheet_tiled bytes how pairs shapes tile walk =
     let good = shapes_made bytes how pairs (length bytes) shapes (pairs_follow bytes pairs tile) (seed_of bytes pairs)
     refl walk in good.0

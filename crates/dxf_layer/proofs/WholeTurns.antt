@@ -1,21 +1,21 @@
 -- Entities in whose place copies stand, or nothing.
 use Rattle.std.proofs.Common.{◌≡◌, ℕ, zero, suc, ◌+◌, ◌-◌, ◌<◌, ◌≤◌, Bool, true, false, refl, ap, sym, ◌∙◌, subst, List}
-use Rattle.std.proofs.Common.{[], ◌∷◌, ◌++◌, map, flat_map, length, take, drop, get_or, Option, None, Some, arith}
+use Rattle.std.proofs.Common.{[], ◌∷◌, ◌++◌, map, flat_map, length, take, drop, get_or, Option, Some, arith}
 use Rattle.std.proofs.Common.{codes}
 use Rattle.std.specs.List.{AllByRecursion}
 use Rattle.std.specs.Option.{is_some}
 use Rattle.std.proofs.lemmas.List.{append-nil, length-take-le, length-drop, get_or-take, get_or-drop}
 use Rattle.std.proofs.lemmas.Bool.Decides.{nat_tests}
+use Rattle.std.proofs.lemmas.List.Elements.{recursion_from_All}
 use Rattle.plane_base.specs.declared.shapes.Pt.{Pt}
 use Rattle.sheet_base.specs.declared.flags.How.{How}
 use Rattle.sheet_base.specs.declared.edits.Edit.{Edit}
 use Rattle.sheet_base.specs.declared.edits.What.{What}
 use Rattle.sheet_base.specs.declared.edits.What.TheVariants as edits
 use Rattle.sheet_base.specs.declared.paths.PathKind.{PathKind}
-use Rattle.sheet_base.specs.declared.paths.PathKind.TheVariants as paths
 use Rattle.sheet_base.specs.PointHeights.{Height, Position, paired, IsHeightWithinReach}
 use Rattle.sheet_base.specs.Fitting.{Runs, run_begin, IsWithinReach, images_of, positions_of, path_positions}
-use Rattle.sheet_base.proofs.ListParts.{all_listed, all_parts}
+use Rattle.sheet_base.proofs.ListParts.{all_parts}
 use Rattle.sheet_base.specs.Segments.{no_point}
 use Rattle.dxf_pairs.specs.declared.pairs.Pair.{Pair}
 use Rattle.dxf_pairs.specs.Groups.{groups_of, group_in}
@@ -216,7 +216,7 @@ heights_reached : (images : Runs) (count first past : ℕ) → AreGoodImages ima
 heights_reached images count first past good =
     let begins = run_begin images first in
     let behind = all_parts IsHeightWithinReach begins images.heights
-    (all_listed IsHeightWithinReach images.heights good.heights_reach) in
+    (recursion_from_All IsHeightWithinReach images.heights good.heights_reach) in
     (all_parts IsHeightWithinReach (run_begin images past - begins) (drop begins images.heights) behind.1).0
 
 -- a line, of which copies are made

@@ -1,5 +1,5 @@
 -- Numbers that are written are read: images, counts and handles.
-use Rattle.std.proofs.Common.{◌≡◌, ◌==◌, ℕ, zero, suc, ◌+◌, ◌-◌, ◌*◌, ◌/◌, ◌%◌, ◌^◌, ◌<◌, ◌≤◌, ℤ, pos, Bool, true}
+use Rattle.std.proofs.Common.{◌≡◌, ◌==◌, ℕ, zero, suc, ◌+◌, ◌*◌, ◌/◌, ◌%◌, ◌^◌, ◌<◌, ◌≤◌, ℤ, pos, Bool, true}
 use Rattle.std.proofs.Common.{false, cond, refl, ap, sym, ◌∙◌, subst, List, [], ◌∷◌, ◌++◌, length, None, Some, Ok}
 use Rattle.std.proofs.Common.{arith, decimal, unsigned_abs}
 use Rattle.std.specs.Prelude.{nat_lt, nat_le}

@@ -17,19 +17,22 @@ use Rattle.dxf_pairs.specs.Laws.{AreTiles, PairsTile}
 use Rattle.dxf_pairs.specs.InLines.{IsValue, AreInLines, PairsAreInLines, GroupsFollow}
 use Rattle.dxf_layer.specs.declared.entities.Where.{Where}
 use Rattle.dxf_layer.specs.declared.entities.Where.TheVariants.{Outside}
-use Rattle.dxf_layer.specs.Entities.{has_code, behind, entities_of}
-use Rattle.dxf_layer.specs.Fields.{and_then}
-use Rattle.dxf_layer.specs.Handles.{is_handle, as_seed, names_seed, seed_from, seed_of, seed_edits}
-use Rattle.dxf_layer.specs.Shapes.{Shape, value_edit, edit_among, in_order, with_shapes}
-use Rattle.dxf_layer.specs.Walks.{free, walked}
-use Rattle.dxf_layer.specs.Drawings.{begun, sheet_of, from_pairs, drawing_sheet}
+use Rattle.dxf_layer.specs.Entities.{has_code}
+use Rattle.dxf_layer.specs.InsideSections.{behind, entities_of, names_seed, seed_from}
+use Rattle.dxf_layer.specs.Handles.{is_handle}
+use Rattle.dxf_layer.specs.Seeds.{as_seed, seed_of, seed_edits}
+use Rattle.dxf_layer.specs.Shapes.{Shape, value_edit, with_shapes}
+use Rattle.dxf_layer.specs.InsideOrdering.{edit_among, in_order}
+use Rattle.dxf_layer.specs.InsideWalks.{free, walked}
+use Rattle.dxf_layer.specs.Drawings.{begun, drawing_sheet}
+use Rattle.sheet_base.specs.Faults.{and_then}
 use Rattle.dxf_layer.specs.Rendering.{Reading, first_handle, next_behind, seed_text, text_of, text_by}
 use Rattle.dxf_layer.specs.ReadBack.{GroupsAreWritten}
+use Rattle.dxf_layer.specs.InsideSheets.{walked_sheet_of}
 use Rattle.dxf_layer.proofs.Sections.{seed_in}
 use Rattle.dxf_layer.proofs.SeedForm.{seed_is}
 use Rattle.dxf_layer.proofs.Numbers.{handle_digits}
-use Rattle.dxf_layer.proofs.Shaped.{edits_with, edits_are}
-use Rattle.dxf_layer.proofs.Whole.{sheet_in_order}
+use Rattle.dxf_layer.proofs.WholeShapes.{edits_with, edits_are}
 use Rattle.dxf_layer.proofs.EditedPairs.{StandsOn, StandOn, groups_in}
 use Rattle.dxf_layer.proofs.SplicedPairs.{spliced_groups}
 use Rattle.dxf_layer.proofs.ValueTexts.{plain_value, plain_digits, plain_hexes}
@@ -38,6 +41,8 @@ use Rattle.dxf_layer.proofs.PairPlaces.{coded}
 use Rattle.dxf_layer.proofs.EntityPlaces.{value_stands, sources}
 use Rattle.dxf_layer.proofs.ShapeEdits.{stand_both, standing_edits}
 use Rattle.dxf_layer.proofs.WalkedEdits.{walk_stands}
+use Rattle.dxf_layer.proofs.WalkedSheets.{sheet_walked, sheet_in_order}
+use Rattle.dxf_layer.proofs.SectionSeeds.{found_as}
 
 -- the next handle begins no entity
 first_no_head : (bytes : List ℕ) (pairs : List Pair) (seed : Pair) → as_seed bytes pairs ≡ Some seed
@@ -79,13 +84,14 @@ seed_stands : (read : Reading) (seed : Option Pair) → seed_of read.bytes read.
     → StandOn read read.pairs (seed_edits seed)
 seed_stands read None is = tt
 seed_stands read (Some seed) is =
-    let handle : is_handle (value_in read.bytes seed) ≡ true = seed_is read.bytes Outside read.pairs seed is in (
-      value_stands read read.pairs seed (value_edit NextHandle seed) (seed_in read.bytes read.pairs Outside seed is)
+    let found = found_as read.bytes read.pairs (Some seed) is in
+    let handle : is_handle (value_in read.bytes seed) ≡ true = seed_is read.bytes Outside read.pairs seed found in (
+      value_stands read read.pairs seed (value_edit NextHandle seed) (seed_in read.bytes read.pairs Outside seed found)
           (record {
             start = refl;
             end = refl;
             some = some_between read.bytes seed (some_handle (value_in read.bytes seed) handle);
-            no_head = seed_no_head read.bytes Outside read.pairs seed is;
+            no_head = seed_no_head read.bytes Outside read.pairs seed found;
             text = seed_value read seed handle;
           }),
       tt,
@@ -109,21 +115,23 @@ order_stand read pairs (edit ∷ edits) all =
     among_stand read pairs edit (in_order edits) all.0 (order_stand read pairs edits all.1)
 
 -- the edits of a drawing's sheet stand at its pairs
-pub edits_stand : GroupsFollow → (how : How) (read : Reading) (past : ℕ) → AreTiles 0 1 read.pairs past
+pub edits_stand : GroupsFollow → (how : How) (read : Reading) (past : ℕ) → past ≤ length read.bytes
+    → AreTiles 0 1 read.pairs past
     → AreInLines read.bytes read.pairs → drawing read.bytes ≡ Ok read.pairs → (sheet : Contents)
     → drawing_sheet how read.bytes ≡ Ok sheet
     → StandOn read read.pairs sheet.edits
-edits_stand follow how read past tiles lines pairs_are sheet is =
+edits_stand follow how read past inside tiles lines pairs_are sheet is =
     by_read (walked read.bytes how seed free (entities_of read.bytes read.pairs)) refl
-    (subst (λ (r : Result (List Pair) PairFault). from_pairs read.bytes how r ≡ Ok sheet) pairs_are is) where
+    (sheet_walked read.bytes how read.pairs sheet (past, inside, tiles) pairs_are is) where
       seed : Option Pair
       seed = seed_of read.bytes read.pairs
 
       by_read : (result : Result (List Shape) LayerFault)
           → walked read.bytes how seed free (entities_of read.bytes read.pairs) ≡ result
-          → and_then (λ shapes. Ok (sheet_of seed shapes)) result ≡ Ok sheet → StandOn read read.pairs sheet.edits
+          → and_then (λ shapes. Ok (walked_sheet_of seed shapes)) result ≡ Ok sheet
+          → StandOn read read.pairs sheet.edits
       by_read (Ok shapes) walk made =
-          let same : sheet_of seed shapes ≡ sheet = cc in
+          let same : walked_sheet_of seed shapes ≡ sheet = cc in
           let standing = walk_stands read how seed (entities_of read.bytes read.pairs) free
           (sources follow read past tiles lines [] read.pairs Outside refl) tt shapes walk in
           let all : StandOn read read.pairs (with_shapes (begun seed) shapes).edits =
@@ -156,4 +164,4 @@ written tile in_lines follow how bytes pairs sheet images pairs_are sheet_is fit
     (spliced bytes (λ (edit : Edit). text_by r bytes sheet images edit) sheet.edits)) pairs_are
     ∙ from_first follow read past (length bytes) pairs lines tiles inside
     (sheet_in_order bytes how pairs sheet (tile bytes pairs pairs_are) pairs_are sheet_is)
-    (edits_stand follow how read past tiles lines pairs_are sheet sheet_is)
+    (edits_stand follow how read past inside tiles lines pairs_are sheet sheet_is)

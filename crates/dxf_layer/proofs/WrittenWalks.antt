@@ -14,26 +14,28 @@ use Rattle.dxf_pairs.specs.Groups.{Group, group_in, value_in}
 use Rattle.dxf_layer.specs.declared.drawing.Vertex.{Vertex}
 use Rattle.dxf_layer.specs.declared.entities.Where.{Where}
 use Rattle.dxf_layer.specs.declared.entities.Where.TheVariants.{Outside, Begun, Header, Entities, Other}
-use Rattle.dxf_layer.specs.Entities.{Entity, has_code, ends_section, behind, begins_entity}
+use Rattle.dxf_layer.specs.Entities.{Entity, has_code}
+use Rattle.dxf_layer.specs.Sections.{ends_section}
+use Rattle.dxf_layer.specs.InsideSections.{behind, begins_entity}
 use Rattle.dxf_layer.specs.ReadBack.{begins_at}
 use Rattle.dxf_layer.specs.Rendering.{Reading}
 use Rattle.dxf_layer.specs.Shapes.{Shape, rows_of, point_of}
-use Rattle.dxf_layer.specs.Walks.{Place, reading, Step, walked}
+use Rattle.dxf_layer.specs.InsideWalks.{Place, reading, Step, walked}
+use Rattle.dxf_layer.specs.Handles.{is_handle}
 use Rattle.dxf_layer.proofs.Members.{IsIn}
 use Rattle.dxf_layer.proofs.GroupShapes.{Outline}
 use Rattle.dxf_layer.proofs.GroupWalks.{Spot}
 use Rattle.dxf_layer.proofs.GroupDrawings.{walk, entities_told, behind_group, behind_told, begins_told}
-use Rattle.dxf_layer.proofs.Shaped.{path_behind, paths_past, points_past}
+use Rattle.dxf_layer.proofs.WholeShapes.{path_behind, paths_past, points_past}
 use Rattle.dxf_layer.proofs.StandingEdits.{stand, AreSilent}
 use Rattle.dxf_layer.proofs.WalkTrails.{ReadingStep, one_vertex, the_end, reading_step, walked_on}
 use Rattle.dxf_layer.proofs.OutlineEnds.{rows_behind, points_of}
 use Rattle.dxf_layer.proofs.LevelOutlines.{AreBack}
-use Rattle.dxf_layer.proofs.EntityWritten.{length_mapped}
 use Rattle.dxf_layer.proofs.EntityCases.{DotsAlone}
 use Rattle.dxf_layer.proofs.StepWritten.{IsNear}
 use Rattle.dxf_layer.proofs.WalkJoins.{IsHeaded}
-use Rattle.dxf_layer.specs.Handles.{is_handle}
 use Rattle.dxf_layer.proofs.KeptSeeds.{IsKept}
+use Rattle.dxf_layer.proofs.GroupPolylines.{length_mapped}
 
 -- rows, points and dots of shapes and of those behind them
 pub rows_both : (first : ℕ) (shapes more : List Shape)

@@ -1,5 +1,5 @@
 -- The sheet of a drawing, or why it has none.
-use Rattle.std.specs.Prelude.{ℕ, List, [], Option, Result, Ok, Err}
+use Rattle.std.specs.Prelude.{ℕ, List, [], length, Option, Result, Ok, Err}
 use Rattle.sheet_base.specs.declared.flags.How.{How}
 use Rattle.sheet_base.specs.declared.faults.LayerFault.{LayerFault}
 use Rattle.sheet_base.specs.declared.faults.LayerFault.TheVariants as faults
@@ -8,11 +8,12 @@ use Rattle.dxf_pairs.specs.declared.pairs.Pair.{Pair}
 use Rattle.dxf_pairs.specs.declared.faults.PairFault.{PairFault}
 use Rattle.dxf_pairs.specs.declared.faults.PairFault.TheVariants as pairs
 use Rattle.dxf_pairs.specs.Pairs.{drawing}
-use Rattle.dxf_layer.specs.Entities.{entities_of}
-use Rattle.dxf_layer.specs.Fields.{and_then}
-use Rattle.dxf_layer.specs.Handles.{seed_of, seed_edits}
-use Rattle.dxf_layer.specs.Shapes.{Shape, with_shapes, in_order}
-use Rattle.dxf_layer.specs.Walks.{free, walked}
+use Rattle.dxf_layer.specs.EditOrder.{by_place}
+use Rattle.dxf_layer.specs.Fields.{once, in_turn}
+use Rattle.dxf_layer.specs.Seeds.{seed_of, seed_edits}
+use Rattle.dxf_layer.specs.Items.{items_of}
+use Rattle.dxf_layer.specs.Kinds.{shapes_of_item}
+use Rattle.dxf_layer.specs.Shapes.{Shape, with_shapes}
 
 -- the refusals of pairs, by the same names
 abbrev pub refused : PairFault → LayerFault
@@ -22,7 +23,7 @@ refused (pairs.Odd line) = faults.Odd line
 refused pairs.NoEof = faults.NoEof
 refused pairs.NoMemory = faults.NoMemory
 
--- what is read before the first entity: the next handle
+-- what is read before the first item: the next handle
 abbrev pub begun : Option Pair → Contents
 begun seed = record {
   paths = [];
@@ -33,25 +34,26 @@ begun seed = record {
   dropped = 0;
 }
 
--- the sheet of what is read: all edits are in order of the text
-abbrev pub ordered : Contents → Contents
-ordered whole = record {
+-- the sheet of what is read of so many bytes: all edits are in order of the text
+abbrev pub ordered : ℕ → Contents → Contents
+ordered size whole = record {
   paths = whole.paths;
   points = whole.points;
   heights = whole.heights;
-  edits = in_order whole.edits;
-  inexact =
-      whole.inexact;
+  edits = by_place size whole.edits;
+  inexact = whole.inexact;
   dropped = whole.dropped;
 }
 
-abbrev pub sheet_of : Option Pair → List Shape → Contents
-sheet_of seed shapes = ordered (with_shapes (begun seed) shapes)
+abbrev pub sheet_of : ℕ → Option Pair → List Shape → Contents
+sheet_of size seed shapes = ordered size (with_shapes (begun seed) shapes)
 
+-- the items of the sections ENTITIES are read in order, by the next handle of the sections HEADER
 abbrev pub sheet_of_pairs : List ℕ → How → List Pair → Result Contents LayerFault
 sheet_of_pairs bytes how pairs =
     let seed = seed_of bytes pairs in
-    and_then (λ shapes. Ok (sheet_of seed shapes)) (walked bytes how seed free (entities_of bytes pairs))
+    once (in_turn (shapes_of_item bytes how seed) (items_of bytes pairs)) (λ shapes.
+    Ok (sheet_of (length bytes) seed shapes))
 
 abbrev pub from_pairs : List ℕ → How → Result (List Pair) PairFault → Result Contents LayerFault
 from_pairs bytes how (Ok pairs) = sheet_of_pairs bytes how pairs

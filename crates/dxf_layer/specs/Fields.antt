@@ -1,5 +1,6 @@
 -- The fields of an entity, looked up by code, and what their values are compared with.
-use Rattle.std.specs.Prelude.{ℕ, ◌*◌, ℤ, pos, Bool, false, ◌&&◌, not, if◌then◌else◌, List, [], ◌∷◌, filter, take_while}
+use Rattle.std.specs.Prelude.{ℕ, ◌*◌, ℤ, pos, Bool, false, ◌&&◌, not, if◌then◌else◌, List, [], ◌∷◌, ◌++◌, filter}
+use Rattle.std.specs.Prelude.{take_while}
 use Rattle.std.specs.Prelude.{int_lt, Option, None, Some, Result, Ok, Err}
 use Rattle.std.specs.Ordering.{int_eq}
 use Rattle.mm_decimal.specs.Measured.{measured}
@@ -7,15 +8,20 @@ use Rattle.mm_decimal.specs.declared.reading.MmRead.{MmRead}
 use Rattle.mm_decimal.specs.declared.reading.NumFault.{NumFault}
 use Rattle.sheet_base.specs.declared.faults.LayerFault.{LayerFault}
 use Rattle.sheet_base.specs.declared.faults.LayerFault.TheVariants.{Count, Number, Inexact}
+use Rattle.sheet_base.specs.Faults.{and_then}
 use Rattle.dxf_pairs.specs.declared.pairs.Pair.{Pair}
 use Rattle.dxf_pairs.specs.Groups.{value_in}
 use Rattle.dxf_layer.specs.declared.fields.Read.{Read}
 use Rattle.dxf_layer.specs.Entities.{Entity, has_code}
 
--- the fault, or else what is made of the value
-abbrev pub and_then : {A B : Type 0} → (A → Result B LayerFault) → Result A LayerFault → Result B LayerFault
-and_then f (Ok value) = f value
-and_then f (Err fault) = Err fault
+-- the same in the order of reading: once the first is read, what is made of it
+abbrev pub once : {A B : Type 0} → Result A LayerFault → (A → Result B LayerFault) → Result B LayerFault
+once first f = and_then f first
+
+-- what is made of each, one behind the other, or the first fault
+abbrev pub in_turn : {A B : Type 0} → (A → Result (List B) LayerFault) → List A → Result (List B) LayerFault
+in_turn f [] = Ok []
+in_turn f (item ∷ items) = once (f item) (λ here. once (in_turn f items) (λ more. Ok (here ++ more)))
 
 -- the fields of an entity are its pairs before the first code of 1000 or more
 abbrev pub fields_of : Entity → List Pair
@@ -37,7 +43,7 @@ there entity (Some pair) = Ok pair
 
 -- the field of the code, which is wanted: where it is missing, the entity is refused
 abbrev pub wanted : ℤ → Entity → Result Pair LayerFault
-wanted code entity = and_then (there entity) (field code entity)
+wanted code entity = once (field code entity) (there entity)
 
 abbrev pub read_of : Bool → Pair → Result MmRead NumFault → Result Read LayerFault
 read_of exact pair (Err fault) = Err (Number pair.value fault)
@@ -51,7 +57,7 @@ coordinate bytes exact pair = read_of exact pair (measured (value_in bytes pair)
 
 -- the coordinate of a wanted field
 abbrev pub coordinate_at : List ℕ → Bool → ℤ → Entity → Result Read LayerFault
-coordinate_at bytes exact code entity = and_then (coordinate bytes exact) (wanted code entity)
+coordinate_at bytes exact code entity = once (wanted code entity) (coordinate bytes exact)
 
 abbrev pub is_exactly : ℤ → Result MmRead NumFault → Bool
 is_exactly mm (Ok read) = read.exact && int_eq read.mm mm
@@ -77,7 +83,7 @@ line_unless_zero bytes (Some pair) = if equals bytes 0 pair then Ok None else Ok
 
 -- the line of the field of the code, where it is there and not zero
 abbrev pub not_zero_at : List ℕ → ℤ → Entity → Result (Option ℕ) LayerFault
-not_zero_at bytes code entity = and_then (line_unless_zero bytes) (field code entity)
+not_zero_at bytes code entity = once (field code entity) (line_unless_zero bytes)
 
 abbrev pub refused_at : (ℕ → LayerFault) → Result (Option ℕ) LayerFault → Result (Unit {0}) LayerFault
 refused_at fault (Ok None) = Ok tt

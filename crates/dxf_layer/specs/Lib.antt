@@ -1,16 +1,24 @@
--- The files of definitions of dxf_layer.
+-- The files of definitions of dxf_layer; of those that begin with Inside only private functions speak.
 pub mod Entities
+pub mod Sections
+pub mod Items
 pub mod Fields
 pub mod Shapes
 pub mod Points
 pub mod Polylines
 pub mod Handles
-pub mod Walks
+pub mod Seeds
+pub mod Kinds
+pub mod EditOrder
 pub mod Drawings
-pub mod Told
-pub mod Held
 pub mod Rendering
-pub mod Paged
 pub mod ReadBack
 pub mod Copies
-pub mod Ordering
+pub mod InsideEntities
+pub mod InsideContents
+pub mod InsideSections
+pub mod InsideWalks
+pub mod InsideOrdering
+pub mod InsideSheets
+pub mod InsideStands
+pub mod InsidePages

@@ -12,7 +12,7 @@ use Rattle.sheet_base.specs.declared.faults.LayerFault.TheVariants.{Attribs}
 use Rattle.dxf_pairs.specs.declared.pairs.Pair.{Pair}
 use Rattle.dxf_pairs.specs.Groups.{value_in}
 use Rattle.dxf_layer.specs.Entities.{Entity, entity_end}
-use Rattle.dxf_layer.specs.Fields.{and_then, field, there, coordinate, coordinate_at, is_not_zero, zero_at}
+use Rattle.dxf_layer.specs.Fields.{once, field, there, coordinate, coordinate_at, is_not_zero, zero_at}
 use Rattle.dxf_layer.specs.Handles.{handle}
 use Rattle.dxf_layer.specs.declared.drawing.Spot.{Spot}
 use Rattle.dxf_layer.specs.declared.drawing.Rise.{Rise}
@@ -22,8 +22,9 @@ use Rattle.dxf_layer.specs.Shapes.{Shape, point_of, lost_of, lost_by, spot_edits
 -- the point of the wanted fields of two codes, the first read before the second
 abbrev pub spot_at : List ℕ → Bool → ℤ → ℤ → Entity → Result Spot LayerFault
 spot_at bytes exact x y entity =
-    and_then (λ east. and_then (λ north. Ok (record { x = east; y = north })) (coordinate_at bytes exact y entity))
-    (coordinate_at bytes exact x entity)
+    once (coordinate_at bytes exact x entity) (λ east.
+    once (coordinate_at bytes exact y entity) (λ north.
+    Ok (record { x = east; y = north })))
 
 -- a dot, whose values are replaced
 abbrev pub dot_of : Spot → Shape
@@ -39,24 +40,25 @@ dot_of spot = record {
 
 -- a point
 abbrev pub point_shapes : List ℕ → Bool → Entity → Result (List Shape) LayerFault
-point_shapes bytes exact entity = and_then (λ spot. Ok (dot_of spot ∷ []))
-    (spot_at bytes exact (pos 10) (pos 20) entity)
+point_shapes bytes exact entity = once (spot_at bytes exact (pos 10) (pos 20) entity) (λ spot. Ok (dot_of spot ∷ []))
 
 -- an insert, which has no attributes
 abbrev pub insert_shapes : List ℕ → Bool → Entity → Result (List Shape) LayerFault
-insert_shapes bytes exact entity = and_then (λ none. point_shapes bytes exact entity)
-    (zero_at bytes Attribs (pos 66) entity)
+insert_shapes bytes exact entity = once (zero_at bytes Attribs (pos 66) entity)
+    (λ none. point_shapes bytes exact entity)
 
 -- the second point of a text, where its first or its second justification is not zero
 abbrev pub second_by : List ℕ → Bool → Entity → Option Pair → Option Pair → Result (Option Spot) LayerFault
 second_by bytes exact entity across along =
-    if is_not_zero bytes across || is_not_zero bytes along then and_then (λ spot. Ok (Some spot))
-    (spot_at bytes exact (pos 11) (pos 21) entity) else Ok None
+    if is_not_zero bytes across || is_not_zero bytes along
+    then once (spot_at bytes exact (pos 11) (pos 21) entity) (λ spot. Ok (Some spot))
+    else Ok None
 
 abbrev pub second_spot : List ℕ → Bool → Entity → Result (Option Spot) LayerFault
 second_spot bytes exact entity =
-    and_then (λ across. and_then (λ along. second_by bytes exact entity across along) (field (pos 73) entity))
-    (field (pos 72) entity)
+    once (field (pos 72) entity) (λ across.
+    once (field (pos 73) entity) (λ along.
+    second_by bytes exact entity across along))
 
 abbrev pub dots_of : Option Spot → List Shape
 dots_of None = []
@@ -65,8 +67,9 @@ dots_of (Some spot) = dot_of spot ∷ []
 -- a text
 abbrev pub text_shapes : List ℕ → Bool → Entity → Result (List Shape) LayerFault
 text_shapes bytes exact entity =
-    and_then (λ spot. and_then (λ second. Ok (dot_of spot ∷ dots_of second)) (second_spot bytes exact entity))
-    (spot_at bytes exact (pos 10) (pos 20) entity)
+    once (spot_at bytes exact (pos 10) (pos 20) entity) (λ spot.
+    once (second_spot bytes exact entity) (λ second.
+    Ok (dot_of spot ∷ dots_of second)))
 
 -- the millimetres of a height, of which a missing one is 0 and one that is no numeral has none
 abbrev pub height_of : Result MmRead NumFault → Option ℤ
@@ -84,20 +87,24 @@ are_level first second = false
 -- the heights of a line's two ends, whose fields both have to be there
 abbrev pub both_heights : List ℕ → Bool → Entity → Option Pair → Option Pair → Result Rise LayerFault
 both_heights bytes exact entity first second =
-    and_then (λ low. and_then (λ high. and_then (λ begin. and_then (λ end. Ok (record { begin = begin; end = end }))
-    (coordinate bytes exact high)) (coordinate bytes exact low)) (there entity second)) (there entity first)
+    once (there entity first) (λ low.
+    once (there entity second) (λ high.
+    once (coordinate bytes exact low) (λ begin.
+    once (coordinate bytes exact high) (λ end.
+    Ok (record { begin = begin; end = end })))))
 
 -- where both ends of a line have one height, it has none to carry
 abbrev pub unless_level : List ℕ → Bool → Entity → Option Pair → Option Pair → Result (Option Rise) LayerFault
 unless_level bytes exact entity first second =
     if are_level (height bytes first) (height bytes second) then Ok None
-    else and_then (λ rise. Ok (Some rise)) (both_heights bytes exact entity first second)
+    else once (both_heights bytes exact entity first second) (λ rise. Ok (Some rise))
 
 -- the heights of a line's two ends, where they differ
 abbrev pub rise_of : List ℕ → Bool → Entity → Result (Option Rise) LayerFault
 rise_of bytes exact entity =
-    and_then (λ first. and_then (λ second. unless_level bytes exact entity first second) (field (pos 31) entity))
-    (field (pos 30) entity)
+    once (field (pos 30) entity) (λ first.
+    once (field (pos 31) entity) (λ second.
+    unless_level bytes exact entity first second))
 
 -- a line between two points; copies of the entity take its place
 abbrev pub line_of : Entity → Spot → Spot → Option Rise → Shape
@@ -113,11 +120,14 @@ line_of entity begin end rise = record {
 -- the ends of a line, and their heights, where it has some
 abbrev pub line_ends : List ℕ → Bool → Option Pair → Entity → Result LineEnds LayerFault
 line_ends bytes exact seed entity =
-    and_then (λ own. and_then (λ begin. and_then
-    (λ end. and_then (λ rise. Ok (record { begin = begin; end = end; rise = rise })) (rise_of bytes exact entity))
-    (spot_at bytes exact (pos 11) (pos 21) entity)) (spot_at bytes exact (pos 10) (pos 20) entity)) (handle seed entity)
+    once (handle seed entity) (λ own.
+    once (spot_at bytes exact (pos 10) (pos 20) entity) (λ begin.
+    once (spot_at bytes exact (pos 11) (pos 21) entity) (λ end.
+    once (rise_of bytes exact entity) (λ rise.
+    Ok (record { begin = begin; end = end; rise = rise })))))
 
 -- a line
 abbrev pub line_shapes : List ℕ → Bool → Option Pair → Entity → Result (List Shape) LayerFault
-line_shapes bytes exact seed entity = and_then (λ ends. Ok (line_of entity ends.begin ends.end ends.rise ∷ []))
-    (line_ends bytes exact seed entity)
+line_shapes bytes exact seed entity =
+    once (line_ends bytes exact seed entity) (λ ends.
+    Ok (line_of entity ends.begin ends.end ends.rise ∷ []))

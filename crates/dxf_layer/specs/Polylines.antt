@@ -1,16 +1,18 @@
 -- Polylines of a drawing, with their vertices in fields (LWPOLYLINE) or in entities of their own (POLYLINE).
 use Rattle.std.specs.Prelude.{ℕ, ◌+◌, pos, nat_lt, Bool, ◌&&◌, ◌||◌, if◌then◌else◌, List, [], ◌∷◌, ◌++◌, length, map}
-use Rattle.std.specs.Prelude.{sum_by, Option, None, Some, Result, Ok, Err}
+use Rattle.std.specs.Prelude.{sum_by, codes, Option, None, Some, Result, Ok, Err}
+use Rattle.std.specs.Str.{bytes_eq}
 use Rattle.sheet_base.specs.declared.edits.Edit.{Edit}
 use Rattle.sheet_base.specs.declared.edits.What.TheVariants as edits
 use Rattle.sheet_base.specs.declared.paths.PathKind.{PathKind}
 use Rattle.sheet_base.specs.declared.paths.PathKind.TheVariants as paths
 use Rattle.sheet_base.specs.declared.paths.PathRow.{PathRow}
 use Rattle.sheet_base.specs.declared.faults.LayerFault.{LayerFault}
-use Rattle.sheet_base.specs.declared.faults.LayerFault.TheVariants.{Bulge, Count, Flags, Width}
+use Rattle.sheet_base.specs.declared.faults.LayerFault.TheVariants.{Bulge, Count, Flags, NoEof, Width}
 use Rattle.dxf_pairs.specs.declared.pairs.Pair.{Pair}
+use Rattle.dxf_pairs.specs.Groups.{value_in}
 use Rattle.dxf_layer.specs.Entities.{Entity, has_code, entity_end}
-use Rattle.dxf_layer.specs.Fields.{and_then, fields_of, field, wanted, coordinate, equals, zero_at}
+use Rattle.dxf_layer.specs.Fields.{once, in_turn, fields_of, field, wanted, coordinate, equals, zero_at}
 use Rattle.dxf_layer.specs.Handles.{handle}
 use Rattle.dxf_layer.specs.Points.{spot_at}
 use Rattle.dxf_layer.specs.declared.drawing.Vertex.{Vertex}
@@ -25,7 +27,7 @@ kind_by bytes (Some pair) =
     else Err (Flags pair.line)
 
 abbrev pub kind_of : List ℕ → Entity → Result PathKind LayerFault
-kind_of bytes entity = and_then (kind_by bytes) (field (pos 70) entity)
+kind_of bytes entity = once (field (pos 70) entity) (kind_by bytes)
 
 -- without vertices there is no path
 abbrev pub kind_with : PathKind → List Vertex → Option PathKind
@@ -61,10 +63,10 @@ past_group bytes past (pair ∷ pairs) = if is_group_code pair then first_fault 
 -- the vertex of two fields of codes 10 and 20, and of its group among the fields behind them
 abbrev pub vertex_of : List ℕ → Bool → Pair → Pair → List Pair → Result Vertex LayerFault
 vertex_of bytes exact x y behind =
-    and_then (λ east. and_then (λ north. and_then
-    (λ past. Ok (record { spot = record { x = east; y = north }; start = x.start; past = past }))
-    (past_group bytes y.end behind))
-    (coordinate bytes exact y)) (coordinate bytes exact x)
+    once (coordinate bytes exact x) (λ east.
+    once (coordinate bytes exact y) (λ north.
+    once (past_group bytes y.end behind) (λ past.
+    Ok (record { spot = record { x = east; y = north }; start = x.start; past = past }))))
 
 abbrev pub begins_vertex : Pair → Pair → Bool
 begins_vertex pair next = has_code (pos 10) pair && has_code (pos 20) next
@@ -78,8 +80,9 @@ vertices_in bytes exact [] = Ok []
 vertices_in bytes exact (pair ∷ []) = if is_number pair then Err (Count pair.line) else Ok []
 vertices_in bytes exact (pair ∷ next ∷ pairs) =
     if begins_vertex pair next
-    then and_then (λ vertex. and_then (λ more. Ok (vertex ∷ more)) (vertices_in bytes exact pairs))
-    (vertex_of bytes exact pair next pairs)
+    then once (vertex_of bytes exact pair next pairs) (λ vertex.
+    once (vertices_in bytes exact pairs) (λ more.
+    Ok (vertex ∷ more)))
     else if is_number pair then Err (Count pair.line)
     else vertices_in bytes exact (next ∷ pairs)
 
@@ -95,7 +98,7 @@ as_count bytes number pair = if equals bytes number pair then Ok pair else Err (
 
 -- field 90, which counts the vertices
 abbrev pub count_of : List ℕ → ℕ → Entity → Result Pair LayerFault
-count_of bytes number entity = and_then (as_count bytes number) (wanted (pos 90) entity)
+count_of bytes number entity = once (wanted (pos 90) entity) (as_count bytes number)
 
 -- a polyline in one entity
 abbrev pub light_shape : PathKind → List Vertex → Pair → Shape
@@ -111,23 +114,26 @@ light_shape kind vertices count = record {
 
 abbrev pub light_shapes : List ℕ → Bool → Entity → Result (List Shape) LayerFault
 light_shapes bytes exact entity =
-    and_then (λ kind. and_then (λ vertices. and_then (λ count. Ok (light_shape kind vertices count ∷ []))
-    (count_of bytes (length vertices) entity))
-    (vertices_in bytes exact (fields_of entity))) (kind_of bytes entity)
+    once (kind_of bytes entity) (λ kind.
+    once (vertices_in bytes exact (fields_of entity)) (λ vertices.
+    once (count_of bytes (length vertices) entity) (λ count.
+    Ok (light_shape kind vertices count ∷ []))))
 
 -- a vertex's entity has no width, no bulge and no flags
 abbrev pub plain : List ℕ → Entity → Result (Unit {0}) LayerFault
 plain bytes entity =
-    and_then (λ begin. and_then (λ end. and_then (λ bulge. zero_at bytes Flags (pos 70) entity)
-    (zero_at bytes Bulge (pos 42) entity)) (zero_at bytes Width (pos 41) entity))
-    (zero_at bytes Width (pos 40) entity)
+    once (zero_at bytes Width (pos 40) entity) (λ begin.
+    once (zero_at bytes Width (pos 41) entity) (λ end.
+    once (zero_at bytes Bulge (pos 42) entity) (λ bulge.
+    zero_at bytes Flags (pos 70) entity)))
 
 -- the vertex of an entity of its own
 abbrev pub entity_vertex : List ℕ → Bool → Option Pair → Entity → Result Vertex LayerFault
 entity_vertex bytes exact seed entity =
-    and_then (λ own. and_then (λ spot. and_then
-    (λ is. Ok (record { spot = spot; start = entity.head.start; past = entity_end entity })) (plain bytes entity))
-    (spot_at bytes exact (pos 10) (pos 20) entity)) (handle seed entity)
+    once (handle seed entity) (λ own.
+    once (spot_at bytes exact (pos 10) (pos 20) entity) (λ spot.
+    once (plain bytes entity) (λ is.
+    Ok (record { spot = spot; start = entity.head.start; past = entity_end entity }))))
 
 -- copies of each vertex take its place
 abbrev pub copy_edits : ℕ → List Vertex → List Edit
@@ -148,3 +154,23 @@ own_shape kind vertices = record {
 -- a polyline with vertices of their own
 abbrev pub heavy_shape : PathKind → List Vertex → Shape
 heavy_shape kind vertices = own_shape (kind_with kind vertices) vertices
+
+-- the vertices of entities of their own, in order
+abbrev pub own_vertices : List ℕ → Bool → Option Pair → List Entity → Result (List Vertex) LayerFault
+own_vertices bytes exact seed entities =
+    in_turn (λ entity. once (entity_vertex bytes exact seed entity) (λ vertex. Ok (vertex ∷ []))) entities
+
+-- the pair behind the vertices is that of a SEQEND
+abbrev pub ends_polyline : List ℕ → Option Pair → Result (Unit {0}) LayerFault
+ends_polyline bytes None = Err NoEof
+ends_polyline bytes (Some pair) = if bytes_eq (value_in bytes pair) (codes "SEQEND") then Ok tt else Err
+    (Count pair.line)
+
+-- a POLYLINE with its vertices, and with the pair behind them
+abbrev pub heavy_shapes : List ℕ → Bool → Option Pair → Entity → List Entity → Option Pair
+    → Result (List Shape) LayerFault
+heavy_shapes bytes exact seed entity vertices behind =
+    once (kind_of bytes entity) (λ kind.
+    once (own_vertices bytes exact seed vertices) (λ read.
+    once (ends_polyline bytes behind) (λ ends.
+    Ok (heavy_shape kind read ∷ []))))

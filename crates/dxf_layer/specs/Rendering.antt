@@ -25,7 +25,7 @@ use Rattle.dxf_layer.specs.declared.copies.Value.{Value}
 use Rattle.dxf_layer.specs.declared.copies.Value.TheVariants as values
 use Rattle.dxf_layer.specs.Entities.{Entity, has_code, entity_of, entity_end}
 use Rattle.dxf_layer.specs.Fields.{fields_of}
-use Rattle.dxf_layer.specs.Handles.{seed_of}
+use Rattle.dxf_layer.specs.Seeds.{seed_of}
 
 -- a point's image and those of the crossings behind it
 abbrev pub run_of : Runs → ℕ → List Pt

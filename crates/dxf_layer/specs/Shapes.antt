@@ -1,5 +1,5 @@
 -- What is read of an entity: a path or none, its points and their heights, and the edits.
-use Rattle.std.specs.Prelude.{ℕ, ◌+◌, Bool, nat_le, if◌then◌else◌, List, [], ◌∷◌, ◌++◌, length, map, Option, None}
+use Rattle.std.specs.Prelude.{ℕ, ◌+◌, Bool, if◌then◌else◌, List, [], ◌∷◌, ◌++◌, length, map, Option, None}
 use Rattle.std.specs.Prelude.{Some}
 use Rattle.plane_base.specs.declared.shapes.Pt.{Pt}
 use Rattle.sheet_base.specs.declared.edits.Edit.{Edit}
@@ -57,16 +57,6 @@ spot_edits point spot = value_edit (X point) spot.x.pair ∷ value_edit (Y point
 abbrev pub rows_of : Option PathKind → ℕ → ℕ → List PathRow
 rows_of None first past = []
 rows_of (Some kind) first past = record { kind = kind; first = first; past = past } ∷ []
-
--- an edit among others in order of the text, before those that start at the same place
-abbrev pub edit_among : Edit → List Edit → List Edit
-edit_among edit [] = edit ∷ []
-edit_among edit (other ∷ edits) = if nat_le edit.start other.start then edit ∷ other ∷ edits else other
-    ∷ edit_among edit edits
-
-abbrev pub in_order : List Edit → List Edit
-in_order [] = []
-in_order (edit ∷ edits) = edit_among edit (in_order edits)
 
 -- what is read so far, with a shape behind it: its path and its points have the next numbers, and the edits are in
 -- order of the shapes

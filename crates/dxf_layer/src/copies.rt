@@ -4,7 +4,7 @@ ghost use Rattle.std.specs.Prelude.{◌≡◌, ◌++◌, ℕ, List, true, OnOk, 
 ghost use Rattle.dxf_pairs.specs.Lines.{between};
 ghost use Rattle.std.specs.Fmt.{digits};
 ghost use Rattle.mm_decimal.specs.Writing.{written};
-ghost use Rattle.dxf_layer.specs.Told.{told};
+ghost use Rattle.dxf_layer.specs.InsideEntities.{told};
 ghost use Rattle.dxf_layer.specs.Rendering.{value_for, value_text, copied_with, copy_text, field_copy};
 
 use crate::entities::Entity;

@@ -4,8 +4,8 @@ ghost use Rattle.std.specs.Prelude.{◌≡◌, ◌<◌, ◌≤◌, ◌^◌, leng
 ghost use Rattle.sheet_base.specs.Splices.{AreInOrder};
 ghost use Rattle.sheet_base.specs.Fitting.{path_positions};
 ghost use Rattle.dxf_layer.specs.Handles.{is_handle};
-ghost use Rattle.dxf_layer.specs.Told.{told};
-ghost use Rattle.dxf_layer.specs.Paged.{read_of};
+ghost use Rattle.dxf_layer.specs.InsideEntities.{told};
+ghost use Rattle.dxf_layer.specs.InsidePages.{read_of};
 ghost use Rattle.dxf_layer.specs.Rendering.{digit_of, handle_number, number_at, has_handle, taken_by, entity_at, taken};
 ghost use Rattle.dxf_layer.specs.Rendering.{first_handle, next_behind};
 

@@ -2,7 +2,7 @@
 
 ghost use Rattle.std.specs.Prelude.{◌≡◌, ◌≤◌, ◌^◌, [], ◌∷◌, length, OnOk};
 ghost use Rattle.dxf_layer.specs.Shapes.{value_edit, lost_count, lost_of, spot_edits};
-ghost use Rattle.dxf_layer.specs.Held.{seen, with_point, with_raised, with_edits, with_rows, HoldsAtMost};
+ghost use Rattle.dxf_layer.specs.InsideContents.{seen, with_point, with_raised, with_edits, with_rows, HoldsAtMost};
 
 use crate::fields::Read;
 use dxf_pairs::Pair;

@@ -2,10 +2,11 @@
 
 ghost use Rattle.std.specs.Prelude.{◌≡◌, take_while};
 ghost use Rattle.dxf_pairs.specs.Groups.{value_in as value_of};
-ghost use Rattle.dxf_layer.specs.Told.{told};
-ghost use Rattle.dxf_layer.specs.Entities.{has_code as is_coded, is_pair as has_both, ends_section as ends};
-ghost use Rattle.dxf_layer.specs.Entities.{behind_outside as follows_outside, section as section_of, behind as follows};
-ghost use Rattle.dxf_layer.specs.Entities.{is_no_head, entity_end};
+ghost use Rattle.dxf_layer.specs.InsideEntities.{told};
+ghost use Rattle.dxf_layer.specs.Entities.{has_code as is_coded, is_pair as has_both, is_no_head, entity_end};
+ghost use Rattle.dxf_layer.specs.Sections.{ends_section as ends};
+ghost use Rattle.dxf_layer.specs.InsideSections.{behind_outside as follows_outside, section as section_of};
+ghost use Rattle.dxf_layer.specs.InsideSections.{behind as follows};
 
 use dxf_pairs::Pair;
 use sheet_base::between;

@@ -2,8 +2,8 @@
 
 ghost use Rattle.std.specs.Prelude.{◌≡◌, []};
 ghost use Rattle.std.specs.List.{list_all};
-ghost use Rattle.dxf_layer.specs.Told.{told};
-ghost use Rattle.dxf_layer.specs.Walks.{is_extrusion, is_upright, repeated, upright};
+ghost use Rattle.dxf_layer.specs.InsideEntities.{told};
+ghost use Rattle.dxf_layer.specs.Kinds.{is_extrusion, is_upright, repeated, upright};
 
 use crate::entities::{Entity, has_code};
 use crate::fields::{equals, fields_of, has_field};

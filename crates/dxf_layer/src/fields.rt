@@ -1,12 +1,13 @@
 //! Fields of an entity.
 
 ghost use Rattle.std.specs.Prelude.{◌≡◌};
-ghost use Rattle.dxf_layer.specs.Told.{told};
-ghost use Rattle.dxf_layer.specs.Fields.{fields_of as fields, field as field_at, there as is_there, wanted as wanted_at};
-ghost use Rattle.dxf_layer.specs.Fields.{coordinate as coordinate_of, coordinate_at as coordinate_read};
-ghost use Rattle.dxf_layer.specs.Fields.{equals as is_number, is_there_as as there_as, is_not_zero as not_zero};
+ghost use Rattle.dxf_layer.specs.InsideEntities.{told};
+ghost use Rattle.dxf_layer.specs.Fields.{fields_of as fields, field as field_at, there as is_there};
+ghost use Rattle.dxf_layer.specs.Fields.{wanted as wanted_at, coordinate as coordinate_of};
+ghost use Rattle.dxf_layer.specs.Fields.{coordinate_at as coordinate_read, equals as is_number};
+ghost use Rattle.dxf_layer.specs.Fields.{is_there_as as there_as, is_not_zero as not_zero};
 ghost use Rattle.dxf_layer.specs.Fields.{not_zero_at as not_zero_line};
-ghost use Rattle.dxf_layer.specs.Walks.{any_has_code};
+ghost use Rattle.dxf_layer.specs.Kinds.{any_has_code};
 
 use crate::entities::{Entity, has_code, value_in};
 use dxf_pairs::Pair;

@@ -3,8 +3,10 @@
 ghost use Rattle.std.specs.Prelude.{◌≡◌};
 ghost use Rattle.std.specs.List.{list_all};
 ghost use Rattle.std.specs.Char.{is_ascii_hexdigit};
-ghost use Rattle.dxf_layer.specs.Told.{told};
-ghost use Rattle.dxf_layer.specs.Handles.{is_handle, as_seed, names_seed, seed_of, handle};
+ghost use Rattle.dxf_layer.specs.InsideEntities.{told};
+ghost use Rattle.dxf_layer.specs.Handles.{is_handle, handle};
+ghost use Rattle.dxf_layer.specs.Seeds.{as_seed, seed_of};
+ghost use Rattle.dxf_layer.specs.InsideSections.{names_seed};
 
 use crate::entities::{Entity, Where, behind, has_code, is_pair, value_in};
 use crate::fields::field;

@@ -1,9 +1,9 @@
 //! Vertices of polylines that are entities of their own.
 
 ghost use Rattle.std.specs.Prelude.{◌≡◌, ◌^◌, OnOk};
-ghost use Rattle.dxf_layer.specs.Told.{told};
+ghost use Rattle.dxf_layer.specs.InsideEntities.{told};
 ghost use Rattle.dxf_layer.specs.Polylines.{plain, entity_vertex};
-ghost use Rattle.dxf_layer.specs.Held.{seen, with_own_vertex, HoldsAtMost, GrowsBy};
+ghost use Rattle.dxf_layer.specs.InsideContents.{seen, with_own_vertex, HoldsAtMost, GrowsBy};
 
 use crate::drawing::{Drawing, Vertex};
 use crate::entities::Entity;

@@ -1,7 +1,7 @@
 //! A drawing that was read, with its images.
 
 ghost use Rattle.std.specs.Prelude.{◌≡◌, ◌≤◌};
-ghost use Rattle.dxf_layer.specs.Paged.{read_of};
+ghost use Rattle.dxf_layer.specs.InsidePages.{read_of};
 ghost use Rattle.dxf_layer.specs.Rendering.{number_at};
 
 use dxf_pairs::Pair;

@@ -1,12 +1,12 @@
 //! Points, inserts, texts and lines.
 
 ghost use Rattle.std.specs.Prelude.{◌≡◌, ◌+◌, ◌^◌, OnOk, ◌∷◌};
-ghost use Rattle.dxf_layer.specs.Told.{told};
+ghost use Rattle.dxf_layer.specs.InsideEntities.{told};
 ghost use Rattle.dxf_layer.specs.Shapes.{with_shape, with_shapes};
 ghost use Rattle.dxf_layer.specs.Points.{spot_at, dot_of, dots_of, point_shapes, insert_shapes, second_spot};
 ghost use Rattle.dxf_layer.specs.Points.{text_shapes, height, both_heights, unless_level, rise_of, line_of, line_ends};
 ghost use Rattle.dxf_layer.specs.Points.{line_shapes};
-ghost use Rattle.dxf_layer.specs.Held.{seen, with_ends, HoldsAtMost, GrowsBy, Reads};
+ghost use Rattle.dxf_layer.specs.InsideContents.{seen, with_ends, HoldsAtMost, GrowsBy, Reads};
 
 use crate::drawing::{Drawing, Rise, Spot};
 use crate::entities::{Entity, value_in};

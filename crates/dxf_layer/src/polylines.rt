@@ -1,11 +1,12 @@
 //! Polylines, with their vertices in fields.
 
 ghost use Rattle.std.specs.Prelude.{◌≡◌, ◌^◌, ◌+◌, ◌≤◌, ◌<◌, [], ◌∷◌, length, OnOk, IfOk, IfSome};
-ghost use Rattle.dxf_layer.specs.Told.{told};
+ghost use Rattle.dxf_layer.specs.InsideEntities.{told};
 ghost use Rattle.dxf_layer.specs.Polylines.{kind_of, is_group_code, fault_in_group, past_group, vertex_of};
 ghost use Rattle.dxf_layer.specs.Polylines.{begins_vertex, is_number, vertices_in, count_of, rows_from, light_shapes};
-ghost use Rattle.dxf_layer.specs.Held.{seen, with_rows, with_vertices, HoldsAtMost, GrowsBy, Reads, ReadsVertices};
-ghost use Rattle.dxf_layer.specs.Held.{vertices_by};
+ghost use Rattle.dxf_layer.specs.InsideContents.{seen, with_rows, with_vertices, HoldsAtMost, GrowsBy, Reads};
+ghost use Rattle.dxf_layer.specs.InsideContents.{ReadsVertices};
+ghost use Rattle.dxf_layer.specs.InsideContents.{vertices_by};
 
 use crate::drawing::{Drawing, Spot, Vertex, value_edit};
 use crate::entities::{Entity, has_code};

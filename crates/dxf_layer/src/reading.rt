@@ -5,10 +5,11 @@ ghost use Rattle.sheet_base.specs.declared.faults.LayerFault.{LayerFault};
 ghost use Rattle.sheet_base.specs.declared.faults.LayerFault.TheVariants.{NoMemory};
 ghost use Rattle.sheet_base.specs.Sheets.{Contents};
 ghost use Rattle.sheet_base.specs.Splices.{AreInOrder};
-ghost use Rattle.dxf_layer.specs.Entities.{begins_entity, entities_of};
-ghost use Rattle.dxf_layer.specs.Walks.{free, walked, visited, Place as Spot};
+ghost use Rattle.dxf_layer.specs.InsideSections.{begins_entity, entities_of};
+ghost use Rattle.dxf_layer.specs.InsideWalks.{free, walked, visited, Place as Spot};
 ghost use Rattle.dxf_layer.specs.Drawings.{refused, begun, drawing_sheet};
-ghost use Rattle.dxf_layer.specs.Held.{seen, HoldsAtMost, GrowsAlong, Reads, Stands, Goes};
+ghost use Rattle.dxf_layer.specs.InsideContents.{seen, HoldsAtMost, Reads};
+ghost use Rattle.dxf_layer.specs.InsideStands.{GrowsAlong, Stands, Goes};
 
 use crate::drawing::{Drawing, value_edit};
 use crate::entities::{Entity, Where, behind, has_code, pairs_before_head};

@@ -4,7 +4,7 @@ ghost use Rattle.std.specs.Prelude.{◌≡◌, ◌<◌, ◌≤◌, ◌^◌, leng
 ghost use Rattle.sheet_base.specs.Fitting.{DoFit};
 ghost use Rattle.sheet_base.specs.Splices.{AreInOrder, spliced, DoKeep};
 ghost use Rattle.dxf_layer.specs.Drawings.{drawing_sheet};
-ghost use Rattle.dxf_layer.specs.Paged.{read_of};
+ghost use Rattle.dxf_layer.specs.InsidePages.{read_of};
 ghost use Rattle.dxf_layer.specs.Rendering.{number_at, coded_before, field_copies, crossings_of, first_handle};
 ghost use Rattle.dxf_layer.specs.Rendering.{next_behind, text_as, text_of, drawing_text};
 

@@ -2,7 +2,7 @@
 
 ghost use Rattle.std.specs.Prelude.{◌≡◌, ◌++◌, ◌+◌, ◌-◌, ◌<◌, ◌≤◌, ◌^◌, None, true, OnOk, length, take, drop};
 ghost use Rattle.sheet_base.specs.Fitting.{positions_in, path_positions};
-ghost use Rattle.dxf_layer.specs.Told.{told, told_of};
+ghost use Rattle.dxf_layer.specs.InsideEntities.{told, told_of};
 ghost use Rattle.dxf_layer.specs.Rendering.{run_of, crossings_of, image_of, line_copies, vertex_copies, last_coded};
 ghost use Rattle.dxf_layer.specs.Rendering.{first_entity};
 

@@ -2,15 +2,16 @@
 
 ghost use Rattle.std.specs.Prelude.{◌≡◌, ◌^◌, ◌+◌, ◌≤◌, List, length, OnOk, None};
 ghost use Rattle.sheet_base.specs.Sheets.{Contents};
-ghost use Rattle.dxf_layer.specs.Told.{told};
+ghost use Rattle.dxf_layer.specs.InsideEntities.{told};
 ghost use Rattle.dxf_layer.specs.Entities.{is_kind as has_kind};
-ghost use Rattle.dxf_layer.specs.declared.drawing.Vertex.{Vertex};
 ghost use Rattle.dxf_layer.specs.Shapes.{with_shape};
 ghost use Rattle.dxf_layer.specs.Polylines.{own_shape};
-ghost use Rattle.dxf_layer.specs.Walks.{other_kind, shapes_of, is_read_alone as are_read_alone, polyline_step};
-ghost use Rattle.dxf_layer.specs.Walks.{alone_step, by_kind, step_free, step_staying, step_reading, step};
-ghost use Rattle.dxf_layer.specs.Walks.{Place as Spot};
-ghost use Rattle.dxf_layer.specs.Held.{seen, HoldsAtMost, GrowsBy, Reads, Stands, Goes};
+ghost use Rattle.dxf_layer.specs.InsideWalks.{other_kind, polyline_step, alone_step, by_kind, step_free, step_staying};
+ghost use Rattle.dxf_layer.specs.InsideWalks.{step_reading, step, Place as Spot};
+ghost use Rattle.dxf_layer.specs.Kinds.{shapes_of, is_read_alone as are_read_alone};
+ghost use Rattle.dxf_layer.specs.InsideContents.{seen, HoldsAtMost, GrowsBy, Reads};
+ghost use Rattle.dxf_layer.specs.InsideStands.{Stands, Goes};
+ghost use Rattle.dxf_layer.specs.declared.drawing.Vertex.{Vertex};
 
 use crate::drawing::Drawing;
 use crate::entities::{Entity, ends_section, value_in};

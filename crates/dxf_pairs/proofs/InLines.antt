@@ -17,8 +17,8 @@ use Rattle.dxf_pairs.specs.Groups.{value_in, groups_of, groups_of_lines, group_o
 use Rattle.dxf_pairs.specs.InLines.{IsOneLine, IsValue, StandsInLines, AreInLines, PairsAreInLines, GroupsFollow}
 use Rattle.dxf_pairs.proofs.Between.{between_blanks, parts}
 use Rattle.dxf_pairs.proofs.FirstLines.{line_before_text, first_line}
-use Rattle.dxf_pairs.proofs.Standing.{Stand, all_stand, in_front, AreRead, two_ok, no_one, read_of_lines, past_of}
-use Rattle.dxf_pairs.proofs.Standing.{line_of, reading_behind, pair_here, value_stands}
+use Rattle.dxf_pairs.proofs.LinePlaces.{Stand, all_stand, in_front, AreRead, two_ok, no_one, read_of_lines, past_of}
+use Rattle.dxf_pairs.proofs.LinePlaces.{line_of, reading_behind, pair_here, value_stands}
 
 -- the groups of two lines in front of a text
 two_lines : (first second more : List ℕ) → IsOneLine first → IsOneLine second

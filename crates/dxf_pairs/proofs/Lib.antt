@@ -3,9 +3,9 @@ mod CodeTexts
 mod Cuts
 mod LineLists
 mod PairSteps
-pub mod Standing
+mod LinePlaces
 pub mod Between
-mod Following
+mod LinesBehind
 mod FirstLines
 mod InLines
 mod PlainCodes

@@ -10,7 +10,7 @@ use Rattle.plane_base.specs.Boxes.{box_of_point, widened}
 use Rattle.sheet_base.specs.PointHeights.{Height, Position, points_of, heights_of}
 use Rattle.gj_layer.specs.declared.boxes.Levels.{Levels}
 use Rattle.gj_layer.specs.declared.boxes.BoundingBox.{BoundingBox}
-use Rattle.gj_layer.specs.Boxes.{level_of, level_with, box_of_image, widened_with, widened_by, bounded_text}
+use Rattle.gj_layer.specs.InsideBoxes.{level_of, level_with, box_of_image, widened_with, widened_by, bounded_text}
 use Rattle.gj_layer.specs.Texts.{x_of, y_of, plane_box_of, with_first, all_heights, levels_of, box_of, box_text}
 use Rattle.gj_layer.specs.Texts.{bounds_text, AreLevelsOf, BoxesAreLeast}
 

@@ -11,18 +11,18 @@ use Rattle.jtext.specs.Places.{IsReading, Stands, whole_start}
 use Rattle.jtext.specs.Nodes.{node_count}
 use Rattle.jtext.specs.declared.document.Doc.{Doc}
 use Rattle.jtext.specs.declared.document.Node.{Node}
-use Rattle.jtext.proofs.Standing.{reading_stands}
+use Rattle.jtext.proofs.NodePlaces.{reading_stands}
 use Rattle.sheet_base.specs.declared.faults.LayerFault.{LayerFault}
 use Rattle.sheet_base.specs.Sheets.{Contents, IsSheet}
 use Rattle.gj_layer.specs.declared.forms.Holder.TheVariants as holders
 use Rattle.gj_layer.specs.declared.forms.Form.TheVariants as forms
 use Rattle.gj_layer.specs.declared.pass.Pass.{Pass}
 use Rattle.gj_layer.specs.Paths.{Part, nothing, vertices_of, sheet_of}
-use Rattle.gj_layer.specs.Layers.{layer_reading, IsReadAs}
-use Rattle.gj_layer.specs.Standing.{Gives, Holds}
-use Rattle.gj_layer.specs.Opening.{Going}
+use Rattle.gj_layer.specs.Layers.{layer_reading, IsGeoJsonReadAs}
+use Rattle.gj_layer.specs.InsideNodes.{Gives, Holds}
+use Rattle.gj_layer.specs.InsideFrames.{Going}
 use Rattle.gj_layer.proofs.There.{first_is}
-use Rattle.gj_layer.proofs.Opened.{alone, alone_read, ok_same}
+use Rattle.gj_layer.proofs.OpenValues.{alone, alone_read, ok_same}
 use Rattle.gj_layer.proofs.Fine.{value_fine, part_is_sheet, order_wider}
 
 -- the frame of the whole value
@@ -92,7 +92,7 @@ held_is_sheet pass part exact whole held read few =
     (part_is_sheet part fine.sound (subst (λ ps. length ps < 2 ^ 32) points few))
 
 -- the edits of a layer that is read stand in order inside it
-pub read_in_order : (exact : Bool) (bytes : List ℕ) (sheet : Contents) → IsReadAs exact bytes sheet
+pub read_in_order : (exact : Bool) (bytes : List ℕ) (sheet : Contents) → IsGeoJsonReadAs exact bytes sheet
     → AreInOrder 0 sheet.edits (length bytes)
 read_in_order exact bytes sheet (part, (whole, text, read), is) =
     let start = whole_start whole in
@@ -106,7 +106,8 @@ read_in_order exact bytes sheet (part, (whole, text, read), is) =
     (omega (arith, long, mark, before, value)) fine.order)
 
 pub answer_ok : (exact : Bool) (bytes : List ℕ) (whole : Whole) (sheet : Contents) → IsWhole DEEPEST whole bytes
-    → (part : Part) × (layer_reading exact whole ≡ Ok part) × (sheet ≡ sheet_of part) → IsReadAs exact bytes sheet
+    → (part : Part) × (layer_reading exact whole ≡ Ok part) × (sheet ≡ sheet_of part)
+    → IsGeoJsonReadAs exact bytes sheet
 answer_ok exact bytes whole sheet text (part, read, is) = (part, (whole, text, read), is)
 
 pub order_given : (exact : Bool) (bytes : List ℕ) (whole : Whole) (r : Result Contents LayerFault)

@@ -15,12 +15,12 @@ use Rattle.plain_laws.proofs.Lists.{all_append}
 use Rattle.gj_layer.specs.declared.boxes.Levels.{Levels}
 use Rattle.gj_layer.specs.declared.boxes.BoundingBox.{BoundingBox}
 use Rattle.gj_layer.specs.Paths.{Part, text_for, rows_from, sheet_of}
-use Rattle.gj_layer.specs.Boxes.{level_of, level_with, box_of_image, widened_with}
+use Rattle.gj_layer.specs.InsideBoxes.{level_of, level_with, box_of_image, widened_with}
 use Rattle.gj_layer.specs.Texts.{numbers_text, lowest_of, highest_of, box_text, bounds_text, row_positions, what_text}
-use Rattle.gj_layer.specs.Texts.{edit_text}
+use Rattle.gj_layer.specs.Texts.{geojson_edit_text}
 use Rattle.gj_layer.proofs.BoxLemmas.{box_is}
 use Rattle.sheet_base.proofs.DrawnPaths.{IsPositionWithinReach, all_of, all_reach}
-use Rattle.gj_layer.proofs.Redrawing.{kind_text}
+use Rattle.gj_layer.proofs.DrawnImages.{kind_text}
 use Rattle.gj_layer.proofs.ImageValues.{numbers_and, numbers_spelled, numbers_are}
 use Rattle.gj_layer.proofs.Turns.{IsFlat, DoesSay}
 
@@ -134,7 +134,7 @@ says_kind rows images Line number = refl
 says_kind rows images Loop number = refl
 
 pub texts_say : (part : Part) (images : Runs) → DoFit (sheet_of part) images
-    → DoesSay (edit_text (sheet_of part) images) (path_positions (rows_from 0 part.paths) images)
+    → DoesSay (geojson_edit_text (sheet_of part) images) (path_positions (rows_from 0 part.paths) images)
 texts_say part images fit =
     let rows = rows_from 0 part.paths in
     record {

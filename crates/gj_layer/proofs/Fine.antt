@@ -33,7 +33,7 @@ use Rattle.gj_layer.specs.declared.forms.Trace.TheVariants as traces
 use Rattle.gj_layer.specs.declared.forms.Form.{Form}
 use Rattle.gj_layer.specs.declared.forms.Form.TheVariants as forms
 use Rattle.gj_layer.specs.declared.positions.PositionRead.{PositionRead}
-use Rattle.gj_layer.specs.Faults.{and_then}
+use Rattle.sheet_base.specs.Faults.{and_then}
 use Rattle.gj_layer.specs.Members.{Member, members_at, all_named, find_member}
 use Rattle.gj_layer.specs.Positions.{position_from, number, some_height, with_height, array_position, position}
 use Rattle.gj_layer.specs.Positions.{positions, in_front, position_of}
@@ -44,10 +44,11 @@ use Rattle.gj_layer.specs.Paths.{part_of, edits_from, rows_from, vertices_of, sh
 use Rattle.gj_layer.specs.Objects.{content_key, content_form, find_crs, type_in, object_type, with_content}
 use Rattle.gj_layer.specs.Objects.{member_edits, object_part}
 use Rattle.gj_layer.specs.Reading.{item_form, null_part, part_in, reading, readings, content_reading}
-use Rattle.gj_layer.proofs.Laying.{MembersFine}
-use Rattle.gj_layer.proofs.Looking.{kept_type}
+use Rattle.gj_layer.proofs.EditLayout.{MembersFine}
+use Rattle.gj_layer.proofs.ObjectTypes.{kept_type}
 use Rattle.gj_layer.proofs.ReadHeights.{position_reach}
-use Rattle.gj_layer.proofs.Opened.{no_content_read, fits_content, fits_without, at_most_is, at_most_none}
+use Rattle.gj_layer.proofs.OpenValues.{no_content_read, fits_content, fits_without, at_most_is, at_most_none}
+use Rattle.gj_layer.proofs.PathsSoFar.{length-vertices}
 
 -- a step that came to a value
 pub split_then : {A B : Type 0} (f : A → Result B LayerFault) (r : Result A LayerFault) (made : B)
@@ -546,9 +547,6 @@ heights_reach [] reach = none_listed
 heights_reach (vertex ∷ vertices) reach =
     All-cons IsHeightWithinReach vertex.height (heights_of vertices) reach.0 (heights_reach vertices reach.1)
 
-pub points_count : (vertices : List Position) → length (points_of vertices) ≡ length vertices
-points_count vertices = length-map vertices (λ (vertex : Position). vertex.point)
-
 pub heights_count : (vertices : List Position) → length (heights_of vertices) ≡ length vertices
 heights_count vertices = length-map vertices (λ (vertex : Position). vertex.height)
 
@@ -561,7 +559,7 @@ pub record IsPartOfSheet (part : Part) : Type 0 where
 pub sheet_kept : (part : Part) → AllByRecursion IsSound part.paths → IsPartOfSheet part
 sheet_kept part sound =
     let vertices = vertices_of part.paths in
-    let points = points_count vertices in
+    let points = length-vertices vertices in
     let heights = heights_count vertices in
     record {
       tiled = tiled 0 (length (points_of vertices)) part.paths sound (omega (arith, points));

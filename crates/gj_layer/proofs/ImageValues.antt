@@ -18,11 +18,12 @@ use Rattle.jtext.specs.Nodes.{inner_place, element_start, next_place}
 use Rattle.sheet_base.specs.declared.faults.LayerFault.{LayerFault}
 use Rattle.sheet_base.specs.PointHeights.{Height, Position, IsHeightWithinReach}
 use Rattle.gj_layer.specs.declared.positions.PositionRead.{PositionRead}
-use Rattle.gj_layer.specs.Faults.{and_then}
+use Rattle.sheet_base.specs.Faults.{and_then}
 use Rattle.gj_layer.specs.Positions.{accepted, number, some_height, position_from, array_position}
 use Rattle.gj_layer.specs.Positions.{position, positions, in_front, height_from, position_of, lost_height, lost_of}
 use Rattle.gj_layer.specs.Texts.{numbers_text, image_text, texts_behind, list_text, ring_text}
 use Rattle.sheet_base.proofs.DrawnPaths.{IsPositionWithinReach}
+use Rattle.sheet_base.proofs.ImageTexts.{ring_again}
 
 -- ---- a written number is a JSON number
 pub number_is : (mm : ℤ) → unsigned_abs mm ≤ LIMIT → IsNumber (written mm)
@@ -202,12 +203,6 @@ images_read exact at before image (next ∷ images) tail within =
     tail within.1)
 
 -- ---- the first image once more
-behind_append : (xs ys : List Position) → texts_behind (xs ++ ys) ≡ texts_behind xs ++ texts_behind ys
-behind_append [] ys = refl
-behind_append (x ∷ xs) ys = ap (λ text. 44 ∷ (image_text x ++ text)) (behind_append xs ys)
-    ∙ ap (λ text. 44 ∷ text) (sym (append_assoc (image_text x) (texts_behind xs) (texts_behind ys)))
-
 pub ring_spelled : (image : Position) (images : List Position)
     → ring_text (image ∷ images) ≡ list_text (image ∷ (images ++ image ∷ []))
-ring_spelled image images = append_assoc (image_text image) (texts_behind images) (texts_behind (image ∷ []))
-    ∙ ap (λ text. image_text image ++ text) (sym (behind_append images (image ∷ [])))
+ring_spelled image images = ring_again (44 ∷ []) image_text image images

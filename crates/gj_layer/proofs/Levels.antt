@@ -19,7 +19,7 @@ use Rattle.gj_layer.specs.Paths.{Part}
 use Rattle.gj_layer.specs.Objects.{content_key, content_form, is_allowed, with_content}
 use Rattle.gj_layer.specs.Reading.{item_form, reading, content_reading}
 use Rattle.gj_layer.proofs.Fine.{tested}
-use Rattle.gj_layer.proofs.Opened.{content_is_read, at_most_is}
+use Rattle.gj_layer.proofs.OpenValues.{content_is_read, at_most_is}
 use Rattle.gj_layer.proofs.ObjectTurns.{IsTyped}
 
 -- so many levels are left where a value is wanted in this form

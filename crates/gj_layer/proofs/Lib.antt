@@ -1,36 +1,36 @@
 -- The files of lemmas of gj_layer.
-pub mod There
-pub mod Naming
-pub mod PositionElements
-pub mod Runs
-pub mod Giving
-pub mod Holding
-pub mod Tracing
-pub mod Saying
-pub mod Finding
-pub mod Looking
-pub mod Laying
-pub mod Endings
-pub mod Opened
-pub mod Walking
+mod There
+mod MemberNames
+mod PositionElements
+mod Runs
+mod AnswerLaws
+mod PathsSoFar
+mod ReadPaths
+mod TextMeanings
+mod MemberFinds
+mod ObjectTypes
+mod EditLayout
+mod ObjectEnds
+mod OpenValues
+mod OpenWalks
 mod ReadHeights
-pub mod Fine
-pub mod Documents
-pub mod OneSheet
+mod Fine
+mod Documents
+mod OneSheet
 mod SomeOutcome
 mod ReadSheets
 mod MemoryFaults
 mod BoxLemmas
-pub mod Redrawing
-pub mod ImageValues
-pub mod Turns
-pub mod PathTurns
-pub mod TraceTurns
-pub mod MemberTurns
-pub mod ObjectTurns
-pub mod SheetTurns
-pub mod EditTexts
-pub mod Levels
-pub mod ObjectMade
-pub mod ValueTurns
-pub mod ReadingBack
+mod DrawnImages
+mod ImageValues
+mod Turns
+mod PathTurns
+mod TraceTurns
+mod MemberTurns
+mod ObjectTurns
+mod SheetTurns
+mod EditTexts
+mod Levels
+mod ObjectMade
+mod ValueTurns
+mod ReadingBack

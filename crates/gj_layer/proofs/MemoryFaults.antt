@@ -23,23 +23,16 @@ use Rattle.gj_layer.specs.declared.forms.Trace.TheVariants as traces
 use Rattle.gj_layer.specs.declared.forms.Form.{Form}
 use Rattle.gj_layer.specs.declared.forms.Form.TheVariants as forms
 use Rattle.gj_layer.specs.declared.positions.PositionRead.{PositionRead}
-use Rattle.gj_layer.specs.Faults.{and_then}
+use Rattle.sheet_base.specs.Faults.{and_then}
 use Rattle.gj_layer.specs.Members.{Member, members_at, all_named, at_most_one, find_member}
 use Rattle.gj_layer.specs.Positions.{accepted, number, some_height, position_from, with_height}
 use Rattle.gj_layer.specs.Positions.{array_position, position, in_front, positions, position_of}
-use Rattle.gj_layer.specs.Paths.{path_of, dot_of, line_of, is_ring, ring_of, traced, Part, joined, part_of}
+use Rattle.gj_layer.specs.Paths.{path_of, dot_of, line_of, is_ring, ring_of, traced, joined, part_of}
 use Rattle.gj_layer.specs.Objects.{type_named, is_allowed, content_key, content_form, allowed, type_of, type_in}
 use Rattle.gj_layer.specs.Objects.{find_crs, with_content, object_type, object_part}
 use Rattle.gj_layer.specs.Reading.{item_form, null_part, part_in, reading, readings, content_reading}
-use Rattle.gj_layer.specs.Layers.{layer_reading, IsRefusedBy}
-
-abbrev Never : {A : Type 0} → Result A LayerFault → Type 0
-Never {A} result = ◌≡◌ {A = Result A LayerFault} result (Err NoMemory) → ⊥
-
-never_then : {A B : Type 0} (f : A → Result B LayerFault) (result : Result A LayerFault) → Never result
-    → ((value : A) → Never (f value)) → Never (and_then f result)
-never_then f (Ok value) first later = later value
-never_then f (Err fault) first later = λ is. let same : fault ≡ NoMemory = cc in first (ap Err same)
+use Rattle.gj_layer.specs.Layers.{layer_reading, IsGeoJsonRefusedBy}
+use Rattle.sheet_base.proofs.MemoryFaults.{Never, never_then, never_either}
 
 -- ---- numbers and positions
 never_accepted : (exact : Bool) (start : ℕ) (result : Result MmRead NumFault) → Never (accepted exact start result)
@@ -199,11 +192,6 @@ never_part exact holder number start place members content =
     (λ type. never_then (λ inside. Ok (object_part holder type number all inside))
     (content_reading exact number place members type) (content type) (λ inside is. cc))
 
-by_test : (test : Bool) (one other : Result Part LayerFault) → Never one → Never other
-    → Never (if test then one else other)
-by_test true one other first second = first
-by_test false one other first second = second
-
 mutual
   never_value : (value : Json) (exact : Bool) (form : Form) (number start : ℕ)
       → Never (reading exact form number start value)
@@ -245,13 +233,13 @@ mutual
   never_contents (member before key behind ahead value after rest) exact number place type =
       let start = member_start place before key behind ahead in
       let next = next_place start value after in
-      by_test (are_same (units_of key) (content_key type)) (reading exact (content_form type) number start value)
+      never_either (are_same (units_of key) (content_key type)) (reading exact (content_form type) number start value)
       (content_reading exact number next rest type)
       (never_value value exact (content_form type) number start) (never_contents rest exact number next type)
 
 never_layer : (exact : Bool) (whole : Whole) → Never (layer_reading exact whole)
 never_layer exact whole = never_value whole.value exact (forms.Object holders.Layer) 0 (whole_start whole)
 
-pub no_memory_fault : (exact : Bool) (bytes : List ℕ) → IsRefusedBy exact bytes NoMemory → ⊥
+pub no_memory_fault : (exact : Bool) (bytes : List ℕ) → IsGeoJsonRefusedBy exact bytes NoMemory → ⊥
 no_memory_fault exact bytes (inl none) = none
 no_memory_fault exact bytes (inr (whole, text, is)) = never_layer exact whole is

@@ -14,18 +14,18 @@ use Rattle.gj_layer.specs.declared.forms.GeoType.{GeoType}
 use Rattle.gj_layer.specs.declared.forms.GeoType.TheVariants as types
 use Rattle.gj_layer.specs.declared.forms.Holder.{Holder}
 use Rattle.gj_layer.specs.declared.forms.Form.TheVariants as forms
-use Rattle.gj_layer.specs.Faults.{and_then}
+use Rattle.sheet_base.specs.Faults.{and_then}
 use Rattle.gj_layer.specs.Members.{Member, members_at, is_named, all_named, find_member}
 use Rattle.gj_layer.specs.Paths.{Part, nothing}
 use Rattle.gj_layer.specs.Objects.{content_key, content_form, is_allowed, object_type, member_edits, object_part}
 use Rattle.gj_layer.specs.Reading.{part_in, reading, content_reading}
 use Rattle.gj_layer.proofs.Fine.{split_then}
-use Rattle.gj_layer.proofs.Opened.{no_content_read, at_most_is, at_most_none}
-use Rattle.gj_layer.proofs.Redrawing.{AllSuit, IsDrawn}
+use Rattle.gj_layer.proofs.OpenValues.{no_content_read, at_most_is, at_most_none}
+use Rattle.gj_layer.proofs.DrawnImages.{AllSuit, IsDrawn}
 use Rattle.gj_layer.proofs.Turns.{DoesSay, ValueTurned, bracketed}
 use Rattle.gj_layer.proofs.MemberTurns.{MembersTurned, GoodTurned, members_turned, AreLike}
 use Rattle.gj_layer.proofs.ObjectTurns.{IsTyped, typed, named_alike, first_named}
-use Rattle.gj_layer.proofs.Saying.{says_one}
+use Rattle.gj_layer.proofs.TextMeanings.{says_one}
 use Rattle.gj_layer.proofs.Levels.{HasRoom, has_level}
 
 -- an object's members turn

@@ -8,13 +8,13 @@ use Rattle.gj_layer.specs.declared.forms.GeoType.{GeoType}
 use Rattle.gj_layer.specs.declared.forms.GeoType.TheVariants as types
 use Rattle.gj_layer.specs.declared.forms.Holder.{Holder}
 use Rattle.gj_layer.specs.declared.forms.Holder.TheVariants as holders
-use Rattle.gj_layer.specs.Faults.{and_then}
+use Rattle.sheet_base.specs.Faults.{and_then}
 use Rattle.gj_layer.specs.Members.{Member, is_named, all_named, at_most_one, find_member}
 use Rattle.gj_layer.specs.Objects.{content_key, is_allowed, allowed, type_of, type_in, type_named, find_crs}
 use Rattle.gj_layer.specs.Objects.{with_content, object_type}
 use Rattle.gj_layer.proofs.Fine.{split_then, tested}
-use Rattle.gj_layer.proofs.Looking.{kept_type, type_so}
-use Rattle.gj_layer.proofs.Opened.{at_most_is}
+use Rattle.gj_layer.proofs.ObjectTypes.{kept_type, type_so}
+use Rattle.gj_layer.proofs.OpenValues.{at_most_is}
 use Rattle.gj_layer.proofs.MemberTurns.{IsLike, AreLike}
 
 -- ---- members of the same names

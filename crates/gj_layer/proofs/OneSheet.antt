@@ -14,7 +14,7 @@ use Rattle.gj_layer.specs.declared.forms.Holder.TheVariants as holders
 use Rattle.gj_layer.specs.declared.forms.Form.TheVariants as forms
 use Rattle.gj_layer.specs.Paths.{Part, sheet_of}
 use Rattle.gj_layer.specs.Reading.{reading}
-use Rattle.gj_layer.specs.Layers.{Answers, IsReadAs, IsTextFault, IsRefusedBy}
+use Rattle.gj_layer.specs.Layers.{Answers, IsGeoJsonReadAs, IsTextFault, IsGeoJsonRefusedBy}
 
 answer_one : (exact : Bool) (bytes : List ℕ) (answer other : Result Part LayerFault) → Answers exact bytes answer
     → Answers exact bytes other → answer ≡ other
@@ -24,8 +24,8 @@ answer_one exact bytes answer other (whole, text, read) (second, again, reads) =
     ∙ ap (reading exact (forms.Object holders.Layer) 0 (whole_start second))
     (one_value DEEPEST DEEPEST bytes whole second text again) ∙ reads
 
-pub sheet_one : (exact : Bool) (bytes : List ℕ) (sheet other : Contents) → IsReadAs exact bytes sheet
-    → IsReadAs exact bytes other → sheet ≡ other
+pub sheet_one : (exact : Bool) (bytes : List ℕ) (sheet other : Contents) → IsGeoJsonReadAs exact bytes sheet
+    → IsGeoJsonReadAs exact bytes other → sheet ≡ other
 sheet_one exact bytes sheet other (part, answers, is) (second, again, are) =
     let same = answer_one exact bytes (Ok part) (Ok second) answers again in
     let parts : part ≡ second = cc in
@@ -37,8 +37,9 @@ text_apart bytes (Bad at) whole is text = is.fault.refused (DEEPEST, (whole, tex
 text_apart bytes (Deep at) whole is text = is.fault.refused (whole, text)
 text_apart bytes fault whole is text = absurd is
 
-pub sheet_apart : (exact : Bool) (bytes : List ℕ) (sheet : Contents) (fault : LayerFault) → IsReadAs exact bytes sheet
-    → IsRefusedBy exact bytes fault → ⊥
+pub sheet_apart : (exact : Bool) (bytes : List ℕ) (sheet : Contents) (fault : LayerFault)
+    → IsGeoJsonReadAs exact bytes sheet
+    → IsGeoJsonRefusedBy exact bytes fault → ⊥
 sheet_apart exact bytes sheet fault (part, answers, is) (inl text) = text_apart bytes fault answers.0 text answers.1
 sheet_apart exact bytes sheet fault (part, answers, is) (inr refused) = let same =
     answer_one exact bytes (Ok part) (Err fault) answers refused in cc
@@ -53,8 +54,8 @@ text_one bytes (Bad at) other a b = absurd b
 text_one bytes (Deep at) other a b = absurd b
 text_one bytes fault other a b = absurd a
 
-pub fault_one : (exact : Bool) (bytes : List ℕ) (fault other : LayerFault) → IsRefusedBy exact bytes fault
-    → IsRefusedBy exact bytes other → fault ≡ other
+pub fault_one : (exact : Bool) (bytes : List ℕ) (fault other : LayerFault) → IsGeoJsonRefusedBy exact bytes fault
+    → IsGeoJsonRefusedBy exact bytes other → fault ≡ other
 fault_one exact bytes fault other (inl a) (inl b) = text_one bytes fault other a b
 fault_one exact bytes fault other (inl a) (inr b) = absurd (text_apart bytes fault b.0 a b.1)
 fault_one exact bytes fault other (inr a) (inl b) = absurd (text_apart bytes other a.0 b a.1)

@@ -16,13 +16,13 @@ use Rattle.sheet_base.proofs.Swaps.{Swapped, edit_swapped, front_swapped, behind
 use Rattle.gj_layer.specs.declared.forms.Trace.{Trace}
 use Rattle.gj_layer.specs.declared.forms.Form.TheVariants as forms
 use Rattle.gj_layer.specs.declared.positions.PositionRead.{PositionRead}
-use Rattle.gj_layer.specs.Faults.{and_then}
+use Rattle.sheet_base.specs.Faults.{and_then}
 use Rattle.gj_layer.specs.Positions.{position, positions, in_front, position_of, lost_of}
 use Rattle.gj_layer.specs.Paths.{Path, Part, path_of, end_of, dot_of, traced, part_of, edit_of, lost_in}
 use Rattle.gj_layer.specs.Texts.{image_text, list_text}
 use Rattle.gj_layer.proofs.Fine.{split_then, position_is}
 use Rattle.sheet_base.proofs.DrawnPaths.{Drawn, IsPositionWithinReach}
-use Rattle.gj_layer.proofs.Redrawing.{kind_text, IsDrawn}
+use Rattle.gj_layer.proofs.DrawnImages.{kind_text, IsDrawn}
 use Rattle.gj_layer.proofs.ImageValues.{image_value, image_spelled, image_is_value, IsPositionAt, image_read}
 use Rattle.gj_layer.proofs.ImageValues.{image_elements, elements_spelled, elements_are_values, ArePositionsAt}
 use Rattle.gj_layer.proofs.ImageValues.{images_read}

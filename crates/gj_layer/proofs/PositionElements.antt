@@ -6,13 +6,13 @@ use Rattle.jtext.specs.Nodes.{kind_of, element_start, next_place}
 use Rattle.jtext.specs.Places.{Stands}
 use Rattle.jtext.specs.declared.document.Node.{Node}
 use Rattle.jtext.specs.declared.document.Kind.TheVariants as kinds
-use Rattle.jtext.proofs.Standing.{node_count_positive}
+use Rattle.jtext.proofs.NodePlaces.{node_count_positive}
 use Rattle.mm_decimal.specs.Measured.{measured}
 use Rattle.mm_decimal.specs.declared.reading.MmRead.{MmRead}
 use Rattle.sheet_base.specs.declared.faults.LayerFault.{LayerFault}
 use Rattle.sheet_base.specs.declared.faults.LayerFault.TheVariants.{Shape, Height}
 use Rattle.gj_layer.specs.declared.positions.PositionRead.{PositionRead}
-use Rattle.gj_layer.specs.Standing.{AreLeft}
+use Rattle.gj_layer.specs.InsideNodes.{AreLeft}
 use Rattle.gj_layer.specs.Positions.{accepted, number, some_height, position_from, with_height, array_position}
 use Rattle.gj_layer.specs.Positions.{position}
 use Rattle.gj_layer.proofs.There.{first_is, left_count, numeral_of}

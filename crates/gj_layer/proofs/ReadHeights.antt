@@ -1,14 +1,13 @@
 -- The height of a position that is read is within reach.
-use Rattle.std.proofs.Common.{◌≡◌, ℕ, ◌≤◌, Bool, true, false, ℤ, List, sym, ap, subst, refl}
+use Rattle.std.proofs.Common.{◌≡◌, ℕ, ◌≤◌, Bool, true, false, ap, subst, refl}
 use Rattle.std.specs.Prelude.{◌&&◌, not, unsigned_abs, Option, Some, None, Result, Ok, Err, if◌then◌else◌}
 use Rattle.jtext.specs.Values.{Json, Elements, null, truth, numeral, quoted, array, object, no_element, element}
 use Rattle.jtext.specs.Nodes.{inner_place, element_start}
-use Rattle.mm_decimal.specs.Answers.{Answers}
 use Rattle.mm_decimal.specs.Measured.{measured}
 use Rattle.mm_decimal.specs.declared.limits.TheConstants.{LIMIT}
 use Rattle.mm_decimal.specs.declared.reading.MmRead.{MmRead}
 use Rattle.mm_decimal.specs.declared.reading.NumFault.{NumFault}
-use Rattle.mm_decimal.proofs.MeasuredAnswers.{measured_answers}
+use Rattle.mm_decimal.proofs.MeasuredAnswers.{read_within}
 use Rattle.sheet_base.specs.PointHeights.{IsHeightWithinReach}
 use Rattle.sheet_base.specs.declared.faults.LayerFault.{LayerFault}
 use Rattle.sheet_base.specs.declared.faults.LayerFault.TheVariants.{Inexact}
@@ -27,16 +26,10 @@ accepted_is exact start (Ok other) read is = by (exact && not other.exact) is
     by false is = let same : other ≡ read = cc in ap Ok same
 accepted_is exact start (Err fault) read is = cc
 
-measured_reach : (text : List ℕ) (read : MmRead) → measured text ≡ Ok read → unsigned_abs read.mm ≤ LIMIT
-measured_reach text read is =
-    let (short, one) = subst (Answers text) is (measured_answers text) in
-    let (value, has, r) = one in
-    subst (λ (z : ℤ). unsigned_abs z ≤ LIMIT) (sym r.mm) r.limit
-
 number_reach : (exact : Bool) (start : ℕ) (value : Json) (read : MmRead) → number exact start value ≡ Ok read
     → unsigned_abs read.mm ≤ LIMIT
 number_reach exact start (numeral text) read is =
-    measured_reach text read (accepted_is exact start (measured text) read is)
+    read_within text read (accepted_is exact start (measured text) read is)
 number_reach exact start null read is = cc
 number_reach exact start (truth b) read is = cc
 number_reach exact start (quoted chars) read is = cc

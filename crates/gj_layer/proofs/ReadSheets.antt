@@ -25,17 +25,17 @@ use Rattle.gj_layer.specs.declared.forms.Trace.TheVariants as traces
 use Rattle.gj_layer.specs.declared.forms.Form.{Form}
 use Rattle.gj_layer.specs.declared.forms.Form.TheVariants as forms
 use Rattle.gj_layer.specs.declared.positions.PositionRead.{PositionRead}
-use Rattle.gj_layer.specs.Faults.{and_then}
+use Rattle.sheet_base.specs.Faults.{and_then}
 use Rattle.gj_layer.specs.Members.{members_at}
 use Rattle.gj_layer.specs.Positions.{position, positions, in_front, position_of}
 use Rattle.gj_layer.specs.Paths.{Part, nothing, joined, path_of, dot_of, line_of, ring_of, traced, part_of, edits_from}
 use Rattle.gj_layer.specs.Paths.{vertices_in, vertices_of, sheet_of}
 use Rattle.gj_layer.specs.Objects.{content_key, content_form, object_type, object_part}
 use Rattle.gj_layer.specs.Reading.{item_form, null_part, part_in, reading, readings, content_reading}
-use Rattle.gj_layer.specs.Layers.{IsReadAs}
+use Rattle.gj_layer.specs.Layers.{IsGeoJsonReadAs}
 use Rattle.gj_layer.proofs.Fine.{split_then, text_length, closed_ring, tested, member_length, value_fine, sheet_kept}
-use Rattle.gj_layer.proofs.Fine.{points_count}
 use Rattle.gj_layer.proofs.Documents.{read_in_order}
+use Rattle.gj_layer.proofs.PathsSoFar.{length-vertices}
 
 -- how many points are read
 abbrev pub vertex_count : Part → ℕ
@@ -256,7 +256,7 @@ mutual
       ]
 
 -- ---- a text that is read
-pub read_is_sheet : (exact : Bool) (bytes : List ℕ) (sheet : Contents) → IsReadAs exact bytes sheet
+pub read_is_sheet : (exact : Bool) (bytes : List ℕ) (sheet : Contents) → IsGeoJsonReadAs exact bytes sheet
     → IsSheetOf bytes sheet
 read_is_sheet exact bytes sheet (part, (whole, text, read), is) =
     let fine = value_fine whole.value exact (forms.Object holders.Layer) 0 (whole_start whole) part read in
@@ -266,7 +266,7 @@ read_is_sheet exact bytes sheet (part, (whole, text, read), is) =
     let value = length-append (spelling whole.value) whole.after in
     let long = ap length text.all in
     let kept = sheet_kept part fine.sound in
-    let count = points_count (vertices_of part.paths) in
+    let count = length-vertices (vertices_of part.paths) in
     subst (λ (s : Contents). IsSheetOf bytes s) (sym is) (record {
       tiled = kept.tiled;
       points = omega (arith, long, mark, before, value, few, count);

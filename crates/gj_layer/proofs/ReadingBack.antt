@@ -14,8 +14,8 @@ use Rattle.sheet_base.proofs.Swaps.{Swapped, spliced_on, on_from, swapped_all, f
 use Rattle.gj_layer.specs.declared.forms.Holder.TheVariants as holders
 use Rattle.gj_layer.specs.declared.forms.Form.TheVariants as forms
 use Rattle.gj_layer.specs.Paths.{Part, rows_from, sheet_of}
-use Rattle.gj_layer.specs.Texts.{edit_text}
-use Rattle.gj_layer.specs.Layers.{layer_reading, IsReadAs}
+use Rattle.gj_layer.specs.Texts.{geojson_edit_text}
+use Rattle.gj_layer.specs.Layers.{layer_reading, IsGeoJsonReadAs}
 use Rattle.gj_layer.proofs.Fine.{value_fine}
 use Rattle.gj_layer.proofs.Documents.{read_in_order}
 use Rattle.gj_layer.proofs.Turns.{ValueTurned}
@@ -26,11 +26,12 @@ use Rattle.gj_layer.proofs.SheetTurns.{sheet_suits, points_again, heights_again,
 -- the whole text of the value that the layer's value turns into
 whole_again : (exact : Bool) (bytes : List ℕ) (part : Part) (images : Runs) (whole : Whole)
     → IsWhole DEEPEST whole bytes → layer_reading exact whole ≡ Ok part → DoFit (sheet_of part) images
-    → ValueTurned exact (edit_text (sheet_of part) images) (path_positions (rows_from 0 part.paths) images)
+    → ValueTurned exact (geojson_edit_text (sheet_of part) images) (path_positions (rows_from 0 part.paths) images)
     (forms.Object holders.Layer) 0 (whole_start whole) DEEPEST whole.value part
-    → IsReadAgain (IsReadAs exact) (spliced bytes (edit_text (sheet_of part) images) part.edits) (sheet_of part) images
+    → IsReadAgain (IsGeoJsonReadAs exact) (spliced bytes (geojson_edit_text (sheet_of part) images) part.edits)
+    (sheet_of part) images
 whole_again exact bytes part images whole is read fit v =
-    let text = edit_text (sheet_of part) images in
+    let text = geojson_edit_text (sheet_of part) images in
     let start = whole_start whole in
     let mark = mark_text whole.marked in
     let new : Whole = record { marked = whole.marked; before = whole.before; value = v.now; after = whole.after } in
@@ -61,28 +62,30 @@ whole_again exact bytes part images whole is read fit v =
 
 part_again : (exact : Bool) (bytes : List ℕ) (part : Part) (images : Runs) (whole : Whole) → IsWhole DEEPEST whole bytes
     → layer_reading exact whole ≡ Ok part → DoFit (sheet_of part) images
-    → IsReadAgain (IsReadAs exact) (spliced bytes (edit_text (sheet_of part) images) part.edits) (sheet_of part) images
+    → IsReadAgain (IsGeoJsonReadAs exact) (spliced bytes (geojson_edit_text (sheet_of part) images) part.edits)
+    (sheet_of part) images
 part_again exact bytes part images whole is read fit =
     let start = whole_start whole in
     let fine = value_fine whole.value exact (forms.Object holders.Layer) 0 start part read in
     whole_again exact bytes part images whole is read fit
-    (value_turned exact (edit_text (sheet_of part) images) (path_positions (rows_from 0 part.paths) images)
+    (value_turned exact (geojson_edit_text (sheet_of part) images) (path_positions (rows_from 0 part.paths) images)
     (texts_say part images fit) whole.value (forms.Object holders.Layer) 0 start DEEPEST part (omega arith) is.value
     read
     (sheet_suits part images fit fine.sound))
 
-pub read_again : (exact : Bool) (bytes : List ℕ) (sheet : Contents) (images : Runs) → IsReadAs exact bytes sheet
+pub read_again : (exact : Bool) (bytes : List ℕ) (sheet : Contents) (images : Runs) → IsGeoJsonReadAs exact bytes sheet
     → DoFit sheet images
-    → IsReadAgain (IsReadAs exact) (spliced bytes (edit_text sheet images) sheet.edits) sheet images
+    → IsReadAgain (IsGeoJsonReadAs exact) (spliced bytes (geojson_edit_text sheet images) sheet.edits) sheet images
 read_again exact bytes sheet images (part, (whole, text, read), same) fit =
-    subst (λ (s : Contents). IsReadAgain (IsReadAs exact) (spliced bytes (edit_text s images) s.edits) s images)
+    subst (λ (s : Contents). IsReadAgain (IsGeoJsonReadAs exact) (spliced bytes (geojson_edit_text s images) s.edits) s
+    images)
     (sym same) (part_again exact bytes part images whole text read
     (subst (λ (s : Contents). DoFit s images) same fit))
 
-pub reads_back : (exact : Bool) (bytes : List ℕ) (sheet : Contents) (images : Runs) → IsReadAs exact bytes sheet
+pub reads_back : (exact : Bool) (bytes : List ℕ) (sheet : Contents) (images : Runs) → IsGeoJsonReadAs exact bytes sheet
     → DoFit sheet images
-    → IsReadBack (IsReadAs exact) AreTheSame sheet images
-    (spliced bytes (edit_text sheet images) sheet.edits)
+    → IsReadBack (IsGeoJsonReadAs exact) AreTheSame sheet images
+    (spliced bytes (geojson_edit_text sheet images) sheet.edits)
 reads_back exact bytes sheet images is fit =
-    read_back (IsReadAs exact) (spliced bytes (edit_text sheet images) sheet.edits) sheet images
+    read_back (IsGeoJsonReadAs exact) (spliced bytes (geojson_edit_text sheet images) sheet.edits) sheet images
     (read_again exact bytes sheet images is fit)

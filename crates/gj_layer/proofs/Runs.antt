@@ -8,17 +8,17 @@ use Rattle.jtext.specs.Values.{Json, Elements, no_element, element}
 use Rattle.jtext.specs.Nodes.{node_count, element_start, next_place}
 use Rattle.jtext.specs.Places.{Stands}
 use Rattle.jtext.specs.declared.document.Node.{Node}
-use Rattle.jtext.proofs.Standing.{node_count_positive}
+use Rattle.jtext.proofs.NodePlaces.{node_count_positive}
 use Rattle.plane_base.specs.declared.shapes.Pt.{Pt}
 use Rattle.sheet_base.specs.PointHeights.{Height, Position, points_of, heights_of}
 use Rattle.sheet_base.specs.declared.faults.LayerFault.{LayerFault}
 use Rattle.gj_layer.specs.declared.positions.PositionRead.{PositionRead}
 use Rattle.gj_layer.specs.declared.positions.Run.{Run}
-use Rattle.gj_layer.specs.Faults.{and_then}
+use Rattle.sheet_base.specs.Faults.{and_then}
 use Rattle.gj_layer.specs.Positions.{position, positions, in_front, point_of, height_of}
 use Rattle.gj_layer.specs.Positions.{position_of, lost_of}
 use Rattle.gj_layer.specs.Paths.{end_of}
-use Rattle.gj_layer.specs.Standing.{AreLeft, AreFrom, IsRun}
+use Rattle.gj_layer.specs.InsideNodes.{AreLeft, AreFrom, IsRun}
 use Rattle.gj_layer.proofs.There.{first_is, left_count}
 
 -- what was passed, with what is read of the rest

@@ -7,10 +7,11 @@ use Rattle.sheet_base.specs.Fitting.{Runs, positions_in, path_positions, DoFit}
 use Rattle.sheet_base.specs.ReadBack.{imaged}
 use Rattle.sheet_base.proofs.PositionLists.{paired_points, paired_heights}
 use Rattle.gj_layer.specs.Paths.{Path, Part, rows_from, vertices_of, sheet_of}
-use Rattle.gj_layer.proofs.Fine.{IsSound, points_count}
+use Rattle.gj_layer.proofs.Fine.{IsSound}
 use Rattle.sheet_base.proofs.DrawnPaths.{IsSome, all_positions, row_from, rows_of}
 use Rattle.sheet_base.proofs.DrawnPaths as sheets
-use Rattle.gj_layer.proofs.Redrawing.{drawn, redrawn, AllSuit}
+use Rattle.gj_layer.proofs.DrawnImages.{drawn, redrawn, AllSuit}
+use Rattle.gj_layer.proofs.PathsSoFar.{length-vertices}
 
 -- ---- what is drawn, as the rows and points of a sheet
 rows_drawn : (first : ℕ) (paths : List Path) → rows_from first paths ≡ rows_of first (map drawn paths)
@@ -29,7 +30,7 @@ all_some (path ∷ paths) sound = (record { some = sound.0.0; dot = sound.0.1 },
 -- ---- the whole sheet
 module _ (part : Part) (images : Runs) (fit : DoFit (sheet_of part) images) where
   count : length (sheet_of part).points ≡ length (all_positions (map drawn part.paths))
-  count = points_count (vertices_of part.paths) ∙ ap length (vertices_drawn part.paths)
+  count = length-vertices (vertices_of part.paths) ∙ ap length (vertices_drawn part.paths)
 
   pub sheet_suits : AllByRecursion IsSound part.paths
       → AllSuit (path_positions (rows_from 0 part.paths) images) 0 part.paths

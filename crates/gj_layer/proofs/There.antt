@@ -11,9 +11,9 @@ use Rattle.jtext.specs.declared.document.Kind.{Kind}
 use Rattle.jtext.specs.declared.document.Kind.TheVariants as kinds
 use Rattle.jtext.specs.declared.document.Node.{Node}
 use Rattle.jtext.proofs.MemberLoops.{object_of}
-use Rattle.jtext.proofs.Standing.{ElementsStand, first_there, text_there, ends_within, array_stands, element_stands}
-use Rattle.jtext.proofs.Standing.{rest_stands, node_stands, node_count_positive}
-use Rattle.gj_layer.specs.Standing.{AreLeft}
+use Rattle.jtext.proofs.NodePlaces.{ElementsStand, first_there, text_there, ends_within, array_stands, element_stands}
+use Rattle.jtext.proofs.NodePlaces.{rest_stands, node_stands, node_count_positive}
+use Rattle.gj_layer.specs.InsideNodes.{AreLeft}
 
 module _ (nodes : List Node) (bytes : List ℕ) where
   -- the node is the first of the value
@@ -163,6 +163,14 @@ node_there doc bytes number read within =
       seen_there doc.nodes bytes number start value (first_node number start value) h
           got,
     )
+
+-- the node of an array of this number, and what is known of each node that it could be
+pub array_seen : {P : Node → Type 0} (doc : Doc) (bytes : List ℕ) (number : ℕ) → IsReadFrom doc bytes
+    → HasKind doc.nodes number kinds.Array → ((node : Node) → slice_get doc.nodes number ≡ Some node → P node)
+    → (node : Node) × (slice_get doc.nodes number ≡ Some node) × IsSeen doc.nodes bytes number node × P node
+array_seen doc bytes number read kind each =
+    let (node, got, s) = node_there doc bytes number read (kind_within doc.nodes number kinds.Array kind) in
+    (node, got, s, each node got)
 
 -- the value is an array where its node is one
 pub array_here : (doc : Doc) (bytes : List ℕ) (number start : ℕ) (value : Json)

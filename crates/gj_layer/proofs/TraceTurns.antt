@@ -18,7 +18,7 @@ use Rattle.gj_layer.specs.declared.forms.Trace.{Trace}
 use Rattle.gj_layer.specs.declared.forms.Trace.TheVariants as traces
 use Rattle.gj_layer.specs.declared.forms.Form.TheVariants as forms
 use Rattle.gj_layer.specs.declared.positions.PositionRead.{PositionRead}
-use Rattle.gj_layer.specs.Faults.{and_then}
+use Rattle.sheet_base.specs.Faults.{and_then}
 use Rattle.gj_layer.specs.Positions.{position, positions, in_front, position_of, lost_of}
 use Rattle.sheet_base.specs.Rings.{is_same_height, is_closed}
 use Rattle.sheet_base.proofs.RingLemmas.{closed_by}
@@ -27,7 +27,7 @@ use Rattle.gj_layer.specs.Paths.{ring_of, traced, part_of}
 use Rattle.gj_layer.specs.Texts.{list_text, ring_text}
 use Rattle.gj_layer.proofs.Fine.{split_then, position_is, closed_ring, ring_many}
 use Rattle.sheet_base.proofs.DrawnPaths.{IsPositionWithinReach}
-use Rattle.gj_layer.proofs.Redrawing.{AllSuit, IsDrawn}
+use Rattle.gj_layer.proofs.DrawnImages.{AllSuit, IsDrawn}
 use Rattle.gj_layer.proofs.ImageValues.{image_value, ArePositionsAt, ring_spelled}
 use Rattle.gj_layer.proofs.Turns.{DoesSay, ValueTurned}
 use Rattle.gj_layer.proofs.PathTurns.{path_drawn, some_read, alone, dot_turned, list_turned}

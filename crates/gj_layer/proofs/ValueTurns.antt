@@ -20,14 +20,14 @@ use Rattle.gj_layer.specs.declared.forms.Holder.TheVariants as holders
 use Rattle.gj_layer.specs.declared.forms.Items.{Items}
 use Rattle.gj_layer.specs.declared.forms.Form.{Form}
 use Rattle.gj_layer.specs.declared.forms.Form.TheVariants as forms
-use Rattle.gj_layer.specs.Faults.{and_then}
+use Rattle.sheet_base.specs.Faults.{and_then}
 use Rattle.gj_layer.specs.Members.{Member, members_at, all_named}
 use Rattle.gj_layer.specs.Paths.{Path, Part, nothing, joined, lost_in}
 use Rattle.gj_layer.specs.Objects.{content_key, content_form}
 use Rattle.gj_layer.specs.Reading.{item_form, null_part, part_in, reading, readings, content_reading}
 use Rattle.gj_layer.proofs.Fine.{split_then, tested}
 use Rattle.sheet_base.proofs.DrawnPaths.{suit_parts, redrawn_append}
-use Rattle.gj_layer.proofs.Redrawing.{drawn, redrawn, AllSuit, IsDrawn, drawn_count}
+use Rattle.gj_layer.proofs.DrawnImages.{drawn, redrawn, AllSuit, IsDrawn, drawn_count}
 use Rattle.gj_layer.proofs.Turns.{DoesSay, ValueTurned, ElementsTurned, bracketed}
 use Rattle.gj_layer.proofs.TraceTurns.{traced_turned}
 use Rattle.gj_layer.proofs.Levels.{HasRoom, content_room, item_room}

@@ -20,8 +20,8 @@ abbrev pub Answers : Bool → List ℕ → Result Part LayerFault → Type 0
 Answers exact bytes answer = (whole : Whole) × IsWhole DEEPEST whole bytes × (layer_reading exact whole ≡ answer)
 
 -- the bytes are read as this sheet
-abbrev pub IsReadAs : Bool → List ℕ → Contents → Type 0
-IsReadAs exact bytes sheet = (part : Part) × Answers exact bytes (Ok part) × (sheet ≡ sheet_of part)
+abbrev pub IsGeoJsonReadAs : Bool → List ℕ → Contents → Type 0
+IsGeoJsonReadAs exact bytes sheet = (part : Part) × Answers exact bytes (Ok part) × (sheet ≡ sheet_of part)
 
 -- the bytes are no JSON text, and this is their first fault
 abbrev pub IsTextFault : List ℕ → LayerFault → Type 0
@@ -30,5 +30,5 @@ IsTextFault bytes (Deep at) = IsDeep bytes at
 IsTextFault bytes fault = ⊥
 
 -- the bytes are refused by this fault: as a text, or else as a layer
-abbrev pub IsRefusedBy : Bool → List ℕ → LayerFault → Type 0
-IsRefusedBy exact bytes fault = IsTextFault bytes fault ⊎ Answers exact bytes (Err fault)
+abbrev pub IsGeoJsonRefusedBy : Bool → List ℕ → LayerFault → Type 0
+IsGeoJsonRefusedBy exact bytes fault = IsTextFault bytes fault ⊎ Answers exact bytes (Err fault)

@@ -17,7 +17,7 @@ use Rattle.sheet_base.specs.Sheets.{Contents}
 use Rattle.gj_layer.specs.declared.forms.Trace.{Trace}
 use Rattle.gj_layer.specs.declared.forms.Trace.TheVariants as traces
 use Rattle.gj_layer.specs.declared.positions.PositionRead.{PositionRead}
-use Rattle.gj_layer.specs.Faults.{and_then}
+use Rattle.sheet_base.specs.Faults.{and_then}
 use Rattle.gj_layer.specs.Positions.{position, positions, position_of, lost_of}
 
 -- a path: its points with their heights, how many of its numbers lost digits, and where its first position begins and

@@ -11,7 +11,7 @@ use Rattle.sheet_base.specs.declared.faults.LayerFault.{LayerFault}
 use Rattle.sheet_base.specs.declared.faults.LayerFault.TheVariants as faults
 use Rattle.sheet_base.specs.PointHeights.{Height, Position}
 use Rattle.gj_layer.specs.declared.positions.PositionRead.{PositionRead}
-use Rattle.gj_layer.specs.Faults.{and_then}
+use Rattle.sheet_base.specs.Faults.{and_then}
 
 -- a number text that is read and, where that is asked for, loses no digits
 abbrev pub accepted : Bool → ℕ → Result MmRead NumFault → Result MmRead LayerFault

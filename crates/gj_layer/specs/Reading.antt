@@ -15,7 +15,7 @@ use Rattle.gj_layer.specs.declared.forms.Items.{Items}
 use Rattle.gj_layer.specs.declared.forms.Items.TheVariants as items
 use Rattle.gj_layer.specs.declared.forms.Form.{Form}
 use Rattle.gj_layer.specs.declared.forms.Form.TheVariants as forms
-use Rattle.gj_layer.specs.Faults.{and_then}
+use Rattle.sheet_base.specs.Faults.{and_then}
 use Rattle.gj_layer.specs.Members.{Member, members_at}
 use Rattle.gj_layer.specs.Paths.{traced, Part, nothing, joined, part_of}
 use Rattle.gj_layer.specs.Objects.{content_key, content_form, object_type, object_part}

@@ -136,5 +136,5 @@ what_text paths images Null = codes "null"
 what_text paths images what = []
 
 -- the text of an edit, for the images of a sheet
-abbrev pub edit_text : Contents → Runs → Edit → List ℕ
-edit_text sheet images edit = what_text sheet.paths images edit.what
+abbrev pub geojson_edit_text : Contents → Runs → Edit → List ℕ
+geojson_edit_text sheet images edit = what_text sheet.paths images edit.what

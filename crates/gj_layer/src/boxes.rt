@@ -4,7 +4,7 @@ ghost use Rattle.std.specs.Prelude.{◌≡◌, ◌≤◌, ◌-◌, ◌∷◌, []
 ghost use Rattle.sheet_base.specs.PointHeights.{Position};
 ghost use Rattle.sheet_base.specs.Fitting.{positions_in};
 ghost use Rattle.gj_layer.specs.Texts.{bounds_text, row_positions};
-ghost use Rattle.gj_layer.specs.Boxes.{level_of, level_with, widened_by, bounded_text};
+ghost use Rattle.gj_layer.specs.InsideBoxes.{level_of, level_with, widened_by, bounded_text};
 
 use plane_base::{Pt, Rect};
 use sheet_base::{Images, PathRow};

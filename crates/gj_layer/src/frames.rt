@@ -4,8 +4,8 @@ ghost use Rattle.std.specs.Prelude.{◌≡◌, ◌+◌, ◌<◌, ◌≤◌, ◌^
 ghost use Rattle.std.specs.Prelude.{MatchOption, true};
 ghost use Rattle.sheet_base.specs.declared.edits.Edit.{Edit};
 ghost use Rattle.gj_layer.specs.Paths.{Part, joined};
-ghost use Rattle.gj_layer.specs.Standing.{Holds};
-ghost use Rattle.gj_layer.specs.Opening.{Own, IsEndingOf, ended, edit_at, in_order, fronts, behinds, listed};
+ghost use Rattle.gj_layer.specs.InsideNodes.{Holds};
+ghost use Rattle.gj_layer.specs.InsideFrames.{Own, IsEndingOf, ended, edit_at, in_order, fronts, behinds, listed};
 
 use crate::forms::Form;
 use crate::pass::Pass;

@@ -11,14 +11,14 @@ pub struct GeoJson;
 
 impl Layer for GeoJson {
     ghost use Rattle.sheet_base.specs.ReadBack.{AreTheSame};
-    ghost use Rattle.gj_layer.specs.Layers.{IsReadAs, IsRefusedBy};
-    ghost use Rattle.gj_layer.specs.Texts.{edit_text};
+    ghost use Rattle.gj_layer.specs.Layers.{IsGeoJsonReadAs, IsGeoJsonRefusedBy};
+    ghost use Rattle.gj_layer.specs.Texts.{geojson_edit_text};
 
-    ghost reads = { λ how bytes sheet. IsReadAs how.exact bytes sheet };
+    ghost reads = { λ how bytes sheet. IsGeoJsonReadAs how.exact bytes sheet };
 
-    ghost refuses = { λ how bytes fault. IsRefusedBy how.exact bytes fault };
+    ghost refuses = { λ how bytes fault. IsGeoJsonRefusedBy how.exact bytes fault };
 
-    ghost text = { λ bytes how sheet images. edit_text sheet images };
+    ghost text = { λ bytes how sheet images. geojson_edit_text sheet images };
 
     ghost reads_back = { λ how bytes sheet images. Unit {0} };
 

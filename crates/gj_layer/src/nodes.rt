@@ -7,7 +7,7 @@ ghost use Rattle.jtext.specs.Places.{IsReadFrom, Stands, HasKind};
 ghost use Rattle.jtext.specs.Lookups.{IsAscii};
 ghost use Rattle.sheet_base.specs.declared.faults.LayerFault.TheVariants.{Shape};
 ghost use Rattle.gj_layer.specs.Members.{members_at, find_member};
-ghost use Rattle.gj_layer.specs.Standing.{Finds};
+ghost use Rattle.gj_layer.specs.InsideNodes.{Finds};
 
 use jtext::{Doc, Kind, Node, Repeat, member};
 use sheet_base::LayerFault;

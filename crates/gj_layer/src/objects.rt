@@ -11,8 +11,8 @@ ghost use Rattle.gj_layer.specs.Members.{Member, members_at};
 ghost use Rattle.gj_layer.specs.Objects.{type_named, allowed, type_of, type_in, find_crs, with_content, object_type};
 ghost use Rattle.gj_layer.specs.Paths.{Part};
 ghost use Rattle.gj_layer.specs.Reading.{reading};
-ghost use Rattle.gj_layer.specs.Standing.{AreFound, Finds, Holds};
-ghost use Rattle.gj_layer.specs.Opening.{edit_at, value_edits, IsContentAt, Looks, Opens};
+ghost use Rattle.gj_layer.specs.InsideNodes.{AreFound, Finds, Holds};
+ghost use Rattle.gj_layer.specs.InsideFrames.{edit_at, value_edits, IsContentAt, Looks, Opens};
 ghost use Rattle.sheet_base.specs.declared.edits.What.{What};
 
 use crate::forms::{Form, GeoType, Holder};

@@ -3,7 +3,7 @@
 ghost use Rattle.std.specs.Prelude.{◌≡◌, ◌+◌, ◌<◌, ◌^◌, List, length, OnOk, IfOk};
 ghost use Rattle.sheet_base.specs.PointHeights.{Position};
 ghost use Rattle.gj_layer.specs.Paths.{Part, nothing, joined, text_for, vertices_of};
-ghost use Rattle.gj_layer.specs.Standing.{Holds, HoldsMore, path_part};
+ghost use Rattle.gj_layer.specs.InsideNodes.{Holds, HoldsMore, path_part};
 
 use crate::positions::Run;
 use plane_base::Pt;

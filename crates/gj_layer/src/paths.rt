@@ -1,15 +1,16 @@
 //! Coordinates that are one path at most.
 
-ghost use Rattle.std.specs.Prelude.{◌≡◌, ℕ, ◌-◌, ◌<◌, ◌≤◌, ◌&&◌, [], ◌∷◌, ◌++◌, List, drop, length, slice_get, Some, OnOk};
+ghost use Rattle.std.specs.Prelude.{◌≡◌, ℕ, ◌-◌, ◌<◌, ◌≤◌, ◌&&◌, [], ◌∷◌, ◌++◌, List, drop, length, slice_get, Some};
+ghost use Rattle.std.specs.Prelude.{OnOk};
 ghost use Rattle.jtext.specs.Values.{Json};
 ghost use Rattle.jtext.specs.Places.{IsReadFrom, Stands, HasKind};
 ghost use Rattle.jtext.specs.declared.document.Node.{Node};
 ghost use Rattle.plane_base.specs.declared.shapes.Pt.{Pt};
 ghost use Rattle.sheet_base.specs.PointHeights.{height_in};
 ghost use Rattle.sheet_base.specs.Rings.{is_same_height, is_closed};
-ghost use Rattle.gj_layer.specs.Faults.{and_then};
+ghost use Rattle.sheet_base.specs.Faults.{and_then};
 ghost use Rattle.gj_layer.specs.Paths.{Part, traced, part_of};
-ghost use Rattle.gj_layer.specs.Standing.{Holds, Joins, HasRoom, Grows};
+ghost use Rattle.gj_layer.specs.InsideNodes.{Holds, Joins, HasRoom, Grows};
 
 use crate::forms::Trace;
 use crate::nodes::{is_kind, node_at, shape_at};

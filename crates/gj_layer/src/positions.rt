@@ -8,7 +8,7 @@ ghost use Rattle.jtext.specs.Places.{IsReadFrom, Stands, HasKind};
 ghost use Rattle.jtext.specs.declared.document.Node.{Node};
 ghost use Rattle.gj_layer.specs.Positions.{accepted, number, some_height, position_from, position, positions, point_of};
 ghost use Rattle.gj_layer.specs.Positions.{height_of, lost, lost_height, lost_of};
-ghost use Rattle.gj_layer.specs.Standing.{Gives, IsRun};
+ghost use Rattle.gj_layer.specs.InsideNodes.{Gives, IsRun};
 
 use crate::nodes::{is_kind, node_at, shape_at, text_of};
 use jtext::{Doc, Kind, Node};

@@ -12,9 +12,9 @@ ghost use Rattle.sheet_base.specs.Splices.{AreInOrder};
 ghost use Rattle.gj_layer.specs.declared.frames.Frame.{Frame};
 ghost use Rattle.gj_layer.specs.Paths.{Part, sheet_of};
 ghost use Rattle.gj_layer.specs.Reading.{reading};
-ghost use Rattle.gj_layer.specs.Layers.{layer_reading, IsReadAs, IsRefusedBy};
-ghost use Rattle.gj_layer.specs.Standing.{Gives, Holds, HasRoom};
-ghost use Rattle.gj_layer.specs.Opening.{Opens, Takes, IsFrameWithin, GrowsBy, Going, Goes, AreGoing, left_in};
+ghost use Rattle.gj_layer.specs.Layers.{layer_reading, IsGeoJsonReadAs, IsGeoJsonRefusedBy};
+ghost use Rattle.gj_layer.specs.InsideNodes.{Gives, Holds, HasRoom};
+ghost use Rattle.gj_layer.specs.InsideFrames.{Opens, Takes, IsFrameWithin, GrowsBy, Going, Goes, AreGoing, left_in};
 
 use crate::forms::{Form, Holder, Items};
 use crate::frames::{Frame, Frames, end_object};
@@ -210,9 +210,9 @@ fn read_document(alloc: Global, doc: &Doc, bytes: &[u8], exact: bool) -> Result<
 /// walk over the objects from the top value on.
 pub fn read(alloc: Global, bytes: &[u8], exact: bool) -> Result<Sheet, LayerFault>
     requires { length bytes.now ≤ 2 ^ 26 }
-    ensures ok { IfOk result (λ sheet. IsReadAs exact bytes.now sheet) }
+    ensures ok { IfOk result (λ sheet. IsGeoJsonReadAs exact bytes.now sheet) }
     ensures edits { IfOk result (λ sheet. AreInOrder 0 sheet.edits (length bytes.now)) }
-    ensures refused { (fault : LayerFault) → IsErrOf result fault → fault ≢ NoMemory → IsRefusedBy exact bytes.now fault }
+    ensures refused { (fault : LayerFault) → IsErrOf result fault → fault ≢ NoMemory → IsGeoJsonRefusedBy exact bytes.now fault }
 {
     match read_json(alloc, bytes) {
         Ok(doc) => read_document(alloc, &doc, bytes, exact),

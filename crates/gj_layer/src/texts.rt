@@ -1,8 +1,8 @@
 //! The texts that take the place of edits.
 
 ghost use Rattle.std.specs.Prelude.{◌≡◌, ◌++◌, Option, codes, OnOk};
-ghost use Rattle.gj_layer.specs.Texts.{height_text, numbers_text, lowest_of, highest_of, box_text, edit_text};
-ghost use Rattle.gj_layer.specs.Boxes.{bounded_text};
+ghost use Rattle.gj_layer.specs.Texts.{height_text, numbers_text, lowest_of, highest_of, box_text, geojson_edit_text};
+ghost use Rattle.gj_layer.specs.InsideBoxes.{bounded_text};
 
 use crate::boxes::{BoundingBox, Levels, bounds_of};
 use plane_base::Pt;
@@ -123,7 +123,7 @@ fn push_null(out: &mut Vec<u8>) -> Result<(), AllocError>
 }
 
 impl<'a> EditTexts for Texts<'a> {
-    ghost text = { λ texts. edit_text texts.sheet.now texts.images.now };
+    ghost text = { λ texts. geojson_edit_text texts.sheet.now texts.images.now };
 
     fn room(&self, edit: Edit) -> usize {
         let path = match edit.what {

@@ -5,7 +5,7 @@ use Rattle.std.specs.Str.{bytes_eq}
 use Rattle.std.specs.Str.Parse.{ParsesBool, false_text, true_text}
 use Rattle.clap.specs.Matches.{ReadsOne}
 use Rattle.clap.specs.Walk.{Text}
-use Rattle.job_words.proofs.Deciding.{texts-differ}
+use Rattle.job_words.proofs.TestValues.{texts-differ}
 
 -- a text that may be missing, read behind its reference
 pub text-or : (text : Option (Bor Text)) (other : Bor Text)

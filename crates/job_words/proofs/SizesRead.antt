@@ -9,7 +9,7 @@ use Rattle.std.proofs.lemmas.Str.Parse.{IsNumeralModel, numerals_by_fold, parse_
 use Rattle.clap.proofs.WalkLemmas.{both}
 use Rattle.job_words.specs.declared.limits.TheConstants.{MOST_SIZE}
 use Rattle.job_words.specs.Sizes.{is_plain, is_size, size_of}
-use Rattle.job_words.proofs.Deciding.{fails, no-more}
+use Rattle.job_words.proofs.TestValues.{fails, no-more}
 
 -- digits, and the number that they write
 digits : IsNumeralModel (λ ds. list_all is_ascii_digit ds ≡ true) (digits_value 10)

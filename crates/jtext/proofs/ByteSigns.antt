@@ -6,8 +6,8 @@ use Rattle.std.proofs.lemmas.Bool.{or_right, cond_both}
 use Rattle.jtext.specs.Numbers.{IsDigit, IsMark}
 use Rattle.jtext.specs.Characters.{IsOf, IsEscape, from_to, hexadecimal, Class}
 use Rattle.jtext.specs.Values.{IsBlank}
-use Rattle.jtext.specs.Signs.{byte_sign, opening, closing, letter}
-use Rattle.jtext.specs.Tokens.{text_sign, escape_sign, takes}
+use Rattle.jtext.specs.InsideSigns.{byte_sign, opening, closing, letter}
+use Rattle.jtext.specs.InsideTokens.{text_sign, escape_sign, takes}
 use Rattle.jtext.specs.declared.signs.Bracket.TheVariants.{Square, Curly}
 use Rattle.jtext.specs.declared.signs.Bracket.{Bracket}
 use Rattle.jtext.specs.declared.signs.Sign.{Sign}

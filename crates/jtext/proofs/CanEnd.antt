@@ -4,10 +4,11 @@ use Rattle.std.specs.Prelude.{Some}
 use Rattle.std.proofs.lemmas.Bool.{eq-eqb}
 use Rattle.text_places.specs.Machine.{run}
 use Rattle.text_places.proofs.Runs.{run_on}
-use Rattle.jtext.specs.Signs.{closing}
-use Rattle.jtext.specs.Tokens.{Inner, inner_step, needing, takes, word_step}
-use Rattle.jtext.specs.States.{Token, in_word, in_number, in_text, token_step, is_whole, Role, Phase, begin, stand}
-use Rattle.jtext.specs.States.{within, State, state, same_bracket, ended, place_behind, pushed, step, IsEnd}
+use Rattle.jtext.specs.InsideSigns.{closing}
+use Rattle.jtext.specs.InsideTokens.{Inner, inner_step, needing, takes, word_step}
+use Rattle.jtext.specs.InsideStates.{Token, in_word, in_number, in_text, token_step, is_whole, Role, Phase, begin}
+use Rattle.jtext.specs.InsideStates.{stand}
+use Rattle.jtext.specs.InsideStates.{within, State, state, same_bracket, ended, place_behind, pushed, step, IsEnd}
 use Rattle.jtext.specs.declared.document.Kind.{Kind}
 use Rattle.jtext.specs.declared.document.Node.{Node}
 use Rattle.jtext.specs.declared.signs.Bracket.{Bracket}

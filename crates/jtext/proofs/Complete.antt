@@ -12,11 +12,12 @@ use Rattle.jtext.specs.Values.{element, no_member, member, quoted_text, spelling
 use Rattle.jtext.specs.Values.{members_text, members_behind, AreBlank, IsValue, AreElements, AreMembers}
 use Rattle.jtext.specs.Nodes.{node, node_count, element_count, member_count, key_node, nodes_of, element_nodes}
 use Rattle.jtext.specs.Nodes.{member_nodes, element_start, member_start, next_place, inner_place}
-use Rattle.jtext.specs.Signs.{byte_sign, opening, closing, bracket_kind}
-use Rattle.jtext.specs.Tokens.{Inner}
-use Rattle.jtext.specs.States.{Token, in_word, in_number, in_text, token_step, is_whole, Role, stand, within, State}
-use Rattle.jtext.specs.States.{state, opened_one, first_place, next_wanted, ended, begun, value_step, key_step}
-use Rattle.jtext.specs.States.{stand_step, step}
+use Rattle.jtext.specs.InsideSigns.{byte_sign, opening, closing, bracket_kind}
+use Rattle.jtext.specs.InsideTokens.{Inner}
+use Rattle.jtext.specs.InsideStates.{Token, in_word, in_number, in_text, token_step, is_whole, Role, stand, within}
+use Rattle.jtext.specs.InsideStates.{State}
+use Rattle.jtext.specs.InsideStates.{state, opened_one, first_place, next_wanted, ended, begun, value_step, key_step}
+use Rattle.jtext.specs.InsideStates.{stand_step, step}
 use Rattle.jtext.specs.declared.document.Kind.{Kind}
 use Rattle.jtext.specs.declared.document.Kind.TheVariants as kinds
 use Rattle.jtext.specs.declared.document.Node.{Node}

@@ -1,22 +1,22 @@
 -- The files of lemmas of jtext.
-pub mod Pieces
-pub mod Tokens
-pub mod ByteSigns
-pub mod NumberTexts
-pub mod QuotedTexts
-pub mod Rests
-pub mod NodeLists
-pub mod Complete
-pub mod Sound
-pub mod WholeTexts
-pub mod CanEnd
-pub mod Passes
-pub mod Reaches
+mod Pieces
+mod Tokens
+mod ByteSigns
+mod NumberTexts
+mod QuotedTexts
+mod Rests
+mod NodeLists
+mod Complete
+mod Sound
+mod WholeTexts
+mod CanEnd
+mod Passes
+mod Reaches
 pub mod Exclusion
 pub mod Outcomes
-pub mod Standing
-pub mod UnitLaws
-pub mod Saying
+pub mod NodePlaces
+mod UnitLaws
+mod CharacterSteps
 pub mod SameTexts
 pub mod TextNodes
 pub mod MemberLoops

@@ -12,8 +12,8 @@ use Rattle.jtext.specs.Lookups.{are_same, named, only_one}
 use Rattle.jtext.specs.declared.document.Kind.TheVariants as kinds
 use Rattle.jtext.specs.declared.document.Node.{Node}
 use Rattle.jtext.specs.declared.document.Doc.{Doc}
-use Rattle.jtext.proofs.Standing.{MembersStand, object_stands, key_stands, member_stands, members_rest_stand}
-use Rattle.jtext.proofs.Standing.{ends_within, first_there, node_stands, node_count_positive}
+use Rattle.jtext.proofs.NodePlaces.{MembersStand, object_stands, key_stands, member_stands, members_rest_stand}
+use Rattle.jtext.proofs.NodePlaces.{ends_within, first_there, node_stands, node_count_positive}
 use Rattle.jtext.proofs.TextNodes.{found_node, no_node}
 use Rattle.jtext.proofs.SameTexts.{same_is, is_same}
 

@@ -6,8 +6,8 @@ use Rattle.std.proofs.lemmas.Option.{same_Some}
 use Rattle.text_places.specs.Machine.{run}
 use Rattle.text_places.proofs.Runs.{run_on}
 use Rattle.jtext.specs.Numbers.{IsDigit, AreDigits, IsMinus, IsInt, IsFraction, IsMark, IsSign, IsExponent, IsNumber}
-use Rattle.jtext.specs.Signs.{byte_sign}
-use Rattle.jtext.specs.Tokens.{number_after, number_step, is_last_place, IsDigits}
+use Rattle.jtext.specs.InsideSigns.{byte_sign}
+use Rattle.jtext.specs.InsideTokens.{number_after, number_step, is_last_place, IsDigits}
 use Rattle.jtext.specs.declared.signs.Sign.{Sign}
 use Rattle.jtext.specs.declared.signs.Sign.TheVariants as signs
 use Rattle.jtext.specs.declared.number.NumberPlace.{NumberPlace}

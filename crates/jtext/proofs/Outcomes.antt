@@ -7,10 +7,12 @@ use Rattle.std.proofs.lemmas.Option.{none-some, same_Some}
 use Rattle.std.proofs.lemmas.List.{take_all}
 use Rattle.text_places.specs.Machine.{run}
 use Rattle.jtext.specs.Texts.{HasOutcome}
-use Rattle.jtext.specs.Signs.{byte_sign}
-use Rattle.jtext.specs.States.{Token, token_step, is_whole, Role, Phase, begin, stand, within, State, start, opened}
-use Rattle.jtext.specs.States.{closed_one, separated, same_bracket, value_step, stand_step, begin_step, place_behind}
-use Rattle.jtext.specs.States.{pushed, token_or, phase_step, step, up_to, anywhere, IsLast, IsEnd}
+use Rattle.jtext.specs.InsideSigns.{byte_sign}
+use Rattle.jtext.specs.InsideStates.{Token, token_step, is_whole, Role, Phase, begin, stand, within, State, start}
+use Rattle.jtext.specs.InsideStates.{opened}
+use Rattle.jtext.specs.InsideStates.{closed_one, separated, same_bracket, value_step, stand_step, begin_step}
+use Rattle.jtext.specs.InsideStates.{place_behind}
+use Rattle.jtext.specs.InsideStates.{pushed, token_or, phase_step, step, up_to, anywhere, IsLast, IsEnd}
 use Rattle.jtext.specs.declared.document.Kind.{Kind}
 use Rattle.jtext.specs.declared.document.Node.{Node}
 use Rattle.jtext.specs.declared.signs.Bracket.{Bracket}

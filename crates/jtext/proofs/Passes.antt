@@ -8,13 +8,15 @@ use Rattle.std.proofs.lemmas.List.{take_all, take_more}
 use Rattle.text_places.specs.Machine.{run}
 use Rattle.text_places.specs.Places.{Begins}
 use Rattle.text_places.proofs.Runs.{run_next, run_follows}
-use Rattle.text_places.proofs.Reading.{Recognizes, begins_read, refused_at, unfinished, fault_at}
+use Rattle.text_places.proofs.Machines.{Recognizes, begins_read, refused_at, unfinished, fault_at}
 use Rattle.jtext.specs.Texts.{Whole, IsWhole, IsText, IsAnyText, IsBad, IsDeep}
 use Rattle.jtext.specs.Places.{whole_nodes}
-use Rattle.jtext.specs.Signs.{byte_sign}
-use Rattle.jtext.specs.States.{Token, token_step, is_whole, Role, Phase, begin, stand, within, State, start, opened}
-use Rattle.jtext.specs.States.{stand_step, begin_step, place_behind, pushed, token_or, phase_step, step, seen, up_to}
-use Rattle.jtext.specs.States.{anywhere, IsEnd}
+use Rattle.jtext.specs.InsideSigns.{byte_sign}
+use Rattle.jtext.specs.InsideStates.{Token, token_step, is_whole, Role, Phase, begin, stand, within, State, start}
+use Rattle.jtext.specs.InsideStates.{opened}
+use Rattle.jtext.specs.InsideStates.{stand_step, begin_step, place_behind, pushed, token_or, phase_step, step, seen}
+use Rattle.jtext.specs.InsideStates.{up_to}
+use Rattle.jtext.specs.InsideStates.{anywhere, IsEnd}
 use Rattle.jtext.specs.declared.document.Kind.{Kind}
 use Rattle.jtext.specs.declared.document.Node.{Node}
 use Rattle.jtext.specs.declared.signs.Bracket.{Bracket}

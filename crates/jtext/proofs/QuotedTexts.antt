@@ -7,8 +7,8 @@ use Rattle.text_places.specs.Machine.{run}
 use Rattle.text_places.proofs.Runs.{run_on}
 use Rattle.jtext.specs.Characters.{Class, Fits, IsOf, Form, classes, IsUnescaped, Char, unescaped, escaped, coded}
 use Rattle.jtext.specs.Characters.{IsChar, AreChars, char_text, chars_text}
-use Rattle.jtext.specs.Tokens.{Inner, plain, escape, need, closed, text_sign, escape_sign, takes, lead_needs}
-use Rattle.jtext.specs.Tokens.{hexadecimal_needs, needing, after_text_sign, after_escape_sign, inner_step}
+use Rattle.jtext.specs.InsideTokens.{Inner, plain, escape, need, closed, text_sign, escape_sign, takes, lead_needs}
+use Rattle.jtext.specs.InsideTokens.{hexadecimal_needs, needing, after_text_sign, after_escape_sign, inner_step}
 use Rattle.jtext.specs.declared.text.TextSign.{TextSign}
 use Rattle.jtext.specs.declared.text.TextSign.TheVariants as texts
 use Rattle.jtext.specs.declared.text.EscapeSign.{EscapeSign}

@@ -12,13 +12,15 @@ use Rattle.jtext.specs.Values.{AreBlank}
 use Rattle.jtext.specs.Texts.{Whole, IsWhole, IsBad, IsDeep}
 use Rattle.jtext.specs.Places.{whole_nodes}
 use Rattle.jtext.specs.Nodes.{node}
-use Rattle.jtext.specs.Signs.{byte_sign, bracket_kind}
-use Rattle.jtext.specs.Tokens.{number_step, is_last_place, Inner, WordEnds, TextEnds}
-use Rattle.jtext.specs.States.{Token, in_word, in_number, in_text, of_word, of_number, of_text, token_step, is_whole}
-use Rattle.jtext.specs.States.{Role, stand, within, State, state, start, opened_one, first_place, next_wanted}
-use Rattle.jtext.specs.States.{same_bracket, opened, ended, closed_one, separated, begun, blank_step, value_step}
-use Rattle.jtext.specs.States.{stand_step, mark_rest, begin_step, place_behind, pushed, step, up_to, anywhere, IsLast}
-use Rattle.jtext.specs.States.{IsBehind, IsBlack, Shows, Reached, Takes}
+use Rattle.jtext.specs.InsideSigns.{byte_sign, bracket_kind}
+use Rattle.jtext.specs.InsideTokens.{number_step, is_last_place, Inner, WordEnds, TextEnds}
+use Rattle.jtext.specs.InsideStates.{Token, in_word, in_number, in_text, of_word, of_number, of_text, token_step}
+use Rattle.jtext.specs.InsideStates.{is_whole}
+use Rattle.jtext.specs.InsideStates.{Role, stand, within, State, state, start, opened_one, first_place, next_wanted}
+use Rattle.jtext.specs.InsideStates.{same_bracket, opened, ended, closed_one, separated, begun, blank_step, value_step}
+use Rattle.jtext.specs.InsideStates.{stand_step, mark_rest, begin_step, place_behind, pushed, step, up_to, anywhere}
+use Rattle.jtext.specs.InsideStates.{IsLast}
+use Rattle.jtext.specs.InsideStates.{IsBehind, IsBlack, Shows, Reached, Takes}
 use Rattle.jtext.specs.declared.document.Kind.{Kind}
 use Rattle.jtext.specs.declared.document.Kind.TheVariants as kinds
 use Rattle.jtext.specs.declared.document.Node.{Node}

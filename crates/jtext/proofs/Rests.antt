@@ -4,10 +4,12 @@ use Rattle.std.specs.Prelude.{Some, None}
 use Rattle.std.proofs.lemmas.Option.{same_Some, option_and_then_some}
 use Rattle.text_places.specs.Machine.{run}
 use Rattle.jtext.specs.Values.{AreBlank}
-use Rattle.jtext.specs.Signs.{byte_sign}
-use Rattle.jtext.specs.Tokens.{number_after, number_step, Inner, inner_step, word_step}
-use Rattle.jtext.specs.States.{Token, in_word, in_number, in_text, token_step, is_whole, Role, Phase, begin, stand}
-use Rattle.jtext.specs.States.{within, State, state, stand_step, place_behind, pushed, phase_step, step, seen, seen_in}
+use Rattle.jtext.specs.InsideSigns.{byte_sign}
+use Rattle.jtext.specs.InsideTokens.{number_after, number_step, Inner, inner_step, word_step}
+use Rattle.jtext.specs.InsideStates.{Token, in_word, in_number, in_text, token_step, is_whole, Role, Phase, begin}
+use Rattle.jtext.specs.InsideStates.{stand}
+use Rattle.jtext.specs.InsideStates.{within, State, state, stand_step, place_behind, pushed, phase_step, step, seen}
+use Rattle.jtext.specs.InsideStates.{seen_in}
 use Rattle.jtext.specs.declared.document.Kind.{Kind}
 use Rattle.jtext.specs.declared.document.Node.{Node}
 use Rattle.jtext.specs.declared.signs.Sign.{Sign}

@@ -10,12 +10,14 @@ use Rattle.jtext.specs.Values.{Json, Elements, Members, null, truth, numeral, qu
 use Rattle.jtext.specs.Values.{element, no_member, member, quoted_text, spelling, elements_behind, members_behind}
 use Rattle.jtext.specs.Values.{AreBlank, IsValue, AreElements, AreMembers}
 use Rattle.jtext.specs.Texts.{mark_text, IsText}
-use Rattle.jtext.specs.Signs.{byte_sign, closing, letter, word_rest}
-use Rattle.jtext.specs.Tokens.{Inner, inner_step, number_step, is_last_place, is_closed}
-use Rattle.jtext.specs.States.{Token, in_word, in_number, in_text, of_word, of_number, of_text, token_step, is_whole}
-use Rattle.jtext.specs.States.{Role, Phase, begin, stand, within, State, state, start, opened_one, first_place}
-use Rattle.jtext.specs.States.{next_wanted, same_bracket, opened, closed_one, ended, separated, value_step, stand_step}
-use Rattle.jtext.specs.States.{begin_step, place_behind, pushed, token_or, phase_step, step, up_to, IsLast, IsEnd}
+use Rattle.jtext.specs.InsideSigns.{byte_sign, closing, letter, word_rest}
+use Rattle.jtext.specs.InsideTokens.{Inner, inner_step, number_step, is_last_place, is_closed}
+use Rattle.jtext.specs.InsideStates.{Token, in_word, in_number, in_text, of_word, of_number, of_text, token_step}
+use Rattle.jtext.specs.InsideStates.{is_whole}
+use Rattle.jtext.specs.InsideStates.{Role, Phase, begin, stand, within, State, state, start, opened_one, first_place}
+use Rattle.jtext.specs.InsideStates.{next_wanted, same_bracket, opened, closed_one, ended, separated, value_step}
+use Rattle.jtext.specs.InsideStates.{stand_step}
+use Rattle.jtext.specs.InsideStates.{begin_step, place_behind, pushed, token_or, phase_step, step, up_to, IsLast, IsEnd}
 use Rattle.jtext.specs.declared.document.Kind.{Kind}
 use Rattle.jtext.specs.declared.document.Kind.TheVariants as kinds
 use Rattle.jtext.specs.declared.document.Node.{Node}

@@ -12,7 +12,7 @@ use Rattle.jtext.specs.Lookups.{Says}
 use Rattle.jtext.specs.declared.document.Kind.TheVariants as kinds
 use Rattle.jtext.specs.declared.document.Node.{Node}
 use Rattle.jtext.specs.declared.document.Doc.{Doc}
-use Rattle.jtext.proofs.Standing.{first_there, ends_within, part_left, part_right, part_at, node_stands}
+use Rattle.jtext.proofs.NodePlaces.{first_there, ends_within, part_left, part_right, part_at, node_stands}
 
 pub quoted_of : (value : Json) → kind_of value ≡ kinds.Text → (chars : List Char) × (value ≡ quoted chars)
 quoted_of (quoted chars) is = (chars, refl)

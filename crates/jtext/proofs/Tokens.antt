@@ -3,7 +3,7 @@ use Rattle.std.proofs.Common.{◌≡◌, ℕ, ◌+◌, ◌<◌, List, ◌∷◌,
 use Rattle.std.specs.Prelude.{Some, None, Result, Ok, Err}
 use Rattle.std.proofs.lemmas.List.{drop_more}
 use Rattle.std.proofs.lemmas.Bool.{ne_eqb, eq-eqb}
-use Rattle.jtext.specs.Tokens.{word_step, is_done, Inner, inner_step, needing, takes, GoesOn, TextEnds}
+use Rattle.jtext.specs.InsideTokens.{word_step, is_done, Inner, inner_step, needing, takes, GoesOn, TextEnds}
 use Rattle.jtext.proofs.Pieces.{passes_none, passes_more, passes_on}
 use Rattle.jtext.specs.declared.text.Need.{Need}
 

@@ -8,7 +8,7 @@ use Rattle.plain_laws.proofs.Lists.{same_first, same_rest}
 use Rattle.jtext.specs.Characters.{Class, from_to, hexadecimal, IsOf, Fits, Form, classes, IsUnescaped, Char, unescaped}
 use Rattle.jtext.specs.Characters.{escaped, coded, IsEscape, IsChar, IsHexadecimal, char_text, code_point}
 use Rattle.jtext.specs.Characters.{units_of_point, digit_value, hexadecimal_value, units_of_char}
-use Rattle.jtext.specs.Units.{IsOutside}
+use Rattle.jtext.specs.InsideUnits.{IsOutside}
 
 pub one_byte : (c : Class) (bytes : List ℕ) → Fits (c ∷ []) bytes → (a : ℕ) × (bytes ≡ a ∷ []) × IsOf c a
 one_byte c [] fits = absurd fits

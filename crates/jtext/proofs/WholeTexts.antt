@@ -10,9 +10,10 @@ use Rattle.jtext.specs.Values.{AreBlank, IsValue}
 use Rattle.jtext.specs.Nodes.{nodes_of}
 use Rattle.jtext.specs.Texts.{Whole, mark_text, IsWhole}
 use Rattle.jtext.specs.Places.{whole_nodes}
-use Rattle.jtext.specs.Signs.{byte_sign}
-use Rattle.jtext.specs.States.{Phase, begin, stand, within, Role, State, state, start, in_word, begin_step, stand_step}
-use Rattle.jtext.specs.States.{step, IsLast, IsEnd}
+use Rattle.jtext.specs.InsideSigns.{byte_sign}
+use Rattle.jtext.specs.InsideStates.{Phase, begin, stand, within, Role, State, state, start, in_word, begin_step}
+use Rattle.jtext.specs.InsideStates.{stand_step}
+use Rattle.jtext.specs.InsideStates.{step, IsLast, IsEnd}
 use Rattle.jtext.specs.declared.document.Kind.TheVariants as kinds
 use Rattle.jtext.specs.declared.document.Node.{Node}
 use Rattle.jtext.specs.declared.signs.Sign.{Sign}

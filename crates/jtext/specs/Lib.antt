@@ -6,7 +6,7 @@ pub mod Nodes
 pub mod Texts
 pub mod Places
 pub mod Lookups
-pub mod Signs
-pub mod Tokens
-pub mod States
-pub mod Units
+pub mod InsideSigns
+pub mod InsideTokens
+pub mod InsideStates
+pub mod InsideUnits

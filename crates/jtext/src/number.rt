@@ -4,7 +4,7 @@ ghost use Rattle.std.specs.Prelude.{◌≡◌, ◌≤◌, ◌<◌, ◌↔◌, le
 ghost use Rattle.text_places.specs.Machine.{run};
 ghost use Rattle.std.specs.List.{AllByRecursion};
 ghost use Rattle.jtext.specs.Numbers.{IsDigit};
-ghost use Rattle.jtext.specs.Tokens.{number_step, is_last_place, IsDigits};
+ghost use Rattle.jtext.specs.InsideTokens.{number_step, is_last_place, IsDigits};
 
 /// What was read last of a number.
 #[derive(Clone, Copy)]

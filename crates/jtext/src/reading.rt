@@ -3,7 +3,7 @@
 ghost use Rattle.std.specs.Prelude.{◌≡◌, ℕ, ◌^◌, ◌<◌, List, length, IfOk, IsErrOf};
 ghost use Rattle.jtext.specs.Texts.{Whole, IsWhole, IsText, IsBad, IsDeep, HasOutcome};
 ghost use Rattle.jtext.specs.Places.{IsReadFrom, whole_start};
-ghost use Rattle.jtext.specs.States.{GoesIn};
+ghost use Rattle.jtext.specs.InsideStates.{GoesIn};
 
 use crate::document::{Doc, Nodes};
 use crate::steps::{Pass, Place, is_end, step};

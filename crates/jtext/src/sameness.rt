@@ -4,7 +4,7 @@ ghost use Rattle.std.specs.Prelude.{◌≡◌, ℕ, ◌+◌, ◌*◌, ◌<◌, �
 ghost use Rattle.jtext.specs.Characters.{Char, IsChar, AreChars, IsHexadecimal, char_text, chars_text, meaning};
 ghost use Rattle.jtext.specs.Characters.{digit_value, units_of};
 ghost use Rattle.jtext.specs.Lookups.{IsAscii};
-ghost use Rattle.jtext.specs.Units.{UnitOf};
+ghost use Rattle.jtext.specs.InsideUnits.{UnitOf};
 
 /// What the byte behind a reverse solidus stands for.
 fn escaped(byte: u8) -> u8

@@ -1,7 +1,7 @@
 //! What a byte can be, between values and in numbers.
 
 ghost use Rattle.std.specs.Prelude.{◌≡◌};
-ghost use Rattle.jtext.specs.Signs.{byte_sign};
+ghost use Rattle.jtext.specs.InsideSigns.{byte_sign};
 
 /// A kind of bracket.
 #[derive(Clone, Copy)]

@@ -4,10 +4,11 @@ ghost use Rattle.std.specs.Prelude.{◌≡◌, ◌+◌, ◌-◌, ◌^◌, ◌≤
 ghost use Rattle.std.specs.Prelude.{OnOk};
 ghost use Rattle.std.specs.List.{AllByRecursion};
 ghost use Rattle.jtext.specs.Nodes.{node};
-ghost use Rattle.jtext.specs.Signs.{byte_sign, word_rest, word_kind, bracket_kind};
-ghost use Rattle.jtext.specs.States.{Role, Token, Reached, Takes, Goes, IsBlack, IsBehind, same_bracket, first_place};
-ghost use Rattle.jtext.specs.States.{next_wanted, begun, key_step, value_step, stand_step, opened, closed_one};
-ghost use Rattle.jtext.specs.States.{separated};
+ghost use Rattle.jtext.specs.InsideSigns.{byte_sign, word_rest, word_kind, bracket_kind};
+ghost use Rattle.jtext.specs.InsideStates.{Role, Token, Reached, Takes, Goes, IsBlack, IsBehind, same_bracket};
+ghost use Rattle.jtext.specs.InsideStates.{first_place};
+ghost use Rattle.jtext.specs.InsideStates.{next_wanted, begun, key_step, value_step, stand_step, opened, closed_one};
+ghost use Rattle.jtext.specs.InsideStates.{separated};
 ghost use Rattle.jtext.specs.Values.{IsBlank};
 
 use crate::document::{Kind, Node};

@@ -2,7 +2,8 @@
 
 ghost use Rattle.std.specs.Prelude.{◌≡◌, ◌≤◌, ◌<◌, ◌↔◌, length, slice_range, slice_index, Some, IsTrue, IfOk};
 ghost use Rattle.text_places.specs.Machine.{run};
-ghost use Rattle.jtext.specs.Tokens.{Inner, text_sign, escape_sign, lead_needs, takes, inner_step, TextEnds, NeedsEnd};
+ghost use Rattle.jtext.specs.InsideTokens.{Inner, text_sign, escape_sign, lead_needs, takes, inner_step, TextEnds};
+ghost use Rattle.jtext.specs.InsideTokens.{NeedsEnd};
 
 /// What a byte can be in a text.
 #[derive(Clone, Copy)]

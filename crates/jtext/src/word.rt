@@ -1,7 +1,7 @@
 //! Where a word ends.
 
 ghost use Rattle.std.specs.Prelude.{◌≤◌, length};
-ghost use Rattle.jtext.specs.Tokens.{WordEnds};
+ghost use Rattle.jtext.specs.InsideTokens.{WordEnds};
 
 /// The place behind the bytes of the word from this place on, or the first place where another byte
 /// or none stands.

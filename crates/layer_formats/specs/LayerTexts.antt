@@ -8,10 +8,10 @@ use Rattle.sheet_base.specs.Sheets.{Contents}
 use Rattle.dxf_layer.specs.Drawings.{drawing_sheet}
 use Rattle.dxf_layer.specs.ReadBack.{DoesReadBack as DoesDrawingReadBack}
 use Rattle.dxf_layer.specs.Rendering.{drawing_text}
-use Rattle.gj_layer.specs.Layers.{IsReadAs as IsGeoJsonReadAs, IsRefusedBy as IsGeoJsonRefusedBy}
-use Rattle.gj_layer.specs.Texts.{edit_text as geojson_edit_text}
-use Rattle.wkt_layer.specs.Layers.{IsReadAs as IsWktReadAs, IsRefusedBy as IsWktRefusedBy}
-use Rattle.wkt_layer.specs.Texts.{edit_text as wkt_edit_text}
+use Rattle.gj_layer.specs.Layers.{IsGeoJsonReadAs, IsGeoJsonRefusedBy}
+use Rattle.gj_layer.specs.Texts.{geojson_edit_text}
+use Rattle.wkt_layer.specs.Layers.{IsWktReadAs, IsWktRefusedBy}
+use Rattle.wkt_layer.specs.Texts.{wkt_edit_text}
 use Rattle.job_words.specs.declared.formats.Format.{Format}
 use Rattle.job_words.specs.declared.formats.Format.TheVariants.{Wkt, GeoJson, Drawing}
 

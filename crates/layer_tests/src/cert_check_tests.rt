@@ -5,7 +5,6 @@ use crate::sheets::{LONGEST, PLAIN, pt};
 use cert_check::{CertFault, check_cert, is_right, list_count, write_cert};
 use plane_base::Pt;
 use std::alloc::{AllocError, Global};
-use std::test::Fail;
 use tin_base::{Piece, Place, SoundTin};
 use tin_check::check_tin;
 use tin_file::read_tin;
@@ -36,71 +35,103 @@ fn is_certified(alloc: Global, pieces: &[Piece], text: &[u8]) -> Result<bool, Al
     Ok(written.as_slice() == text)
 }
 
-#[test]
-fn writes_a_line_for_each_segment(rt: HostRuntime) -> Result<(), Fail> {
-    let alloc = rt.alloc();
-    assert!(rt; is_certified(alloc, &[], b"tinmove certificate 1\n")?);
-    let square = [piece(0, 0, 0), piece(1, 0, 1)];
-    assert!(rt; is_certified(alloc, &square, b"tinmove certificate 1\n0 1\n")?);
-    let many = [
-        piece(10, 0, 0),
-        piece(4_294_967_295, 1, 0),
-        piece(0, 1, 1),
-        piece(7, 1, 2),
-        piece(10, 2, 0),
-    ];
-    assert!(rt;
-        is_certified(
-            alloc,
-            &many,
-            b"tinmove certificate 1\n10\n4294967295 0 7\n10\n"
-        )?
-    );
-    Ok(())
+/// The triangle, the segment and the number in it of pieces, and their certificate.
+type Written = (&'static [(u32, u32, u32)], &'static [u8]);
+
+/// Pieces of these numbers.
+fn pieces_of(alloc: Global, numbers: &[(u32, u32, u32)]) -> Result<Vec<Piece>, AllocError> {
+    let mut pieces = Vec::new(alloc);
+    for &(tri, segment, number) in numbers {
+        pieces.push(piece(tri, segment, number))?;
+    }
+    Ok(pieces)
 }
+
+/// The number of the first row with another certificate, or none.
+fn first_other_written(alloc: Global, rows: &[Written]) -> Result<Option<usize>, AllocError> {
+    for (number, &(numbers, text)) in rows.iter().enumerate() {
+        let pieces = pieces_of(alloc, numbers)?;
+        if !is_certified(alloc, &pieces, text)? {
+            return Ok(Some(number));
+        }
+    }
+    Ok(None)
+}
+
+const WRITTEN: &[Written] = &[
+    (&[], b"tinmove certificate 1\n"),
+    (&[(0, 0, 0), (1, 0, 1)], b"tinmove certificate 1\n0 1\n"),
+    (
+        &[
+            (10, 0, 0),
+            (4_294_967_295, 1, 0),
+            (0, 1, 1),
+            (7, 1, 2),
+            (10, 2, 0),
+        ],
+        b"tinmove certificate 1\n10\n4294967295 0 7\n10\n",
+    ),
+];
+
+#[test]
+fn writes_a_line_for_each_segment(rt: HostRuntime) {
+    assert_eq!(rt; first_other_written(rt.alloc(), WRITTEN), Ok(None));
+}
+
+/// A text, and how many lists it has, or the first bad line.
+type Lists = (&'static [u8], Result<u32, u64>);
+
+/// The number of the first short text with another answer, or of one that is long, or none.
+fn first_other_lists(rows: &[Lists]) -> Option<usize> {
+    for (number, &(text, wanted)) in rows.iter().enumerate() {
+        if text.len() >= 100 {
+            return Some(number);
+        }
+        if list_count(text) != wanted {
+            return Some(number);
+        }
+    }
+    None
+}
+
+const COUNTED: &[Lists] = &[
+    (b"tinmove certificate 1\n", Ok(0)),
+    (b"tinmove certificate 1\n0 1\n", Ok(1)),
+    (b"tinmove certificate 1\n0\n1 2 3\n4294967295\n", Ok(3)),
+];
 
 #[test]
 fn counts_the_lists(rt: HostRuntime) {
-    for (text, count) in [
-        (b"tinmove certificate 1\n".as_slice(), 0),
-        (b"tinmove certificate 1\n0 1\n", 1),
-        (b"tinmove certificate 1\n0\n1 2 3\n4294967295\n", 3),
-    ] {
-        if text.len() < 100 {
-            assert_eq!(rt; list_count(text), Ok(count));
-        }
-    }
+    assert_eq!(rt; first_other_lists(COUNTED), None);
 }
+
+const BAD: &[Lists] = &[
+    (b"", Err(1)),
+    (b"\n", Err(1)),
+    (b"tinmove certificate 1", Err(1)),
+    (b"tinmove certificate 2\n0\n", Err(1)),
+    (b"tinmove certificate 1\n\n", Err(2)),
+    (b"tinmove certificate 1\n0", Err(2)),
+    (b"tinmove certificate 1\n0 1", Err(2)),
+    (b"tinmove certificate 1\n0 1 ", Err(2)),
+    (b"tinmove certificate 1\n0 1 \n", Err(2)),
+    (b"tinmove certificate 1\n 0 1\n", Err(2)),
+    (b"tinmove certificate 1\n0  1\n", Err(2)),
+    (b"tinmove certificate 1\n00\n", Err(2)),
+    (b"tinmove certificate 1\n01 1\n", Err(2)),
+    (b"tinmove certificate 1\n0\n-1\n", Err(3)),
+    (b"tinmove certificate 1\n0\n1\r\n", Err(3)),
+    (b"tinmove certificate 1\n0\n1\n4294967296\n", Err(4)),
+    (
+        b"tinmove certificate 1\n0\n1\n99999999999999999999999999\n",
+        Err(4),
+    ),
+    (b"tinmove certificate 1\n0\n1\n2\n3", Err(5)),
+];
 
 #[test]
 fn names_the_first_bad_line(rt: HostRuntime) {
-    for (text, line) in [
-        (b"".as_slice(), 1),
-        (b"\n", 1),
-        (b"tinmove certificate 1", 1),
-        (b"tinmove certificate 2\n0\n", 1),
-        (b"tinmove certificate 1\n\n", 2),
-        (b"tinmove certificate 1\n0", 2),
-        (b"tinmove certificate 1\n0 1", 2),
-        (b"tinmove certificate 1\n0 1 ", 2),
-        (b"tinmove certificate 1\n0 1 \n", 2),
-        (b"tinmove certificate 1\n 0 1\n", 2),
-        (b"tinmove certificate 1\n0  1\n", 2),
-        (b"tinmove certificate 1\n00\n", 2),
-        (b"tinmove certificate 1\n01 1\n", 2),
-        (b"tinmove certificate 1\n0\n-1\n", 3),
-        (b"tinmove certificate 1\n0\n1\r\n", 3),
-        (b"tinmove certificate 1\n0\n1\n4294967296\n", 4),
-        (
-            b"tinmove certificate 1\n0\n1\n99999999999999999999999999\n",
-            4,
-        ),
-        (b"tinmove certificate 1\n0\n1\n2\n3", 5),
-    ] {
-        if text.len() < 100 {
-            assert_eq!(rt; list_count(text), Err(line));
-        }
-    }
+    assert_eq!(rt; first_other_lists(BAD), None);
 }
 
 fn square(alloc: Global) -> Option<SoundTin> {
@@ -112,67 +143,80 @@ fn square(alloc: Global) -> Option<SoundTin> {
     check_tin(alloc, tin).ok()
 }
 
-/// Whether the lists are right for the segment, one after the other.
-fn are_right(tin: &SoundTin, a: Pt, b: Pt, lists: &[&[u32]], right: bool) -> bool {
-    for numbers in lists {
-        if is_right(tin, a, b, numbers) != right {
+/// The ends of a segment, in millimetres, lists of triangles, and whether each of these is right for it.
+type Row = ((i64, i64), (i64, i64), &'static [&'static [u32]], bool);
+
+/// Whether the lists are right for the segment, or none of them is.
+fn are_right(tin: &SoundTin, row: &Row) -> bool {
+    let (a, b) = (pt(row.0.0, row.0.1), pt(row.1.0, row.1.1));
+    for numbers in row.2 {
+        if is_right(tin, a, b, numbers) != row.3 {
             return false;
         }
     }
     true
 }
 
-#[test]
-fn tells_right_lists(rt: HostRuntime) -> Result<(), Fail> {
-    let Some(tin) = square(rt.alloc()) else {
-        assert!(rt; false);
-        return Ok(());
+/// The number of the first row that is answered otherwise, or none.
+fn first_other(alloc: Global, rows: &[Row]) -> Option<usize> {
+    let Some(tin) = square(alloc) else {
+        return Some(rows.len());
     };
-    // across the diagonal from the first triangle to the second
-    let (a, b) = (pt(10_000, 0), pt(0, 10_000));
-    assert!(rt; are_right(&tin, a, b, &[&[0, 1]], true));
-    let others: &[&[u32]] = &[
-        &[1, 0],
-        &[0],
-        &[1],
-        &[],
-        &[0, 1, 1],
-        &[0, 0, 1],
-        &[0, 2],
-        &[0, 4_294_967_295],
-    ];
-    assert!(rt; are_right(&tin, a, b, others, false));
-    // along the diagonal, which both have
-    let (a, b) = (pt(0, 0), pt(10_000, 10_000));
-    assert!(rt; are_right(&tin, a, b, &[&[0], &[1]], true));
-    assert!(rt; are_right(&tin, a, b, &[&[0, 1], &[1, 0], &[]], false));
-    // the middle of the diagonal, and a point in the first triangle alone
-    let middle = pt(5_000, 5_000);
-    assert!(rt; are_right(&tin, middle, middle, &[&[0], &[1]], true));
-    assert!(rt; are_right(&tin, middle, middle, &[&[0, 1], &[2], &[]], false));
-    let low = pt(5_000, 1_000);
-    assert!(rt; are_right(&tin, low, low, &[&[0]], true));
-    assert!(rt; are_right(&tin, low, low, &[&[1]], false));
-    Ok(())
+    for (number, row) in rows.iter().enumerate() {
+        if !are_right(&tin, row) {
+            return Some(number);
+        }
+    }
+    None
 }
 
+const INSIDE: &[Row] = &[
+    // across the diagonal from the first triangle to the second
+    ((10_000, 0), (0, 10_000), &[&[0, 1]], true),
+    (
+        (10_000, 0),
+        (0, 10_000),
+        &[
+            &[1, 0],
+            &[0],
+            &[1],
+            &[],
+            &[0, 1, 1],
+            &[0, 0, 1],
+            &[0, 2],
+            &[0, 4_294_967_295],
+        ],
+        false,
+    ),
+    // along the diagonal, which both have
+    ((0, 0), (10_000, 10_000), &[&[0], &[1]], true),
+    ((0, 0), (10_000, 10_000), &[&[0, 1], &[1, 0], &[]], false),
+    // the middle of the diagonal, and a point in the first triangle alone
+    ((5_000, 5_000), (5_000, 5_000), &[&[0], &[1]], true),
+    ((5_000, 5_000), (5_000, 5_000), &[&[0, 1], &[2], &[]], false),
+    ((5_000, 1_000), (5_000, 1_000), &[&[0]], true),
+    ((5_000, 1_000), (5_000, 1_000), &[&[1]], false),
+];
+
 #[test]
-fn refuses_lists_of_segments_outside(rt: HostRuntime) -> Result<(), Fail> {
-    let Some(tin) = square(rt.alloc()) else {
-        assert!(rt; false);
-        return Ok(());
-    };
-    let lists: &[&[u32]] = &[&[0], &[1], &[0, 1], &[1, 0], &[]];
-    for (a, b) in [
-        (pt(5_000, 1_000), pt(5_000, -1)),
-        (pt(-1, 5_000), pt(10_001, 5_000)),
-        (pt(20_000, 0), pt(20_000, 0)),
-        (pt(i64::MIN, i64::MIN), pt(i64::MAX, i64::MAX)),
-        (pt(i64::MAX, i64::MIN), pt(i64::MAX, i64::MIN)),
-    ] {
-        assert!(rt; are_right(&tin, a, b, lists, false));
-    }
-    Ok(())
+fn tells_right_lists(rt: HostRuntime) {
+    assert_eq!(rt; first_other(rt.alloc(), INSIDE), None);
+}
+
+const LISTS: &[&[u32]] = &[&[0], &[1], &[0, 1], &[1, 0], &[]];
+
+/// Segments that are not wholly inside have no right list.
+const OUTSIDE: &[Row] = &[
+    ((5_000, 1_000), (5_000, -1), LISTS, false),
+    ((-1, 5_000), (10_001, 5_000), LISTS, false),
+    ((20_000, 0), (20_000, 0), LISTS, false),
+    ((i64::MIN, i64::MIN), (i64::MAX, i64::MAX), LISTS, false),
+    ((i64::MAX, i64::MIN), (i64::MAX, i64::MIN), LISTS, false),
+];
+
+#[test]
+fn refuses_lists_of_segments_outside(rt: HostRuntime) {
+    assert_eq!(rt; first_other(rt.alloc(), OUTSIDE), None);
 }
 
 const ACROSS: &[u8] = b"LINESTRING (10 0, 0 10)";
@@ -202,119 +246,148 @@ fn answer(
     check_cert::<Wkt>(alloc, tin, source, written, PLAIN, cert)
 }
 
-#[test]
-fn certifies_what_was_migrated(rt: HostRuntime) -> Result<(), Fail> {
-    let alloc = rt.alloc();
+/// A source layer, a written one, a certificate, and the answer.
+type Answer = (
+    &'static [u8],
+    &'static [u8],
+    &'static [u8],
+    Result<(), CertFault>,
+);
+
+/// The number of the first row that is answered otherwise over the square, or none.
+fn first_other_answer(alloc: Global, rows: &[Answer]) -> Option<usize> {
     let Some(tin) = square(alloc) else {
-        assert!(rt; false);
-        return Ok(());
+        return Some(rows.len());
     };
-    for (source, written, cert) in [
-        (
-            ACROSS,
-            ACROSS_MOVED,
-            b"tinmove certificate 1\n0 1\n".as_slice(),
-        ),
-        (ALONG, ALONG_MOVED, b"tinmove certificate 1\n0\n"),
-        (ALONG, ALONG_MOVED, b"tinmove certificate 1\n1\n"),
-        (MANY, MANY_MOVED, b"tinmove certificate 1\n0\n0\n0\n"),
-    ] {
-        assert_eq!(rt; answer(alloc, &tin, source, written, cert), Ok(()));
+    for (number, &(source, written, cert, wanted)) in rows.iter().enumerate() {
+        if answer(alloc, &tin, source, written, cert) != wanted {
+            return Some(number);
+        }
     }
-    Ok(())
+    None
 }
 
+const CERTIFIED: &[Answer] = &[
+    (
+        ACROSS,
+        ACROSS_MOVED,
+        b"tinmove certificate 1\n0 1\n",
+        Ok(()),
+    ),
+    (ALONG, ALONG_MOVED, b"tinmove certificate 1\n0\n", Ok(())),
+    (ALONG, ALONG_MOVED, b"tinmove certificate 1\n1\n", Ok(())),
+    (
+        MANY,
+        MANY_MOVED,
+        b"tinmove certificate 1\n0\n0\n0\n",
+        Ok(()),
+    ),
+];
+
 #[test]
-fn refuses_other_certificates(rt: HostRuntime) -> Result<(), Fail> {
-    let alloc = rt.alloc();
-    let Some(tin) = square(alloc) else {
-        assert!(rt; false);
-        return Ok(());
-    };
-    for (cert, fault) in [
-        (b"".as_slice(), CertFault::Form { line: 1 }),
-        (b"tinmove certificate 1\n0 1", CertFault::Form { line: 2 }),
-        (
-            b"tinmove certificate 1\n",
-            CertFault::Count {
-                segments: 1,
-                lines: 0,
-            },
-        ),
-        (
-            b"tinmove certificate 1\n0 1\n0\n",
-            CertFault::Count {
-                segments: 1,
-                lines: 2,
-            },
-        ),
-        (
-            b"tinmove certificate 1\n1 0\n",
-            CertFault::Segment {
-                path: 0,
-                segment: 0,
-            },
-        ),
-        (
-            b"tinmove certificate 1\n0\n",
-            CertFault::Segment {
-                path: 0,
-                segment: 0,
-            },
-        ),
-        (
-            b"tinmove certificate 1\n0 4294967295\n",
-            CertFault::Segment {
-                path: 0,
-                segment: 0,
-            },
-        ),
-    ] {
-        assert_eq!(rt; answer(alloc, &tin, ACROSS, ACROSS_MOVED, cert), Err(fault));
-    }
-    let last = answer(
-        alloc,
-        &tin,
+fn certifies_what_was_migrated(rt: HostRuntime) {
+    assert_eq!(rt; first_other_answer(rt.alloc(), CERTIFIED), None);
+}
+
+const REFUSED: &[Answer] = &[
+    (ACROSS, ACROSS_MOVED, b"", Err(CertFault::Form { line: 1 })),
+    (
+        ACROSS,
+        ACROSS_MOVED,
+        b"tinmove certificate 1\n0 1",
+        Err(CertFault::Form { line: 2 }),
+    ),
+    (
+        ACROSS,
+        ACROSS_MOVED,
+        b"tinmove certificate 1\n",
+        Err(CertFault::Count {
+            segments: 1,
+            lines: 0,
+        }),
+    ),
+    (
+        ACROSS,
+        ACROSS_MOVED,
+        b"tinmove certificate 1\n0 1\n0\n",
+        Err(CertFault::Count {
+            segments: 1,
+            lines: 2,
+        }),
+    ),
+    (
+        ACROSS,
+        ACROSS_MOVED,
+        b"tinmove certificate 1\n1 0\n",
+        Err(CertFault::Segment {
+            path: 0,
+            segment: 0,
+        }),
+    ),
+    (
+        ACROSS,
+        ACROSS_MOVED,
+        b"tinmove certificate 1\n0\n",
+        Err(CertFault::Segment {
+            path: 0,
+            segment: 0,
+        }),
+    ),
+    (
+        ACROSS,
+        ACROSS_MOVED,
+        b"tinmove certificate 1\n0 4294967295\n",
+        Err(CertFault::Segment {
+            path: 0,
+            segment: 0,
+        }),
+    ),
+    (
         MANY,
         MANY_MOVED,
         b"tinmove certificate 1\n0\n0\n1\n",
-    );
-    assert_eq!(rt;
-        last,
         Err(CertFault::Segment {
             path: 1,
-            segment: 0
-        })
-    );
-    Ok(())
-}
+            segment: 0,
+        }),
+    ),
+];
 
 #[test]
-fn names_the_first_other_byte(rt: HostRuntime) -> Result<(), Fail> {
-    let alloc = rt.alloc();
-    let Some(tin) = square(alloc) else {
-        assert!(rt; false);
-        return Ok(());
-    };
-    for (written, at) in [
-        (
-            b"LINESTRING (110.000 100.000, 105.001 105.002, 100.000 110.000)".as_slice(),
-            35,
-        ),
-        (
-            b"LINESTRING (110.000 100.000, 105.002 105.002, 100.000 110.000) ",
-            62,
-        ),
-        (b"LINESTRING", 10),
-        (b"", 0),
-    ] {
-        let cert = b"tinmove certificate 1\n0 1\n";
-        assert_eq!(rt;
-            answer(alloc, &tin, ACROSS, written, cert),
-            Err(CertFault::Differs { at })
-        );
-    }
-    Ok(())
+fn refuses_other_certificates(rt: HostRuntime) {
+    assert_eq!(rt; first_other_answer(rt.alloc(), REFUSED), None);
+}
+
+const DIFFERENT: &[Answer] = &[
+    (
+        ACROSS,
+        b"LINESTRING (110.000 100.000, 105.001 105.002, 100.000 110.000)",
+        b"tinmove certificate 1\n0 1\n",
+        Err(CertFault::Differs { at: 35 }),
+    ),
+    (
+        ACROSS,
+        b"LINESTRING (110.000 100.000, 105.002 105.002, 100.000 110.000) ",
+        b"tinmove certificate 1\n0 1\n",
+        Err(CertFault::Differs { at: 62 }),
+    ),
+    (
+        ACROSS,
+        b"LINESTRING",
+        b"tinmove certificate 1\n0 1\n",
+        Err(CertFault::Differs { at: 10 }),
+    ),
+    (
+        ACROSS,
+        b"",
+        b"tinmove certificate 1\n0 1\n",
+        Err(CertFault::Differs { at: 0 }),
+    ),
+];
+
+#[test]
+fn names_the_first_other_byte(rt: HostRuntime) {
+    assert_eq!(rt; first_other_answer(rt.alloc(), DIFFERENT), None);
 }
 
 /// A first line, and so many times this behind it.
@@ -326,41 +399,66 @@ fn repeated(alloc: Global, part: &[u8], count: u32) -> Result<Vec<u8>, AllocErro
     Ok(text)
 }
 
-#[test]
-fn refuses_lines_that_do_not_end(rt: HostRuntime) -> Result<(), Fail> {
-    let alloc = rt.alloc();
-    for (part, found) in [
-        (b"9".as_slice(), Err(2)),
-        (b"0 ", Err(2)),
-        (b"4294967295\n", Ok(100_000)),
-        (b"4294967296\n", Err(2)),
-    ] {
+/// Parts of lines, and how many lists a hundred thousand of them are, or the first bad line.
+const LONG: &[Lists] = &[
+    (b"9", Err(2)),
+    (b"0 ", Err(2)),
+    (b"4294967295\n", Ok(100_000)),
+    (b"4294967296\n", Err(2)),
+];
+
+/// The number of the first part whose repetition is answered otherwise, or none.
+fn first_other_long(alloc: Global, rows: &[Lists]) -> Result<Option<usize>, AllocError> {
+    for (number, &(part, wanted)) in rows.iter().enumerate() {
         let text = repeated(alloc, part, 100_000)?;
-        if text.len() < 10_000_000 {
-            assert_eq!(rt; list_count(&text), found);
+        if text.len() >= 10_000_000 {
+            return Ok(Some(number));
+        }
+        if list_count(&text) != wanted {
+            return Ok(Some(number));
         }
     }
-    Ok(())
+    Ok(None)
 }
 
 #[test]
-fn refuses_lists_that_are_longer_than_the_triangulation(rt: HostRuntime) -> Result<(), Fail> {
-    let alloc = rt.alloc();
+fn refuses_lines_that_do_not_end(rt: HostRuntime) {
+    assert_eq!(rt; first_other_long(rt.alloc(), LONG), Ok(None));
+}
+
+/// Whether a list that repeats this part is wrong for the first segment.
+fn is_wrong(alloc: Global, tin: &SoundTin, part: &[u8]) -> Result<bool, AllocError> {
+    let mut cert = repeated(alloc, part, 100_000)?;
+    cert.extend_from_slice(b"1\n")?;
+    if cert.len() >= 10_000_000 {
+        return Ok(false);
+    }
+    let found = check_cert::<Wkt>(alloc, tin, ACROSS, ACROSS_MOVED, PLAIN, &cert);
+    Ok(
+        found
+            == Err(CertFault::Segment {
+                path: 0,
+                segment: 0,
+            }),
+    )
+}
+
+/// The number of the first part whose list is not wrong so, or none.
+fn first_right(alloc: Global, parts: &[&[u8]]) -> Result<Option<usize>, AllocError> {
     let Some(tin) = square(alloc) else {
-        assert!(rt; false);
-        return Ok(());
+        return Ok(Some(parts.len()));
     };
-    let wrong = CertFault::Segment {
-        path: 0,
-        segment: 0,
-    };
-    for part in [b"0 ".as_slice(), b"0 1 ", b"1 0 "] {
-        let mut cert = repeated(alloc, part, 100_000)?;
-        cert.extend_from_slice(b"1\n")?;
-        if cert.len() < 10_000_000 {
-            let found = check_cert::<Wkt>(alloc, &tin, ACROSS, ACROSS_MOVED, PLAIN, &cert);
-            assert_eq!(rt; found, Err(wrong));
+    for (number, part) in parts.iter().enumerate() {
+        if !is_wrong(alloc, &tin, part)? {
+            return Ok(Some(number));
         }
     }
-    Ok(())
+    Ok(None)
+}
+
+const PARTS: &[&[u8]] = &[b"0 ", b"0 1 ", b"1 0 "];
+
+#[test]
+fn refuses_lists_that_are_longer_than_the_triangulation(rt: HostRuntime) {
+    assert_eq!(rt; first_right(rt.alloc(), PARTS), Ok(None));
 }

@@ -4,14 +4,14 @@
 #[cfg(test)]
 mod cert_check_tests;
 #[cfg(test)]
-mod drawing_tests;
+mod dxf_layer_tests;
 #[cfg(test)]
-mod geojson_tests;
+mod dxf_layer_written_tests;
+#[cfg(test)]
+mod gj_layer_tests;
 #[cfg(test)]
 mod moves;
 #[cfg(test)]
 mod sheets;
 #[cfg(test)]
-mod wkt_tests;
-#[cfg(test)]
-mod written_drawing_tests;
+mod wkt_layer_tests;

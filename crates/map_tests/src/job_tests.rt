@@ -8,7 +8,6 @@ use migrate::{Migration, prepare_making, prepare_migration};
 use runs::Output;
 use shelf_io::MemShelf;
 use std::alloc::{AllocError, Global};
-use std::test::Fail;
 use verify_mode::{Verification, prepare_verification};
 
 /// What these words ask to be written.
@@ -68,43 +67,63 @@ fn says(alloc: Global, texts: &[&str], shelf: &mut MemShelf, said: &str) -> bool
     }
 }
 
-#[test]
-fn half_a_million_triangles_are_checked(rt: HostRuntime) -> Result<(), Fail> {
-    let alloc = rt.alloc();
+/// Whether the words ask for this text, over the largest triangulation and, where that is asked, the lines of its
+/// cells.
+fn says_of_cells(
+    alloc: Global,
+    texts: &[&str],
+    with_lines: bool,
+    said: &str,
+) -> Result<bool, AllocError> {
     let mut shelf = shelf_of_cells(alloc)?;
-    let words = ["check", "--tin", "t.json"];
-    let line = "sound: corners 263169 triangles 524288 inexact 0\n";
-    assert!(rt; says(alloc, &words, &mut shelf, line));
-    Ok(())
+    if with_lines {
+        let layer = lines_of_cells(alloc)?;
+        add_file(&mut shelf, "many.wkt", layer.as_bytes())?;
+    }
+    Ok(says(alloc, texts, &mut shelf, said))
 }
 
+const CHECK: &[&str] = &["check", "--tin", "t.json"];
+
 #[test]
-fn half_a_million_lines_are_carried_and_compared(rt: HostRuntime) -> Result<(), Fail> {
-    let alloc = rt.alloc();
-    let mut shelf = shelf_of_cells(alloc)?;
-    let layer = lines_of_cells(alloc)?;
-    add_file(&mut shelf, "many.wkt", layer.as_bytes())?;
-    let words = ["migrate", "--tin", "t.json", "--out", "o", "many.wkt"];
-    let report = "tinmove report 1
+fn half_a_million_triangles_are_checked(rt: HostRuntime) {
+    let line = "sound: corners 263169 triangles 524288 inexact 0\n";
+    assert_eq!(rt; says_of_cells(rt.alloc(), CHECK, false, line), Ok(true));
+}
+
+const MIGRATE: &[&str] = &["migrate", "--tin", "t.json", "--out", "o", "many.wkt"];
+
+const REPORT: &str = "tinmove report 1
 triangulation corners 263169 triangles 524288 inexact 0 name t.json
 layer 0 paths 524288 segments 524288 pieces 1048576 inexact 0 dropped 0 name many.wkt
 changes 0
 end
 ";
-    assert!(rt; says(alloc, &words, &mut shelf, report));
-    Ok(())
-}
 
 #[test]
-fn lines_through_thousands_of_cells_are_made_twice_alike(rt: HostRuntime) {
-    let report = "tinmove report 1
+fn half_a_million_lines_are_carried_and_compared(rt: HostRuntime) {
+    assert_eq!(rt; says_of_cells(rt.alloc(), MIGRATE, true, REPORT), Ok(true));
+}
+
+const MADE: &str = "tinmove report 1
 triangulation corners 16641 triangles 32768 inexact 0 name made.json
 layer 0 paths 128 segments 128 pieces 37304 inexact 0 dropped 0 name made.wkt
 changes 0
 end
 ";
-    let mut shelf = MemShelf::new(rt.alloc(), 1);
-    for _ in 0..2 {
-        assert!(rt; says(rt.alloc(), &["make", "128"], &mut shelf, report));
+
+/// Whether so many runs that make the map say this.
+fn make_alike(alloc: Global, count: u8, said: &str) -> bool {
+    let mut shelf = MemShelf::new(alloc, 1);
+    for _ in 0..count {
+        if !says(alloc, &["make", "128"], &mut shelf, said) {
+            return false;
+        }
     }
+    true
+}
+
+#[test]
+fn lines_through_thousands_of_cells_are_made_twice_alike(rt: HostRuntime) {
+    assert!(rt; make_alike(rt.alloc(), 2, MADE));
 }

@@ -19,10 +19,10 @@ use Rattle.meet_rel.proofs.Scale.{level_of, level_up, level_down, same_level, le
 use Rattle.meet_rel.proofs.Scale.{after_first, before_last, mix_first}
 use Rattle.meet_rel.proofs.Spans.{AreSpans, apart, touching, overlapping}
 use Rattle.meet_rel.proofs.Ways.{AreDifferent, way, on_at, line_on, at-w, up_at, at_up, before_at}
-use Rattle.meet_rel.proofs.Replacing.{HaveSamePoints, same_ends, replaced}
+use Rattle.meet_rel.proofs.EqualSegments.{HaveSamePoints, same_ends, replaced}
 use Rattle.meet_rel.proofs.Crossings.{AreAcross, IsOnBoth, meet_once}
-use Rattle.meet_rel.proofs.Ending.{same_or_different, one_point}
-use Rattle.meet_rel.proofs.Cutting.{IsLesser, IsGreater}
+use Rattle.meet_rel.proofs.ClipEnds.{same_or_different, one_point}
+use Rattle.meet_rel.proofs.ClipPoints.{IsLesser, IsGreater}
 
 one : pos 0 <ℤ pos 1
 one = lt_z_yes tt

@@ -14,7 +14,7 @@ use Rattle.plane_base.specs.declared.shapes.Tri.{Tri}
 use Rattle.plane_base.proofs.Turns.{turn_cycle, turn_swap}
 use Rattle.plane_base.proofs.Mixes.{same_sym, same_moved, mixed, Between, between_weights, mix_swapped}
 use Rattle.plane_base.proofs.InTriangle.{turns_of_mix}
-use Rattle.plane_base.proofs.Meeting.{mix_of_side}
+use Rattle.plane_base.proofs.CommonPoints.{mix_of_side}
 use Rattle.tin_base.specs.declared.relations.Rel.{Rel}
 use Rattle.tin_base.specs.declared.relations.Rel.TheVariants.{Touching, Crossing}
 use Rattle.tin_base.specs.Relations.{IsCommonPoint, IsOnlyCommonPoint, IsAnEnd, HaveRelation}

@@ -1,20 +1,19 @@
 -- The files of lemmas of meet_rel.
-pub mod Boxes
+mod Boxes
 pub mod Alike
 pub mod Exclusive
 pub mod Scale
-pub mod Spans
-pub mod Axes
-pub mod Crossings
-pub mod Told
+mod Spans
+mod Axes
+mod Crossings
+mod TurnTests
 pub mod Ways
-pub mod Replacing
-pub mod Ending
-pub mod Cutting
-pub mod ByCuts
-pub mod Picking
-pub mod Sliced
-pub mod Clipping
-pub mod Keeping
-pub mod SmallClips
-pub mod CommonSides
+mod EqualSegments
+pub mod ClipEnds
+mod ClipPoints
+mod ByCuts
+mod LinePoints
+mod WaySlices
+pub mod PieceClips
+pub mod PieceRelations
+mod CommonSides

@@ -3,4 +3,3 @@ pub mod Near
 pub mod Signs
 pub mod Laws
 pub mod Clips
-pub mod Small

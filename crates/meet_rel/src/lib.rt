@@ -10,8 +10,6 @@ mod meetings;
 mod pieces;
 mod segments;
 mod sides;
-#[cfg(test)]
-mod tests;
 
 pub use cuts::Span;
 pub use laws::{pieces_keep_relations, relations_are_exclusive};

@@ -12,7 +12,7 @@ use Rattle.job_words.specs.declared.formats.Format.{Format}
 use Rattle.job_words.specs.Formats.{ends_in, format_of}
 use Rattle.job_words.specs.Kept.{HasFormat}
 use Rattle.job_words.specs.Names.{last_part}
-use Rattle.job_words.proofs.Deciding.{fails}
+use Rattle.job_words.proofs.TestValues.{fails}
 use Rattle.migrate.specs.Names.{cert_end}
 
 -- a byte of an ending, in any letter case

@@ -16,7 +16,7 @@ use Rattle.tin_base.specs.Pieces.{IsPieceInside}
 use Rattle.affine_image.specs.SheetSegments.{Segment}
 use Rattle.affine_image.specs.SheetPieces.{next_place, AreTold, ArePiecesOfSegment, ArePiecesOfAll, ArePiecesOfSheet}
 use Rattle.affine_image.specs.SheetPieces.{AreInside, IsSheetInside, IsImagedPiece}
-use Rattle.affine_image.proofs.Bearing.{sheet_pieces_are_pieces}
+use Rattle.affine_image.proofs.SinglePieces.{sheet_pieces_are_pieces}
 use Rattle.affine_image.proofs.Reach.{rounded_images_are_near}
 use Rattle.meet_rel.proofs.Scale.{mix_first, mix_last}
 use Rattle.topo_check.specs.Changes.{AreComparable, AreAllComparable, AreAllInside}

@@ -1,6 +1,5 @@
 -- What causes that the layers are refused causes that the job is.
-use Rattle.std.proofs.Common.{◌≡◌, ◌≢◌, ◌⊎◌, ◌≤◌, inl, inr, ℕ, Option, subst, arith}
-use Rattle.shelf_io.specs.Count.{counted}
+use Rattle.std.proofs.Common.{◌≡◌, ◌≢◌, ◌⊎◌, inl, inr, Option, subst}
 use Rattle.shelf_io.specs.Files.{Files}
 use Rattle.shelf_io.specs.Load.{LacksName}
 use Rattle.migrate.specs.declared.migrations.Migration.{Migration}
@@ -46,11 +45,11 @@ wanted : (rose lacks some : Type 0) → rose ⊎ some → rose ⊎ (lacks ⊎ so
 wanted rose lacks some (inl h) = inl h
 wanted rose lacks some (inr h) = inr (inr h)
 
-pub layers_causes : (migration : Migration) (told : Option Files) (rose passed : Type 0) (refusal : Refusal)
+pub layers_causes : (migration : Migration) (told : Option Files) (rose passed verified : Type 0) (refusal : Refusal)
     → IsOfLayers refusal
     → (status_of refusal ≡ ReadStatus → rose ⊎ LacksSome migration.layers told) → (refusal ≡ LayersLong → passed)
-    → HasCauses (LacksWanted migration told) (λ status. Unit {0}) rose passed refusal
-layers_causes migration told rose passed refusal of read long = record {
+    → HasCauses (LacksWanted migration told) (λ status. Unit {0}) rose passed verified refusal
+layers_causes migration told rose passed verified refusal of read long = record {
   understood = understood refusal of;
   read = λ e. wanted rose (LacksName told migration.tin) (LacksSome migration.layers told) (read e);
   tin_long = λ e. absurd (subst IsOfLayers e of);
@@ -59,8 +58,3 @@ layers_causes migration told rose passed refusal of read long = record {
   cert_long = λ e. absurd (subst IsOfLayers e of);
   may_end = tt;
 }
-
--- what was handed out before counts too
-pub passed_since : (start given more after : ℕ) → start ≤ given → counted given more ≤ after
-    → counted start more ≤ after
-passed_since start given more after before past = omega (arith, before, past)

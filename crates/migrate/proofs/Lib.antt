@@ -9,7 +9,7 @@ pub mod ComparablePieces
 mod CertNames
 mod LayerLists
 pub mod OneLayers
-pub mod OneMigration
+mod OneMigration
 mod SomeLayers
 mod SomeMigration
 pub mod MigrationSteps

@@ -81,12 +81,12 @@ pub made_changes_refused : (n : ℕ) (tin : Triangulation) (run : Run) (refusal 
     → HasCarried (setting_of (Some (made_files n)) made_migration.how tin) false [] made_migration.layers run
     → IsUnlisted tin run.pieces.items refusal → MayNotBeMade n refusal
 made_changes_refused n tin run refusal ready has why =
-    changes_refused (Some (made_files n)) made_migration tin run ⊥ refusal ready has why
+    changes_refused (Some (made_files n)) made_migration false tin run ⊥ refusal ready has why
 
 pub made_comparable : (n : ℕ) (tin : Triangulation) (run : Run) → IsWithinLimits tin
     → HasCarried (setting_of (Some (made_files n)) made_migration.how tin) false [] made_migration.layers run
     → AreAllComparable tin run.pieces.items
-made_comparable n tin run limits has = run_comparable (Some (made_files n)) made_migration tin run limits has
+made_comparable n tin run limits has = run_comparable (Some (made_files n)) made_migration false tin run limits has
 
 pub made_done : (n : ℕ) (tin : Triangulation) (run : Run) (written final : Output)
     → HasDirected (made_files n) made_migration.how made_migration.tin made_migration.inverse tin

@@ -240,13 +240,14 @@ layers_refused (Some files) migration tin rose_here rose refusal ready rises
 layers_refused (Some files) migration tin rose_here rose refusal ready rises (out_of_memory is) =
     no_room (ap status_of is)
 
--- or as their changes are
-pub changes_refused : (told : Option Files) (migration : Migration) (tin : Triangulation) (run : Run) (rose : Type 0)
-    (refusal : Refusal) → IfSome told (λ files. HasDirected files migration.how migration.tin migration.inverse tin)
-    → HasCarried (setting_of told migration.how tin) migration.cert migration.out migration.layers run
+-- or as their changes are, carried with certificates or without
+pub changes_refused : (told : Option Files) (migration : Migration) (cert : Bool) (tin : Triangulation) (run : Run)
+    (rose : Type 0) (refusal : Refusal)
+    → IfSome told (λ files. HasDirected files migration.how migration.tin migration.inverse tin)
+    → HasCarried (setting_of told migration.how tin) cert migration.out migration.layers run
     → IsUnlisted tin run.pieces.items refusal → IfSome told (λ files. MayRefuseMigration files migration rose refusal)
-changes_refused None migration tin run rose refusal ready has why = tt
-changes_refused (Some files) migration tin run rose TooManyChanges ready has why =
+changes_refused None migration cert tin run rose refusal ready has why = tt
+changes_refused (Some files) migration cert tin run rose TooManyChanges ready has why =
     by_the_files (by_layers tin ready (at_changes
     (record {
       is = refl;
@@ -257,8 +258,8 @@ changes_refused (Some files) migration tin run rose TooManyChanges ready has why
       more =
           why;
     })))
-changes_refused (Some files) migration tin run rose NoMemory ready has why = no_room refl
-changes_refused (Some files) migration tin run rose refusal ready has why = absurd why
+changes_refused (Some files) migration cert tin run rose NoMemory ready has why = no_room refl
+changes_refused (Some files) migration cert tin run rose refusal ready has why = absurd why
 
 -- what the report asks of the layers
 pub rows_named : (told : Option Files) (migration : Migration) (tin : Triangulation) (run : Run) → MayBeTaken migration
@@ -271,10 +272,11 @@ rows_named told migration tin run taken has =
     (names_done (setting_of told migration.how tin) 0 0 [] migration.layers run.pieces.items has.done run.used
     has.carried) taken.layers_named)
 
-pub run_comparable : (told : Option Files) (migration : Migration) (tin : Triangulation) (run : Run)
-    → IsWithinLimits tin → HasCarried (setting_of told migration.how tin) migration.cert migration.out migration.layers
-    run → AreAllComparable tin run.pieces.items
-run_comparable told migration tin run limits has =
+-- their pieces may be compared
+pub run_comparable : (told : Option Files) (migration : Migration) (cert : Bool) (tin : Triangulation) (run : Run)
+    → IsWithinLimits tin → HasCarried (setting_of told migration.how tin) cert migration.out migration.layers run
+    → AreAllComparable tin run.pieces.items
+run_comparable told migration cert tin run limits has =
     run_compared (setting_of told migration.how tin) migration.layers run.pieces.items has.done run.used limits
     has.carried
 

@@ -13,7 +13,7 @@ use Rattle.affine_image.specs.SheetSegments.{Segment, sheet_segments}
 use Rattle.affine_image.specs.SheetPieces.{first_place, ArePiecesOfAll, AreInside}
 use Rattle.affine_image.specs.SheetImages.{AreImagesOf}
 use Rattle.affine_image.proofs.OneSheet.{images_same}
-use Rattle.affine_image.proofs.Told.{told_length}
+use Rattle.affine_image.proofs.PieceParts.{told_length}
 use Rattle.carry_map.specs.Causes.{IsFirstOutside, IsFirstTooMany}
 use Rattle.carry_map.specs.declared.layers.Carried.{Carried}
 use Rattle.carry_map.specs.declared.limits.TheConstants.{MOST_PIECES}

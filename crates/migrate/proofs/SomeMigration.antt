@@ -7,7 +7,7 @@ use Rattle.tin_base.specs.Triangulation.{Triangulation}
 use Rattle.tin_base.specs.Limits.{IsWithinLimits}
 use Rattle.tin_base.specs.Soundness.{IsSound}
 use Rattle.tin_base.specs.declared.pieces.Change.{Change}
-use Rattle.tin_base.proofs.Exchanging.{turned_within}
+use Rattle.tin_base.proofs.FrameExchange.{turned_within}
 use Rattle.topo_check.specs.Changes.{AreChanges, HasMoreThan}
 use Rattle.topo_check.specs.Laws.{ChangesExist}
 use Rattle.report_text.specs.ReportText.{report_text}

@@ -9,15 +9,15 @@ abbrev pub below : ℕ → List ℕ
 below n = range_with_len 0 n
 
 -- the corners are numbered line by line, and n + 1 of them make a line
-abbrev pub corner_number : ℕ → ℕ → ℕ → ℕ
-corner_number n i j = j * (n + 1) + i
+abbrev pub corner_number_of : ℕ → ℕ → ℕ → ℕ
+corner_number_of n i j = j * (n + 1) + i
 
 -- the target of the corner (i, j) in millimetres: another origin, and an offset of its own
-unfoldable pub target_x : ℕ → ℕ → ℕ
-target_x i j = 1000000 + 10000 * i + (7 * i + 13 * j) % 41
+unfoldable pub target_x_of : ℕ → ℕ → ℕ
+target_x_of i j = 1000000 + 10000 * i + (7 * i + 13 * j) % 41
 
-unfoldable pub target_y : ℕ → ℕ → ℕ
-target_y i j = 2000000 + 10000 * j + (11 * i + 5 * j) % 37
+unfoldable pub target_y_of : ℕ → ℕ → ℕ
+target_y_of i j = 2000000 + 10000 * j + (11 * i + 5 * j) % 37
 
 -- a row of a JSON list, of these elements
 abbrev pub row_text : List (List ℕ) → List ℕ
@@ -25,8 +25,8 @@ row_text elements = codes "[" ++ (join_with_byte COMMA elements ++ codes "]")
 
 -- the row of the corner (i, j): its source in whole metres, ten metres from its neighbours, and its target in metres
 unfoldable pub vertex_row : ℕ → ℕ → List ℕ
-vertex_row i j = row_text (decimal (10 * i) ∷ decimal (10 * j) ∷ written (pos (target_x i j))
-    ∷ written (pos (target_y i j)) ∷ [])
+vertex_row i j = row_text (decimal (10 * i) ∷ decimal (10 * j) ∷ written (pos (target_x_of i j))
+    ∷ written (pos (target_y_of i j)) ∷ [])
 
 -- the row of a triangle, of the numbers of its three corners
 unfoldable pub triangle_row : ℕ → ℕ → ℕ → List ℕ
@@ -35,8 +35,8 @@ triangle_row first second third = row_text (decimal first ∷ decimal second ∷
 -- the rows of the two triangles of the cell whose first corner is (i, j); they share its diagonal
 abbrev pub cell_rows : ℕ → ℕ → ℕ → List (List ℕ)
 cell_rows n i j =
-    triangle_row (corner_number n i j) (corner_number n (i + 1) j) (corner_number n (i + 1) (j + 1))
-    ∷ triangle_row (corner_number n i j) (corner_number n (i + 1) (j + 1)) (corner_number n i (j + 1)) ∷ []
+    triangle_row (corner_number_of n i j) (corner_number_of n (i + 1) j) (corner_number_of n (i + 1) (j + 1))
+    ∷ triangle_row (corner_number_of n i j) (corner_number_of n (i + 1) (j + 1)) (corner_number_of n i (j + 1)) ∷ []
 
 -- the rows of all corners, in order of their numbers
 abbrev pub vertex_rows : ℕ → List (List ℕ)

@@ -6,7 +6,7 @@ ghost use Rattle.std.specs.List.{flat_map};
 ghost use Rattle.job_words.specs.declared.limits.TheConstants.{MOST_SIZE};
 ghost use Rattle.migrate.specs.declared.maker_texts.TheConstants.{VERTEX_MOST, TRIANGLE_MOST};
 ghost use Rattle.mm_decimal.specs.Writing.{written};
-ghost use Rattle.migrate.specs.MakerTexts.{below, corner_number as number_of, target_x as x_of, target_y as y_of};
+ghost use Rattle.migrate.specs.MakerTexts.{below, corner_number_of, target_x_of, target_y_of};
 ghost use Rattle.migrate.specs.MakerTexts.{vertex_row, triangle_row, cell_rows, vertex_rows, triangle_rows, tin_front};
 ghost use Rattle.migrate.specs.MakerTexts.{tin_between, tin_end, tin_text, layer_line, layer_text, ended_rows};
 
@@ -68,20 +68,20 @@ fn put_metres(out: &mut Vec<u8>, mm: u32, behind: &str) -> Result<(), AllocError
 }
 
 // The target of the corner in column i of line j, in millimetres.
-#[tactic(auto, unfolding(crate::specs::MakerTexts::target_x))]
+#[tactic(auto, unfolding(crate::specs::MakerTexts::target_x_of))]
 fn target_x(i: u32, j: u32) -> u32
     requires column { i ≤ MOST_SIZE }
     requires line { j ≤ MOST_SIZE }
-    ensures { result ≡ x_of i j }
+    ensures { result ≡ target_x_of i j }
 {
     1_000_000 + 10_000 * i + (7 * i + 13 * j) % 41
 }
 
-#[tactic(auto, unfolding(crate::specs::MakerTexts::target_y))]
+#[tactic(auto, unfolding(crate::specs::MakerTexts::target_y_of))]
 fn target_y(i: u32, j: u32) -> u32
     requires column { i ≤ MOST_SIZE }
     requires line { j ≤ MOST_SIZE }
-    ensures { result ≡ y_of i j }
+    ensures { result ≡ target_y_of i j }
 {
     2_000_000 + 10_000 * j + (11 * i + 5 * j) % 37
 }
@@ -132,7 +132,7 @@ fn corner_number(n: u32, i: u32, j: u32) -> u32
     requires most { n ≤ MOST_SIZE }
     requires column { i ≤ n }
     requires line { j ≤ n }
-    ensures { result ≡ number_of n i j }
+    ensures { result ≡ corner_number_of n i j }
 {
     j * (n + 1) + i
 }

@@ -6,7 +6,7 @@ ghost use Rattle.shelf_io.specs.Count.{Rose, counted};
 ghost use Rattle.report_text.specs.Reports.{IsPrintable};
 ghost use Rattle.carry_map.specs.declared.limits.TheConstants.{MOST_PIECES};
 ghost use Rattle.topo_check.specs.Changes.{AreAllComparable};
-ghost use Rattle.runs.specs.declared.loads.TheConstants.{MOST_BYTES};
+ghost use Rattle.runs.specs.declared.loads.TheConstants.{MOST_BYTES, MOST_VERIFIED};
 ghost use Rattle.runs.specs.Status.{end_of};
 ghost use Rattle.runs.specs.Counts.{LeavesFaults};
 ghost use Rattle.runs.specs.Output.{files_of, HasForm};
@@ -60,7 +60,7 @@ pub fn prepare_migration<S: Shelf>(
     ensures ok { IfOk result (λ written. IfSome (S.files shelf.old) (λ files. IsMigrationDone files migration.now (end_of written.changed) (files_of written))) }
     ensures form { IfOk result (λ written. HasForm (IsMigrationWritten migration.now) written) }
     ensures refused { IfErr result (λ refusal. IfSome (S.files shelf.old) (λ files. MayRefuseMigration files migration.now (Rose (S.faults shelf.old) (S.faults shelf.new)) refusal)) }
-    ensures causes { IfErr result (λ refusal. HasCauses (LacksWanted migration.now (S.files shelf.old)) (λ status. Unit {0}) (Rose (S.faults shelf.old) (S.faults shelf.new)) (counted (S.given shelf.old) (MOST_BYTES + 1) ≤ S.given shelf.new) refusal) }
+    ensures causes { IfErr result (λ refusal. HasCauses (LacksWanted migration.now (S.files shelf.old)) (λ status. Unit {0}) (Rose (S.faults shelf.old) (S.faults shelf.new)) (counted (S.given shelf.old) (MOST_BYTES + 1) ≤ S.given shelf.new) (counted (S.given shelf.old) (MOST_VERIFIED + 1) ≤ S.given shelf.new) refusal) }
     ensures faults { LeavesFaults (S.faults shelf.old) (S.faults shelf.new) result }
 {
     let index = load_index(

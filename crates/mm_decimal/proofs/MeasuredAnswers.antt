@@ -1,7 +1,7 @@
 -- The answer as a function is the answer.
 use Rattle.std.proofs.Common.{◌≡◌, ℕ, ◌+◌, ◌*◌, ◌%◌, ◌<◌, ◌≤◌, inl, inr, List, [], ◌∷◌, ◌++◌, length, take, Bool, true}
 use Rattle.std.proofs.Common.{false, refl, sym, ap, ◌∙◌, subst, arith, append_assoc, append-nil, length-append}
-use Rattle.std.specs.Prelude.{◌||◌, ◌==◌, nat_lt, if◌then◌else◌, Option, Some, None, Result, Ok, Err, unsigned_abs}
+use Rattle.std.specs.Prelude.{◌||◌, ◌==◌, nat_lt, if◌then◌else◌, Option, Some, None, Result, Ok, Err, ℤ, unsigned_abs}
 use Rattle.std.specs.Option.{option_map_or}
 use Rattle.std.proofs.Math.Seq.{take-append_seam}
 use Rattle.std.proofs.lemmas.Bool.{ltb-true, ltb-false, eqb-true, eq-eqb}
@@ -9,7 +9,7 @@ use Rattle.std.proofs.lemmas.List.{length_push}
 use Rattle.text_places.specs.Machine.{run}
 use Rattle.text_places.specs.Places.{IsFirstFault}
 use Rattle.text_places.proofs.Runs.{run_next}
-use Rattle.text_places.proofs.Reading.{fault_at, fault_at_end}
+use Rattle.text_places.proofs.Machines.{fault_at, fault_at_end}
 use Rattle.mm_decimal.specs.Numerals.{Value, IsNumeral, HasValue, value_of}
 use Rattle.mm_decimal.specs.Millimetres.{numerator, denominator, mm_of}
 use Rattle.mm_decimal.specs.Phases.{IsLast}
@@ -130,6 +130,12 @@ answers_by text false is =
 pub measured_answers : (text : List ℕ) → Answers text (measured text)
 unfolding measured
 measured_answers text = answers_by text (nat_lt LONGEST (length text)) refl
+
+-- what is read of a text is within the limit
+pub read_within : (text : List ℕ) (read : MmRead) → measured text ≡ Ok read → unsigned_abs read.mm ≤ LIMIT
+read_within text read is =
+    let (short, (value, has, known)) = subst (Answers text) is (measured_answers text) in
+    subst (λ (z : ℤ). unsigned_abs z ≤ LIMIT) (sym known.mm) known.limit
 
 -- an answer is this one
 pub answer_is_measured : (text : List ℕ) (answer : Result MmRead NumFault) → Answers text answer

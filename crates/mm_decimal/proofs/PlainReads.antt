@@ -11,9 +11,9 @@ use Rattle.plain_laws.proofs.Lists.{all_append}
 use Rattle.mm_decimal.specs.Numerals.{Sign, Bare, Minus, Numeral, IsDigit, Value, HasValue, number_of, is_minus}
 use Rattle.mm_decimal.specs.Numerals.{sign_text, fraction_text, fraction_digits}
 use Rattle.mm_decimal.specs.Millimetres.{signed_of, IsRead}
-use Rattle.mm_decimal.specs.Rounding.{HasSize}
+use Rattle.mm_decimal.specs.InsideRounds.{HasSize}
 use Rattle.mm_decimal.specs.Answers.{Reads}
-use Rattle.mm_decimal.specs.Plain.{Write, IsPlain}
+use Rattle.mm_decimal.specs.InsidePlainNumerals.{Write, IsPlain}
 use Rattle.mm_decimal.specs.declared.limits.TheConstants.{LIMIT}
 use Rattle.mm_decimal.specs.declared.reading.MmRead.{MmRead}
 use Rattle.mm_decimal.proofs.Values.{number_after, number_after-is, number_after-append, number_after-none}

@@ -5,7 +5,7 @@ ghost use Rattle.std.specs.Prelude.{◌≡◌, ◌*◌, ◌^◌, ◌<◌, ◌≤
 ghost use Rattle.std.specs.Prelude.{true};
 ghost use Rattle.mm_decimal.specs.Millimetres.{signed_of};
 ghost use Rattle.mm_decimal.specs.Answers.{Reads};
-ghost use Rattle.mm_decimal.specs.Plain.{Write, IsPlain};
+ghost use Rattle.mm_decimal.specs.InsidePlainNumerals.{Write, IsPlain};
 
 use crate::limits::LIMIT;
 use crate::reading::MmRead;

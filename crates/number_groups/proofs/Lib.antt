@@ -1,4 +1,4 @@
 -- The files of lemmas of number_groups.
 pub mod Counts
-pub mod Places
-pub mod Lists
+mod Places
+mod Lists

@@ -6,7 +6,7 @@ use Rattle.integer_ring.proofs.Order.{≤_or_>, ≤_of_<}
 use Rattle.integer_ring.proofs.Signs.{frac-≤_trans}
 use Rattle.integer_ring.proofs.Claims.{◌≼◌, ◌≺◌, never, gap, over, ◌⊞◌, ◌⊠◌, ◌because◌, ◌otherwise◌, ◌⇒◌, follows}
 use Rattle.plane_base.specs.Plane.{Point, turn_of, IsMix, along}
-use Rattle.plane_base.specs.Courses.{value_at}
+use Rattle.plane_base.specs.InsideCourses.{value_at}
 use Rattle.plane_base.specs.Slices.{IsParam}
 use Rattle.plane_base.specs.Laws.{ArePlaces, AreFromTo, SegmentsMeetInIntervals}
 use Rattle.plane_base.proofs.Along.{turn_along, rises, falls}

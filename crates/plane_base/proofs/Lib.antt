@@ -9,13 +9,13 @@ pub mod InTriangle
 pub mod Sizes
 pub mod Along
 pub mod Image
-pub mod Parts
-pub mod Slices
-pub mod Exit
-pub mod Meeting
+mod Parts
+mod Slices
+mod Exit
+pub mod CommonPoints
 pub mod LeftOfSide
-pub mod Naming
+mod PartEnds
 pub mod BoxLemmas
-pub mod NearSide
+mod NearSide
 pub mod NearPoints
 pub mod TwoWeights

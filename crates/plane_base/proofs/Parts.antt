@@ -11,7 +11,7 @@ use Rattle.integer_ring.proofs.Claims.{◌≐◌, ◌≼◌, ◌≺◌, never, g
 use Rattle.integer_ring.proofs.Claims.{follows}
 use Rattle.frac128.specs.Fractions.{IsBelow, IsSameValue, IsFrom, IsUpTo}
 use Rattle.frac128.specs.declared.frac.Frac.{Frac}
-use Rattle.plane_base.specs.Courses.{value_at, IsZeroAt}
+use Rattle.plane_base.specs.InsideCourses.{value_at, IsZeroAt}
 use Rattle.plane_base.specs.Slices.{IsParam, IsWithin}
 
 -- ---- the ends of the way

@@ -18,8 +18,8 @@ use Rattle.plane_base.proofs.Along.{turn_along, along-w}
 use Rattle.plane_base.proofs.InTriangle.{turns_of_mix, mix_of_turns}
 use Rattle.plane_base.proofs.Sizes.{cross_size}
 use Rattle.plane_base.specs.Slices.{IsParam, IsWithin, IsIn}
-use Rattle.plane_base.specs.Courses.{value_at}
-use Rattle.plane_base.specs.Sides.{AreOfSides, IsLeftOfAll}
+use Rattle.plane_base.specs.InsideCourses.{value_at}
+use Rattle.plane_base.specs.InsideSides.{AreOfSides, IsLeftOfAll}
 use Rattle.plane_base.specs.declared.slicing.Courses.{Courses}
 use Rattle.plane_base.specs.declared.ranges.Range.{Range}
 

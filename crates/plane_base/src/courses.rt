@@ -3,7 +3,7 @@
 ghost use Rattle.std.specs.Prelude.{◌≡◌, ◌≢◌, ◌↔◌, ℤ, pos, ◌≤ℤ◌, ◌-ℤ◌, ◌*ℤ◌, IsTrue};
 ghost use Rattle.frac128.specs.Sizes.{IsSmall};
 ghost use Rattle.plane_base.specs.Plane.{whole, turn_of, IsNear, IsNearAll};
-ghost use Rattle.plane_base.specs.Courses.{value_at, IsZeroAt, IsBound};
+ghost use Rattle.plane_base.specs.InsideCourses.{value_at, IsZeroAt, IsBound};
 ghost use Rattle.plane_base.specs.Slices.{IsParam, IsWithin};
 
 use crate::ranges::{Range, at_end, at_start};

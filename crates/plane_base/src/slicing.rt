@@ -3,7 +3,7 @@
 ghost use Rattle.std.specs.Prelude.{◌≡◌, ◌↔◌, ℤ, pos, ◌<ℤ◌, IsTrue, IfSome};
 ghost use Rattle.plane_base.specs.Plane.{whole, turn_of, IsNear, IsNearAll, IsNearTri};
 ghost use Rattle.plane_base.specs.Slices.{IsWithin, AreEnds, IsWholeWay, slice_of};
-ghost use Rattle.plane_base.specs.Sides.{AreOfSides, IsLeftOfAll, IsBoundOfOne, IsZeroOfOne, IsEndBy};
+ghost use Rattle.plane_base.specs.InsideSides.{AreOfSides, IsLeftOfAll, IsBoundOfOne, IsZeroOfOne, IsEndBy};
 
 use crate::courses::{Course, course_of, is_zero_at, where_left};
 use crate::ranges::{Range, both, whole_way};

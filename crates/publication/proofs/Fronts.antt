@@ -5,7 +5,7 @@ use Rattle.std.proofs.Math.Seq.{take-length}
 use Rattle.std.specs.List.{AllByRecursion}
 use Rattle.shelf_io.specs.Files.{Files, bytes_of}
 use Rattle.shelf_io.specs.Made.{Lacks, PrintsFront}
-use Rattle.job_words.proofs.Deciding.{texts-differ}
+use Rattle.job_words.proofs.TestValues.{texts-differ}
 use Rattle.runs.specs.declared.output.LayerFile.{LayerFile}
 use Rattle.runs.specs.Output.{HasSlash, file_of, AreWritable}
 use Rattle.publication.specs.Fronts.{IsFrontOf}

@@ -6,15 +6,15 @@ use Rattle.sheet_base.specs.declared.faults.LayerFault.{LayerFault}
 use Rattle.sheet_base.specs.declared.faults.LayerFault.TheVariants as faults
 
 -- ---- a number text
-abbrev pub number_finding : NumFault → List ℕ
-number_finding (Form at) = codes "a number that is no numeral"
-number_finding Long = codes "a number of more than 64 bytes"
-number_finding Range = codes "a number past 10^12 metres, or with a power of ten past 99"
+abbrev pub number_finding_of : NumFault → List ℕ
+number_finding_of (Form at) = codes "a number that is no numeral"
+number_finding_of Long = codes "a number of more than 64 bytes"
+number_finding_of Range = codes "a number past 10^12 metres, or with a power of ten past 99"
 
-abbrev pub number_cure : NumFault → Option (List ℕ)
-number_cure (Form at) = None
-number_cure Long = Some (codes "write fewer digits: three behind the point are kept")
-number_cure Range = None
+abbrev pub number_cure_of : NumFault → Option (List ℕ)
+number_cure_of (Form at) = None
+number_cure_of Long = Some (codes "write fewer digits: three behind the point are kept")
+number_cure_of Range = None
 
 -- ---- a layer
 -- what stands at the place of the fault, for any text that has it
@@ -25,7 +25,7 @@ finding_of (faults.Repeat at) = codes "a member that stands twice"
 finding_of (faults.Shape at) = codes "a member or a position that is missing or of another type"
 finding_of (faults.Kind at) = codes "a geometry of another kind"
 finding_of (faults.Height at) = codes "a measure, or the mark of one"
-finding_of (faults.Number at fault) = number_finding fault
+finding_of (faults.Number at fault) = number_finding_of fault
 finding_of (faults.Inexact at) = codes "a number with digits past the millimetre"
 finding_of (faults.Ring at) = codes "a ring that is not closed, or has fewer than four points"
 finding_of faults.Binary = codes "a drawing in binary form"
@@ -50,7 +50,7 @@ cure_of (faults.Repeat at) = Some (codes "remove one of the two")
 cure_of (faults.Shape at) = None
 cure_of (faults.Kind at) = Some (codes "curves are made straight by: ogr2ogr -nlt CONVERT_TO_LINEAR")
 cure_of (faults.Height at) = Some (codes "heights are marked and measures left out by: ogr2ogr -dim XYZ")
-cure_of (faults.Number at fault) = number_cure fault
+cure_of (faults.Number at fault) = number_cure_of fault
 cure_of (faults.Inexact at) = Some (codes "without --exact such a number is rounded")
 cure_of (faults.Ring at) = Some (codes "close it; or try: ogr2ogr -makevalid")
 cure_of faults.Binary = Some (codes "save it as ASCII DXF")

@@ -2,15 +2,15 @@
 use Rattle.std.specs.Prelude.{ℕ, ◌+◌, Bool, not, eqb, List, take, count_by}
 use Rattle.std.specs.List.{suffix_len}
 
-abbrev pub is_line_feed : ℕ → Bool
-is_line_feed byte = eqb byte 10
+abbrev pub is_feed : ℕ → Bool
+is_feed byte = eqb byte 10
 
 abbrev pub is_in_line : ℕ → Bool
 is_in_line byte = not (eqb byte 10)
 
 -- one more than the line feeds among the first `at` bytes
 abbrev pub line_at : List ℕ → ℕ → ℕ
-line_at bytes at = count_by is_line_feed (take at bytes) + 1
+line_at bytes at = count_by is_feed (take at bytes) + 1
 
 -- one more than the bytes behind the last line feed of the first `at` bytes
 abbrev pub column_at : List ℕ → ℕ → ℕ

@@ -11,8 +11,8 @@ use Rattle.remarks.specs.LayerTables.{finding_of, cure_of}
 
 -- ---- the bytes at a place
 -- the bytes begin with the byte order mark of UTF-8
-abbrev pub begins_with_mark : List ℕ → Bool
-begins_with_mark bytes = starts_with eqb bytes (0xEF ∷ 0xBB ∷ 0xBF ∷ [])
+abbrev pub has_mark : List ℕ → Bool
+has_mark bytes = starts_with eqb bytes (0xEF ∷ 0xBB ∷ 0xBF ∷ [])
 
 -- the first byte passes the test
 abbrev pub is_first : (ℕ → Bool) → List ℕ → Bool
@@ -20,55 +20,55 @@ is_first test [] = false
 is_first test (byte ∷ rest) = test byte
 
 -- a digit, a sign or a point
-abbrev pub begins_number : ℕ → Bool
-begins_number byte = is_ascii_digit byte || eqb byte 43 || eqb byte 45 || eqb byte 46
+abbrev pub is_of_number : ℕ → Bool
+is_of_number byte = is_ascii_digit byte || eqb byte 43 || eqb byte 45 || eqb byte 46
 
 -- a blank or a tab
-abbrev pub is_blank : ℕ → Bool
-is_blank byte = eqb byte 32 || eqb byte 9
+abbrev pub is_blank_byte : ℕ → Bool
+is_blank_byte byte = eqb byte 32 || eqb byte 9
 
 -- the bytes without the blanks at their end
-abbrev pub without_blanks : List ℕ → List ℕ
-without_blanks bytes = take (length bytes - suffix_len is_blank bytes) bytes
+abbrev pub without_blanks_of : List ℕ → List ℕ
+without_blanks_of bytes = take (length bytes - suffix_len is_blank_byte bytes) bytes
 
 -- the last byte that is no blank is a closing bracket
-abbrev pub ends_with_bracket : List ℕ → Bool
-ends_with_bracket bytes = ends_with eqb (without_blanks bytes) (41 ∷ [])
+abbrev pub is_behind_bracket : List ℕ → Bool
+is_behind_bracket bytes = ends_with eqb (without_blanks_of bytes) (41 ∷ [])
 
 -- a word begins at the place, on a line on which a closing bracket ended a geometry before it
-abbrev pub is_second_geometry : List ℕ → ℕ → Bool
-is_second_geometry bytes at = is_first is_ascii_alphabetic (drop at bytes) && ends_with_bracket (take at bytes)
+abbrev pub is_second : List ℕ → ℕ → Bool
+is_second bytes at = is_first is_ascii_alphabetic (drop at bytes) && is_behind_bracket (take at bytes)
 
 -- ---- of a fault
 abbrev pub sight_of_bad : List ℕ → ℕ → Sight
-sight_of_bad bytes at = if eqb at 0 && begins_with_mark bytes then ByteOrderMark else
-    (if is_second_geometry bytes at then SecondGeometry else Plain)
+sight_of_bad bytes at = if eqb at 0 && has_mark bytes then ByteOrderMark else
+    (if is_second bytes at then SecondGeometry else Plain)
 
 abbrev pub sight_of_code : List ℕ → ℕ → Sight
-sight_of_code bytes line = if eqb line 1 && begins_with_mark bytes then ByteOrderMark else Plain
+sight_of_code bytes line = if eqb line 1 && has_mark bytes then ByteOrderMark else Plain
 
 abbrev pub sight_of_height : List ℕ → ℕ → Sight
-sight_of_height bytes at = if is_first begins_number (drop at bytes) then NumberTooMany else Plain
+sight_of_height bytes at = if is_first is_of_number (drop at bytes) then NumberTooMany else Plain
 
-abbrev pub sight_in : LayerFault → List ℕ → Sight
-sight_in (faults.Bad at) bytes = sight_of_bad bytes at
-sight_in (faults.Code line) bytes = sight_of_code bytes line
-sight_in (faults.Height at) bytes = sight_of_height bytes at
-sight_in fault bytes = Plain
+abbrev pub sight_inside : LayerFault → List ℕ → Sight
+sight_inside (faults.Bad at) bytes = sight_of_bad bytes at
+sight_inside (faults.Code line) bytes = sight_of_code bytes line
+sight_inside (faults.Height at) bytes = sight_of_height bytes at
+sight_inside fault bytes = Plain
 
 abbrev pub sight_of : LayerFault → Option (List ℕ) → Sight
 sight_of fault None = Plain
-sight_of fault (Some bytes) = sight_in fault bytes
+sight_of fault (Some bytes) = sight_inside fault bytes
 
 -- ---- in words
-abbrev pub seen_finding : LayerFault → Sight → List ℕ
-seen_finding fault Plain = finding_of fault
-seen_finding fault ByteOrderMark = codes "a byte order mark"
-seen_finding fault SecondGeometry = codes "a second geometry on one line"
-seen_finding fault NumberTooMany = codes "a number too many"
+abbrev pub seen_finding_of : LayerFault → Sight → List ℕ
+seen_finding_of fault Plain = finding_of fault
+seen_finding_of fault ByteOrderMark = codes "a byte order mark"
+seen_finding_of fault SecondGeometry = codes "a second geometry on one line"
+seen_finding_of fault NumberTooMany = codes "a number too many"
 
-abbrev pub seen_cure : LayerFault → Sight → Option (List ℕ)
-seen_cure fault Plain = cure_of fault
-seen_cure fault ByteOrderMark = Some (codes "save the file without it")
-seen_cure fault SecondGeometry = Some (codes "write one geometry a line")
-seen_cure fault NumberTooMany = cure_of fault
+abbrev pub seen_cure_of : LayerFault → Sight → Option (List ℕ)
+seen_cure_of fault Plain = cure_of fault
+seen_cure_of fault ByteOrderMark = Some (codes "save the file without it")
+seen_cure_of fault SecondGeometry = Some (codes "write one geometry a line")
+seen_cure_of fault NumberTooMany = cure_of fault

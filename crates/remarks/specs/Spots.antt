@@ -25,68 +25,68 @@ use Rattle.remarks.specs.declared.spots.Spot.TheVariants.{Run, LayerWord, File, 
 use Rattle.remarks.specs.declared.spots.Spot.TheVariants.{Segment}
 
 -- ---- where a refusal comes from
-abbrev pub words_spot : WordsFault → Spot
-words_spot (words.Name (WhichLayer layer)) = LayerWord layer
-words_spot (words.Suffix layer) = LayerWord layer
-words_spot (words.SameName layer) = LayerWord layer
-words_spot fault = Run
+abbrev pub spot_of_words : WordsFault → Spot
+spot_of_words (words.Name (WhichLayer layer)) = LayerWord layer
+spot_of_words (words.Suffix layer) = LayerWord layer
+spot_of_words (words.SameName layer) = LayerWord layer
+spot_of_words fault = Run
 
-abbrev pub tin_spot : TinFault → Spot
-tin_spot (tins.Json at) = Byte at
-tin_spot (tins.Deep at) = Byte at
-tin_spot (tins.Row list row) = Row list row
-tin_spot (tins.Number row fault) = Row Vertices row
-tin_spot (tins.Inexact row) = Row Vertices row
-tin_spot (tins.Index triangle) = Row TriangleRows triangle
-tin_spot fault = File
+abbrev pub spot_of_tin : TinFault → Spot
+spot_of_tin (tins.Json at) = Byte at
+spot_of_tin (tins.Deep at) = Byte at
+spot_of_tin (tins.Row list row) = Row list row
+spot_of_tin (tins.Number row fault) = Row Vertices row
+spot_of_tin (tins.Inexact row) = Row Vertices row
+spot_of_tin (tins.Index triangle) = Row TriangleRows triangle
+spot_of_tin fault = File
 
-abbrev pub check_spot : CheckFault → Spot
-check_spot (checks.Flat triangle frame) = Triangle triangle
-check_spot (checks.TurnsOver triangle) = Triangle triangle
-check_spot (checks.Meets first second frame) = TrianglePair first second
-check_spot checks.NoMemory = File
+abbrev pub spot_of_check : CheckFault → Spot
+spot_of_check (checks.Flat triangle frame) = Triangle triangle
+spot_of_check (checks.TurnsOver triangle) = Triangle triangle
+spot_of_check (checks.Meets first second frame) = TrianglePair first second
+spot_of_check checks.NoMemory = File
 
-abbrev pub layer_spot : LayerFault → Spot
-layer_spot (layers.Bad at) = Byte at
-layer_spot (layers.Deep at) = Byte at
-layer_spot (layers.Repeat at) = Byte at
-layer_spot (layers.Shape at) = Byte at
-layer_spot (layers.Kind at) = Byte at
-layer_spot (layers.Height at) = Byte at
-layer_spot (layers.Number at fault) = Byte at
-layer_spot (layers.Inexact at) = Byte at
-layer_spot (layers.Ring at) = Byte at
-layer_spot layers.Binary = File
-layer_spot layers.NoEof = File
-layer_spot (layers.Code line) = Line line
-layer_spot (layers.Odd line) = Line line
-layer_spot (layers.Entity line) = Line line
-layer_spot (layers.Extrusion line) = Line line
-layer_spot (layers.Flags line) = Line line
-layer_spot (layers.Count line) = Line line
-layer_spot (layers.Bulge line) = Line line
-layer_spot (layers.Width line) = Line line
-layer_spot (layers.Attribs line) = Line line
-layer_spot (layers.Seed line) = Line line
-layer_spot layers.NoMemory = File
+abbrev pub spot_of_layer : LayerFault → Spot
+spot_of_layer (layers.Bad at) = Byte at
+spot_of_layer (layers.Deep at) = Byte at
+spot_of_layer (layers.Repeat at) = Byte at
+spot_of_layer (layers.Shape at) = Byte at
+spot_of_layer (layers.Kind at) = Byte at
+spot_of_layer (layers.Height at) = Byte at
+spot_of_layer (layers.Number at fault) = Byte at
+spot_of_layer (layers.Inexact at) = Byte at
+spot_of_layer (layers.Ring at) = Byte at
+spot_of_layer layers.Binary = File
+spot_of_layer layers.NoEof = File
+spot_of_layer (layers.Code line) = Line line
+spot_of_layer (layers.Odd line) = Line line
+spot_of_layer (layers.Entity line) = Line line
+spot_of_layer (layers.Extrusion line) = Line line
+spot_of_layer (layers.Flags line) = Line line
+spot_of_layer (layers.Count line) = Line line
+spot_of_layer (layers.Bulge line) = Line line
+spot_of_layer (layers.Width line) = Line line
+spot_of_layer (layers.Attribs line) = Line line
+spot_of_layer (layers.Seed line) = Line line
+spot_of_layer layers.NoMemory = File
 
-abbrev pub cert_spot : CertFault → Spot
-cert_spot (certs.Layer fault) = layer_spot fault
-cert_spot (certs.Form line) = Line line
-cert_spot (certs.Count segments lines) = File
-cert_spot (certs.Segment path segment) = Segment path segment
-cert_spot (certs.Differs at) = Byte at
-cert_spot certs.NoMemory = File
+abbrev pub spot_of_cert : CertFault → Spot
+spot_of_cert (certs.Layer fault) = spot_of_layer fault
+spot_of_cert (certs.Form line) = Line line
+spot_of_cert (certs.Count segments lines) = File
+spot_of_cert (certs.Segment path segment) = Segment path segment
+spot_of_cert (certs.Differs at) = Byte at
+spot_of_cert certs.NoMemory = File
 
 abbrev pub spot_of : Refusal → Spot
-spot_of (Words fault) = words_spot fault
+spot_of (Words fault) = spot_of_words fault
 spot_of TinUnread = File
 spot_of TinLong = File
-spot_of (Tin fault) = tin_spot fault
-spot_of (Check fault) = check_spot fault
+spot_of (Tin fault) = spot_of_tin fault
+spot_of (Check fault) = spot_of_check fault
 spot_of (LayerUnread layer) = File
 spot_of LayersLong = Run
-spot_of (Layer layer fault) = layer_spot fault
+spot_of (Layer layer fault) = spot_of_layer fault
 spot_of (Outside layer path segment) = Segment path segment
 spot_of TooManyPieces = Run
 spot_of TooManyChanges = Run
@@ -94,7 +94,7 @@ spot_of WrittenUnread = File
 spot_of WrittenLong = File
 spot_of CertUnread = File
 spot_of CertLong = File
-spot_of (Certificate fault) = cert_spot fault
+spot_of (Certificate fault) = spot_of_cert fault
 spot_of NoMemory = Run
 
 -- ---- in words
@@ -103,12 +103,12 @@ abbrev pub byte_words : Option (List ℕ) → ℕ → List ℕ
 byte_words None at = codes ": at byte " ++ decimal at
 byte_words (Some bytes) at = codes ":" ++ decimal (line_at bytes at) ++ codes ":" ++ decimal (column_at bytes at)
 
-abbrev pub rows_end : Rows → List ℕ
-rows_end Vertices = codes " of vertices"
-rows_end TriangleRows = codes " of triangles"
+abbrev pub rows_end_of : Rows → List ℕ
+rows_end_of Vertices = codes " of vertices"
+rows_end_of TriangleRows = codes " of triangles"
 
 abbrev pub row_words : Rows → ℕ → List ℕ
-row_words list row = codes ": row " ++ decimal row ++ rows_end list
+row_words list row = codes ": row " ++ decimal row ++ rows_end_of list
 
 -- what stands between the name of the file and the colon
 abbrev pub within_words : Option (List ℕ) → Spot → List ℕ

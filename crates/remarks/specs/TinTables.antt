@@ -12,80 +12,80 @@ use Rattle.tin_file.specs.declared.faults.TinFault.{TinFault}
 use Rattle.tin_file.specs.declared.faults.TinFault.TheVariants as faults
 use Rattle.tin_file.specs.declared.faults.Top.{Top}
 use Rattle.tin_file.specs.declared.faults.Top.TheVariants as tops
-use Rattle.remarks.specs.LayerTables.{number_finding, number_cure}
+use Rattle.remarks.specs.LayerTables.{number_finding_of, number_cure_of}
 
 -- ---- the text
-abbrev pub member_finding : Top → List ℕ
-member_finding tops.Whole = codes "the text is no JSON object"
-member_finding tops.FileType = codes "the member file_type is missing, stands twice, or is not triangulation_file"
-member_finding tops.FormatVersion = codes "the member format_version is missing, stands twice, or is no text"
-member_finding tops.Strategy = codes "the member fallback_strategy stands twice, or is none of the known words"
-member_finding tops.Components =
+abbrev pub member_finding_of : Top → List ℕ
+member_finding_of tops.Whole = codes "the text is no JSON object"
+member_finding_of tops.FileType = codes "the member file_type is missing, stands twice, or is not triangulation_file"
+member_finding_of tops.FormatVersion = codes "the member format_version is missing, stands twice, or is no text"
+member_finding_of tops.Strategy = codes "the member fallback_strategy stands twice, or is none of the known words"
+member_finding_of tops.Components =
     codes "the member transformed_components is missing, stands twice, or is no list of horizontal and vertical"
-member_finding tops.VerticesColumns = codes
+member_finding_of tops.VerticesColumns = codes
     "the member vertices_columns is missing, stands twice, or does not have each column once"
-member_finding tops.TrianglesColumns = codes
+member_finding_of tops.TrianglesColumns = codes
     "the member triangles_columns is missing, stands twice, or does not have each column once"
-member_finding tops.Vertices = codes "the member vertices is missing, stands twice, or is no list"
-member_finding tops.Triangles = codes "the member triangles is missing, stands twice, or is no list"
+member_finding_of tops.Vertices = codes "the member vertices is missing, stands twice, or is no list"
+member_finding_of tops.Triangles = codes "the member triangles is missing, stands twice, or is no list"
 
-abbrev pub span_finding : Frame → Axis → List ℕ
-span_finding Source X = codes "the source corners span 2,147.483648 km or more from west to east"
-span_finding Source Y = codes "the source corners span 2,147.483648 km or more from south to north"
-span_finding Target X = codes "the target corners span 2,147.483648 km or more from west to east"
-span_finding Target Y = codes "the target corners span 2,147.483648 km or more from south to north"
+abbrev pub span_finding_of : Frame → Axis → List ℕ
+span_finding_of Source X = codes "the source corners span 2,147.483648 km or more from west to east"
+span_finding_of Source Y = codes "the source corners span 2,147.483648 km or more from south to north"
+span_finding_of Target X = codes "the target corners span 2,147.483648 km or more from west to east"
+span_finding_of Target Y = codes "the target corners span 2,147.483648 km or more from south to north"
 
-abbrev pub tin_finding : TinFault → List ℕ
-tin_finding (faults.Json at) = codes "text that may not stand here"
-tin_finding (faults.Deep at) = codes "nested more than 64 deep"
-tin_finding (faults.Key which) = member_finding which
-tin_finding faults.Version = codes "the version of the format is neither 1.0 nor 1.1"
-tin_finding (faults.Fallback Side) = codes "points outside are to take the nearest side's triangle"
-tin_finding (faults.Fallback Centroid) = codes "points outside are to take the triangle of the nearest centroid"
-tin_finding faults.NoHorizontal = codes "the file moves heights alone"
-tin_finding (faults.TooMany Vertices) = codes "more than 1,048,576 rows of vertices"
-tin_finding (faults.TooMany Triangles) = codes "more than 2,097,152 rows of triangles"
-tin_finding (faults.Row Vertices row) = codes "not as many values as columns, or one that is no number"
-tin_finding (faults.Row Triangles row) = codes "not as many values as columns, or one that is not digits alone"
-tin_finding (faults.Number row fault) = number_finding fault
-tin_finding (faults.Inexact row) = codes "a number with digits past the millimetre"
-tin_finding (faults.Index triangle) = codes "the number of a corner is not below the number of rows of vertices"
-tin_finding (faults.Span frame axis) = span_finding frame axis
-tin_finding faults.NoMemory = codes "memory ran out"
+abbrev pub tin_finding_of : TinFault → List ℕ
+tin_finding_of (faults.Json at) = codes "text that may not stand here"
+tin_finding_of (faults.Deep at) = codes "nested more than 64 deep"
+tin_finding_of (faults.Key which) = member_finding_of which
+tin_finding_of faults.Version = codes "the version of the format is neither 1.0 nor 1.1"
+tin_finding_of (faults.Fallback Side) = codes "points outside are to take the nearest side's triangle"
+tin_finding_of (faults.Fallback Centroid) = codes "points outside are to take the triangle of the nearest centroid"
+tin_finding_of faults.NoHorizontal = codes "the file moves heights alone"
+tin_finding_of (faults.TooMany Vertices) = codes "more than 1,048,576 rows of vertices"
+tin_finding_of (faults.TooMany Triangles) = codes "more than 2,097,152 rows of triangles"
+tin_finding_of (faults.Row Vertices row) = codes "not as many values as columns, or one that is no number"
+tin_finding_of (faults.Row Triangles row) = codes "not as many values as columns, or one that is not digits alone"
+tin_finding_of (faults.Number row fault) = number_finding_of fault
+tin_finding_of (faults.Inexact row) = codes "a number with digits past the millimetre"
+tin_finding_of (faults.Index triangle) = codes "the number of a corner is not below the number of rows of vertices"
+tin_finding_of (faults.Span frame axis) = span_finding_of frame axis
+tin_finding_of faults.NoMemory = codes "memory ran out"
 
-abbrev pub tin_cure : TinFault → Option (List ℕ)
-tin_cure (faults.Json at) = Some (codes "recipes/triangulate.py makes a triangulation of a table")
-tin_cure (faults.Deep at) = None
-tin_cure (faults.Key which) = None
-tin_cure faults.Version = Some (codes "ask for a file of version 1.0 or 1.1")
-tin_cure (faults.Fallback Side) = Some (codes "--inside-only takes the file, and does not apply that")
-tin_cure (faults.Fallback Centroid) = Some (codes "--inside-only takes the file, and does not apply that")
-tin_cure faults.NoHorizontal = None
-tin_cure (faults.TooMany Vertices) = Some (codes "cut the triangulation in parts")
-tin_cure (faults.TooMany Triangles) = Some (codes "cut the triangulation in parts")
-tin_cure (faults.Row Vertices row) = None
-tin_cure (faults.Row Triangles row) = None
-tin_cure (faults.Number row fault) = number_cure fault
-tin_cure (faults.Inexact row) = Some (codes "without --exact such a number is rounded")
-tin_cure (faults.Index triangle) = Some (codes "rows are counted from 0")
-tin_cure (faults.Span frame axis) = Some (codes "cut the triangulation in parts")
-tin_cure faults.NoMemory = Some (codes "carry with a smaller triangulation")
+abbrev pub tin_cure_of : TinFault → Option (List ℕ)
+tin_cure_of (faults.Json at) = Some (codes "recipes/triangulate.py makes a triangulation of a table")
+tin_cure_of (faults.Deep at) = None
+tin_cure_of (faults.Key which) = None
+tin_cure_of faults.Version = Some (codes "ask for a file of version 1.0 or 1.1")
+tin_cure_of (faults.Fallback Side) = Some (codes "--inside-only takes the file, and does not apply that")
+tin_cure_of (faults.Fallback Centroid) = Some (codes "--inside-only takes the file, and does not apply that")
+tin_cure_of faults.NoHorizontal = None
+tin_cure_of (faults.TooMany Vertices) = Some (codes "cut the triangulation in parts")
+tin_cure_of (faults.TooMany Triangles) = Some (codes "cut the triangulation in parts")
+tin_cure_of (faults.Row Vertices row) = None
+tin_cure_of (faults.Row Triangles row) = None
+tin_cure_of (faults.Number row fault) = number_cure_of fault
+tin_cure_of (faults.Inexact row) = Some (codes "without --exact such a number is rounded")
+tin_cure_of (faults.Index triangle) = Some (codes "rows are counted from 0")
+tin_cure_of (faults.Span frame axis) = Some (codes "cut the triangulation in parts")
+tin_cure_of faults.NoMemory = Some (codes "carry with a smaller triangulation")
 
 -- ---- the triangles
-abbrev pub check_finding : CheckFault → List ℕ
-check_finding (checks.Flat triangle Source) = codes "its corners are on one line in the source frame"
-check_finding (checks.Flat triangle Target) = codes "its corners are on one line in the target frame"
-check_finding (checks.TurnsOver triangle) = codes "it is turned over in the target frame"
-check_finding (checks.Meets first second Source) =
+abbrev pub check_finding_of : CheckFault → List ℕ
+check_finding_of (checks.Flat triangle Source) = codes "its corners are on one line in the source frame"
+check_finding_of (checks.Flat triangle Target) = codes "its corners are on one line in the target frame"
+check_finding_of (checks.TurnsOver triangle) = codes "it is turned over in the target frame"
+check_finding_of (checks.Meets first second Source) =
     codes "they overlap in the source frame, or a corner of one is on a side of the other"
-check_finding (checks.Meets first second Target) =
+check_finding_of (checks.Meets first second Target) =
     codes "they overlap in the target frame, or a corner of one is on a side of the other"
-check_finding checks.NoMemory = codes "memory ran out"
+check_finding_of checks.NoMemory = codes "memory ran out"
 
-abbrev pub check_cure : CheckFault → Option (List ℕ)
-check_cure (checks.Flat triangle Source) = Some (codes "remove the triangle")
-check_cure (checks.Flat triangle Target) = Some (codes "look for a wrong target place")
-check_cure (checks.TurnsOver triangle) = Some (codes "look for a wrong target place, or for two that are exchanged")
-check_cure (checks.Meets first second Source) = Some (codes "split the triangle at that corner")
-check_cure (checks.Meets first second Target) = Some (codes "look for a wrong target place")
-check_cure checks.NoMemory = Some (codes "carry with a smaller triangulation")
+abbrev pub check_cure_of : CheckFault → Option (List ℕ)
+check_cure_of (checks.Flat triangle Source) = Some (codes "remove the triangle")
+check_cure_of (checks.Flat triangle Target) = Some (codes "look for a wrong target place")
+check_cure_of (checks.TurnsOver triangle) = Some (codes "look for a wrong target place, or for two that are exchanged")
+check_cure_of (checks.Meets first second Source) = Some (codes "split the triangle at that corner")
+check_cure_of (checks.Meets first second Target) = Some (codes "look for a wrong target place")
+check_cure_of checks.NoMemory = Some (codes "carry with a smaller triangulation")

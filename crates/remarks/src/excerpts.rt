@@ -3,7 +3,7 @@
 ghost use Rattle.std.specs.Prelude.{◌≡◌, ◌<◌, true, false, take, length};
 ghost use Rattle.std.specs.List.{prefix_len};
 ghost use Rattle.remarks.specs.declared.excerpts.TheConstants.{MOST_SHOWN};
-ghost use Rattle.remarks.specs.Excerpts.{is_bracket as is_a_bracket, is_shown as is_a_shown, excerpt_of};
+ghost use Rattle.remarks.specs.Excerpts.{is_bracket_byte, is_shown_byte, excerpt_of};
 
 use crate::line_columns::{before, from_place};
 
@@ -17,21 +17,21 @@ pub fn limits_are_stated()
 
 /// Whether the byte is a comma or a bracket.
 fn is_bracket(byte: u8) -> bool
-    ensures { result ≡ is_a_bracket byte }
+    ensures { result ≡ is_bracket_byte byte }
 {
     matches!(byte, b',' | b'(' | b')' | b'[' | b']' | b'{' | b'}')
 }
 
 /// Whether the byte is shown: a printable one that is no blank, comma or bracket.
 fn is_shown(byte: u8) -> bool
-    ensures { result ≡ is_a_shown byte }
+    ensures { result ≡ is_shown_byte byte }
 {
     byte.is_ascii_graphic() && !is_bracket(byte)
 }
 
 /// How many bytes at the front are shown.
 fn shown_count(bytes: &[u8]) -> usize
-    ensures { result ≡ prefix_len is_a_shown bytes.now }
+    ensures { result ≡ prefix_len is_shown_byte bytes.now }
 {
     bytes.iter().take_while(|byte| is_shown(**byte)).count()
 }

@@ -1,8 +1,8 @@
 //! What standard error says of the words of a command line that are refused: which one, and what is wrong with it.
 
 ghost use Rattle.std.specs.Prelude.{◌≡◌, ◌++◌, IfOk, OnOk, codes, string_bytes, option_copied};
-ghost use Rattle.remarks.specs.FlawLines.{before_word as before_word_of, behind_word as behind_word_of};
-ghost use Rattle.remarks.specs.FlawLines.{flaw_cure as flaw_cure_of, word_lines_of};
+ghost use Rattle.remarks.specs.FlawLines.{before_word_of, behind_word_of};
+ghost use Rattle.remarks.specs.FlawLines.{flaw_cure_of, word_lines_of};
 
 use crate::refusal_tables::{words_cure, words_finding};
 use crate::remark_lines::put_second_line;

@@ -1,8 +1,8 @@
 //! What a layer's fault is, and what helps.
 
 ghost use Rattle.std.specs.Prelude.{◌≡◌, option_copied};
-ghost use Rattle.remarks.specs.LayerTables.{finding_of, cure_of, number_finding as number_finding_of};
-ghost use Rattle.remarks.specs.LayerTables.{number_cure as number_cure_of};
+ghost use Rattle.remarks.specs.LayerTables.{finding_of, cure_of, number_finding_of};
+ghost use Rattle.remarks.specs.LayerTables.{number_cure_of};
 
 use mm_decimal::NumFault;
 use sheet_base::LayerFault;

@@ -2,7 +2,7 @@
 
 ghost use Rattle.std.specs.Prelude.{◌≡◌, ◌≤◌, take, drop, length, count_by};
 ghost use Rattle.std.specs.List.{suffix_len};
-ghost use Rattle.remarks.specs.LineColumns.{is_line_feed as is_feed, is_in_line, line_at, column_at};
+ghost use Rattle.remarks.specs.LineColumns.{is_feed, is_in_line, line_at, column_at};
 
 /// A place in a text: its line, and its column in bytes, each counted from 1.
 #[derive(Clone, Copy, Debug, PartialEq, Eq)]

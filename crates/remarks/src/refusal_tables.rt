@@ -1,9 +1,9 @@
 //! What the words, a file or a run is refused for, and what helps.
 
 ghost use Rattle.std.specs.Prelude.{◌≡◌, option_copied};
-ghost use Rattle.remarks.specs.RefusalTables.{words_finding as words_finding_of, words_cure as words_cure_of};
-ghost use Rattle.remarks.specs.RefusalTables.{refusal_finding as refusal_finding_of, refusal_cure as refusal_cure_of};
-ghost use Rattle.remarks.specs.RefusalTables.{cert_finding as cert_finding_of, cert_cure as cert_cure_of};
+ghost use Rattle.remarks.specs.RefusalTables.{words_finding_of, words_cure_of};
+ghost use Rattle.remarks.specs.RefusalTables.{refusal_finding_of, refusal_cure_of};
+ghost use Rattle.remarks.specs.RefusalTables.{cert_finding_of, cert_cure_of};
 
 use crate::layer_tables::{cure, finding};
 use crate::sights::{seen_cure, seen_finding, sight_for};

@@ -1,7 +1,7 @@
 //! The lines for standard error, put together.
 
 ghost use Rattle.std.specs.Prelude.{◌≡◌, ◌++◌, codes, decimal, string_bytes, option_copied, IfOk, OnOk};
-ghost use Rattle.remarks.specs.Spots.{byte_words, rows_end as rows_end_of, row_words, within_words, spot_words};
+ghost use Rattle.remarks.specs.Spots.{byte_words, rows_end_of, row_words, within_words, spot_words};
 ghost use Rattle.remarks.specs.Spots.{behind_colon, shown_words};
 ghost use Rattle.remarks.specs.Excerpts.{excerpt_of};
 ghost use Rattle.remarks.specs.Remarks.{first_line, cure_line, remarks_of};

@@ -3,11 +3,11 @@
 ghost use Rattle.std.specs.Prelude.{◌≡◌, ◌≤◌, length, take, option_copied};
 ghost use Rattle.std.specs.List.{suffix_len};
 ghost use Rattle.std.specs.Char.{is_ascii_alphabetic};
-ghost use Rattle.remarks.specs.Sights.{begins_with_mark as has_mark, begins_number as is_of_number};
-ghost use Rattle.remarks.specs.Sights.{is_blank as is_a_blank, is_first, without_blanks as without_blanks_of};
-ghost use Rattle.remarks.specs.Sights.{ends_with_bracket as is_behind_bracket, is_second_geometry as is_second};
-ghost use Rattle.remarks.specs.Sights.{sight_of_bad, sight_of_code, sight_of_height, sight_in as sight_inside};
-ghost use Rattle.remarks.specs.Sights.{sight_of, seen_finding as seen_finding_of, seen_cure as seen_cure_of};
+ghost use Rattle.remarks.specs.Sights.{has_mark, is_of_number};
+ghost use Rattle.remarks.specs.Sights.{is_blank_byte, is_first, without_blanks_of};
+ghost use Rattle.remarks.specs.Sights.{is_behind_bracket, is_second};
+ghost use Rattle.remarks.specs.Sights.{sight_of_bad, sight_of_code, sight_of_height, sight_inside};
+ghost use Rattle.remarks.specs.Sights.{sight_of, seen_finding_of, seen_cure_of};
 
 use crate::layer_tables::{cure, finding};
 use crate::line_columns::{before, from_place};
@@ -42,14 +42,14 @@ fn begins_number(byte: u8) -> bool
 
 /// Whether the byte is a blank or a tab.
 fn is_blank(byte: u8) -> bool
-    ensures { result ≡ is_a_blank byte }
+    ensures { result ≡ is_blank_byte byte }
 {
     byte == b' ' || byte == b'\t'
 }
 
 /// How many blanks stand at the end.
 fn blank_count(bytes: &[u8]) -> usize
-    ensures count { result ≡ suffix_len is_a_blank bytes.now }
+    ensures count { result ≡ suffix_len is_blank_byte bytes.now }
 {
     bytes
         .iter()

@@ -1,9 +1,9 @@
 //! Where in a run, a file or a triangulation a refusal comes from.
 
 ghost use Rattle.std.specs.Prelude.{◌≡◌};
-ghost use Rattle.remarks.specs.Spots.{words_spot as spot_of_words, tin_spot as spot_of_tin};
-ghost use Rattle.remarks.specs.Spots.{check_spot as spot_of_check, layer_spot as spot_of_layer};
-ghost use Rattle.remarks.specs.Spots.{cert_spot as spot_of_cert, spot_of};
+ghost use Rattle.remarks.specs.Spots.{spot_of_words, spot_of_tin};
+ghost use Rattle.remarks.specs.Spots.{spot_of_check, spot_of_layer};
+ghost use Rattle.remarks.specs.Spots.{spot_of_cert, spot_of};
 
 use cert_check::CertFault;
 use job_words::{Which, WordsFault};

@@ -1,9 +1,9 @@
 //! What the fault of a triangulation is, and what helps.
 
 ghost use Rattle.std.specs.Prelude.{◌≡◌, option_copied};
-ghost use Rattle.remarks.specs.TinTables.{tin_finding as tin_finding_of, tin_cure as tin_cure_of};
-ghost use Rattle.remarks.specs.TinTables.{check_finding as check_finding_of, check_cure as check_cure_of};
-ghost use Rattle.remarks.specs.TinTables.{member_finding as member_finding_of, span_finding as span_finding_of};
+ghost use Rattle.remarks.specs.TinTables.{tin_finding_of, tin_cure_of};
+ghost use Rattle.remarks.specs.TinTables.{check_finding_of, check_cure_of};
+ghost use Rattle.remarks.specs.TinTables.{member_finding_of, span_finding_of};
 
 use crate::layer_tables::{number_cure, number_finding};
 use tin_base::{Axis, Frame};

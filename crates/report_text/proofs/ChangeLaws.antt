@@ -9,12 +9,12 @@ use Rattle.tin_base.specs.declared.pieces.Change.{Change}
 use Rattle.tin_base.specs.declared.pieces.Place.{Place}
 use Rattle.tin_base.specs.declared.relations.Rel.{Rel}
 use Rattle.tin_base.specs.declared.relations.Rel.TheVariants.{Apart, Touching, Crossing, Overlapping}
-use Rattle.report_text.specs.Fields.{after, short_at}
-use Rattle.report_text.specs.LineKinds.{place_at, relation_at, change_of, found_or, as_relation, is_same}
+use Rattle.report_text.specs.InsideFields.{after, short_at}
+use Rattle.report_text.specs.InsideLineKinds.{place_at, relation_at, change_of, found_or, as_relation, is_same}
 use Rattle.report_text.specs.ReportText.{field, place_text, relation_word, change_line}
 use Rattle.report_text.specs.Reports.{IsPlaceHeld, IsChangeHeld, IsChanged}
 use Rattle.text_places.specs.Digits.{Stops}
-use Rattle.report_text.proofs.Binding.{bound, some_is}
+use Rattle.report_text.proofs.StepChains.{bound, some_is}
 use Rattle.report_text.proofs.FieldLaws.{short_again, short_takes}
 use Rattle.report_text.proofs.Words.{after_takes}
 

@@ -3,11 +3,11 @@ use Rattle.std.proofs.Common.{◌≡◌, ℕ, ◌<◌, ◌^◌, true, cond, List
 use Rattle.std.proofs.Common.{append_assoc, subst}
 use Rattle.std.specs.Fmt.{decimal}
 use Rattle.std.proofs.lemmas.Bool.Decides.{nat_tests}
-use Rattle.report_text.proofs.Binding.{bound, let_through}
+use Rattle.report_text.proofs.StepChains.{bound, let_through}
 use Rattle.text_places.specs.Digits.{Stops}
 use Rattle.report_text.proofs.Numbers.{number_at_again, number_at_takes}
 use Rattle.report_text.proofs.Words.{after_again, after_takes}
-use Rattle.report_text.specs.Fields.{after, number_at, long_at, short_at}
+use Rattle.report_text.specs.InsideFields.{after, number_at, long_at, short_at}
 use Rattle.report_text.specs.ReportText.{field}
 
 pub record TakesField (word text : List ℕ) (limit : ℕ) (found : ℕ × List ℕ) : Type 0 where

@@ -7,11 +7,11 @@ use Rattle.std.specs.Str.{bytes_eq}
 use Rattle.std.proofs.lemmas.Bool.Decides.{nat_tests}
 use Rattle.std.proofs.lemmas.List.{nil_from_length}
 use Rattle.report_text.specs.declared.rows.LayerRow.{LayerRow}
-use Rattle.report_text.specs.Fields.{long_at, short_at, name_at}
-use Rattle.report_text.specs.LineKinds.{row_at, layer_of, is_end_of_extents, is_extents, count_of}
+use Rattle.report_text.specs.InsideFields.{long_at, short_at, name_at}
+use Rattle.report_text.specs.InsideLineKinds.{row_at, layer_of, is_end_of_extents, is_extents, count_of}
 use Rattle.report_text.specs.ReportText.{field, sizes, losses, layer_line, extents_line, count_line}
 use Rattle.report_text.specs.Reports.{IsPrintable, IsLayerHeld}
-use Rattle.report_text.proofs.Binding.{bound, some_is, let_through}
+use Rattle.report_text.proofs.StepChains.{bound, some_is, let_through}
 use Rattle.report_text.proofs.FieldLaws.{long_again, long_takes, short_again, short_takes}
 use Rattle.report_text.proofs.Words.{name_again, name_takes, equals_itself}
 use Rattle.std.proofs.lemmas.Bool.{and_parts}

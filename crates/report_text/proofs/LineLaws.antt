@@ -6,11 +6,11 @@ use Rattle.std.specs.List.{concat}
 use Rattle.tin_base.specs.declared.pieces.Change.{Change}
 use Rattle.report_text.specs.declared.drafts.TinRow.{TinRow}
 use Rattle.report_text.specs.declared.rows.LayerRow.{LayerRow}
-use Rattle.report_text.specs.Fields.{long_at, short_at, name_at}
-use Rattle.report_text.specs.LineKinds.{tin_of}
+use Rattle.report_text.specs.InsideFields.{long_at, short_at, name_at}
+use Rattle.report_text.specs.InsideLineKinds.{tin_of}
 use Rattle.report_text.specs.ReportText.{field, tin_line}
 use Rattle.report_text.specs.Reports.{Contents, IsPrintable}
-use Rattle.report_text.proofs.Binding.{bound, some_is}
+use Rattle.report_text.proofs.StepChains.{bound, some_is}
 use Rattle.report_text.proofs.FieldLaws.{long_again, long_takes, short_again, short_takes}
 use Rattle.report_text.proofs.Words.{name_again, name_takes}
 

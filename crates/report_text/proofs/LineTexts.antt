@@ -5,7 +5,7 @@ use Rattle.report_text.specs.declared.lines.TheConstants.{LINE_FEED}
 use Rattle.report_text.specs.Beginnings.{IsLine}
 use Rattle.report_text.specs.Reports.{IsPrintable}
 use Rattle.report_text.specs.ReportText.{text_of_lines}
-use Rattle.report_text.proofs.Appending.{text_of_lines-append}
+use Rattle.report_text.proofs.LongerTexts.{text_of_lines-append}
 
 -- bytes from 32 on are no line feeds
 pub line_of_printable : (line : List ℕ) → IsPrintable line → IsLine line

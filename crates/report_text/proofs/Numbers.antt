@@ -14,8 +14,8 @@ use Rattle.std.proofs.lemmas.Fmt.{decimal_is_IsNumeral, decimal-digits_value, fi
 use Rattle.std.proofs.lemmas.Fmt.{decimal_nonempty, decimal_digit}
 use Rattle.std.proofs.lemmas.List.{take_at, drop_at, take-append-drop}
 use Rattle.std.proofs.lemmas.Str.Parse.{parse_digits}
-use Rattle.report_text.proofs.Binding.{bound, some_is}
-use Rattle.report_text.specs.Fields.{has_leading_zero, number_of, number_at}
+use Rattle.report_text.proofs.StepChains.{bound, some_is}
+use Rattle.report_text.specs.InsideFields.{has_leading_zero, number_of, number_at}
 use Rattle.plain_laws.proofs.Digits.{digit_texts}
 use Rattle.text_places.specs.Digits.{Stops}
 use Rattle.text_places.proofs.DigitFronts.{are_front_digits, digits_end}

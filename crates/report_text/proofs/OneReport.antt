@@ -12,13 +12,13 @@ use Rattle.report_text.specs.declared.rows.LayerRow.{LayerRow}
 use Rattle.report_text.specs.Beginnings.{IsReportText, IsSomeText, IsLine, IsBadAt}
 use Rattle.report_text.specs.ReportText.{report_lines, text_of_lines}
 use Rattle.report_text.specs.Reports.{Contents}
-use Rattle.report_text.specs.Steps.{at_title, at_end, step}
-use Rattle.report_text.proofs.Appending.{text_of_lines-append}
-use Rattle.report_text.proofs.Binding.{some_is}
+use Rattle.report_text.specs.InsideSteps.{at_title, at_end, step}
+use Rattle.report_text.proofs.LongerTexts.{text_of_lines-append}
+use Rattle.report_text.proofs.StepChains.{some_is}
 use Rattle.report_text.proofs.LineLaws.{contents_of}
 use Rattle.report_text.proofs.LineTexts.{front_lines, one_line}
-use Rattle.report_text.proofs.Printed.{report_is_lines}
-use Rattle.report_text.proofs.Recognizing.{tin_of_report, run_report}
+use Rattle.report_text.proofs.PrintableLines.{report_is_lines}
+use Rattle.report_text.proofs.LineRecognition.{tin_of_report, run_report}
 
 -- ---- one report
 

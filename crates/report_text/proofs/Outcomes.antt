@@ -9,10 +9,10 @@ use Rattle.report_text.specs.Beginnings.{IsReportText, IsLine, IsBadAt}
 use Rattle.report_text.specs.Laws.{IsAnswerTo, GivesBack}
 use Rattle.report_text.specs.Reports.{Contents}
 use Rattle.report_text.specs.ReportText.{report_text}
-use Rattle.report_text.specs.Steps.{State, at_title, at_tin, at_layers, at_row, at_changes, at_end, step}
+use Rattle.report_text.specs.InsideSteps.{State, at_title, at_tin, at_layers, at_row, at_changes, at_end, step}
 use Rattle.report_text.proofs.LineLaws.{contents_of}
 use Rattle.report_text.proofs.OneReport.{one_report}
-use Rattle.report_text.proofs.Reaching.{Reached, one_more, stops_here, ends_here, is_whole}
+use Rattle.report_text.proofs.ReadPrefixes.{Reached, one_more, stops_here, ends_here, is_whole}
 
 -- ---- a first line
 

@@ -7,8 +7,8 @@ use Rattle.std.specs.Str.{is_utf8, bytes_eq}
 use Rattle.std.proofs.lemmas.Bool.Decides.{nat_tests}
 use Rattle.std.proofs.lemmas.List.{take_at, drop_at, take-append-drop}
 use Rattle.std.proofs.lemmas.Str.{IsUtf8-from_is_utf8, is_utf8-from_IsUtf8}
-use Rattle.report_text.proofs.Binding.{bound, let_through}
-use Rattle.report_text.specs.Fields.{after, is_printable, name_at}
+use Rattle.report_text.proofs.StepChains.{bound, let_through}
+use Rattle.report_text.specs.InsideFields.{after, is_printable, name_at}
 use Rattle.report_text.specs.Reports.{IsPrintable}
 use Rattle.std.proofs.lemmas.Bool.{and_parts}
 

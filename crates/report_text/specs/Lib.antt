@@ -4,6 +4,6 @@ pub mod ReportText
 pub mod Beginnings
 pub mod Kept
 pub mod Laws
-pub mod Fields
-pub mod LineKinds
-pub mod Steps
+pub mod InsideFields
+pub mod InsideLineKinds
+pub mod InsideSteps

@@ -1,7 +1,8 @@
 //! A report as far as it is read, and the step that one line of its text makes.
 
-ghost use Rattle.report_text.specs.LineKinds.{tin_of};
-ghost use Rattle.report_text.specs.Steps.{Leads, seen, step, behind_tin, step_of_layers, step_of_row, step_of_changes};
+ghost use Rattle.report_text.specs.InsideLineKinds.{tin_of};
+ghost use Rattle.report_text.specs.InsideSteps.{Leads, seen, step, behind_tin, step_of_layers, step_of_row};
+ghost use Rattle.report_text.specs.InsideSteps.{step_of_changes};
 
 use crate::line_kinds::{change_line, count_line, is_extents, layer_line, tin_line};
 use crate::{LayerRow, ReportFault};

@@ -1,10 +1,11 @@
 //! The kinds of lines of a report's text, each read into its numbers and names.
 
 ghost use Rattle.std.specs.Prelude.{◌≡◌};
-ghost use Rattle.report_text.specs.Fields.{Gives};
-ghost use Rattle.report_text.specs.LineKinds.{tin_of, layer_of, layer_named, row_at as row_front, tin_named};
-ghost use Rattle.report_text.specs.LineKinds.{is_extents as is_line_of_extents, count_of, place_at as place_front};
-ghost use Rattle.report_text.specs.LineKinds.{relation_at as relation_front, change_of};
+ghost use Rattle.report_text.specs.InsideFields.{Gives};
+ghost use Rattle.report_text.specs.InsideLineKinds.{tin_of, layer_of, layer_named, row_at as row_front, tin_named};
+ghost use Rattle.report_text.specs.InsideLineKinds.{is_extents as is_line_of_extents, count_of};
+ghost use Rattle.report_text.specs.InsideLineKinds.{place_at as place_front};
+ghost use Rattle.report_text.specs.InsideLineKinds.{relation_at as relation_front, change_of};
 
 use crate::fields::{after, long_at, name_at, short_at};
 use tin_base::{Change, Place, Rel};
@@ -28,7 +29,7 @@ pub(crate) struct LayerCounts {
 }
 
 /// The numbers and the name of the triangulation's line.
-#[tactic(auto, unfolding(crate::specs::LineKinds::tin_of))]
+#[tactic(auto, unfolding(crate::specs::InsideLineKinds::tin_of))]
 pub(crate) fn tin_line(line: &[u8]) -> Option<(TinCounts, &str)>
     ensures { Gives (λ found. tin_named found.0 found.1.now) result (tin_of line.now) }
 {
@@ -47,7 +48,7 @@ pub(crate) fn tin_line(line: &[u8]) -> Option<(TinCounts, &str)>
 }
 
 /// The numbers and the name on the line of the layer of this number.
-#[tactic(auto, unfolding(crate::specs::LineKinds::layer_of))]
+#[tactic(auto, unfolding(crate::specs::InsideLineKinds::layer_of))]
 pub(crate) fn layer_line(number: u64, line: &[u8]) -> Option<(LayerCounts, &str)>
     ensures { Gives (λ found. layer_named found.0 found.1.now) result (layer_of number line.now) }
 {
@@ -56,7 +57,7 @@ pub(crate) fn layer_line(number: u64, line: &[u8]) -> Option<(LayerCounts, &str)
 }
 
 // The numbers and the name behind the number of a layer.
-#[tactic(auto, unfolding(crate::specs::LineKinds::row_at))]
+#[tactic(auto, unfolding(crate::specs::InsideLineKinds::row_at))]
 fn row_at(text: &[u8]) -> Option<(LayerCounts, &str)>
     ensures { Gives (λ found. layer_named found.0 found.1.now) result (row_front text.now) }
 {
@@ -79,7 +80,7 @@ fn row_at(text: &[u8]) -> Option<(LayerCounts, &str)>
 }
 
 /// Whether it is the line on the extents of the layer of this number.
-#[tactic(auto, unfolding(crate::specs::LineKinds::is_extents))]
+#[tactic(auto, unfolding(crate::specs::InsideLineKinds::is_extents))]
 pub(crate) fn is_extents(number: u64, line: &[u8]) -> bool
     ensures { result ≡ is_line_of_extents number line.now }
 {
@@ -90,7 +91,7 @@ pub(crate) fn is_extents(number: u64, line: &[u8]) -> bool
 }
 
 /// The number of changes on its line.
-#[tactic(auto, unfolding(crate::specs::LineKinds::count_of))]
+#[tactic(auto, unfolding(crate::specs::InsideLineKinds::count_of))]
 pub(crate) fn count_line(line: &[u8]) -> Option<u64>
     ensures { result ≡ count_of line.now }
 {
@@ -98,7 +99,7 @@ pub(crate) fn count_line(line: &[u8]) -> Option<u64>
     if rest.is_empty() { Some(count) } else { None }
 }
 
-#[tactic(auto, unfolding(crate::specs::LineKinds::place_at))]
+#[tactic(auto, unfolding(crate::specs::InsideLineKinds::place_at))]
 fn place_at(text: &[u8]) -> Option<(Place, &[u8])>
     ensures { Gives (λ found. (found.0, found.1.now)) result (place_front text.now) }
 {
@@ -118,7 +119,7 @@ fn place_at(text: &[u8]) -> Option<(Place, &[u8])>
 }
 
 // The relation whose word stands behind a space.
-#[tactic(auto, unfolding(crate::specs::LineKinds::relation_at))]
+#[tactic(auto, unfolding(crate::specs::InsideLineKinds::relation_at))]
 fn relation_at(text: &[u8]) -> Option<(Rel, &[u8])>
     ensures { Gives (λ found. (found.0, found.1.now)) result (relation_front text.now) }
 {
@@ -136,7 +137,7 @@ fn relation_at(text: &[u8]) -> Option<(Rel, &[u8])>
 }
 
 /// The change of a line.
-#[tactic(auto, unfolding(crate::specs::LineKinds::change_of))]
+#[tactic(auto, unfolding(crate::specs::InsideLineKinds::change_of))]
 pub(crate) fn change_line(line: &[u8]) -> Option<Change>
     ensures { result ≡ change_of line.now }
 {

@@ -3,8 +3,7 @@
 ghost use Rattle.std.specs.Prelude.{◌≤◌};
 ghost use Rattle.std.specs.Vec.{vec_len};
 
-use crate::refused_files::bytes_again;
-use crate::strays::sheet_of;
+use crate::refused_files::layer_again;
 use job_words::{Format, Job, format_of};
 use remarks::{KindCount, left_out_line, rounded_line};
 use report_text::{LayerRow, Report, read_report};
@@ -84,8 +83,7 @@ fn kinds_in<R: Files + AllocGlobal + Clone + Drop>(
 ) -> Option<Vec<KindCount>> {
     match format_of(name)? {
         Format::Drawing => {
-            let bytes = bytes_again(rt, name)?;
-            let sheet = sheet_of(rt.alloc(), name, &bytes, how)?;
+            let (bytes, sheet) = layer_again(rt, name, how)?;
             kinds_of(rt.alloc(), &bytes, sheet.edits()).ok()
         }
         _ => None,

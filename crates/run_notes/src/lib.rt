@@ -1,13 +1,12 @@
-//! What a program prints beside a run, on standard error and on a terminal: of its words, of what it is doing, and of
-//! how it ended.
+//! What a program prints beside a run, on standard error and on a terminal: of its words, of the steps of its job, and
+//! of how it ended.
 #![tactic(auto)]
 
 mod command_words;
 mod degrees;
 mod layer_notes;
-mod press_notes;
-mod progress;
 mod refused_files;
+mod steps;
 mod strays;
 mod unwritten_files;
 mod warnings;
@@ -16,9 +15,8 @@ mod word_flaws;
 pub use command_words::{Usage, Words, words_of};
 pub use degrees::say_degrees;
 pub use layer_notes::{left_out_kinds, say_layers, say_report_layers};
-pub use press_notes::{MOST_KEPT, PressNotes};
-pub use progress::{Steps, ToldPress, ToldShelf, if_terminal, say_making};
 pub use refused_files::say_refusal;
+pub use steps::steps_of;
 pub use unwritten_files::say_unwritten;
 pub use warnings::say_meetings;
 pub use word_flaws::flaw_of;

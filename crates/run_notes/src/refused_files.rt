@@ -11,12 +11,14 @@ use cert_check::CertFault;
 use job_words::{Job, WordsFault};
 use remarks::{Stray, WordFlaw, outside_lines, refusal_remarks, unread_line, word_lines};
 use runs::{MOST_BYTES, Refusal};
+use sheet_base::{How, Sheet};
 use shelf_io::{FileShelf, load};
 use std::alloc::{AllocError, Global};
 use std::fs;
 use std::io::{Error, Read};
 use std::rt::Files;
 use std::str::from_utf8;
+use tin_base::Tin;
 use tin_file::read_tin;
 
 /// The number of the layer that a refusal is of.
@@ -110,30 +112,47 @@ fn say_read_error<R: Files + Eprint + AllocGlobal>(rt: &R, name: &str) {
     }
 }
 
+/// A layer that can be read once more, its bytes and its sheet.
+pub fn layer_again<R: Files + AllocGlobal + Clone + Drop>(
+    rt: &R,
+    name: &str,
+    how: How,
+) -> Option<(Vec<u8>, Sheet)> {
+    let bytes = bytes_again(rt, name)?;
+    match sheet_of(rt.alloc(), name, &bytes, how) {
+        Some(sheet) => Some((bytes, sheet)),
+        None => None,
+    }
+}
+
+/// A triangulation that can be read once more.
+fn tin_again<R: Files + AllocGlobal + Clone + Drop>(rt: &R, name: &str, how: How) -> Option<Tin> {
+    let bytes = bytes_again(rt, name)?;
+    read_tin(rt.alloc(), &bytes, how).ok()
+}
+
 /// The segment of a refusal, found in the files once more.
 fn found_stray<R: Files + AllocGlobal + Clone + Drop>(
     rt: &R,
     job: &Job,
     refusal: Refusal,
 ) -> Option<Stray> {
-    let Job::Migrate {
-        tin,
-        how,
-        inverse,
-        ..
-    } = job
-    else {
-        return None;
-    };
-    let Refusal::Outside { path, segment, .. } = refusal else {
-        return None;
-    };
-    let name = refused_name(job, refusal);
-    let bytes = bytes_again(rt, name)?;
-    let sheet = sheet_of(rt.alloc(), name, &bytes, *how)?;
-    let text = bytes_again(rt, tin.text())?;
-    let tin = read_tin(rt.alloc(), &text, *how).ok()?;
-    stray_of(&sheet, &bytes, path, segment, &tin, *inverse)
+    match (job, refusal) {
+        (
+            Job::Migrate {
+                tin,
+                how,
+                inverse,
+                ..
+            },
+            Refusal::Outside { path, segment, .. },
+        ) => {
+            let (bytes, sheet) = layer_again(rt, refused_name(job, refusal), *how)?;
+            let tin = tin_again(rt, tin.text(), *how)?;
+            stray_of(&sheet, &bytes, path, segment, &tin, *inverse)
+        }
+        _ => None,
+    }
 }
 
 /// Says where a segment is that is outside, and where the triangles are.

@@ -78,7 +78,34 @@ fn number_behind(row: &PathRow, number: usize) -> usize {
     }
 }
 
-/// A segment of a layer with these bytes, and the triangles that it is not wholly in; `frame` is that of the layer.
+/// The line on which a layer's text of a segment of the path begins, the point with this number being its first one.
+fn line_of(sheet: &Sheet, bytes: &[u8], path: u32, number: usize) -> Option<u64> {
+    let edit = sheet
+        .edits()
+        .iter()
+        .find(|edit| is_edit_of(edit, path, number))?;
+    Some(line_and_column(bytes, u64::from(edit.start)).line)
+}
+
+/// Both ends of a segment of the row, whose first point has this number.
+fn ends_of(points: &[Pt], row: &PathRow, number: usize) -> Option<(Pt, Pt)> {
+    Some((
+        *points.get(number)?,
+        *points.get(number_behind(row, number))?,
+    ))
+}
+
+/// The frame that the layer is in, and the other.
+fn frames_of(inverse: bool) -> (Frame, Frame) {
+    if inverse {
+        (Frame::Target, Frame::Source)
+    } else {
+        (Frame::Source, Frame::Target)
+    }
+}
+
+/// A segment of a layer with these bytes, and the triangles that it is not wholly in; `inverse` says that the layer is
+/// in the target frame.
 pub fn stray_of(
     sheet: &Sheet,
     bytes: &[u8],
@@ -87,24 +114,17 @@ pub fn stray_of(
     tin: &Tin,
     inverse: bool,
 ) -> Option<Stray> {
-    let (frame, other) = if inverse {
-        (Frame::Target, Frame::Source)
-    } else {
-        (Frame::Source, Frame::Target)
-    };
+    let (frame, other) = frames_of(inverse);
+    let points = sheet.points();
     let row = sheet.paths().get(path as usize)?;
     let number = (row.first as usize).saturating_add(segment as usize);
-    let points = sheet.points();
-    let edit = sheet
-        .edits()
-        .iter()
-        .find(|edit| is_edit_of(edit, path, number))?;
+    let (from, to) = ends_of(points, row, number)?;
     let target = box_in(tin.corners(), other)?;
     let triangles = box_in(tin.corners(), frame)?;
     Some(Stray {
-        line: line_and_column(bytes, u64::from(edit.start)).line,
-        from: *points.get(number)?,
-        to: *points.get(number_behind(row, number))?,
+        line: line_of(sheet, bytes, path, number)?,
+        from,
+        to,
         triangles: u64::from(tin.triangle_count()),
         least: Pt {
             x: triangles.x0,

@@ -4,8 +4,8 @@ use job_words::WordsFault;
 use remarks::WordFlaw;
 use std::alloc::{AllocError, Global};
 
-/// What words have to be, of a mode or of a program without modes: the options with a value, how many of these have to be there, its options without one, and the
-/// words that are no options.
+/// What words have to be, of a mode or of a program without modes: the options with a value, how many of these have to
+/// be there, its options without one, and the words that are no options.
 #[derive(Clone, Copy)]
 struct Form {
     valued: &'static [&'static str],
@@ -137,11 +137,34 @@ struct Parts<'a> {
     values: Vec<(&'a str, &'a str)>,
     /// The words that are no options.
     plain: Vec<&'a str>,
+    /// The option that waits for its value.
+    open: Option<&'a str>,
+    /// A `--` was taken, so no more options follow.
+    is_ended: bool,
     /// The first flaw.
     flaw: Option<(WordFlaw, &'a str)>,
 }
 
 impl<'a> Parts<'a> {
+    /// No words.
+    fn new(alloc: Global) -> Parts<'a> {
+        Parts {
+            options: Vec::new(alloc),
+            values: Vec::new(alloc),
+            plain: Vec::new(alloc),
+            open: None,
+            is_ended: false,
+            flaw: None,
+        }
+    }
+
+    /// Keeps the flaw where it is the first.
+    fn find(&mut self, flaw: WordFlaw, word: &'a str) {
+        if self.flaw.is_none() {
+            self.flaw = Some((flaw, word));
+        }
+    }
+
     /// Takes an option, which may be there once.
     fn take_option(&mut self, name: &'a str) -> Result<(), AllocError> {
         if is_one_of(&self.options, name) {
@@ -151,60 +174,74 @@ impl<'a> Parts<'a> {
         Ok(())
     }
 
-    /// Keeps the flaw where it is the first.
-    fn find(&mut self, flaw: WordFlaw, word: &'a str) {
-        if self.flaw.is_none() {
-            self.flaw = Some((flaw, word));
+    /// Takes an option that has a value, which is the next word where it is not in the same one.
+    fn take_valued(&mut self, name: &'a str, value: Option<&'a str>) -> Result<(), AllocError> {
+        self.take_option(name)?;
+        match value {
+            Some(value) => self.values.push((name, value))?,
+            None => self.open = Some(name),
+        }
+        Ok(())
+    }
+
+    /// Takes a word that is no option.
+    fn take_plain(&mut self, form: &Form, word: &'a str) -> Result<(), AllocError> {
+        if self.plain.len() >= form.most_words {
+            self.find(WordFlaw::TooMany, word);
+        }
+        self.plain.push(word)?;
+        Ok(())
+    }
+
+    /// Takes a word of this kind, for which no option waits.
+    fn take_kind(&mut self, form: &Form, kind: Kind<'a>, word: &'a str) -> Result<(), AllocError> {
+        match kind {
+            Kind::End => self.is_ended = true,
+            Kind::Valued(name, value) => return self.take_valued(name, value),
+            Kind::Flag => return self.take_option(word),
+            Kind::Unknown => self.find(WordFlaw::Unknown, word),
+            Kind::Plain => return self.take_plain(form, word),
+        }
+        Ok(())
+    }
+
+    /// What the word is, where it stands.
+    fn kind_here(&self, form: &Form, word: &'a str) -> Kind<'a> {
+        if self.is_ended {
+            Kind::Plain
+        } else {
+            kind_of(form, word)
+        }
+    }
+
+    /// Takes the next word.
+    fn take(&mut self, form: &Form, word: &'a str) -> Result<(), AllocError> {
+        let kind = self.kind_here(form, word);
+        if let Some(name) = self.open.take() {
+            if let Kind::Plain = kind {
+                self.values.push((name, word))?;
+                return Ok(());
+            }
+            self.find(WordFlaw::NoValue, name);
+        }
+        self.take_kind(form, kind, word)
+    }
+
+    /// There are no more words.
+    fn end(&mut self) {
+        if let Some(name) = self.open {
+            self.find(WordFlaw::NoValue, name);
         }
     }
 }
 
 /// The words behind the mode, taken apart.
 fn parts_of<'a>(alloc: Global, form: &Form, words: &'a [String]) -> Result<Parts<'a>, AllocError> {
-    let mut parts = Parts {
-        options: Vec::new(alloc),
-        values: Vec::new(alloc),
-        plain: Vec::new(alloc),
-        flaw: None,
-    };
-    let mut is_ended = false;
-    let mut open = None;
+    let mut parts = Parts::new(alloc);
     for word in words {
-        let word = word.as_str();
-        let kind = if is_ended {
-            Kind::Plain
-        } else {
-            kind_of(form, word)
-        };
-        if let Some(name) = open.take() {
-            if let Kind::Plain = kind {
-                parts.values.push((name, word))?;
-                continue;
-            }
-            parts.find(WordFlaw::NoValue, name);
-        }
-        match kind {
-            Kind::End => is_ended = true,
-            Kind::Valued(name, value) => {
-                parts.take_option(name)?;
-                match value {
-                    Some(value) => parts.values.push((name, value))?,
-                    None => open = Some(name),
-                }
-            }
-            Kind::Flag => parts.take_option(word)?,
-            Kind::Unknown => parts.find(WordFlaw::Unknown, word),
-            Kind::Plain => {
-                parts.plain.push(word)?;
-                if parts.plain.len() > form.most_words {
-                    parts.find(WordFlaw::TooMany, word);
-                }
-            }
-        }
+        parts.take(form, word.as_str())?;
     }
-    if let Some(name) = open {
-        parts.find(WordFlaw::NoValue, name);
-    }
+    parts.end();
     Ok(parts)
 }
 

@@ -4,6 +4,7 @@ pub mod Faults
 pub mod TinRefusals
 pub mod RefusalLines
 pub mod LimitLines
+pub mod BytesPassed
 pub mod OneTin
 pub mod RunEnds
 mod TinEndExists

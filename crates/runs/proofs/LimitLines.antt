@@ -1,6 +1,6 @@
 -- A line that tells of bytes is that of a file with too many: no other line has such a beginning.
 use Rattle.std.proofs.Common.{◌≡◌, ◌≢◌, ◌⊎◌, ◌<◌, inl, inr, ℕ, zero, suc, List, [], ◌∷◌, ◌++◌, length, take, get_or}
-use Rattle.std.proofs.Common.{refl, sym, ◌∙◌, ap, subst, arith}
+use Rattle.std.proofs.Common.{refl, sym, ◌∙◌, ap, subst, arith, codes}
 use Rattle.mm_decimal.specs.declared.reading.NumFault.{NumFault}
 use Rattle.mm_decimal.specs.declared.reading.NumFault.TheVariants.{Form, Long, Range}
 use Rattle.sheet_base.specs.declared.faults.LayerFault.{LayerFault}
@@ -29,7 +29,7 @@ use Rattle.runs.specs.declared.refusal.Refusal.TheVariants.{WrittenUnread, Writt
 use Rattle.runs.specs.declared.refusal.Refusal.TheVariants.{Certificate}
 use Rattle.runs.specs.declared.refusal.Refusal.TheVariants.{NoMemory}
 use Rattle.runs.specs.Lines.{words_line, tin_line, check_line, number_line, layer_line, layer_number_line, cert_line}
-use Rattle.runs.specs.Refusals.{line_of, limit_front}
+use Rattle.runs.specs.Refusals.{line_of, limit_front, written_front, cert_front}
 
 byte_of_take : (line : List ℕ) (count k : ℕ)
     → (get_or (take count line) k 0 ≡ get_or line k 0) ⊎ (get_or (take count line) k 0 ≡ 0)
@@ -218,3 +218,49 @@ limit_line WrittenUnread = of_none (at-first _ 114 refl (λ e. omega (arith, e))
 limit_line CertUnread = of_none (at-first _ 114 refl (λ e. omega (arith, e)))
 limit_line (Certificate fault) = of_none (cert-none fault)
 limit_line NoMemory = of_none (at-first _ 110 refl (λ e. omega (arith, e)))
+
+-- ---- a written layer and a certificate, by the letter behind `limit: bytes of `
+-- no text that has another letter there is a front of the line
+letter-apart : (text line : List ℕ) (count letter other : ℕ) → get_or text 16 0 ≡ letter → get_or line 16 0 ≡ other
+    → letter ≢ other → letter ≢ 0 → text ≡ take count line → ⊥
+letter-apart text line count letter other is has apart some same =
+    differs_at text line count 16 same (λ e. apart (sym is ∙ (e ∙ has))) (λ e. some (sym is ∙ e))
+
+-- what begins as the line of a written layer with too many bytes is a front of that line
+pub written-begins : (refusal : Refusal) (rest : List ℕ) (count : ℕ)
+    → written_front ++ rest ≡ take count (line_of refusal) → refusal ≡ WrittenLong
+written-begins refusal rest count same =
+    elim (limit_line refusal) [
+      | of_tin is ↦ absurd
+          (letter-apart (written_front ++ rest) (line_of TinLong) count 119 116 refl refl (λ e. omega (arith, e))
+          (λ e. omega (arith, e))
+          (subst (λ (r : Refusal). written_front ++ rest ≡ take count (line_of r)) is same))
+      | of_layers is ↦ absurd
+          (letter-apart (written_front ++ rest) (line_of LayersLong) count 119 108 refl refl (λ e. omega (arith, e))
+          (λ e. omega (arith, e))
+          (subst (λ (r : Refusal). written_front ++ rest ≡ take count (line_of r)) is same))
+      | of_written is ↦ is
+      | of_cert is ↦ absurd
+          (letter-apart (written_front ++ rest) (line_of CertLong) count 119 99 refl refl (λ e. omega (arith, e))
+          (λ e. omega (arith, e))
+          (subst (λ (r : Refusal). written_front ++ rest ≡ take count (line_of r)) is same))
+      | of_none none ↦ absurd (none-begins (line_of refusal) (codes " w" ++ rest) count none same)
+    ]
+
+-- and what begins as that of a certificate
+pub cert-begins : (refusal : Refusal) (rest : List ℕ) (count : ℕ)
+    → cert_front ++ rest ≡ take count (line_of refusal) → refusal ≡ CertLong
+cert-begins refusal rest count same =
+    elim (limit_line refusal) [
+      | of_tin is ↦ absurd
+          (letter-apart (cert_front ++ rest) (line_of TinLong) count 99 116 refl refl (λ e. omega (arith, e))
+          (λ e. omega (arith, e)) (subst (λ (r : Refusal). cert_front ++ rest ≡ take count (line_of r)) is same))
+      | of_layers is ↦ absurd
+          (letter-apart (cert_front ++ rest) (line_of LayersLong) count 99 108 refl refl (λ e. omega (arith, e))
+          (λ e. omega (arith, e)) (subst (λ (r : Refusal). cert_front ++ rest ≡ take count (line_of r)) is same))
+      | of_written is ↦ absurd
+          (letter-apart (cert_front ++ rest) (line_of WrittenLong) count 99 119 refl refl (λ e. omega (arith, e))
+          (λ e. omega (arith, e)) (subst (λ (r : Refusal). cert_front ++ rest ≡ take count (line_of r)) is same))
+      | of_cert is ↦ is
+      | of_none none ↦ absurd (none-begins (line_of refusal) (codes " c" ++ rest) count none same)
+    ]

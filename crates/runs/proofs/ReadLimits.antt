@@ -20,9 +20,9 @@ use Rattle.tin_file.specs.Reading.{made_of, within_spans, rows_of, reading}
 use Rattle.tin_file.specs.Gathered.{corners_in, IsBelow, IsFaceOf, AreFacesOf}
 use Rattle.tin_file.specs.declared.vertices.Vertex.{Vertex}
 use Rattle.tin_file.specs.declared.faults.TinFault.{TinFault}
-use Rattle.tin_file.proofs.Finishing.{face_there, narrow, near_all, row_within}
+use Rattle.tin_file.proofs.CompleteRows.{face_there, narrow, near_all, row_within}
 use Rattle.tin_file.proofs.Fresh.{are_different, kept_few, kept_are}
-use Rattle.tin_file.proofs.Reaching.{at_of}
+use Rattle.tin_file.proofs.NumberExtremes.{at_of}
 use Rattle.tin_file.proofs.RowsRead.{same_ok}
 use Rattle.tin_file.proofs.Whole.{split_then, AreVertices, vertices_are, AreTriangles, triangles_are}
 use Rattle.runs.specs.Laws.{ReadTinsAreWithinLimits}
@@ -135,7 +135,8 @@ of_members how members tin h =
     let (rows, listed, made) =
     split_then (λ rows. and_then (within_spans rows) (triangles columns.triangles (length rows) members))
     (vertices how columns.vertices members) tin read in
-    let (faces, told, last) = split_then (within_spans rows) (triangles columns.triangles (length rows) members) tin made
+    let (faces, told, last) = split_then (within_spans rows) (triangles columns.triangles (length rows) members) tin
+    made
     in
     let (spanned, is) = spans_of rows faces tin last in
     subst IsWithinLimits is

@@ -99,3 +99,10 @@ pub record Refuses (refusal : Refusal) (status : Status) (made : Files) : Type 0
 -- how the line begins of a file, or of files, with too many bytes
 abbrev pub limit_front : List ℕ
 limit_front = codes "limit: bytes of"
+
+-- how it begins of a written layer, and of a certificate, with too many bytes: no other line has these letters
+abbrev pub written_front : List ℕ
+written_front = codes "limit: bytes of w"
+
+abbrev pub cert_front : List ℕ
+cert_front = codes "limit: bytes of c"

@@ -8,7 +8,7 @@ use Rattle.plane_base.specs.Plane.{whole, turn_of}
 use Rattle.plane_base.specs.declared.shapes.Pt.{Pt}
 use Rattle.seg_gap.specs.Gaps.{HaveCloser}
 use Rattle.plane_base.specs.TwoWeights.{AreWeights}
-use Rattle.seg_gap.specs.Ends.{AreOpposite, DoCross}
+use Rattle.seg_gap.specs.InsideEnds.{AreOpposite, DoCross}
 use Rattle.seg_gap.proofs.Steps.{whole_turn, whole_turnE}
 use Rattle.seg_gap.proofs.Sides.{whole_turn_is}
 use Rattle.seg_gap.proofs.Places.{mix_at, of_weights, same_closer}

@@ -8,7 +8,7 @@ use Rattle.integer_ring.proofs.Signs.{≤_of_mul}
 use Rattle.integer_ring.proofs.Claims.{◌≐◌, ◌≼◌, ◌≺◌, gap, over, eqn, nat, square, ◌⊞◌, ◌⊠◌, ◌because◌, ◌⇒◌, follows}
 use Rattle.plane_base.specs.declared.shapes.Pt.{Pt}
 use Rattle.plane_base.specs.TwoWeights.{AreWeights}
-use Rattle.seg_gap.specs.Ends.{dot_of, square_to, HasMixBelow, IsEndSquare}
+use Rattle.seg_gap.specs.InsideEnds.{dot_of, square_to, HasMixBelow, IsEndSquare}
 use Rattle.seg_gap.proofs.Steps.{way_toE, square_toE, whole_turn, whole_turnE}
 use Rattle.seg_gap.proofs.Sides.{weights_swapped, low_swapped}
 
@@ -112,7 +112,7 @@ foot_high v t p c d =
     ⊗ (whole_turnE cx cy dx dy px py ⊕ t)))) tt
     v t p.x p.y c.x c.y d.x d.y
 
-sum_some : (f g : ℤ) → pos 0 <ℤ f → pos 0 <ℤ g → pos 0 <ℤ (f +ℤ g)
+pub sum_some : (f g : ℤ) → pos 0 <ℤ f → pos 0 <ℤ g → pos 0 <ℤ (f +ℤ g)
 sum_some = follows 2 (λ f g. num (pos 0) ≺ f ⇒ num (pos 0) ≺ g ⇒ num (pos 0) ≺ f ⊕ g because over 0 ⊞ gap 1) tt
 
 -- the sum of both dot products, as the code has it

@@ -5,7 +5,7 @@ use Rattle.plane_base.specs.Plane.{Point}
 use Rattle.plane_base.specs.declared.shapes.Pt.{Pt}
 use Rattle.seg_gap.specs.Gaps.{IsOfSegment, HaveCloser, IsGap}
 use Rattle.seg_gap.specs.Laws.{GapIsOne, SegmentsThatShareAPointHaveNoGap, GapIsSymmetric}
-use Rattle.seg_gap.specs.Ends.{DoCross, IsSomeMixBelow, IsLeast, IsHalfRoot}
+use Rattle.seg_gap.specs.InsideEnds.{DoCross, IsSomeMixBelow, IsLeast, IsHalfRoot}
 use Rattle.seg_gap.proofs.Sides.{far_apart}
 use Rattle.seg_gap.proofs.Places.{none_closer, closer_end, closer_reversed, closer_exchanged, closer_more, same_closer}
 use Rattle.seg_gap.proofs.Crossings.{closer_crossing}

@@ -5,7 +5,7 @@ use Rattle.integer_ring.proofs.Ring.{num, ◌⊗◌}
 use Rattle.integer_ring.proofs.Order.{nonneg_square}
 use Rattle.integer_ring.proofs.Claims.{◌≼◌, gap, ◌⊞◌, ◌⊠◌, ◌because◌, ◌⇒◌, follows}
 use Rattle.plane_base.specs.declared.shapes.Pt.{Pt}
-use Rattle.seg_gap.specs.Ends.{square_to, IsLow, HasMixBelow, IsSomeMixBelow, IsEndSquare, IsLeast}
+use Rattle.seg_gap.specs.InsideEnds.{square_to, IsLow, HasMixBelow, IsSomeMixBelow, IsEndSquare, IsLeast}
 
 -- one of two numbers that is not above the other
 pub record IsLesser (m n r : ℕ) : Type 0 where

@@ -1,11 +1,11 @@
 -- The files of lemmas of seg_gap.
-pub mod Steps
-pub mod Sides
-pub mod Feet
-pub mod Places
-pub mod Crossings
+mod Steps
+mod Sides
+mod Feet
+mod Places
+mod Crossings
 pub mod GapLaws
-pub mod Least
-pub mod Heights
-pub mod Sizes
-pub mod SomeGap
+mod Least
+mod Heights
+mod Sizes
+mod SomeGap

@@ -14,7 +14,7 @@ use Rattle.plane_base.proofs.Mixes.{mixed, between_weights, between-w, weights_b
 use Rattle.seg_gap.specs.Gaps.{IsOfSegment, square_between, AreCloser, HaveCloser}
 use Rattle.plane_base.specs.TwoWeights.{AreWeights}
 use Rattle.plane_base.proofs.TwoWeights.{weights_of}
-use Rattle.seg_gap.specs.Ends.{square_to, HasMixBelow}
+use Rattle.seg_gap.specs.InsideEnds.{square_to, HasMixBelow}
 use Rattle.seg_gap.proofs.Steps.{square_toE, IsFarAt}
 use Rattle.seg_gap.proofs.Sides.{IsFar, is_far}
 use Rattle.seg_gap.proofs.Feet.{at_first}

@@ -6,12 +6,12 @@ use Rattle.std.proofs.lemmas.Int.{ints}
 use Rattle.integer_ring.proofs.Order.{≤_or_>}
 use Rattle.plane_base.specs.Plane.{whole, turn_of}
 use Rattle.plane_base.specs.declared.shapes.Pt.{Pt}
-use Rattle.seg_gap.specs.Ends.{AreOpposite, DoCross, dot_of, IsEndSquare, IsLeast, IsHalfRoot}
+use Rattle.seg_gap.specs.InsideEnds.{AreOpposite, DoCross, dot_of, IsEndSquare, IsLeast, IsHalfRoot}
 use Rattle.seg_gap.specs.Gaps.{IsGap}
 use Rattle.seg_gap.specs.Laws.{GapExists}
 use Rattle.seg_gap.proofs.Steps.{whole_turn}
 use Rattle.seg_gap.proofs.Sides.{AreAside, opposite_or_aside}
-use Rattle.seg_gap.proofs.Feet.{square_of_end, square_of_foot, end_square_swapped}
+use Rattle.seg_gap.proofs.Feet.{square_of_end, square_of_foot, end_square_swapped, sum_some}
 use Rattle.seg_gap.proofs.Heights.{height_low, height_high}
 use Rattle.seg_gap.proofs.Least.{lesser, least_of}
 use Rattle.seg_gap.proofs.GapLaws.{gap_crossing, gap_by_ends}
@@ -25,9 +25,6 @@ four_squares_are (pos m) (pos n) = refl
 four_squares_are (pos m) (negsuc n) = refl
 four_squares_are (negsuc m) (pos n) = refl
 four_squares_are (negsuc m) (negsuc n) = refl
-
-both_some : (f g : ℤ) → pos 0 <ℤ f → pos 0 <ℤ g → pos 0 <ℤ (f +ℤ g)
-both_some f g h k = omega (arith, ints, h, k)
 
 end_square : (p c d : Pt) → (value : ℕ) × IsEndSquare p c d value
 end_square p c d = by (≤_or_> (dot_of c p d) (pos 0)) (≤_or_> (dot_of d p c) (pos 0))
@@ -47,7 +44,7 @@ end_square p c d = by (≤_or_> (dot_of c p d) (pos 0)) (≤_or_> (dot_of d p c)
         let t = whole_turn c d p in
         let s = dot_of c p d +ℤ dot_of d p c in
         let value = 4 * (unsigned_abs t * unsigned_abs t) / unsigned_abs s in
-        let some = both_some (dot_of c p d) (dot_of d p c) from to in (
+        let some = sum_some (dot_of c p d) (dot_of d p c) from to in (
           value,
           square_of_foot p c d t value from to refl
               (height_low t s (unsigned_abs t) (unsigned_abs s) refl refl some)

@@ -7,7 +7,7 @@ use Rattle.integer_ring.proofs.Claims.{◌≐◌, ◌≼◌, ◌≺◌, gap, ove
 use Rattle.integer_ring.proofs.Claims.{solve}
 use Rattle.plane_base.specs.declared.shapes.Pt.{Pt}
 use Rattle.plane_base.specs.TwoWeights.{AreWeights}
-use Rattle.seg_gap.specs.Ends.{way_to, IsLow}
+use Rattle.seg_gap.specs.InsideEnds.{way_to, IsLow}
 
 -- ---- words, and their twins on expressions
 -- on one axis: the way from a point q over n to the mix of a and b, times i + j and n

@@ -1,4 +1,4 @@
 -- The files of definitions of seg_gap.
 pub mod Gaps
 pub mod Laws
-pub mod Ends
+pub mod InsideEnds

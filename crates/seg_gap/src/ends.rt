@@ -2,7 +2,7 @@
 ghost use Rattle.std.specs.Prelude.{◌≡◌, ◌<◌, ◌^◌, pos, ◌+ℤ◌, ◌*ℤ◌, ◌≤ℤ◌, ◌<ℤ◌, unsigned_abs};
 ghost use Rattle.frac128.specs.Sizes.{IsSmall};
 ghost use Rattle.plane_base.specs.Plane.{IsShort, IsNear, IsNearAll};
-ghost use Rattle.seg_gap.specs.Ends.{dot_of, IsEndSquare};
+ghost use Rattle.seg_gap.specs.InsideEnds.{dot_of, IsEndSquare};
 
 use plane_base::{Pt, turn};
 

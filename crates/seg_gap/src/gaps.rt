@@ -1,7 +1,7 @@
 //! The gap of two segments: 0 where they cross, and else by the nearest of the four ends.
 ghost use Rattle.std.specs.Prelude.{◌↔◌, IsTrue};
 ghost use Rattle.plane_base.specs.Plane.{IsNear, IsNearAll};
-ghost use Rattle.seg_gap.specs.Ends.{AreOpposite, DoCross, IsLeast, IsHalfRoot};
+ghost use Rattle.seg_gap.specs.InsideEnds.{AreOpposite, DoCross, IsLeast, IsHalfRoot};
 ghost use Rattle.seg_gap.specs.Gaps.{IsGap};
 
 use crate::ends::end_square;

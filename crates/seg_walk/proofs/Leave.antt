@@ -17,10 +17,10 @@ use Rattle.tin_base.specs.declared.frames.Frame.TheVariants.{Source}
 use Rattle.tin_base.specs.Triangulation.{Triangulation, numbers_of, places}
 use Rattle.tin_base.specs.Limits.{IsWithinLimits}
 use Rattle.tin_base.specs.Segments.{Spot, spot_at}
-use Rattle.tin_base.proofs.Slicing.{mix_by, one_axis}
+use Rattle.tin_base.proofs.SegmentSlices.{mix_by, one_axis}
 use Rattle.tin_index.specs.Sides.{next_of}
 use Rattle.tin_base.specs.Slices.{spot_of, IsSliceIn}
-use Rattle.seg_walk.specs.Leaving.{place_at, IsOnLine, IsLeftAt}
+use Rattle.seg_walk.specs.InsideExits.{place_at, IsOnLine, IsLeftAt}
 use Rattle.tin_base.proofs.TrianglePlaces.{stands}
 use Rattle.tin_base.proofs.Params.{at_spot, spot_some}
 use Rattle.tin_base.proofs.SlicedParts.{within}

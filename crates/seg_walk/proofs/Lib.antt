@@ -1,10 +1,10 @@
 -- The files of lemmas of seg_walk.
-pub mod Standing
-pub mod Beginning
-pub mod Sharing
-pub mod Leave
-pub mod Going
-pub mod Passing
-pub mod Start
-pub mod Taking
+mod NearCorners
+mod FirstTriangles
+mod CommonCorners
+mod Leave
+mod NextTriangles
+mod SideSteps
+mod Start
+mod StepPieces
 mod PointSlices

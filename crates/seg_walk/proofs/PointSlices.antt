@@ -13,7 +13,7 @@ use Rattle.plane_base.proofs.Mixes.{mix_moved}
 use Rattle.tin_base.specs.declared.frames.Frame.TheVariants.{Source}
 use Rattle.tin_base.specs.Triangulation.{Triangulation, IsInTriangle}
 use Rattle.tin_base.specs.Slices.{IsSliceIn}
-use Rattle.seg_walk.specs.PointWays.{IsFromZeroToOne}
+use Rattle.seg_walk.specs.InsidePointWays.{IsFromZeroToOne}
 
 at_point : (x n d : ℤ) → ((d -ℤ n) *ℤ x +ℤ n *ℤ x) *ℤ pos 1 ≡ x *ℤ ((d -ℤ n) *ℤ pos 1 +ℤ n *ℤ pos 1)
 at_point = solve 3 (λ x n d. ((d ⊖ n) ⊗ x ⊕ n ⊗ x) ⊗ num (pos 1) ≐ x ⊗ ((d ⊖ n) ⊗ num (pos 1) ⊕ n ⊗ num (pos 1))) tt

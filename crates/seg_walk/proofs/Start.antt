@@ -19,9 +19,9 @@ use Rattle.tin_base.proofs.Further.{start_is}
 use Rattle.tin_base.proofs.Spots.{one, spot-w}
 use Rattle.seg_walk.specs.declared.steps.Step.{Step}
 use Rattle.tin_base.specs.Slices.{spot_of, IsSliceIn}
-use Rattle.seg_walk.specs.Beginning.{MissesTriangle, IsStepFrom}
+use Rattle.seg_walk.specs.InsideStarts.{MissesTriangle, IsStepFrom}
 use Rattle.tin_base.proofs.SlicedParts.{params, part_told, within}
-use Rattle.seg_walk.proofs.Beginning.{not_missed}
+use Rattle.seg_walk.proofs.FirstTriangles.{not_missed}
 use Rattle.tin_base.proofs.Params.{spot_some, below}
 use Rattle.tin_base.proofs.Apart.{begun}
 

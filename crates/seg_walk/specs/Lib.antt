@@ -1,5 +1,5 @@
 -- The files of definitions of seg_walk.
 pub mod Steps
-pub mod Beginning
-pub mod Leaving
-pub mod PointWays
+pub mod InsideStarts
+pub mod InsideExits
+pub mod InsidePointWays

@@ -9,7 +9,7 @@ ghost use Rattle.tin_base.specs.Segments.{IsInside};
 ghost use Rattle.tin_base.specs.Triangulation.{IsInTriangle};
 ghost use Rattle.tin_index.specs.Boxes.{IsNearCorners};
 ghost use Rattle.seg_walk.specs.declared.faults.WalkFault.TheVariants.{Outside};
-ghost use Rattle.seg_walk.specs.PointWays.{IsFromZeroToOne};
+ghost use Rattle.seg_walk.specs.InsidePointWays.{IsFromZeroToOne};
 ghost use Rattle.seg_walk.specs.Steps.{AreSteps};
 
 use crate::walking::{first_step, step_after};

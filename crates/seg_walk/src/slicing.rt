@@ -10,7 +10,7 @@ ghost use Rattle.tin_base.specs.Images.{IsInSome};
 ghost use Rattle.tin_base.specs.Limits.{IsWithinLimits};
 ghost use Rattle.tin_index.specs.Boxes.{IsNearCorners};
 ghost use Rattle.tin_base.specs.Slices.{spot_of, IsSliceIn};
-ghost use Rattle.seg_walk.specs.Beginning.{MissesTriangle, HasNoPartFrom, IsPartFrom, IsLeastAmong};
+ghost use Rattle.seg_walk.specs.InsideStarts.{MissesTriangle, HasNoPartFrom, IsPartFrom, IsLeastAmong};
 
 use crate::Step;
 use frac128::{Frac, order};

@@ -11,8 +11,8 @@ ghost use Rattle.tin_base.specs.Triangulation.{IsInTriangle};
 ghost use Rattle.tin_index.specs.Boxes.{IsNearCorners};
 ghost use Rattle.tin_index.specs.Sides.{corner_of, next_of};
 ghost use Rattle.tin_base.specs.Slices.{spot_of, IsSliceIn};
-ghost use Rattle.seg_walk.specs.Beginning.{GoesOn};
-ghost use Rattle.seg_walk.specs.Leaving.{IsOnLine, IsLeftAt};
+ghost use Rattle.seg_walk.specs.InsideStarts.{GoesOn};
+ghost use Rattle.seg_walk.specs.InsideExits.{IsOnLine, IsLeftAt};
 
 use crate::Step;
 use crate::slicing::{least_from, slice_in, step_in};

@@ -7,6 +7,7 @@ use Rattle.std.specs.Option.{is_some}
 use Rattle.std.proofs.lemmas.Grind.{flat_map-append}
 use Rattle.std.proofs.lemmas.Bool.{ltb-true}
 use Rattle.std.proofs.lemmas.List.{take-append-drop, drop_all, length-take-le, length-drop}
+use Rattle.std.proofs.lemmas.List.Elements.{recursion_from_All}
 use Rattle.plane_base.specs.declared.shapes.Pt.{Pt}
 use Rattle.sheet_base.specs.declared.paths.PathKind.{PathKind}
 use Rattle.sheet_base.specs.declared.paths.PathKind.TheVariants.{Dot}
@@ -18,7 +19,7 @@ use Rattle.sheet_base.specs.Sheets.{Contents}
 use Rattle.sheet_base.specs.Fitting.{Runs, run_begin, positions_in, positions_of, no_path, path_positions, EndsAlone}
 use Rattle.sheet_base.specs.Fitting.{HaveCrossingHeights, IsWithinReach, DoFit}
 use Rattle.sheet_base.specs.ReadBack.{imaged}
-use Rattle.sheet_base.proofs.ListParts.{drop_twice, all_listed, all_parts}
+use Rattle.sheet_base.proofs.ListParts.{drop_twice, all_parts}
 use Rattle.sheet_base.proofs.ImageRuns.{last_end, spread, ends_within}
 
 -- what a sheet keeps of a path
@@ -136,7 +137,7 @@ parts_are images done (path ∷ paths) =
     )
 
 -- ---- heights of a list's part, by number and one by one
-paired_length : (ps : List Pt) (hs : List Height) → length hs ≡ length ps → length (paired ps hs) ≡ length ps
+pub paired_length : (ps : List Pt) (hs : List Height) → length hs ≡ length ps → length (paired ps hs) ≡ length ps
 paired_length [] hs e = refl
 paired_length (p ∷ ps) [] e = absurd (omega (arith, e))
 paired_length (p ∷ ps) (h ∷ hs) e = let f = paired_length ps hs (omega (arith, e)) in ap suc f
@@ -248,8 +249,8 @@ next_on path point from upto = by_test (nat_lt (point + 1) path.past) refl
 -- ---- a sheet of these paths, and images that fit it
 module _ (sheet : Contents) (images : Runs) (fit : DoFit sheet images) where
   pub all_reach : AllByRecursion IsPositionWithinReach (positions_in images)
-  all_reach = part_reached images.points images.heights (all_listed IsWithinReach images.points fit.in_reach)
-      (all_listed IsHeightWithinReach images.heights fit.heights_in_reach)
+  all_reach = part_reached images.points images.heights (recursion_from_All IsWithinReach images.points fit.in_reach)
+      (recursion_from_All IsHeightWithinReach images.heights fit.heights_in_reach)
 
   positions_length : (first past : ℕ) → past ≤ length sheet.points
       → length (positions_of images first past) ≡ run_begin images past - run_begin images first
@@ -401,9 +402,9 @@ module _ (sheet : Contents) (images : Runs) (fit : DoFit sheet images) where
         → AllSuit (path_positions sheet.paths images) 0 paths
     sheet_suits heights some =
         all_suit (path_positions sheet.paths images) 0 [] paths parts heights (omega (arith, count)) some
-        (subst (AllByRecursion (EndsAlone images)) rows (all_listed (EndsAlone images) sheet.paths fit.alone))
+        (subst (AllByRecursion (EndsAlone images)) rows (recursion_from_All (EndsAlone images) sheet.paths fit.alone))
         (subst (AllByRecursion (HaveCrossingHeights sheet images)) rows
-        (all_listed (HaveCrossingHeights sheet images) sheet.paths fit.crossing_heights)) all_reach
+        (recursion_from_All (HaveCrossingHeights sheet images) sheet.paths fit.crossing_heights)) all_reach
 
     pub positions_again : all_positions (redrawn (path_positions sheet.paths images) 0 paths) ≡ positions_in images
     positions_again =

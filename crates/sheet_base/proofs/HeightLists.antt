@@ -6,7 +6,7 @@ use Rattle.std.proofs.lemmas.List.{get_or-replicate, length-replicate}
 use Rattle.std.specs.List.{AllByRecursion, range_with_len}
 use Rattle.std.specs.Option.{is_some}
 use Rattle.std.proofs.Common.{All}
-use Rattle.std.proofs.lemmas.List.Elements.{All-replicate}
+use Rattle.std.proofs.lemmas.List.Elements.{All-replicate, recursion_from_All}
 use Rattle.std.specs.Prelude.{◌&&◌}
 use Rattle.std.proofs.lemmas.List.{map-append}
 use Rattle.plane_base.specs.declared.shapes.Pt.{Pt}
@@ -17,7 +17,6 @@ use Rattle.sheet_base.specs.Sheets.{Contents, AreTiled}
 use Rattle.sheet_base.specs.Fitting.{Runs, run_begin, HaveCrossingHeights, DoFit}
 use Rattle.sheet_base.specs.ReadBack.{Ends, ends_at, ends_in, ends_of, height_ends_at, height_ends_of}
 use Rattle.sheet_base.specs.ReadBack.{DoMatch}
-use Rattle.sheet_base.proofs.ListParts.{all_listed}
 use Rattle.sheet_base.proofs.ImageRuns.{last_end}
 
 -- no point has a height
@@ -124,7 +123,7 @@ none_fit sheet images tiled fit none = none_within images.heights each
             by (inr more) =
                 let on = path_of (HaveCrossingHeights sheet images) sheet.paths 0 (length sheet.points) behind.point
                 tiled (omega arith) behind.within
-                (all_listed (HaveCrossingHeights sheet images) sheet.paths fit.crossing_heights) in
+                (recursion_from_All (HaveCrossingHeights sheet images) sheet.paths fit.crossing_heights) in
                 none_some (height_in images.heights image)
                 (on.is behind.point image on.from on.upto more behind.upto
                 ∙ ap (λ (h : Height). is_some h && is_some (height_in sheet.heights (next_in on.path behind.point)))

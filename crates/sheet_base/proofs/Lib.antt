@@ -1,6 +1,6 @@
 -- The files of lemmas of sheet_base.
 pub mod ListParts
-pub mod Splicing
+pub mod SpliceLaws
 pub mod RingLemmas
 pub mod WrittenLayers
 pub mod Swaps
@@ -9,3 +9,5 @@ pub mod PositionLists
 pub mod HeightLists
 pub mod DrawnPaths
 pub mod HandedOn
+pub mod ImageTexts
+pub mod MemoryFaults

@@ -1,6 +1,6 @@
 -- Parts of lists, and what is true of all members.
 use Rattle.std.proofs.Common.{◌≡◌, ℕ, zero, suc, ◌+◌, ◌≤◌, List, [], ◌∷◌, ◌++◌, length, take, drop, refl, sym, ap, ◌∙◌}
-use Rattle.std.proofs.Common.{arith, All}
+use Rattle.std.proofs.Common.{arith}
 use Rattle.std.specs.List.{AllByRecursion}
 use Rattle.std.proofs.lemmas.List.{drop_all}
 
@@ -15,14 +15,6 @@ drop_twice (suc at) size (x ∷ xs) = let e : suc (at + size) ≡ suc at + size 
 pub drop_front : {A : Type 0} (front back : List A) → drop (length front) (front ++ back) ≡ back
 drop_front [] back = refl
 drop_front (x ∷ front) back = drop_front front back
-
-pub all_listed : {A : Type 0} (P : A → Type 0) (xs : List A) → All P xs → AllByRecursion P xs
-all_listed P [] all = tt
-all_listed P (x ∷ xs) all = (
-  all 0 x (omega arith),
-  all_listed P xs
-      (λ k d within. all (suc k) d (omega (arith, within))),
-)
 
 pub all_parts : {A : Type 0} (P : A → Type 0) (n : ℕ) (xs : List A) → AllByRecursion P xs
     → AllByRecursion P (take n xs) × AllByRecursion P (drop n xs)

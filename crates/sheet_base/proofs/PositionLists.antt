@@ -54,7 +54,7 @@ paired_more ps hs number past same below within =
 below_or : (m n : ℕ) → (m ≤ n) ⊎ (n ≤ m)
 below_or m n = grind arith
 
-paired_few : (ps : List Pt) (hs : List Height) → length (paired ps hs) ≤ length ps
+pub paired_few : (ps : List Pt) (hs : List Height) → length (paired ps hs) ≤ length ps
 paired_few [] hs = omega arith
 paired_few (p ∷ ps) [] = omega arith
 paired_few (p ∷ ps) (h ∷ hs) = let few = paired_few ps hs in omega (arith, few)

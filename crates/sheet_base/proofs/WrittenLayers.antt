@@ -7,7 +7,7 @@ use Rattle.sheet_base.specs.Fitting.{Runs}
 use Rattle.sheet_base.specs.Splices.{spliced, DoKeep}
 use Rattle.sheet_base.specs.ReadBack.{ends_of, height_ends_of, AreTheSame, imaged, IsReadBack}
 use Rattle.sheet_base.proofs.HeightLists.{match_self}
-use Rattle.sheet_base.proofs.Splicing.{if_ok_more, splices_keep}
+use Rattle.sheet_base.proofs.SpliceLaws.{if_ok_more, splices_keep}
 
 -- a text is read as a sheet of just these images, with the first sheet's paths over them, and no number lost digits
 pub record IsReadAgain (reads : List ℕ → Contents → Type 0) (text : List ℕ) (sheet : Contents) (images : Runs) : Type 0

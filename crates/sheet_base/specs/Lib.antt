@@ -10,4 +10,5 @@ pub mod Splices
 pub mod ReadBack
 pub mod ReadSheets
 pub mod Outcomes
+pub mod Faults
 pub mod ImageLists

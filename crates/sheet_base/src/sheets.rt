@@ -34,7 +34,8 @@ impl Model for Sheet {
 }
 
 impl Sheet {
-    /// A sheet of these paths, points, heights of the points, and edits; `inexact` numbers lost digits, and `dropped` entities are left out.
+    /// A sheet of these paths, points, heights of the points, and edits; `inexact` numbers lost digits, and `dropped`
+    /// entities are left out.
     /// It takes no memory.
     pub fn of(
         paths: Listed<PathRow>,

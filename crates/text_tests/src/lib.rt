@@ -3,26 +3,26 @@
 #![tactic(auto)]
 
 #[cfg(test)]
-mod bad_report_tests;
+mod dxf_pairs_tests;
 #[cfg(test)]
-mod file_tests;
+mod job_words_tests;
 #[cfg(test)]
-mod json_tests;
+mod jtext_tests;
 #[cfg(test)]
 mod limit_tests;
 #[cfg(test)]
-mod numeral_tests;
+mod mm_decimal_tests;
 #[cfg(test)]
-mod pair_tests;
+mod remarks_line_tests;
 #[cfg(test)]
-mod remark_line_tests;
+mod remarks_tests;
 #[cfg(test)]
-mod remark_tests;
+mod report_text_fault_tests;
 #[cfg(test)]
-mod report_tests;
+mod report_text_tests;
 #[cfg(test)]
-mod splice_tests;
+mod sheet_base_tests;
 #[cfg(test)]
-mod triangulation_file_tests;
+mod shelf_io_tests;
 #[cfg(test)]
-mod word_tests;
+mod tin_file_tests;

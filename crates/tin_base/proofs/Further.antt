@@ -11,7 +11,7 @@ use Rattle.tin_base.specs.Triangulation.{Triangulation, numbers_of, places}
 use Rattle.tin_base.specs.Soundness.{IsSound}
 use Rattle.tin_base.specs.Relations.{IsBetween}
 use Rattle.tin_base.specs.Segments.{Spot, spot_at, IsBefore, IsNotAfter, IsInside, IsShared, IsPart}
-use Rattle.tin_base.proofs.Stepping.{StepsOn, steps_on}
+use Rattle.tin_base.proofs.WaySteps.{StepsOn, steps_on}
 use Rattle.tin_base.proofs.Ends.{IsSpot, before_trans_right}
 use Rattle.tin_base.proofs.Parts.{part_of}
 use Rattle.tin_base.proofs.Spots.{one, spot-w}

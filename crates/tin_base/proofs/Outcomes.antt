@@ -14,13 +14,13 @@ use Rattle.tin_base.specs.Soundness.{IsSound, turn_of_three}
 use Rattle.tin_base.specs.Segments.{Spot, spot_at, at_a, IsBefore, IsNotAfter, IsSameSpot, IsInside, IsShared, IsPart}
 use Rattle.tin_base.specs.Segments.{Part, ArePieces, ArePiecesOf}
 use Rattle.tin_base.proofs.Spots.{one, spot-w, spot_first, first_inside, point_inside}
-use Rattle.tin_base.proofs.Stepping.{turn_mixed}
+use Rattle.tin_base.proofs.WaySteps.{turn_mixed}
 use Rattle.tin_base.proofs.Ends.{IsSpot, IsKeptAt, AreKeptAt, last_of_three, before_or, not_both, no_later_trans}
 use Rattle.tin_base.proofs.Ends.{from_same, same_of}
 use Rattle.tin_base.proofs.Parts.{Reaching, part_of}
 use Rattle.tin_base.specs.Outcomes.{OutcomeExists}
 use Rattle.tin_base.proofs.Apart.{begun}
-use Rattle.tin_base.proofs.Unused.{unused, less_left, last_below}
+use Rattle.tin_base.proofs.UnusedTriangles.{unused, less_left, last_below}
 use Rattle.tin_base.proofs.Walk.{IsWalked, start, Follows, more, all_walked, all_inside, stuck, not_again}
 
 -- ---- the least number of some kind

@@ -11,7 +11,7 @@ use Rattle.plane_base.specs.Plane.{Point, Same, turn_of, weighed, IsMix, whole}
 use Rattle.plane_base.specs.declared.shapes.Pt.{Pt}
 use Rattle.plane_base.proofs.Turns.{turn_cycle, turn_swap}
 use Rattle.plane_base.proofs.InTriangle.{turns_of_mix}
-use Rattle.plane_base.proofs.Meeting.{mix_of_side}
+use Rattle.plane_base.proofs.CommonPoints.{mix_of_side}
 use Rattle.plane_base.proofs.Mixes.{same_sym, same_trans, mixed, between_weights, between-w, mix_swapped, turn_on_side}
 use Rattle.tin_base.specs.declared.frames.Frame.TheVariants.{Source}
 use Rattle.tin_base.specs.Triangulation.{Triangulation, place, corner_at, numbers_of, places}
@@ -19,7 +19,7 @@ use Rattle.tin_base.specs.Soundness.{turn_of_three, has, common_of, IsSound}
 use Rattle.tin_base.specs.Segments.{Spot, spot_at, IsBefore, IsShared}
 use Rattle.tin_base.proofs.Spots.{one, spot-w}
 use Rattle.tin_base.proofs.Weights.{HasAll, common_in_first, common_in_second}
-use Rattle.tin_base.proofs.Stepping.{turn_mixed}
+use Rattle.tin_base.proofs.WaySteps.{turn_mixed}
 use Rattle.tin_base.proofs.Alike.{alike_of, alike_in, alike_more}
 use Rattle.tin_base.proofs.Ends.{IsSpot}
 use Rattle.tin_base.proofs.Members.{one_of_three}

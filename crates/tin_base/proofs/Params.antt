@@ -9,7 +9,7 @@ use Rattle.frac128.specs.Fractions.{IsSameValue, IsBelow}
 use Rattle.plane_base.specs.Slices.{IsParam}
 use Rattle.tin_base.specs.Segments.{Spot, IsBefore, IsSameSpot}
 use Rattle.tin_base.proofs.Ends.{IsSpot}
-use Rattle.tin_base.proofs.Slicing.{IsSpotAt}
+use Rattle.tin_base.proofs.SegmentSlices.{IsSpotAt}
 use Rattle.tin_base.specs.Slices.{spot_of}
 use Rattle.plain_laws.proofs.Weights.{share_some}
 

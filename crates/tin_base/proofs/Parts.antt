@@ -9,7 +9,7 @@ use Rattle.tin_base.specs.Triangulation.{Triangulation, place, corner_at, number
 use Rattle.tin_base.specs.Soundness.{turn_of_three}
 use Rattle.tin_base.specs.Segments.{Spot, spot_at, IsBefore, IsNotAfter, IsShared, IsPart}
 use Rattle.tin_base.proofs.Spots.{one, spot-w}
-use Rattle.tin_base.proofs.Stepping.{turn_mixed}
+use Rattle.tin_base.proofs.WaySteps.{turn_mixed}
 use Rattle.tin_base.proofs.Ends.{IsSpot, IsKeptAt, AreKeptAt, last_of_three, mirrored, mirror_later, mirror_three}
 use Rattle.tin_base.proofs.Ends.{no_later_trans, before_trans_left, before_trans_right}
 

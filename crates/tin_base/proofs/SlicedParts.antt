@@ -14,7 +14,7 @@ use Rattle.tin_base.specs.Segments.{Spot, spot_at, IsNotAfter, IsSameSpot, IsSha
 use Rattle.tin_base.specs.Slices.{spot_of, IsSliceIn}
 use Rattle.tin_base.proofs.Ends.{out_z, before_trans_left, before_trans_right, no_later_trans, up_to_same, from_same}
 use Rattle.tin_base.proofs.Ends.{same_of}
-use Rattle.tin_base.proofs.Slicing.{SlicePart, slice_part, in_spot, from_z, upto_z}
+use Rattle.tin_base.proofs.SegmentSlices.{SlicePart, slice_part, in_spot, from_z, upto_z}
 use Rattle.tin_base.proofs.TrianglePlaces.{moved_to, stands}
 use Rattle.tin_base.proofs.Params.{at_spot, spot_is, spot_some, same_value, below}
 

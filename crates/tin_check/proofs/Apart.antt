@@ -14,12 +14,12 @@ use Rattle.tin_base.specs.declared.frames.Frame.{Frame}
 use Rattle.tin_base.specs.Triangulation.{Triangulation, numbers_of}
 use Rattle.tin_base.specs.Soundness.{has, DoFit}
 use Rattle.tin_base.specs.Limits.{IsWithinLimits}
-use Rattle.tin_base.proofs.Telling.{yes}
+use Rattle.tin_base.proofs.TestAnswers.{yes}
 use Rattle.tin_check.specs.Meeting.{MeetOnlyIn}
 use Rattle.tin_check.specs.Marks.{points_of, marked_of, IsAmong, AreNearTris}
-use Rattle.tin_check.specs.Boxes.{IsOneOf, IsBoxOf, IsBoxIn, AreBoxesIn}
-use Rattle.tin_check.proofs.Counting.{marked_among}
-use Rattle.tin_check.proofs.Marking.{same_marked, told, all_near}
+use Rattle.tin_check.specs.InsideBoxes.{IsOneOf, IsBoxOf, IsBoxIn, AreBoxesIn}
+use Rattle.tin_check.proofs.CornerShifts.{marked_among}
+use Rattle.tin_check.proofs.CornerMarks.{same_marked, told, all_near}
 use Rattle.plane_base.proofs.BoxLemmas.{none_in_both}
 use Rattle.tin_check.proofs.InBoxes.{triangle_in, corner_in, box_ordered}
 

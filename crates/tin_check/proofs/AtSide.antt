@@ -6,7 +6,7 @@ use Rattle.plane_base.specs.Plane.{Point, turn_of}
 use Rattle.plane_base.proofs.Turns.{turn_swap}
 use Rattle.plane_base.proofs.InTriangle.{turns_of_mix}
 use Rattle.plane_base.proofs.LeftOfSide.{overlap_at_side}
-use Rattle.plane_base.proofs.Meeting.{mix_of_side}
+use Rattle.plane_base.proofs.CommonPoints.{mix_of_side}
 use Rattle.plane_base.proofs.Mixes.{turn_on_side}
 use Rattle.tin_check.specs.Meeting.{MeetOnlyIn}
 

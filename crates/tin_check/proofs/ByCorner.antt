@@ -12,10 +12,10 @@ use Rattle.tin_base.specs.Limits.{IsWithinLimits}
 use Rattle.tin_check.specs.Meeting.{MeetOnlyIn}
 use Rattle.tin_check.specs.Marks.{points_of, marked_of, IsCounted, AreNearTris}
 use Rattle.tin_check.specs.declared.pairs.Corners.{Corners}
-use Rattle.tin_check.specs.Numbers.{AreCounted, AreAt, IsMarkedCorner, AreFrom}
+use Rattle.tin_check.specs.InsideNumbers.{AreCounted, AreAt, IsMarkedCorner, AreFrom}
 use Rattle.tin_check.proofs.Tests.{IsPositive}
-use Rattle.tin_check.proofs.Counting.{counted_same, first_meet, second_meet, first_near, second_near, fits_by}
-use Rattle.tin_check.proofs.Marking.{all_near, told}
+use Rattle.tin_check.proofs.CornerShifts.{counted_same, first_meet, second_meet, first_near, second_near, fits_by}
+use Rattle.tin_check.proofs.CornerMarks.{all_near, told}
 use Rattle.tin_check.proofs.BySides.{point_of, tri_of, positive_of, IsTurnedTo, turned_to}
 
 -- ---- the numbers, counted from a corner on

@@ -5,7 +5,7 @@ use Rattle.plane_base.specs.declared.shapes.Tri.{Tri}
 use Rattle.tin_base.specs.Triangulation.{Triangulation, numbers_of}
 use Rattle.tin_base.specs.Soundness.{has}
 use Rattle.tin_check.specs.Marks.{points_of, marked_of}
-use Rattle.tin_check.specs.Numbers.{AreUnmarked}
+use Rattle.tin_check.specs.InsideNumbers.{AreUnmarked}
 
 none_of : (a b c : Bool) (p q r : Pt) → a ≡ false → b ≡ false → c ≡ false
     → marked_of (a ∷ b ∷ c ∷ []) (p ∷ q ∷ r ∷ []) ≡ []

@@ -15,10 +15,10 @@ use Rattle.tin_check.specs.Meeting.{MeetOnlyIn}
 use Rattle.tin_check.specs.Marks.{points_of, marked_of, IsAmong, next_of, IsCounted}
 use Rattle.std.specs.Prelude.{IfSome}
 use Rattle.tin_check.specs.declared.pairs.Side.{Side}
-use Rattle.tin_check.specs.Numbers.{AreCounted, IsMarkedSide}
+use Rattle.tin_check.specs.InsideNumbers.{AreCounted, IsMarkedSide}
 use Rattle.tin_check.proofs.Tests.{IsPositive, side_tells}
-use Rattle.tin_check.proofs.Counting.{counted_same, first_meet, second_meet, through, IsSide, fits_at_side}
-use Rattle.tin_check.proofs.Marking.{told}
+use Rattle.tin_check.proofs.CornerShifts.{counted_same, first_meet, second_meet, through, IsSide, fits_at_side}
+use Rattle.tin_check.proofs.CornerMarks.{told}
 
 -- ---- a side by its numbers
 -- the side from i to j has both corners in common with the other triangle, whose numbers are us, and the third corner

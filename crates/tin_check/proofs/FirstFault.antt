@@ -10,7 +10,7 @@ use Rattle.tin_check.specs.declared.faults.CheckFault.{CheckFault}
 use Rattle.tin_check.specs.declared.faults.CheckFault.TheVariants.{Flat, TurnsOver, Meets, NoMemory}
 use Rattle.tin_check.specs.Faults.{IsFault, frame_rank, rank, IsBefore, IsFirstFault, IsCause, FirstFaultIsOne}
 use Rattle.tin_check.specs.Faults.{FaultsAreUnsound}
-use Rattle.tin_check.specs.Progress.{ArePositive, IsBeforePair, DoFitBefore, DoAllFit, IsFirstPair}
+use Rattle.tin_check.specs.InsideProgress.{ArePositive, IsBeforePair, DoFitBefore, DoAllFit, IsFirstPair}
 use Rattle.plain_laws.proofs.Order.{trichotomy}
 
 not_zero : (z : ℤ) → pos 0 <ℤ z → z ≡ pos 0 → ⊥

@@ -13,20 +13,20 @@ use Rattle.plane_base.proofs.Along.{along-w}
 use Rattle.plane_base.proofs.Intervals.{segments_meet_in_intervals}
 use Rattle.plane_base.proofs.Parameters.{segments_have_parameters}
 use Rattle.plane_base.proofs.Mixes.{same_sym, mix_moved}
-use Rattle.plane_base.proofs.Meeting.{in_or_out}
+use Rattle.plane_base.proofs.CommonPoints.{in_or_out}
 use Rattle.tin_base.specs.declared.frames.Frame.{Frame}
 use Rattle.tin_base.specs.declared.corners.Corner.{Corner}
 use Rattle.tin_base.specs.Triangulation.{Triangulation, x_in, y_in, corner_at, numbers_of, places}
 use Rattle.tin_base.specs.Soundness.{turn_of_three, turn_in, has, DoFit}
-use Rattle.tin_base.proofs.Telling.{yes, no, told, denied}
+use Rattle.tin_base.proofs.TestAnswers.{yes, no, told, denied}
 use Rattle.tin_check.specs.Meeting.{HaveCommonPoint, MeetOnlyIn}
 use Rattle.tin_check.specs.Marks.{points_of, marked_of, IsAmong, HaveSamePoints, next_of, IsCounted}
 use Rattle.tin_check.proofs.Places.{along_side}
 use Rattle.tin_check.proofs.Tests.{IsPositive, seen_meets, last_side, side_beyond, last_beyond, side_tells}
-use Rattle.tin_check.proofs.Counting.{counted_same, first_meet, second_meet, through, common_among, IsSide}
-use Rattle.tin_check.proofs.Counting.{side_first_among, side_second_among, FitsIn, fits_by, fits_at_side}
-use Rattle.tin_check.proofs.Marking.{same_marked}
-use Rattle.tin_check.proofs.Marking as marking
+use Rattle.tin_check.proofs.CornerShifts.{counted_same, first_meet, second_meet, through, common_among, IsSide}
+use Rattle.tin_check.proofs.CornerShifts.{side_first_among, side_second_among, FitsIn, fits_by, fits_at_side}
+use Rattle.tin_check.proofs.CornerMarks.{same_marked}
+use Rattle.tin_check.proofs.CornerMarks as marking
 
 one : pos 0 <ℤ pos 1
 one = lt_z_yes tt

@@ -7,7 +7,7 @@ use Rattle.plane_base.specs.declared.shapes.Rect.{Rect}
 use Rattle.plane_base.specs.Plane.{Point, IsMix, whole, corners}
 use Rattle.plane_base.specs.Boxes.{IsIn, IsOrdered, box_of_triangle}
 use Rattle.plane_base.proofs.BoxLemmas.{mix_in, ordered_by, whole_in, triangle_has, least_is_one, greatest_is_one}
-use Rattle.tin_check.specs.Boxes.{IsBoxOf}
+use Rattle.tin_check.specs.InsideBoxes.{IsBoxOf}
 use Rattle.tin_check.specs.Marks.{points_of, IsAmong}
 
 one : pos 0 <ℤ pos 1

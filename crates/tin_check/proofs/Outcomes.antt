@@ -10,7 +10,7 @@ use Rattle.tin_base.specs.Soundness.{turn_in, DoFit, IsSound}
 use Rattle.tin_check.specs.declared.faults.CheckFault.{CheckFault}
 use Rattle.tin_check.specs.declared.faults.CheckFault.TheVariants.{Flat, TurnsOver, Meets}
 use Rattle.tin_check.specs.Faults.{IsFirstFault, OutcomeExists}
-use Rattle.tin_check.specs.Progress.{ArePositive, IsBeforePair, DoFitBefore, DoAllFit, IsFirstPair}
+use Rattle.tin_check.specs.InsideProgress.{ArePositive, IsBeforePair, DoFitBefore, DoAllFit, IsFirstPair}
 use Rattle.tin_check.proofs.FirstFault.{flat_source, flat_target, turned_over, one_more_positive, source_alone}
 use Rattle.tin_check.proofs.FirstFault.{target_alone, source_first, target_first}
 use Rattle.tin_check.proofs.Progress.{all_fit, checked}

@@ -11,8 +11,8 @@ use Rattle.cell_grid.specs.Boxes.{IsNearList, box_at}
 use Rattle.tin_base.specs.declared.frames.Frame.{Frame}
 use Rattle.tin_base.specs.Triangulation.{Triangulation}
 use Rattle.tin_base.specs.Soundness.{DoFit}
-use Rattle.tin_check.specs.Boxes.{IsBoxIn, AreBoxesIn}
-use Rattle.tin_check.specs.Progress.{ArePositive, DoAllFit, DoOthersFit}
+use Rattle.tin_check.specs.InsideBoxes.{IsBoxIn, AreBoxesIn}
+use Rattle.tin_check.specs.InsideProgress.{ArePositive, DoAllFit, DoOthersFit}
 use Rattle.plane_base.proofs.BoxLemmas.{apart_or_not}
 use Rattle.tin_check.proofs.InBoxes.{box_ordered}
 use Rattle.tin_check.proofs.Apart.{apart_fit}

@@ -9,8 +9,9 @@ use Rattle.tin_base.specs.declared.frames.Frame.TheVariants.{Source, Target}
 use Rattle.tin_base.specs.Triangulation.{Triangulation}
 use Rattle.tin_base.specs.Soundness.{DoFit, IsSound}
 use Rattle.tin_base.proofs.InOrder.{sound_of_pairs}
-use Rattle.tin_check.specs.Progress.{ArePositive, DoFitBefore, DoAllFit, IsFirstPair, IsFirstFound, IsFirstFoundBelow}
-use Rattle.tin_check.specs.Progress.{DoOthersFit}
+use Rattle.tin_check.specs.InsideProgress.{ArePositive, DoFitBefore, DoAllFit, IsFirstPair, IsFirstFound}
+use Rattle.tin_check.specs.InsideProgress.{IsFirstFoundBelow}
+use Rattle.tin_check.specs.InsideProgress.{DoOthersFit}
 use Rattle.tin_check.specs.declared.pairs.Pair.{Pair}
 
 -- ---- along a list

@@ -9,7 +9,7 @@ use Rattle.plane_base.specs.declared.shapes.Tri.{Tri}
 use Rattle.plane_base.proofs.Turns.{turn_cycle, turn_twice}
 use Rattle.tin_check.specs.Meeting.{HaveCommonPoint, MeetOnlyIn}
 use Rattle.tin_check.specs.Marks.{points_of, IsAmong}
-use Rattle.tin_base.proofs.Telling.{yes, no, denied}
+use Rattle.tin_base.proofs.TestAnswers.{yes, no, denied}
 use Rattle.tin_check.proofs.Places.{side_bc_in, mix_next}
 use Rattle.tin_check.proofs.Sides.{IsSeenToMeet, meet_of_seen, seen_of_meet}
 use Rattle.tin_check.proofs.AtCorner.{meet_at_corner, not_only_at_corner, not_corner}

@@ -1,7 +1,7 @@
 //! The box of a triangle in a frame, and the grid over the boxes of all.
 
 ghost use Rattle.std.specs.Prelude.{◌<◌, length, IfOk};
-ghost use Rattle.tin_check.specs.Boxes.{IsBoxIn, AreBoxesIn};
+ghost use Rattle.tin_check.specs.InsideBoxes.{IsBoxIn, AreBoxesIn};
 
 use cell_grid::Grid;
 use plane_base::Rect;

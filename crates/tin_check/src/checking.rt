@@ -5,7 +5,7 @@ ghost use Rattle.tin_base.specs.Soundness.{turn_in, IsSound};
 ghost use Rattle.tin_base.specs.declared.frames.Frame.TheVariants.{Source, Target};
 ghost use Rattle.tin_base.specs.Laws.{IsOneToOne};
 ghost use Rattle.tin_check.specs.Faults.{IsFirstFault, IsCause};
-ghost use Rattle.tin_check.specs.Progress.{ArePositive, IsBeforePair, DoAllFit, IsFirstPair};
+ghost use Rattle.tin_check.specs.InsideProgress.{ArePositive, IsBeforePair, DoAllFit, IsFirstPair};
 ghost use Rattle.tin_check.specs.declared.faults.CheckFault.TheVariants.{Meets, NoMemory};
 
 use crate::CheckFault;

@@ -11,7 +11,7 @@ use tin_base::Frame;
 #[derive(Clone, Copy, Debug, PartialEq, Eq, Error)]
 pub enum CheckFault {
     /// The triangle's turn is 0 in the frame.
-    #[error("triangle {triangle} is flat in the frame {frame:?}")]
+    #[error("triangle {triangle} is flat")]
     Flat {
         triangle: u32,
         frame: Frame,
@@ -23,7 +23,7 @@ pub enum CheckFault {
     },
     /// In the frame two triangles have three common corners, or a common point that is no mix of their common corners.
     /// The first has the lower number.
-    #[error("triangles {first} and {second} meet in the frame {frame:?}")]
+    #[error("triangles {first} and {second} meet")]
     Meets {
         first: u32,
         second: u32,

@@ -6,7 +6,7 @@ ghost use Rattle.tin_base.specs.Triangulation.{numbers_of, places};
 ghost use Rattle.tin_base.specs.Limits.{IsWithinLimits};
 ghost use Rattle.tin_base.specs.Soundness.{turn_in, has, DoFit};
 ghost use Rattle.tin_check.specs.Meeting.{MeetOnlyIn};
-ghost use Rattle.tin_check.specs.Numbers.{AreCounted, AreFrom, AreUnmarked, IsMarkedCorner, IsMarkedSide};
+ghost use Rattle.tin_check.specs.InsideNumbers.{AreCounted, AreFrom, AreUnmarked, IsMarkedCorner, IsMarkedSide};
 
 use crate::fitting::are_apart;
 use crate::parting::are_parted;

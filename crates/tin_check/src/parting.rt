@@ -4,7 +4,7 @@ ghost use Rattle.std.specs.Prelude.{◌≡◌, pos, ◌<ℤ◌, IsTrue, [], ◌�
 ghost use Rattle.plane_base.specs.Plane.{whole, corners, turn_of, IsNear, IsNearTri};
 ghost use Rattle.tin_check.specs.Meeting.{HaveCommonPoint, MeetOnlyIn};
 ghost use Rattle.tin_check.specs.Marks.{AreNearTris};
-ghost use Rattle.tin_check.specs.Parting.{IsParted, AreRight};
+ghost use Rattle.tin_check.specs.InsidePartings.{IsParted, AreRight};
 
 use plane_base::{Pt, Tri, turn};
 

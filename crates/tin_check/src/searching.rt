@@ -3,9 +3,9 @@
 ghost use Rattle.std.specs.Prelude.{◌≡◌, ◌+◌, ◌<◌, ◌≤◌, false, length, All, IfOk, IsTrue};
 ghost use Rattle.std.specs.List.Sorted.{IsStrictlyIncreasing};
 ghost use Rattle.tin_base.specs.Soundness.{DoFit};
-ghost use Rattle.tin_check.specs.Boxes.{AreBoxesIn};
-ghost use Rattle.tin_check.specs.Progress.{ArePositive, DoFitBefore, DoAllFit, IsFirstFound, IsFirstFoundBelow};
-ghost use Rattle.tin_check.specs.Progress.{IsFirstSecond, DoOthersFit};
+ghost use Rattle.tin_check.specs.InsideBoxes.{AreBoxesIn};
+ghost use Rattle.tin_check.specs.InsideProgress.{ArePositive, DoFitBefore, DoAllFit, IsFirstFound, IsFirstFoundBelow};
+ghost use Rattle.tin_check.specs.InsideProgress.{IsFirstSecond, DoOthersFit};
 
 use crate::boxes::{box_in, grid_in};
 use crate::pairs::{Pair, pair_fits};

@@ -5,7 +5,7 @@ use Rattle.std.proofs.lemmas.Bool.{lt-ltb, ltb-true}
 use Rattle.jtext.specs.Values.{Json}
 use Rattle.jtext.specs.declared.document.Node.{Node}
 use Rattle.tin_file.specs.Keys.{and_then}
-use Rattle.tin_file.specs.Standing.{AreThere, AreNodes, Gives}
+use Rattle.tin_file.specs.InsideNodes.{AreThere, AreNodes, Gives}
 use Rattle.tin_file.specs.Vertices.{few}
 use Rattle.tin_file.specs.declared.faults.Rows.{Rows}
 use Rattle.tin_file.specs.declared.faults.TinFault.{TinFault}

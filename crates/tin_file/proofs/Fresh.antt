@@ -8,7 +8,7 @@ use Rattle.std.proofs.lemmas.List.Folds.{list_any-append}
 use Rattle.tin_base.specs.declared.corners.Corner.{Corner}
 use Rattle.tin_base.specs.Triangulation.{no_corner}
 use Rattle.tin_file.specs.Corners.{is_same, kept_behind, corners_of, corner_number}
-use Rattle.tin_file.proofs.Keyed.{is_itself, first_place}
+use Rattle.tin_file.proofs.CornerKeys.{is_itself, first_place}
 
 abbrev IsFresh : List Corner → List Corner → Type 0
 IsFresh earlier [] = Unit {0}

@@ -1,27 +1,27 @@
 -- The files of lemmas of tin_file.
-pub mod There
-pub mod Walks
-pub mod Found
-pub mod Loops
-pub mod Sequels
-pub mod Texts
-pub mod NamedPlaces
-pub mod SpelledTexts
-pub mod NumberRows
-pub mod RowElements
-pub mod Keyed
-pub mod Collecting
-pub mod RowLists
-pub mod DigitTexts
-pub mod PlacedRows
-pub mod Reaching
-pub mod Turning
+mod There
+mod Walks
+mod MemberFinds
+mod Loops
+mod Sequels
+mod Texts
+mod NamedPlaces
+mod SpelledTexts
+mod NumberRows
+mod RowElements
+mod CornerKeys
+mod RowSteps
+mod RowLists
+mod DigitTexts
+mod PlacedRows
+pub mod NumberExtremes
+mod ElementChanges
 pub mod Fresh
-pub mod Finishing
-pub mod FoundRows
+pub mod CompleteRows
+mod FoundRows
 pub mod RowsRead
 pub mod Whole
-pub mod TopValue
-pub mod ValueFaults
-pub mod Outcomes
+mod TopValue
+mod ValueFaults
+mod Outcomes
 pub mod OneAnswer

@@ -9,7 +9,7 @@ use Rattle.jtext.specs.Values.{Json, null}
 use Rattle.jtext.specs.declared.document.Node.{Node}
 use Rattle.tin_file.specs.Keys.{says}
 use Rattle.tin_file.specs.Headings.{places_of, the_place}
-use Rattle.tin_file.specs.Standing.{AreThere}
+use Rattle.tin_file.specs.InsideNodes.{AreThere}
 use Rattle.tin_file.proofs.There.{as_many}
 
 module _ (nodes : List Node) (bytes : List ℕ) (numbers : List ℕ) (values : List Json)

@@ -6,7 +6,7 @@ use Rattle.sheet_base.specs.declared.flags.How.{How}
 use Rattle.tin_base.specs.Triangulation.{Triangulation}
 use Rattle.tin_file.specs.Laws.{OutcomeExists}
 use Rattle.tin_file.specs.Reading.{reading, Answers}
-use Rattle.tin_file.specs.Standing.{Equals}
+use Rattle.tin_file.specs.InsideNodes.{Equals}
 use Rattle.tin_file.specs.declared.faults.TinFault.{TinFault}
 use Rattle.tin_file.specs.declared.faults.TinFault.TheVariants as faults
 use Rattle.tin_file.proofs.ValueFaults.{IsGood, good_reading, answer_by}

@@ -1,7 +1,7 @@
 -- Triangles of rows, by the corners of the rows.
 use Rattle.std.proofs.Common.{◌≡◌, ℕ, List, refl, sym, subst}
 use Rattle.std.specs.Prelude.{Result, Ok, Err}
-use Rattle.tin_file.specs.Standing.{Gives}
+use Rattle.tin_file.specs.InsideNodes.{Gives}
 use Rattle.tin_file.specs.Gathered.{placed, placed_or_fault}
 use Rattle.tin_file.specs.declared.faults.TinFault.{TinFault}
 use Rattle.tin_file.specs.declared.faults.TinFault.TheVariants.{NoMemory}

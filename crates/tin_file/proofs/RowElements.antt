@@ -6,7 +6,7 @@ use Rattle.jtext.specs.Nodes.{inner_place}
 use Rattle.jtext.specs.declared.document.Node.{Node}
 use Rattle.sheet_base.specs.declared.flags.How.{How}
 use Rattle.tin_file.specs.Keys.{is_array, listed}
-use Rattle.tin_file.specs.Standing.{IsThere, AreThere, IsNode, AreNodes, IsArray, element_numbers}
+use Rattle.tin_file.specs.InsideNodes.{IsThere, AreThere, IsNode, AreNodes, IsArray, element_numbers}
 use Rattle.tin_file.specs.Vertices.{vertex_of}
 use Rattle.tin_file.specs.Triangles.{triangle_of}
 use Rattle.tin_file.specs.declared.columns.VertexColumns.{VertexColumns}
@@ -14,7 +14,7 @@ use Rattle.tin_file.specs.declared.columns.TriangleColumns.{TriangleColumns}
 use Rattle.tin_file.specs.declared.faults.Rows.TheVariants as lists
 use Rattle.tin_file.specs.declared.faults.TinFault.{TinFault}
 use Rattle.tin_file.specs.declared.faults.TinFault.TheVariants.{Row}
-use Rattle.jtext.proofs.Standing.{array_stands}
+use Rattle.jtext.proofs.NodePlaces.{array_stands}
 use Rattle.tin_file.proofs.There.{elements_there}
 
 pub array_of : (value : Json) → true ≡ is_array value

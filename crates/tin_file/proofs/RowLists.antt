@@ -1,8 +1,8 @@
 -- Lists of rows, row by row.
-use Rattle.std.proofs.Common.{◌≡◌, ℕ, ◌+◌, List, [], ◌∷◌, ◌++◌, refl, sym, ap, ◌∙◌, append_assoc, append-nil}
+use Rattle.std.proofs.Common.{◌≡◌, ℕ, ◌+◌, List, [], ◌∷◌, ◌++◌, refl, sym, ap, subst, ◌∙◌, append_assoc, append-nil}
 use Rattle.std.specs.Prelude.{Result, Ok, Err, IsErrAnd}
 use Rattle.jtext.specs.Values.{Json}
-use Rattle.tin_file.specs.Standing.{Gives, Equals}
+use Rattle.tin_file.specs.InsideNodes.{Gives, Equals}
 use Rattle.tin_file.specs.Vertices.{in_front}
 use Rattle.tin_file.specs.declared.faults.TinFault.{TinFault}
 use Rattle.tin_file.specs.declared.faults.TinFault.TheVariants.{NoMemory}
@@ -58,3 +58,22 @@ module _ {A : Type 0} (of_row : ℕ → Json → Result A TinFault) (rows : ℕ 
 pub passed_on : {A : Type 0} (fault : TinFault) (r : Result A TinFault) → IsErrAnd r (λ e. e ≡ fault) → r ≡ Err fault
 passed_on fault (Ok value) h = absurd h
 passed_on fault (Err e) h = ap Err h
+
+-- so it is the fault of the whole
+pub passes : {A B C : Type 0} (R : B → C → Type 0) (fault : TinFault) (part : Result A TinFault)
+    (whole : Result C TinFault) (r : Result B TinFault)
+    → IsErrAnd r (λ e. e ≡ fault) → Equals (Err fault) part → (part ≡ Err fault → whole ≡ Err fault)
+    → Gives R r whole
+passes R fault part whole r h is on =
+    subst (λ answer. Gives R answer whole) (sym (passed_on fault r h)) (fault_of_part R fault part whole is on)
+
+-- all rows are read
+pub gives_done : {A B : Type 0} (R : A → B → Type 0) (one : A) (other : B) (whole : Result B TinFault)
+    → whole ≡ Ok other → R one other → Gives R (Ok one) whole
+gives_done R one other whole is h = subst (Gives R (Ok one)) (sym is) h
+
+pub gives_same : {A B C : Type 0} (R : A → C → Type 0) (S : B → C → Type 0) (one : A) (other : B)
+    (whole : Result C TinFault)
+    → ((value : C) → R one value → S other value) → Gives R (Ok one) whole → Gives S (Ok other) whole
+gives_same R S one other (Ok value) on h = on value h
+gives_same R S one other (Err fault) on h = absurd h

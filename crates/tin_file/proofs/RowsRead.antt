@@ -8,10 +8,9 @@ use Rattle.std.proofs.lemmas.Int.{ints}
 use Rattle.std.proofs.lemmas.Bool.{ltb-true}
 use Rattle.jtext.specs.Values.{Json, null, truth, numeral, quoted, array, object}
 use Rattle.mm_decimal.specs.Measured.{measured}
-use Rattle.mm_decimal.specs.Answers.{Answers}
 use Rattle.mm_decimal.specs.declared.reading.MmRead.{MmRead}
 use Rattle.mm_decimal.specs.declared.reading.NumFault.{NumFault}
-use Rattle.mm_decimal.proofs.MeasuredAnswers.{measured_answers}
+use Rattle.mm_decimal.proofs.MeasuredAnswers.{read_within}
 use Rattle.sheet_base.specs.declared.flags.How.{How}
 use Rattle.tin_base.specs.Limits.{IsInReach, IsCornerInReach}
 use Rattle.tin_base.specs.declared.frames.Frame.TheVariants as frames
@@ -19,7 +18,7 @@ use Rattle.tin_file.specs.Keys.{listed}
 use Rattle.tin_file.specs.Vertices.{accepted, number_in, number_at, vertex_from, vertex_of, vertex_rows, in_front}
 use Rattle.tin_file.specs.Triangles.{triangle_from, triangle_of, triangle_rows, row_number_at}
 use Rattle.tin_file.specs.Gathered.{corners_in, AreInReach, IsBelow}
-use Rattle.tin_file.specs.Standing.{Gives}
+use Rattle.tin_file.specs.InsideNodes.{Gives}
 use Rattle.tin_file.specs.declared.columns.VertexColumns.{VertexColumns}
 use Rattle.tin_file.specs.declared.columns.TriangleColumns.{TriangleColumns}
 use Rattle.tin_file.specs.declared.vertices.Vertex.{Vertex}
@@ -41,9 +40,7 @@ by_abs (pos n) h = (omega (arith, ints), omega (arith, ints))
 by_abs (negsuc n) h = (omega (arith, ints), omega (arith, ints))
 
 read_reach : (text : List ℕ) (read : MmRead) → measured text ≡ Ok read → IsInReach read.mm
-read_reach text read is =
-    let (short, (value, has, so)) = subst (Answers text) is (measured_answers text) in
-    by_abs read.mm (subst (λ z. unsigned_abs z ≤ 1000000000000000) (sym so.mm) so.limit)
+read_reach text read is = by_abs read.mm (read_within text read is)
 
 accepted_is : (how : How) (row : ℕ) (r : Result MmRead NumFault) (read : MmRead) → accepted how row r ≡ Ok read
     → r ≡ Ok read

@@ -2,7 +2,7 @@
 use Rattle.std.proofs.Common.{◌≡◌, refl, subst}
 use Rattle.std.specs.Prelude.{Result, Ok, Err}
 use Rattle.tin_file.specs.Keys.{and_then}
-use Rattle.tin_file.specs.Standing.{Gives, Equals}
+use Rattle.tin_file.specs.InsideNodes.{Gives, Equals}
 use Rattle.tin_file.specs.declared.faults.TinFault.{TinFault}
 use Rattle.tin_file.specs.declared.faults.TinFault.TheVariants.{NoMemory}
 

@@ -8,7 +8,7 @@ use Rattle.jtext.specs.Nodes.{first_node}
 use Rattle.jtext.specs.Places.{IsPartAt}
 use Rattle.jtext.specs.declared.document.Node.{Node}
 use Rattle.tin_file.specs.Keys.{is_number}
-use Rattle.tin_file.specs.Standing.{IsThere, IsNode}
+use Rattle.tin_file.specs.InsideNodes.{IsThere, IsNode}
 use Rattle.tin_file.proofs.There.{first_node_is}
 
 part_within : (whole : List ℕ) (place : ℕ) (part : List ℕ) → IsPartAt whole place part

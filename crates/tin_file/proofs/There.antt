@@ -10,9 +10,9 @@ use Rattle.jtext.specs.declared.document.Doc.{Doc}
 use Rattle.jtext.specs.declared.document.Kind.TheVariants as kinds
 use Rattle.jtext.specs.declared.document.Node.{Node}
 use Rattle.tin_file.specs.Keys.{listed}
-use Rattle.tin_file.specs.Standing.{IsThere, AreThere, IsNode, AreNodes, HasMembers, element_numbers}
+use Rattle.tin_file.specs.InsideNodes.{IsThere, AreThere, IsNode, AreNodes, HasMembers, element_numbers}
 use Rattle.jtext.proofs.MemberLoops.{object_of}
-use Rattle.jtext.proofs.Standing.{ElementsStand, reading_stands, first_there, element_stands, rest_stands}
+use Rattle.jtext.proofs.NodePlaces.{ElementsStand, reading_stands, first_there, element_stands, rest_stands}
 
 module _ (nodes : List Node) (bytes : List ℕ) where
   pub there_within : (number : ℕ) (value : Json) → IsThere nodes bytes number value → number < length nodes

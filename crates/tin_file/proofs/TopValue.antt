@@ -11,10 +11,10 @@ use Rattle.jtext.specs.declared.document.Kind.TheVariants as kinds
 use Rattle.sheet_base.specs.declared.flags.How.{How}
 use Rattle.tin_file.specs.Keys.{is_object}
 use Rattle.tin_file.specs.Reading.{reading}
-use Rattle.tin_file.specs.Standing.{IsThere, HasMembers}
+use Rattle.tin_file.specs.InsideNodes.{IsThere, HasMembers}
 use Rattle.tin_file.specs.declared.faults.Top.TheVariants as tops
 use Rattle.tin_file.specs.declared.faults.TinFault.TheVariants.{Key}
-use Rattle.jtext.proofs.Standing.{reading_stands, first_there}
+use Rattle.jtext.proofs.NodePlaces.{reading_stands, first_there}
 
 pub whole_there : (whole : Whole) (doc : Doc) (bytes : List ℕ) → IsReading whole doc bytes
     → IsThere doc.nodes bytes 0 whole.value

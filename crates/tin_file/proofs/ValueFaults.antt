@@ -23,7 +23,7 @@ use Rattle.tin_file.specs.Vertices.{few, accepted, number_in, vertex_from, verte
 use Rattle.tin_file.specs.Triangles.{row_number_at, triangle_from, triangle_of, triangle_rows, triangles}
 use Rattle.tin_file.specs.Corners.{corners_of, is_wide, spans}
 use Rattle.tin_file.specs.Reading.{made_of, within_spans, rows_of, reading, IsReading, Answers}
-use Rattle.tin_file.specs.Standing.{Equals}
+use Rattle.tin_file.specs.InsideNodes.{Equals}
 use Rattle.tin_file.specs.declared.columns.VertexColumns.{VertexColumns}
 use Rattle.tin_file.specs.declared.columns.TriangleColumns.{TriangleColumns}
 use Rattle.tin_file.specs.declared.headings.Heading.{Heading}

@@ -5,8 +5,8 @@ use Rattle.std.specs.Prelude.{slice_get, Some}
 use Rattle.jtext.specs.Values.{Elements, array, no_element, element}
 use Rattle.jtext.specs.Nodes.{node_count, element_count, inner_place, element_start, next_place}
 use Rattle.jtext.specs.declared.document.Node.{Node}
-use Rattle.tin_file.specs.Standing.{IsThere, IsNode, element_numbers}
-use Rattle.jtext.proofs.Standing.{ElementsStand, array_stands, element_stands, rest_stands, node_count_positive}
+use Rattle.tin_file.specs.InsideNodes.{IsThere, IsNode, element_numbers}
+use Rattle.jtext.proofs.NodePlaces.{ElementsStand, array_stands, element_stands, rest_stands, node_count_positive}
 use Rattle.tin_file.proofs.There.{first_node_is}
 
 -- these elements are passed, and the rest stands from here to the end

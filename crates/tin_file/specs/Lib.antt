@@ -5,6 +5,6 @@ pub mod Vertices
 pub mod Triangles
 pub mod Corners
 pub mod Reading
-pub mod Standing
 pub mod Gathered
 pub mod Laws
+pub mod InsideNodes

@@ -6,8 +6,8 @@ ghost use Rattle.jtext.specs.Places.{IsReadFrom, HasKind};
 ghost use Rattle.jtext.specs.Lookups.{IsAscii};
 ghost use Rattle.tin_file.specs.Keys.{says, is_text, is_number, is_array, is_object};
 ghost use Rattle.tin_file.specs.Keys.{needed, needed_list};
-ghost use Rattle.tin_file.specs.Standing.{IsThere, AreThere, IsNode, IsArray, HasMembers};
-ghost use Rattle.tin_file.specs.Standing.{element_numbers, Gives};
+ghost use Rattle.tin_file.specs.InsideNodes.{IsThere, AreThere, IsNode, IsArray, HasMembers};
+ghost use Rattle.tin_file.specs.InsideNodes.{element_numbers, Gives};
 
 use crate::faults::{TinFault, Top};
 use jtext::{Doc, Kind, Node, member, same_text};

@@ -67,22 +67,22 @@ pub enum TinFault {
     #[error("deep at {at}")]
     Deep { at: u64 },
     /// The member is repeated, is missing or has another form.
-    #[error("the member {which:?} is missing, repeated or of another form")]
+    #[error("a member is missing, repeated or of another form")]
     Key { which: Top },
     /// The format's version is neither `1.0` nor `1.1`.
     #[error("another version of the format")]
     Version,
     /// Points outside are to be carried by what is nearest.
-    #[error("fallback to the nearest {which:?}")]
+    #[error("fallback to what is nearest")]
     Fallback { which: Nearest },
     /// The file transforms no horizontal coordinates.
     #[error("no horizontal component")]
     NoHorizontal,
     /// The list has too many rows.
-    #[error("too many rows of {list:?}")]
+    #[error("too many rows")]
     TooMany { list: Rows },
     /// The row has another form.
-    #[error("row {row} of {list:?}")]
+    #[error("row {row} has another form")]
     Row { list: Rows, row: u32 },
     /// A number text of a vertex row is not read.
     #[error("number in row {row}: {fault}")]
@@ -94,7 +94,7 @@ pub enum TinFault {
     #[error("index in triangle {triangle}")]
     Index { triangle: u32 },
     /// The corners are too far apart on this axis of this frame.
-    #[error("span of {frame:?} {axis:?}")]
+    #[error("corners too far apart")]
     Span { frame: Frame, axis: Axis },
     /// Memory ran out.
     #[error("no memory")]

@@ -9,7 +9,7 @@ ghost use Rattle.tin_file.specs.Headings.{strategy};
 ghost use Rattle.tin_file.specs.Headings.{is_component, components_in, components, vertex_columns, triangle_columns};
 ghost use Rattle.tin_file.specs.Headings.{both_columns, heading};
 ghost use Rattle.tin_file.specs.Gathered.{AreVertexColumns, AreTriangleColumns, IsHeading};
-ghost use Rattle.tin_file.specs.Standing.{IsThere, AreThere, AreNodes, HasMembers, Equals};
+ghost use Rattle.tin_file.specs.InsideNodes.{IsThere, AreThere, AreNodes, HasMembers, Equals};
 
 use crate::columns::{
     TriangleColumns, VertexColumns, any_says, read_triangle_columns, read_vertex_columns,

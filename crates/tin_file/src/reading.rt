@@ -8,7 +8,7 @@ ghost use Rattle.tin_file.specs.Keys.{and_then, needed_list};
 ghost use Rattle.tin_file.specs.Vertices.{few, vertices};
 ghost use Rattle.tin_file.specs.Triangles.{triangles};
 ghost use Rattle.tin_file.specs.Reading.{within_spans, rows_of, reading, Answers};
-ghost use Rattle.tin_file.specs.Standing.{AreThere, HasMembers, Gives, Equals};
+ghost use Rattle.tin_file.specs.InsideNodes.{AreThere, HasMembers, Gives, Equals};
 ghost use Rattle.tin_file.specs.Gathered.{AreVertexColumns, AreTriangleColumns, IsHeading};
 ghost use Rattle.tin_file.specs.Gathered.{AreGathered, IsComplete, placed};
 ghost use Rattle.tin_file.specs.declared.vertices.Vertex.{Vertex};

@@ -4,7 +4,7 @@ ghost use Rattle.std.specs.Prelude.{◌≡◌, ◌+◌, ◌^◌, ◌<◌, ◌≤
 ghost use Rattle.jtext.specs.Values.{Json};
 ghost use Rattle.tin_base.specs.declared.limits.TheConstants.{MOST_CORNERS};
 ghost use Rattle.tin_file.specs.Vertices.{lost, accepted, number_in, vertex_from, vertex_in, vertex_of, vertex_rows};
-ghost use Rattle.tin_file.specs.Standing.{IsThere, AreThere, IsNode, AreNodes, Gives, Equals};
+ghost use Rattle.tin_file.specs.InsideNodes.{IsThere, AreThere, IsNode, AreNodes, Gives, Equals};
 ghost use Rattle.tin_file.specs.Gathered.{AreVertexColumns, AreGathered, AreCollected, numbers_in};
 ghost use Rattle.indexmap.specs.IndexSet.{index_set_len};
 
@@ -204,6 +204,49 @@ fn add(
     }
 }
 
+impl Vertices {
+    /// No corners, with room for so many rows.
+    fn with_room(alloc: Global, rows: usize) -> Result<Vertices, TinFault>
+        ensures corners { IfOk result (λ vertices. vertices.corners.items ≡ []) }
+        ensures numbers { IfOk result (λ vertices. vertices.numbers.items ≡ []) }
+        ensures inexact { IfOk result (λ vertices. vertices.inexact ≡ 0) }
+        ensures memory { IfErr result (λ fault. fault ≡ TinFault.NoMemory) }
+    {
+        Ok(Vertices {
+            corners: Vec::with_capacity(alloc, rows)?,
+            numbers: Vec::with_capacity(alloc, rows)?,
+            inexact: 0,
+        })
+    }
+}
+
+/// Adds the corners of all rows. The list is room for the elements of a row.
+fn add_rows(
+    doc: &Doc,
+    bytes: &[u8],
+    how: How,
+    columns: VertexColumns,
+    rows: &[u32],
+    values: &mut Vec<u32>,
+    vertices: &mut Vertices,
+    seen: &mut IndexSet<Numbers, TextHash>,
+) -> Result<(), TinFault>
+    requires columns { AreVertexColumns columns }
+    requires few { length rows.now ≤ MOST_CORNERS }
+    requires nodes { AreNodes doc.now.nodes bytes.now rows.now }
+    requires none { AreCollected vertices.old seen.old [] }
+    requires none_seen { index_set_len seen.old ≡ 0 }
+    requires none_inexact { vertices.old.inexact ≡ 0 }
+    ensures { (all : List Json) → AreThere doc.now.nodes bytes.now rows.now all
+        → Gives (λ done rows. AreCollected vertices.new seen.new rows) result (vertex_rows how columns 0 all) }
+{
+    for (row, value) in rows.iter().enumerate() {
+        let vertex = read_vertex(doc, bytes, how, columns, row as u32, *value, values)?;
+        add(vertices, seen, vertex)?;
+    }
+    Ok(())
+}
+
 /// The corners of all rows. The list is room for the elements of a row.
 pub fn read_vertices(
     alloc: Global,
@@ -221,14 +264,18 @@ pub fn read_vertices(
         → Gives AreGathered result (vertex_rows how columns 0 all) }
 {
     let mut seen = IndexSet::with_capacity_and_hasher(alloc, rows.len(), TextHash::of(bytes))?;
-    let mut vertices = Vertices {
-        corners: Vec::with_capacity(alloc, rows.len())?,
-        numbers: Vec::with_capacity(alloc, rows.len())?,
-        inexact: 0,
-    };
-    for (row, value) in rows.iter().enumerate() {
-        let vertex = read_vertex(doc, bytes, how, columns, row as u32, *value, values)?;
-        add(&mut vertices, &mut seen, vertex)?;
+    let mut vertices = Vertices::with_room(alloc, rows.len())?;
+    match add_rows(
+        doc,
+        bytes,
+        how,
+        columns,
+        rows,
+        values,
+        &mut vertices,
+        &mut seen,
+    ) {
+        Ok(()) => Ok(vertices),
+        Err(fault) => Err(fault),
     }
-    Ok(vertices)
 }

@@ -14,7 +14,7 @@ use Rattle.tin_base.specs.Soundness.{has, common_of, IsSound}
 use Rattle.tin_base.specs.Limits.{IsWithinLimits}
 use Rattle.tin_base.proofs.Spots.{one}
 use Rattle.tin_base.proofs.Weights.{HasAll, common_in_first}
-use Rattle.tin_index.specs.Locating.{IsInsideOf, IsOnlyIn}
+use Rattle.tin_index.specs.InsideLocations.{IsInsideOf, IsOnlyIn}
 use Rattle.tin_base.proofs.Members.{has_first_of_two, has_second_of_two, one_of_three}
 use Rattle.tin_base.proofs.Overlap.{in_more}
 

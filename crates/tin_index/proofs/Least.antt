@@ -13,8 +13,8 @@ use Rattle.cell_grid.specs.Sizes.{level_of}
 use Rattle.tin_base.specs.declared.frames.Frame.TheVariants.{Source}
 use Rattle.tin_base.specs.Triangulation.{Triangulation, IsInTriangle}
 use Rattle.tin_index.specs.Boxes.{AreBoxesOf}
-use Rattle.tin_index.specs.Locating.{IsOneOf}
-use Rattle.tin_index.proofs.Boxing.{holder}
+use Rattle.tin_index.specs.InsideLocations.{IsOneOf}
+use Rattle.tin_index.proofs.SourceBoxes.{holder}
 
 -- ---- among ascending numbers
 -- none of the first of them has the point

@@ -1,9 +1,9 @@
 -- The files of lemmas of tin_index.
 pub mod InBox
-pub mod Boxing
-pub mod Round
-pub mod Least
+mod SourceBoxes
+mod Round
+mod Least
 pub mod Corners
-pub mod Starring
-pub mod Across
-pub mod Inside
+mod TriangleStars
+mod Across
+mod Inside

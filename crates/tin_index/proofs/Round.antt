@@ -16,7 +16,7 @@ use Rattle.tin_base.specs.Images.{IsInSome}
 use Rattle.tin_base.specs.Limits.{IsWithinLimits}
 use Rattle.tin_base.specs.Triangulation.{Triangulation, place, no_corner, corner_at, numbers_of, places}
 use Rattle.tin_index.specs.Boxes.{source_at, IsNearCorners, IsOfOne, IsRound}
-use Rattle.tin_index.proofs.Boxing.{standing, tri_of}
+use Rattle.tin_index.proofs.SourceBoxes.{standing, tri_of}
 use Rattle.tin_index.proofs.InBox.{in_box}
 use Rattle.plane_base.proofs.BoxLemmas.{lesser_is_one, greater_is_one}
 

@@ -2,5 +2,5 @@
 pub mod Boxes
 pub mod Sides
 pub mod Stars
-pub mod Locating
 pub mod Kept
+pub mod InsideLocations

@@ -4,7 +4,7 @@ ghost use Rattle.std.specs.Prelude.{◌≡◌, ◌↔◌, pos, ◌<ℤ◌, lengt
 ghost use Rattle.std.specs.Int.{int_min, int_max};
 ghost use Rattle.plane_base.specs.Plane.{whole, turn_of, IsNearAll, IsNearTri, holds_of};
 ghost use Rattle.tin_index.specs.Boxes.{IsUpTo, low_of, high_of, AreBoxesOf, IsRound};
-ghost use Rattle.tin_index.specs.Locating.{IsInsideOf};
+ghost use Rattle.tin_index.specs.InsideLocations.{IsInsideOf};
 
 use plane_base::{Pt, Rect, Tri, holds, turn};
 use std::alloc::{AllocError, Global};

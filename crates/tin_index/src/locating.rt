@@ -7,7 +7,7 @@ ghost use Rattle.tin_base.specs.declared.frames.Frame.TheVariants.{Source};
 ghost use Rattle.tin_base.specs.Triangulation.{IsInTriangle};
 ghost use Rattle.tin_base.specs.Images.{IsInSome};
 ghost use Rattle.tin_index.specs.Boxes.{AreBoxesOf};
-ghost use Rattle.tin_index.specs.Locating.{IsOneOf, IsOnlyIn};
+ghost use Rattle.tin_index.specs.InsideLocations.{IsOneOf, IsOnlyIn};
 
 use crate::boxes::{has_inside, has_point};
 use cell_grid::Grid;

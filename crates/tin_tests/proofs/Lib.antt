@@ -1,4 +1,4 @@
 -- The files of lemmas of tin_tests.
-pub mod Tiling
-pub mod Trying
-pub mod LimitsTold
+mod PathTiles
+mod SegmentTests
+mod OwnPieces

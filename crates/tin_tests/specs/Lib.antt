@@ -1,5 +1,4 @@
 -- The files of definitions of tin_tests.
 pub mod Small
 pub mod SmallBoxes
-pub mod Within
 pub mod Diagonals

@@ -3,36 +3,38 @@
 #![tactic(auto)]
 
 #[cfg(test)]
-mod carried_layer_tests;
+mod affine_image_tests;
 #[cfg(test)]
-mod carrying_tests;
+mod carry_map_layer_tests;
 #[cfg(test)]
-mod change_tests;
+mod carry_map_tests;
 #[cfg(test)]
-mod copy_tests;
+mod cell_grid_tests;
 #[cfg(test)]
-mod cut_tests;
-#[cfg(test)]
-mod fraction_tests;
-#[cfg(test)]
-mod grid_tests;
-#[cfg(test)]
-mod image_tests;
-#[cfg(test)]
-mod limit_tests;
-#[cfg(test)]
-mod location_tests;
+mod frac128_tests;
 #[cfg(test)]
 mod made_tins;
 #[cfg(test)]
+mod meet_rel_piece_tests;
+#[cfg(test)]
+mod meet_rel_tests;
+#[cfg(test)]
 mod nearness;
 #[cfg(test)]
-mod pair_tests;
+mod plane_base_tests;
 #[cfg(test)]
 mod seg_gap_tests;
 #[cfg(test)]
-mod slice_tests;
+mod seg_walk_tests;
 #[cfg(test)]
-mod soundness_tests;
+mod tin_base_tests;
 #[cfg(test)]
-mod within;
+mod tin_check_tests;
+#[cfg(test)]
+mod tin_index_tests;
+#[cfg(test)]
+mod topo_check_copy_tests;
+#[cfg(test)]
+mod topo_check_pair_tests;
+#[cfg(test)]
+mod topo_check_tests;

@@ -3,10 +3,9 @@
 ghost use Rattle.std.specs.Prelude.{◌≡◌, length, IfSome};
 ghost use Rattle.tin_base.specs.Triangulation.{triangulation};
 
-use crate::within::are_within_limits;
 use plane_base::{Pt, turn};
 use std::alloc::Global;
-use tin_base::{Corner, Frame, SoundTin, Tin, one_triangle_is_sound};
+use tin_base::{Corner, Frame, SoundTin, Tin, are_within_limits, one_triangle_is_sound};
 use tin_check::check_tin;
 use tin_index::TinIndex;
 
@@ -64,7 +63,7 @@ pub fn sound_of(tin: Tin) -> Option<SoundTin>
 }
 
 /// A triangulation, to be found by points; or none where it is not within the limits, or not sound.
-fn index_of(alloc: Global, corners: &[Corner], triangles: &[[u32; 3]]) -> Option<TinIndex> {
+pub fn index_of(alloc: Global, corners: &[Corner], triangles: &[[u32; 3]]) -> Option<TinIndex> {
     let corners = Vec::from_slice(alloc, corners).ok()?;
     let triangles = Vec::from_slice(alloc, triangles).ok()?;
     let tin = tin_of(corners, triangles, 0)?;

@@ -1,16 +1,8 @@
 //! The gap of two segments, by rows that were worked by hand.
-ghost use Rattle.std.specs.Prelude.{IsTrue};
-ghost use Rattle.plane_base.specs.Plane.{IsNearAll};
 
-use crate::nearness::is_near;
+use crate::nearness::{are_near, is_near};
 use plane_base::Pt;
 use seg_gap::gap;
-
-fn are_near(a: Pt, b: Pt, c: Pt) -> bool
-    ensures { IsTrue result → IsNearAll a b c }
-{
-    is_near(a, b) && is_near(a, c) && is_near(b, c)
-}
 
 // The call, where its conditions hold.
 fn between(a: Pt, b: Pt, c: Pt, d: Pt) -> Option<u64> {
@@ -84,14 +76,19 @@ const GAPS: &[([i64; 4], [i64; 4], u64)] = &[
     ([0, 0, MOST, MOST], [0, 1, 0, 1], 1),
 ];
 
+/// The number of the first row with another gap, or none.
+fn first_other(rows: &[([i64; 4], [i64; 4], u64)]) -> Option<usize> {
+    for (number, &(first, second, millimetres)) in rows.iter().enumerate() {
+        if !is_gap(first, second, millimetres) {
+            return Some(number);
+        }
+    }
+    None
+}
+
 #[test]
 fn gaps(rt: HostRuntime) {
-    for &(first, second, millimetres) in GAPS {
-        assert!(rt;
-            is_gap(first, second, millimetres),
-            "between {first:?} and {second:?}"
-        );
-    }
+    assert_eq!(rt; first_other(GAPS), None);
 }
 
 // The condition does not hold for points that are as far apart as the span.

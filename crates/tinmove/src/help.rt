@@ -1,29 +1,41 @@
 //! What the program says of itself where the words ask for that alone.
 
 ghost use Rattle.std.specs.Prelude.{◌≡◌, ◌↔◌, ◌⊎◌, ◌∷◌, [], codes, Option, Some, IsTrue, map, string_bytes};
-ghost use Rattle.tinmove.specs.Help.{Asks, text_of};
+ghost use Rattle.tinmove.specs.Help.{Asks, IsTextFor, IsFirstPart, IsUsageFor, text_of};
 ghost use Rattle.tinmove.specs.declared.help.Help.{Help};
 
 /// One line for standard error, without its line feed, where the words name no mode.
 pub const USAGE: &str =
     "usage: tinmove migrate|check|make|verify ARGUMENT... ('tinmove --help' explains them)";
 
-/// How the words of the mode are used, which the first of the words names; without its last line feed.
-pub fn usage_of(words: &[String]) -> &'static str {
-    let text = match words.first() {
-        None => USAGE,
-        Some(mode) => match mode.as_str() {
-            "migrate" => MIGRATE,
-            "check" => CHECK,
-            "make" => MAKE,
-            "verify" => VERIFY,
-            _ => USAGE,
+/// The text on the mode that the first of the words names, or one line on all modes.
+fn text_for(words: &[String]) -> &'static str
+    ensures { IsTextFor (map string_bytes words.now) result.now }
+{
+    match words {
+        [] => USAGE,
+        [mode, ..] => match help_of_mode(mode.as_str()) {
+            Some(help) => help.text(),
+            None => USAGE,
         },
-    };
+    }
+}
+
+/// The text up to its first blank line, or all of it where it has none.
+fn first_part(text: &'static str) -> &'static str
+    ensures { IsFirstPart text.now result.now }
+{
     match text.split_once("\n\n") {
-        Some((usage, _)) => usage,
+        Some((part, _)) => part,
         None => text,
     }
+}
+
+/// How the words of the mode are used, which the first of the words names; without its last line feed.
+pub fn usage_of(words: &[String]) -> &'static str
+    ensures { IsUsageFor (map string_bytes words.now) result.now }
+{
+    first_part(text_for(words))
 }
 
 /// The text of the help over all modes.

@@ -1,31 +1,29 @@
 //! `tinmove`: carries map layers from one plane reference frame to another.
-//! `run` is the whole program, over the words, the shelf and the press that it is handed.
+//! `run` is the whole program, over the words, the shelf and the press that it is handed: that of `whole_runs`.
 #![tactic(auto)]
 
 mod help;
-mod jobs;
-mod large_blocks;
-mod laws;
-mod outputs;
-mod run;
-mod sure_run;
 #[cfg(test)]
-mod tests;
+mod help_texts;
+mod large_blocks;
+mod outputs;
 
 use help::{Help, help_of, usage_of};
 use job_words::{Job, read_words};
 use large_blocks::keep_large_blocks;
 use outputs::outputs_of;
 use remarks::KindCount;
-use run::{RunEnd, run_to_end};
 use run_notes::{
-    PressNotes, Steps, ToldPress, ToldShelf, Usage, Words, if_terminal, left_out_kinds,
-    say_degrees, say_making, say_meetings, say_refusal, say_report_layers, say_unwritten, words_of,
+    Usage, Words, left_out_kinds, say_degrees, say_meetings, say_refusal, say_report_layers,
+    say_unwritten, steps_of, words_of,
 };
+use run_steps::{PressNotes, ToldPress, ToldShelf, if_terminal, say_making};
 use runs::Status;
 use shelf_io::{FilePress, FileShelf};
 use std::io::Stderr;
 use std::process::ExitCode;
+pub use whole_runs::run;
+use whole_runs::{RunEnd, run_to_end};
 
 /// Says before a run which outputs meet another file, and on a terminal that an example is made. What it gives is
 /// what is found of drawings before they may be overwritten.
@@ -68,7 +66,7 @@ fn run_on_files(rt: &HostRuntime, words: &Words) -> Status {
         Some(job) => say_before(rt, job, terminal),
         None => Vec::new(rt.alloc()),
     };
-    let steps = Steps::of_job(job.as_ref(), true);
+    let steps = steps_of(job.as_ref(), true);
     let mut shelf = ToldShelf::new(shelf, terminal, steps);
     let mut press = ToldPress::new(PressNotes::new(rt.alloc(), press), terminal, steps);
     let RunEnd { status, refusal } = run_to_end(rt.alloc(), &words.words, &mut shelf, &mut press);
@@ -102,14 +100,13 @@ fn print_help(rt: &HostRuntime, help: Help) -> Status {
 
 /// Answers the words of the command line.
 fn answer(rt: &HostRuntime) -> Status {
-    let words = match words_of(rt) {
-        Ok(words) => words,
-        Err(status) => return status,
-    };
-    if let Some(help) = help_of(&words.words) {
-        return print_help(rt, help);
+    match words_of(rt) {
+        Ok(words) => match help_of(&words.words) {
+            Some(help) => print_help(rt, help),
+            None => run_on_files(rt, &words),
+        },
+        Err(status) => status,
     }
-    run_on_files(rt, &words)
 }
 
 fn main(rt: HostRuntime) -> ExitCode {

@@ -1,32 +1,22 @@
 //! `tinplaces`: puts the changes of a migration on the map, as GeoJSON on standard output.
-//! `run` is the whole program, over the words, the shelf and the press that it is handed; it is the status of
-//! `run_to_end`, which also hands out the refusal.
+//! `run_to_end` of `place_runs` is the whole program, over the words, the shelf and the press that it is handed.
 #![tactic(auto)]
 
 mod help;
-mod laws;
-mod layers;
-mod output;
-mod pieces;
-mod places;
-mod run;
-#[cfg(test)]
-mod tests;
-mod words;
 
 use help::{Help, USAGE, help_of};
 use job_words::Job;
 use migrate::Migration;
-use run::{RunEnd, run_to_end};
+use place_runs::{RunEnd, read_migration, run_to_end};
 use run_notes::{
-    Steps, ToldPress, ToldShelf, Usage, Words, if_terminal, left_out_kinds, say_degrees,
-    say_layers, say_refusal, say_unwritten, words_of,
+    Usage, Words, left_out_kinds, say_degrees, say_layers, say_refusal, say_unwritten, steps_of,
+    words_of,
 };
+use run_steps::{ToldPress, ToldShelf, if_terminal};
 use runs::Status;
 use shelf_io::{FilePress, FileShelf};
 use std::alloc::Global;
 use std::process::ExitCode;
-use words::read_migration;
 
 /// How the words are used.
 const USED: Usage<'static> = Usage {
@@ -66,7 +56,7 @@ fn run_on_files(rt: &HostRuntime, words: &Words) -> Status {
     };
     let terminal = if_terminal(rt.stderr());
     let job = job_of(rt.alloc(), &words.words);
-    let steps = Steps::of_job(job.as_ref(), false);
+    let steps = steps_of(job.as_ref(), false);
     let mut shelf = ToldShelf::new(shelf, terminal, steps);
     let mut press = ToldPress::new(press, terminal, steps);
     let RunEnd {

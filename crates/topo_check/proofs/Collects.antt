@@ -8,7 +8,7 @@ use Rattle.std.proofs.lemmas.List.Quantifiers.{all_pairs_push}
 use Rattle.tin_base.specs.declared.pieces.Piece.{Piece}
 use Rattle.tin_base.specs.Triangulation.{Triangulation}
 use Rattle.topo_check.specs.declared.comparing.ChangedPair.{ChangedPair}
-use Rattle.topo_check.specs.Pairs.{IsChanged, IsUnchanged, is_same_pair, AreDifferent, HasPair, DoesCollect}
+use Rattle.topo_check.specs.InsidePairs.{IsChanged, IsUnchanged, is_same_pair, AreDifferent, HasPair, DoesCollect}
 
 -- ---- a pair that is not listed yet
 

@@ -18,11 +18,11 @@ use Rattle.tin_base.specs.Limits.{IsWithinLimits}
 use Rattle.tin_base.specs.Segments.{Part}
 use Rattle.tin_base.specs.Relations.{IsBetween}
 use Rattle.tin_base.specs.Pieces.{IsPieceOf, IsPieceInside, first_point, last_point}
-use Rattle.meet_rel.proofs.Clipping.{range_of}
-use Rattle.meet_rel.proofs.Ending.{piece_ends}
+use Rattle.meet_rel.proofs.PieceClips.{range_of}
+use Rattle.meet_rel.proofs.ClipEnds.{piece_ends}
 use Rattle.meet_rel.proofs.Scale.{mix_first}
 use Rattle.topo_check.specs.Changes.{HadRelation, HasRelation}
-use Rattle.topo_check.specs.Boxes.{IsAround, EachCorner, IsAmongCorners, IsExactBox, rounded_box_of}
+use Rattle.topo_check.specs.InsideBoxes.{IsAround, EachCorner, IsAmongCorners, IsExactBox, rounded_box_of}
 use Rattle.plain_laws.proofs.Order.{up_trans}
 
 -- ---- pieces whose boxes are apart are apart

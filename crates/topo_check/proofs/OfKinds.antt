@@ -8,9 +8,10 @@ use Rattle.tin_base.specs.declared.pieces.Piece.{Piece}
 use Rattle.tin_base.specs.Triangulation.{Triangulation}
 use Rattle.topo_check.specs.declared.comparing.ChangedPair.{ChangedPair}
 use Rattle.topo_check.specs.Changes.{piece_at, no_piece, HadRelation, HasRelation, IsChangeOf, AreAllComparable}
-use Rattle.topo_check.specs.Pairs.{IsChanged, IsUnchanged, HasPair, AreCollected, DoesCollect, AreInRange, is_same_pair}
-use Rattle.topo_check.specs.Kinds.{IsCopy, IsSteadyCopy, AreKindsOf, AreMembersOf, ArePairsOfKinds, IsFoundOf}
-use Rattle.topo_check.specs.Kinds.{members_at, at, of_firsts}
+use Rattle.topo_check.specs.InsidePairs.{IsChanged, IsUnchanged, HasPair, AreCollected, DoesCollect, AreInRange}
+use Rattle.topo_check.specs.InsidePairs.{is_same_pair}
+use Rattle.topo_check.specs.InsideKinds.{IsCopy, IsSteadyCopy, AreKindsOf, AreMembersOf, ArePairsOfKinds, IsFoundOf}
+use Rattle.topo_check.specs.InsideKinds.{members_at, at, of_firsts}
 use Rattle.topo_check.proofs.Collects.{same_numbers}
 use Rattle.topo_check.proofs.Sorts.{same_pair, no_pair}
 use Rattle.topo_check.proofs.PieceCopies.{copy_itself, copies_had, copies_have, had_exchanged, has_exchanged}

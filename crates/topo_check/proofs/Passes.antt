@@ -15,11 +15,12 @@ use Rattle.tin_base.specs.declared.frames.Frame.TheVariants.{Source, Target}
 use Rattle.tin_base.specs.declared.pieces.Piece.{Piece}
 use Rattle.tin_base.specs.declared.relations.Rel.TheVariants.{Apart}
 use Rattle.tin_base.specs.Triangulation.{Triangulation}
-use Rattle.topo_check.specs.Boxes.{AreBoxesOf, IsExactBox, IsRoundedBox, rounded_box_of}
+use Rattle.topo_check.specs.InsideBoxes.{AreBoxesOf, IsExactBox, IsRoundedBox, rounded_box_of}
 use Rattle.topo_check.specs.Changes.{piece_at}
 use Rattle.topo_check.specs.declared.comparing.ChangedPair.{ChangedPair}
-use Rattle.topo_check.specs.Pairs.{IsChanged, IsUnchanged, HasPair, AreCollected, DoesCollect, IsComparedIn, IsPairOf}
-use Rattle.topo_check.specs.Pairs.{IsPairWith, DoShareIn}
+use Rattle.topo_check.specs.InsidePairs.{IsChanged, IsUnchanged, HasPair, AreCollected, DoesCollect, IsComparedIn}
+use Rattle.topo_check.specs.InsidePairs.{IsPairOf}
+use Rattle.topo_check.specs.InsidePairs.{IsPairWith, DoShareIn}
 use Rattle.topo_check.proofs.Collects.{collect_more, collect_as, collect_none, collect_one}
 use Rattle.plane_base.proofs.BoxLemmas.{apart_or_not}
 use Rattle.topo_check.proofs.InBoxes.{far_had, far_has, rounded_boxed}

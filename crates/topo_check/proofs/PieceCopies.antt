@@ -14,10 +14,10 @@ use Rattle.tin_base.specs.Pieces.{IsPieceOf, first_point, last_point}
 use Rattle.tin_base.specs.Relations.{IsAnEnd, HaveRelation}
 use Rattle.tin_base.proofs.Ends.{mirrored, mirror_later}
 use Rattle.meet_rel.proofs.Alike.{alike, first_turned}
-use Rattle.meet_rel.proofs.Ending.{same_or_different, different_not}
+use Rattle.meet_rel.proofs.ClipEnds.{same_or_different, different_not}
 use Rattle.meet_rel.proofs.Ways.{AreDifferent}
 use Rattle.topo_check.specs.Changes.{HadRelation, HasRelation}
-use Rattle.topo_check.specs.Kinds.{IsCopy, IsAsOrTurned}
+use Rattle.topo_check.specs.InsideKinds.{IsCopy, IsAsOrTurned}
 
 -- ---- the part of a segment from its other end
 axis : (k x l y : ℤ) → k *ℤ x +ℤ (l *ℤ y +ℤ pos 0) ≡ l *ℤ y +ℤ (k *ℤ x +ℤ pos 0)

@@ -17,7 +17,7 @@ use Rattle.plane_base.proofs.Turns.{turn_swap}
 use Rattle.plane_base.proofs.Mixes.{same_refl, same_sym, same_trans, mix_moved, mixes_mix, mix_swapped}
 use Rattle.plane_base.proofs.InTriangle.{turns_of_mix, mix_of_turns}
 use Rattle.plane_base.proofs.Intervals.{segments_meet_in_intervals}
-use Rattle.plane_base.proofs.Meeting.{mix_of_side, in_or_out}
+use Rattle.plane_base.proofs.CommonPoints.{mix_of_side, in_or_out}
 use Rattle.plane_base.proofs.Parameters.{segments_have_parameters}
 use Rattle.tin_base.specs.declared.relations.Rel.{Rel}
 use Rattle.tin_base.specs.declared.relations.Rel.TheVariants.{Apart, Touching, Crossing, Overlapping}

@@ -10,8 +10,9 @@ use Rattle.tin_base.specs.declared.pieces.Piece.{Piece}
 use Rattle.tin_base.specs.declared.relations.Rel.TheVariants.{Apart}
 use Rattle.tin_base.specs.Triangulation.{Triangulation}
 use Rattle.topo_check.specs.declared.comparing.ChangedPair.{ChangedPair}
-use Rattle.topo_check.specs.Pairs.{DoesCollect, IsPairWith, is_same_pair, AreDifferent}
-use Rattle.topo_check.specs.Kinds.{IsPairAcross, members_at, AreSortsOf, ArePairsOfKinds, IsPairOfKinds, IsFoundOf}
+use Rattle.topo_check.specs.InsidePairs.{DoesCollect, IsPairWith, is_same_pair, AreDifferent}
+use Rattle.topo_check.specs.InsideKinds.{IsPairAcross, members_at, AreSortsOf, ArePairsOfKinds, IsPairOfKinds}
+use Rattle.topo_check.specs.InsideKinds.{IsFoundOf}
 use Rattle.topo_check.proofs.Collects.{collect_more, collect_as, collect_none}
 use Rattle.topo_check.proofs.Passes.{IsOneOf, one_place}
 

@@ -16,7 +16,7 @@ use Rattle.meet_rel.specs.Near.{AreNear}
 use Rattle.topo_check.specs.Changes.{piece_at, no_piece}
 use Rattle.topo_check.proofs.Cases.{below_or_not}
 use Rattle.topo_check.proofs.InBoxes.{rounded_boxed}
-use Rattle.topo_check.specs.Boxes.{IsAround, IsAmongCorners, IsExactBox, IsRoundedBox, AreBoxesOf}
+use Rattle.topo_check.specs.InsideBoxes.{IsAround, IsAmongCorners, IsExactBox, IsRoundedBox, AreBoxesOf}
 
 -- ---- one number
 up_to : (s c d : ℤ) → (c -ℤ d) <ℤ s → c ≤ℤ (d +ℤ (s -ℤ pos 1))

@@ -20,10 +20,10 @@ use Rattle.tin_base.specs.Segments.{Part}
 use Rattle.tin_base.specs.Relations.{IsBetween}
 use Rattle.tin_base.specs.Pieces.{IsPieceOf, IsPieceInside, first_point, last_point}
 use Rattle.meet_rel.specs.Clips.{at}
-use Rattle.meet_rel.proofs.Ending.{has_ends}
+use Rattle.meet_rel.proofs.ClipEnds.{has_ends}
 use Rattle.meet_rel.proofs.Scale.{mix_first}
 use Rattle.meet_rel.proofs.Ways.{at-w}
-use Rattle.topo_check.specs.Boxes.{IsExactBox, IsUpToPlace, IsFromPlace}
+use Rattle.topo_check.specs.InsideBoxes.{IsExactBox, IsUpToPlace, IsFromPlace}
 use Rattle.topo_check.proofs.InBoxes.{among_within}
 
 -- ---- a share of a way

@@ -5,7 +5,7 @@ ghost use Rattle.plane_base.specs.Plane.{IsNear};
 ghost use Rattle.plane_base.specs.Slices.{IsParam};
 ghost use Rattle.tin_base.specs.Pieces.{IsPieceInside};
 ghost use Rattle.meet_rel.specs.Clips.{at};
-ghost use Rattle.topo_check.specs.Boxes.{IsExactBox, IsRoundedBox};
+ghost use Rattle.topo_check.specs.InsideBoxes.{IsExactBox, IsRoundedBox};
 
 use crate::shares::{high_at, low_at, share_of};
 use meet_rel::{Span, piece_span};

@@ -3,7 +3,7 @@ ghost use Rattle.std.specs.Prelude.{◌≡◌, ◌≢◌, ◌≤◌, ℕ, ◌<�
 ghost use Rattle.std.specs.List.{IsDistinct};
 ghost use Rattle.topo_check.specs.declared.limits.TheConstants.{MOST_COMPARED};
 ghost use Rattle.topo_check.specs.Changes.{AreAllComparable};
-ghost use Rattle.topo_check.specs.Pairs.{DoesCollect, AreCollected, IsPairOf, IsPairWith, DoShareIn};
+ghost use Rattle.topo_check.specs.InsidePairs.{DoesCollect, AreCollected, IsPairOf, IsPairWith, DoShareIn};
 
 use crate::comparing::{ChangedPair, changed_pair};
 use crate::grids::{exact_grid, rounded_grid};

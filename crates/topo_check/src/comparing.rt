@@ -2,7 +2,7 @@
 ghost use Rattle.std.specs.Prelude.{◌≡◌, ◌↔◌, ◌<◌, length, IfSome, IfNone, IsTrue};
 ghost use Rattle.tin_base.specs.declared.relations.Rel.{Rel};
 ghost use Rattle.topo_check.specs.Changes.{AreAllComparable};
-ghost use Rattle.topo_check.specs.Pairs.{AreComparedIn, IsComparedIn, IsChanged, IsUnchanged};
+ghost use Rattle.topo_check.specs.InsidePairs.{AreComparedIn, IsComparedIn, IsChanged, IsUnchanged};
 
 use crate::boxes::rounded_box;
 use meet_rel::{piece_rel, rel};

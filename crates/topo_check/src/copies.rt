@@ -4,7 +4,7 @@ ghost use Rattle.meet_rel.specs.Near.{AreNear};
 ghost use Rattle.tin_base.specs.Pieces.{IsPieceInside};
 ghost use Rattle.topo_check.specs.declared.limits.TheConstants.{MOST_COMPARED};
 ghost use Rattle.topo_check.specs.Changes.{AreAllComparable, IsChangeOf, piece_at};
-ghost use Rattle.topo_check.specs.Kinds.{IsAsOrTurned, AreSameOrTurned, IsSteadyCopy, at};
+ghost use Rattle.topo_check.specs.InsideKinds.{IsAsOrTurned, AreSameOrTurned, IsSteadyCopy, at};
 
 use crate::kinds::Seat;
 use meet_rel::{piece_rel, rel};

@@ -4,7 +4,7 @@ ghost use Rattle.tin_base.specs.Pieces.{IsPieceInside};
 ghost use Rattle.meet_rel.specs.Near.{AreNear};
 ghost use Rattle.topo_check.specs.declared.limits.TheConstants.{MOST_COMPARED};
 ghost use Rattle.topo_check.specs.Changes.{piece_at};
-ghost use Rattle.topo_check.specs.Boxes.{AreBoxesOf, IsExactBox, IsRoundedBox};
+ghost use Rattle.topo_check.specs.InsideBoxes.{AreBoxesOf, IsExactBox, IsRoundedBox};
 
 use crate::boxes::{exact_box, outer_box, rounded_box};
 use crate::limits::FEW_PIECES;

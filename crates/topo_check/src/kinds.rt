@@ -3,7 +3,7 @@ ghost use Rattle.std.specs.Prelude.{◌≡◌, ◌<◌, ◌≤◌, ◌+◌, ◌+
 ghost use Rattle.topo_check.specs.declared.limits.TheConstants.{MOST_COMPARED};
 ghost use Rattle.topo_check.specs.declared.kinds.TheConstants.{WINDOW};
 ghost use Rattle.topo_check.specs.Changes.{AreAllComparable};
-ghost use Rattle.topo_check.specs.Kinds.{AreKindsOf};
+ghost use Rattle.topo_check.specs.InsideKinds.{AreKindsOf};
 
 use crate::copies::kind_among;
 use crate::marks::{mark, seed_of, tag_of};

@@ -2,8 +2,8 @@
 ghost use Rattle.std.specs.Prelude.{◌≡◌, ◌<◌, ◌≤◌, ℕ, IfOk, length, map};
 ghost use Rattle.topo_check.specs.declared.limits.TheConstants.{MOST_COMPARED};
 ghost use Rattle.topo_check.specs.Changes.{AreAllComparable, piece_at};
-ghost use Rattle.topo_check.specs.Kinds.{AreKindsOf, at, of_firsts};
-ghost use Rattle.topo_check.specs.Pairs.{AreCollected, AreInRange};
+ghost use Rattle.topo_check.specs.InsideKinds.{AreKindsOf, at, of_firsts};
+ghost use Rattle.topo_check.specs.InsidePairs.{AreCollected, AreInRange};
 
 use crate::collecting::changed_pairs;
 use crate::comparing::ChangedPair;

@@ -3,7 +3,7 @@ ghost use Rattle.std.specs.Prelude.{◌≡◌, ◌<◌, ◌≤◌, map, All, IfO
 ghost use Rattle.std.specs.List.Sorted.{IsPermutation};
 ghost use Rattle.topo_check.specs.declared.limits.TheConstants.{MOST_COMPARED};
 ghost use Rattle.topo_check.specs.Changes.{AreAllComparable, AreChanges, HasMoreThan};
-ghost use Rattle.topo_check.specs.Pairs.{AreDifferent, AreAscending, AreInRange, change_of};
+ghost use Rattle.topo_check.specs.InsidePairs.{AreDifferent, AreAscending, AreInRange, change_of};
 ghost use Rattle.topo_check.specs.declared.faults.ChangesFault.TheVariants.{TooMany};
 
 use crate::ChangesFault;

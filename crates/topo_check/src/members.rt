@@ -3,8 +3,9 @@ ghost use Rattle.std.specs.Prelude.{◌≡◌, ◌≢◌, ◌<◌, ◌≤◌, �
 ghost use Rattle.std.specs.List.{IsDistinct};
 ghost use Rattle.topo_check.specs.declared.limits.TheConstants.{MOST_COMPARED};
 ghost use Rattle.topo_check.specs.Changes.{AreAllComparable};
-ghost use Rattle.topo_check.specs.Kinds.{AreMembersOf, AreSortsOf, ArePairsOfKinds, IsPairAcross, IsFoundOf, numbered};
-ghost use Rattle.topo_check.specs.Pairs.{DoesCollect};
+ghost use Rattle.topo_check.specs.InsideKinds.{AreMembersOf, AreSortsOf, ArePairsOfKinds, IsPairAcross, IsFoundOf};
+ghost use Rattle.topo_check.specs.InsideKinds.{numbered};
+ghost use Rattle.topo_check.specs.InsidePairs.{DoesCollect};
 
 use crate::collecting::collect_with;
 use crate::comparing::ChangedPair;

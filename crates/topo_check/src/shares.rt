@@ -5,8 +5,8 @@ ghost use Rattle.frac128.specs.declared.frac.Frac.{Frac};
 ghost use Rattle.plane_base.specs.Plane.{IsShort};
 ghost use Rattle.plane_base.specs.Slices.{IsParam};
 ghost use Rattle.topo_check.specs.declared.parts.TheConstants.{PARTS};
-ghost use Rattle.topo_check.specs.Boxes.{IsUpToPlace, IsFromPlace};
-ghost use Rattle.topo_check.specs.Shares.{IsShareOf};
+ghost use Rattle.topo_check.specs.InsideBoxes.{IsUpToPlace, IsFromPlace};
+ghost use Rattle.topo_check.specs.InsideShares.{IsShareOf};
 
 use crate::parts::{PARTS, Share};
 use frac128::Frac;

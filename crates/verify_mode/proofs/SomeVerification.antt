@@ -18,16 +18,17 @@ use Rattle.runs.specs.declared.loads.TheConstants.{MOST_BYTES, MOST_VERIFIED}
 use Rattle.runs.specs.declared.status.Status.{Status}
 use Rattle.runs.specs.declared.status.Status.TheVariants.{Same}
 use Rattle.runs.specs.declared.refusal.Refusal.{Refusal}
-use Rattle.runs.specs.declared.refusal.Refusal.TheVariants.{TinUnread, TinLong, Tin, Check, LayerUnread, LayersLong}
+use Rattle.runs.specs.declared.refusal.Refusal.TheVariants.{LayerUnread, LayersLong}
 use Rattle.runs.specs.declared.refusal.Refusal.TheVariants.{Layer, WrittenUnread, WrittenLong, CertUnread, CertLong}
 use Rattle.runs.specs.declared.refusal.Refusal.TheVariants.{Certificate}
-use Rattle.runs.specs.Triangulations.{directed, IsTinRefused}
+use Rattle.runs.specs.Triangulations.{directed}
 use Rattle.runs.specs.Laws.{IsTinEnd, TinEndExists}
 use Rattle.runs.proofs.OneTin.{sound_of, sound_way}
 use Rattle.verify_mode.specs.declared.verifications.Verification.{Verification}
 use Rattle.verify_mode.specs.Files.{HasWay, IsFileWithin, IsWrittenReached, IsCertReached}
-use Rattle.verify_mode.specs.Verifications.{IsAtHand, IsVerificationRefused, certified_text}
+use Rattle.verify_mode.specs.Verifications.{IsAtHand, certified_text}
 use Rattle.verify_mode.specs.Laws.{IsVerificationEnd, VerificationExists}
+use Rattle.verify_mode.proofs.VerificationSteps.{of_tin}
 
 -- the check of a certificate of each format ends
 abbrev pub EndsExist : Type 0
@@ -58,14 +59,6 @@ file_or files name most E none long within = by (bytes_of files name) refl
     by : (found : Option (List ℕ)) → bytes_of files name ≡ found → E
     by None is = none is
     by (Some bytes) is = by_length bytes is (cases_lt most (length bytes))
-
-tin_refusal : (files : Files) (verification : Verification) (refusal : Refusal)
-    → IsTinRefused files verification.how verification.tin refusal → IsVerificationRefused files verification refusal
-tin_refusal files verification TinUnread is = is
-tin_refusal files verification TinLong is = is
-tin_refusal files verification (Tin fault) is = is
-tin_refusal files verification (Check fault) is = is
-tin_refusal files verification refusal is = absurd is
 
 -- all three files are at hand
 compared : (files : Files) (verification : Verification) (tin : Triangulation) (format : Format)
@@ -205,7 +198,7 @@ module _ (ends : EndsExist) (files : Files) (verification : Verification) where
 
   by_tin : HasFormat verification.source → (end : Result Triangulation Refusal)
       → IsTinEnd files verification.how verification.tin end → HasEnd files verification
-  by_tin has (Err refusal) is = (Err refusal, tin_refusal files verification refusal is)
+  by_tin has (Err refusal) is = (Err refusal, of_tin files verification refusal is)
   by_tin has (Ok stood) is =
       by_format (directed verification.inverse stood) (stood, is, refl)
       (sound_way verification.inverse stood (sound_of files verification.how verification.tin stood is))

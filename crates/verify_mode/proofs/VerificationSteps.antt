@@ -1,8 +1,7 @@
 -- What is so of a verification after each of its steps.
-use Rattle.std.proofs.Common.{◌≡◌, ◌≢◌, ◌⊎◌, inl, inr, ℕ, ◌+◌, ◌≤◌, length, List, [], ◌∷◌, Option}
-use Rattle.std.proofs.Common.{None, Some, IfSome, refl, sym, ◌∙◌, ap, ap₂, subst, arith, map, ◌++◌}
+use Rattle.std.proofs.Common.{◌≡◌, ◌≢◌, ◌⊎◌, inl, inr, ℕ, ◌≤◌, length, List, [], ◌∷◌, Option}
+use Rattle.std.proofs.Common.{None, Some, IfSome, refl, sym, ◌∙◌, ap, ap₂, subst, map, ◌++◌}
 use Rattle.std.specs.Prelude.{codes}
-use Rattle.shelf_io.specs.Count.{counted}
 use Rattle.shelf_io.specs.Files.{Files, bytes_of}
 use Rattle.shelf_io.specs.Load.{Loads, LacksName, IsLonger}
 use Rattle.sheet_base.specs.declared.edits.Edit.{Edit}
@@ -45,8 +44,15 @@ use Rattle.verify_mode.specs.Verifications.{IsStoppedBy, IsVerificationRefused, 
 use Rattle.verify_mode.specs.Verifications.{certified_text, IsVerified, IsVerificationWritten, IsEndOfVerification}
 
 -- ---- the causes that are known of a refusal
-module _ (lacks rose passed : Type 0) (refusal : Refusal) where
-  read_causes : status_of refusal ≡ ReadStatus → rose ⊎ lacks → HasCauses lacks IsEndOfVerification rose passed refusal
+-- what is passed where a file has too many bytes: `verified` by a written layer and by a certificate
+abbrev passed_of : Type 0 → Type 0 → Refusal → Type 0
+passed_of passed verified WrittenLong = verified
+passed_of passed verified CertLong = verified
+passed_of passed verified refusal = passed
+
+module _ (lacks rose passed verified : Type 0) (refusal : Refusal) where
+  read_causes : status_of refusal ≡ ReadStatus → rose ⊎ lacks
+      → HasCauses lacks IsEndOfVerification rose passed verified refusal
   read_causes is why = record {
     understood = λ e. let f = sym is ∙ e in cc;
     read = λ e. why;
@@ -57,21 +63,22 @@ module _ (lacks rose passed : Type 0) (refusal : Refusal) where
     may_end = subst IsEndOfVerification (sym is) tt;
   }
 
-  limit_causes : status_of refusal ≡ LimitStatus → passed → HasCauses lacks IsEndOfVerification rose passed refusal
+  limit_causes : status_of refusal ≡ LimitStatus → passed_of passed verified refusal
+      → HasCauses lacks IsEndOfVerification rose passed verified refusal
   limit_causes is many = record {
     understood = λ e. let f = sym is ∙ e in cc;
     read = λ e. let f = sym is ∙ e in cc;
-    tin_long = λ e. many;
-    layers_long = λ e. many;
-    written_long = λ e. many;
-    cert_long = λ e. many;
+    tin_long = λ e. subst (λ (r : Refusal). passed_of passed verified r) e many;
+    layers_long = λ e. subst (λ (r : Refusal). passed_of passed verified r) e many;
+    written_long = λ e. subst (λ (r : Refusal). passed_of passed verified r) e many;
+    cert_long = λ e. subst (λ (r : Refusal). passed_of passed verified r) e many;
     may_end = subst IsEndOfVerification (sym is) tt;
   }
 
   -- of the other statuses
   pub other_causes : (status : Status) → status_of refusal ≡ status → status ≢ WordsStatus → status ≢ ReadStatus
       → status ≢ LimitStatus → IsEndOfVerification status
-      → HasCauses lacks IsEndOfVerification rose passed refusal
+      → HasCauses lacks IsEndOfVerification rose passed verified refusal
   other_causes status is words read limit may_end = record {
     understood = λ e. words (sym is ∙ e);
     read = λ e. absurd (read (sym is ∙ e));
@@ -82,34 +89,35 @@ module _ (lacks rose passed : Type 0) (refusal : Refusal) where
     may_end = subst IsEndOfVerification (sym is) may_end;
   }
 
-  memory_causes : status_of refusal ≡ Memory → HasCauses lacks IsEndOfVerification rose passed refusal
+  memory_causes : status_of refusal ≡ Memory → HasCauses lacks IsEndOfVerification rose passed verified refusal
   memory_causes is = other_causes Memory is (λ e. cc) (λ e. cc) (λ e. cc) tt
 
   unloaded_causes : (told : Option Files) (name : List ℕ) (most : ℕ) (absent long : Refusal)
       → status_of absent ≡ ReadStatus → status_of long ≡ LimitStatus → (LacksName told name → lacks)
-      → IsUnloaded told name most absent long rose passed refusal
-      → HasCauses lacks IsEndOfVerification rose passed refusal
+      → IsUnloaded told name most absent long rose (passed_of passed verified long) refusal
+      → HasCauses lacks IsEndOfVerification rose passed verified refusal
   unloaded_causes told name most absent long reads limits wants (missing is none) =
       read_causes (ap status_of is ∙ reads) (inr (wants none))
   unloaded_causes told name most absent long reads limits wants (read_failed is rises) =
       read_causes (ap status_of is ∙ reads) (inl rises)
   unloaded_causes told name most absent long reads limits wants (too_long is over many) =
-      limit_causes (ap status_of is ∙ limits) many
+      limit_causes (ap status_of is ∙ limits) (subst (λ (r : Refusal). passed_of passed verified r) (sym is) many)
   unloaded_causes told name most absent long reads limits wants (no_memory is) = memory_causes (ap status_of is)
 
 -- of the files
-pub files_causes : (told : Option Files) (verification : Verification) (rose passed : Type 0) (refusal : Refusal)
-    → AreUnloaded told verification rose passed refusal
-    → HasCauses (LacksWanted verification told) IsEndOfVerification rose passed refusal
-files_causes told verification rose passed refusal (no_source is) =
-    unloaded_causes (LacksWanted verification told) rose passed refusal told verification.source MOST_BYTES
+pub files_causes : (told : Option Files) (verification : Verification) (rose passed verified : Type 0)
+    (refusal : Refusal)
+    → AreUnloaded told verification rose passed verified refusal
+    → HasCauses (LacksWanted verification told) IsEndOfVerification rose passed verified refusal
+files_causes told verification rose passed verified refusal (no_source is) =
+    unloaded_causes (LacksWanted verification told) rose passed verified refusal told verification.source MOST_BYTES
     (LayerUnread 0) LayersLong refl refl (λ none. inr (inl none)) is
-files_causes told verification rose passed refusal (no_written source has is) =
-    unloaded_causes (LacksWanted verification told) rose passed refusal told verification.written MOST_VERIFIED
+files_causes told verification rose passed verified refusal (no_written source has is) =
+    unloaded_causes (LacksWanted verification told) rose passed verified refusal told verification.written MOST_VERIFIED
     WrittenUnread WrittenLong refl refl (λ none. inr (inr (inl none))) is
-files_causes told verification rose passed refusal (no_cert source has written also is) =
-    unloaded_causes (LacksWanted verification told) rose passed refusal told verification.cert MOST_VERIFIED CertUnread
-    CertLong refl refl (λ none. inr (inr (inr none))) is
+files_causes told verification rose passed verified refusal (no_cert source has written also is) =
+    unloaded_causes (LacksWanted verification told) rose passed verified refusal told verification.cert MOST_VERIFIED
+    CertUnread CertLong refl refl (λ none. inr (inr (inr none))) is
 
 -- of the triangulation
 tin_understood : (status : Status) → IsOfTin status → status ≢ WordsStatus
@@ -122,9 +130,9 @@ tin_end status (tin_refused_so is) = rw is tt
 tin_end status (tin_limited is) = rw is tt
 tin_end status (tin_wanted is) = rw is tt
 
-text_causes : (lacks rose passed : Type 0) (how : How) (text : List ℕ) (refusal : Refusal)
-    → IsTextRefused how text refusal → HasCauses lacks IsEndOfVerification rose passed refusal
-text_causes lacks rose passed how text (Tin fault) why = record {
+text_causes : (lacks rose passed verified : Type 0) (how : How) (text : List ℕ) (refusal : Refusal)
+    → IsTextRefused how text refusal → HasCauses lacks IsEndOfVerification rose passed verified refusal
+text_causes lacks rose passed verified how text (Tin fault) why = record {
   understood = tin_understood (status_of (Tin fault)) (of_text fault);
   read = λ e. absurd (not_read (status_of (Tin fault)) (of_text fault) e);
   tin_long = λ e. cc;
@@ -133,7 +141,7 @@ text_causes lacks rose passed how text (Tin fault) why = record {
   cert_long = λ e. cc;
   may_end = tin_end (status_of (Tin fault)) (of_text fault);
 }
-text_causes lacks rose passed how text (Check fault) why = record {
+text_causes lacks rose passed verified how text (Check fault) why = record {
   understood = tin_understood (status_of (Check fault)) (of_check fault);
   read = λ e. absurd (not_read (status_of (Check fault)) (of_check fault) e);
   tin_long = λ e. cc;
@@ -142,55 +150,57 @@ text_causes lacks rose passed how text (Check fault) why = record {
   cert_long = λ e. cc;
   may_end = tin_end (status_of (Check fault)) (of_check fault);
 }
-text_causes lacks rose passed how text NoMemory why = memory_causes lacks rose passed NoMemory refl
-text_causes lacks rose passed how text refusal why = absurd why
+text_causes lacks rose passed verified how text NoMemory why = memory_causes lacks rose passed verified NoMemory refl
+text_causes lacks rose passed verified how text refusal why = absurd why
 
-pub tin_causes : (told : Option Files) (verification : Verification) (rose passed : Type 0) (refusal : Refusal)
+pub tin_causes : (told : Option Files) (verification : Verification) (rose passed verified : Type 0) (refusal : Refusal)
     → IsTinUnready told verification.how verification.tin rose passed refusal
-    → HasCauses (LacksWanted verification told) IsEndOfVerification rose passed refusal
-tin_causes told verification rose passed refusal (not_loaded is) =
-    unloaded_causes (LacksWanted verification told) rose passed refusal told verification.tin MOST_BYTES TinUnread
-    TinLong refl refl (λ none. inl none) is
-tin_causes told verification rose passed refusal (no_tin text file why) =
-    text_causes (LacksWanted verification told) rose passed verification.how text refusal why
+    → HasCauses (LacksWanted verification told) IsEndOfVerification rose passed verified refusal
+tin_causes told verification rose passed verified refusal (not_loaded is) =
+    unloaded_causes (LacksWanted verification told) rose passed verified refusal told verification.tin MOST_BYTES
+    TinUnread TinLong refl refl (λ none. inl none) is
+tin_causes told verification rose passed verified refusal (no_tin text file why) =
+    text_causes (LacksWanted verification told) rose passed verified verification.how text refusal why
 
 -- of the source and the certificate
-layer_causes : (lacks rose passed : Type 0) (layer : ℕ) (fault : LayerFault)
-    → HasCauses lacks IsEndOfVerification rose passed (Layer layer fault)
-layer_causes lacks rose passed layer fault =
+layer_causes : (lacks rose passed verified : Type 0) (layer : ℕ) (fault : LayerFault)
+    → HasCauses lacks IsEndOfVerification rose passed verified (Layer layer fault)
+layer_causes lacks rose passed verified layer fault =
     elim (of_layer fault) [
-      | unread_layer is ↦ other_causes lacks rose passed (Layer layer fault) LayerStatus is (λ e. cc) (λ e. cc)
+      | unread_layer is ↦ other_causes lacks rose passed verified (Layer layer fault) LayerStatus is (λ e. cc) (λ e. cc)
           (λ e. cc) tt
-      | layer_without_room is ↦ memory_causes lacks rose passed (Layer layer fault) is
+      | layer_without_room is ↦ memory_causes lacks rose passed verified (Layer layer fault) is
     ]
 
-uncertified : (lacks rose passed : Type 0) (refusal : Refusal) → status_of refusal ≡ Uncertified
-    → HasCauses lacks IsEndOfVerification rose passed refusal
-uncertified lacks rose passed refusal is =
-    other_causes lacks rose passed refusal Uncertified is (λ e. cc) (λ e. cc) (λ e. cc) tt
+uncertified : (lacks rose passed verified : Type 0) (refusal : Refusal) → status_of refusal ≡ Uncertified
+    → HasCauses lacks IsEndOfVerification rose passed verified refusal
+uncertified lacks rose passed verified refusal is =
+    other_causes lacks rose passed verified refusal Uncertified is (λ e. cc) (λ e. cc) (λ e. cc) tt
 
-cert_fault_causes : (lacks rose passed : Type 0) (fault : CertFault) → IsOfCertificate fault
-    → HasCauses lacks IsEndOfVerification rose passed (Certificate fault)
-cert_fault_causes lacks rose passed (certs.Layer fault) of = absurd of
-cert_fault_causes lacks rose passed (certs.Form line) of =
-    uncertified lacks rose passed (Certificate (certs.Form line)) refl
-cert_fault_causes lacks rose passed (certs.Count segments lines) of =
-    uncertified lacks rose passed (Certificate (certs.Count segments lines)) refl
-cert_fault_causes lacks rose passed (certs.Segment path segment) of =
-    uncertified lacks rose passed (Certificate (certs.Segment path segment)) refl
-cert_fault_causes lacks rose passed (certs.Differs at) of =
-    uncertified lacks rose passed (Certificate (certs.Differs at)) refl
-cert_fault_causes lacks rose passed certs.NoMemory of = absurd of
+cert_fault_causes : (lacks rose passed verified : Type 0) (fault : CertFault) → IsOfCertificate fault
+    → HasCauses lacks IsEndOfVerification rose passed verified (Certificate fault)
+cert_fault_causes lacks rose passed verified (certs.Layer fault) of = absurd of
+cert_fault_causes lacks rose passed verified (certs.Form line) of =
+    uncertified lacks rose passed verified (Certificate (certs.Form line)) refl
+cert_fault_causes lacks rose passed verified (certs.Count segments lines) of =
+    uncertified lacks rose passed verified (Certificate (certs.Count segments lines)) refl
+cert_fault_causes lacks rose passed verified (certs.Segment path segment) of =
+    uncertified lacks rose passed verified (Certificate (certs.Segment path segment)) refl
+cert_fault_causes lacks rose passed verified (certs.Differs at) of =
+    uncertified lacks rose passed verified (Certificate (certs.Differs at)) refl
+cert_fault_causes lacks rose passed verified certs.NoMemory of = absurd of
 
 module _ (tin : Triangulation) (source written : List ℕ) (reads : Contents → Type 0) (refuses : LayerFault → Type 0)
     (text : Contents → Runs → Edit → List ℕ) (cert : List ℕ) where
-  pub uncertified_causes : (lacks rose passed : Type 0) (refusal : Refusal)
+  pub uncertified_causes : (lacks rose passed verified : Type 0) (refusal : Refusal)
       → IsUncertifiedAs tin source written reads refuses text cert refusal
-      → HasCauses lacks IsEndOfVerification rose passed refusal
-  uncertified_causes lacks rose passed (Layer layer fault) why = layer_causes lacks rose passed layer fault
-  uncertified_causes lacks rose passed (Certificate fault) why = cert_fault_causes lacks rose passed fault why.0
-  uncertified_causes lacks rose passed NoMemory why = memory_causes lacks rose passed NoMemory refl
-  uncertified_causes lacks rose passed refusal why = absurd why
+      → HasCauses lacks IsEndOfVerification rose passed verified refusal
+  uncertified_causes lacks rose passed verified (Layer layer fault) why =
+      layer_causes lacks rose passed verified layer fault
+  uncertified_causes lacks rose passed verified (Certificate fault) why =
+      cert_fault_causes lacks rose passed verified fault why.0
+  uncertified_causes lacks rose passed verified NoMemory why = memory_causes lacks rose passed verified NoMemory refl
+  uncertified_causes lacks rose passed verified refusal why = absurd why
 
   -- the refusal of a fault
   pub uncertified_as : (fault : CertFault) → IsCertCause tin source written reads refuses text cert fault
@@ -207,22 +217,23 @@ rose_more : (rose_here rose lacks : Type 0) → (rose_here → rose) → rose_he
 rose_more rose_here rose lacks rises (inl now) = inl (rises now)
 rose_more rose_here rose lacks rises (inr none) = inr none
 
-pub causes_more : (lacks rose_here rose passed_here passed : Type 0) (refusal : Refusal) → (rose_here → rose)
-    → (passed_here → passed) → HasCauses lacks IsEndOfVerification rose_here passed_here refusal
-    → HasCauses lacks IsEndOfVerification rose passed refusal
-causes_more lacks rose_here rose passed_here passed refusal rises more has = record {
+pub causes_more : (lacks rose_here rose passed_here passed verified_here verified : Type 0) (refusal : Refusal)
+    → (rose_here → rose) → (passed_here → passed) → (verified_here → verified)
+    → HasCauses lacks IsEndOfVerification rose_here passed_here verified_here refusal
+    → HasCauses lacks IsEndOfVerification rose passed verified refusal
+causes_more lacks rose_here rose passed_here passed verified_here verified refusal rises more most has = record {
   understood = has.understood;
   read = λ e. rose_more rose_here rose lacks rises (has.read e);
   tin_long = λ e. more (has.tin_long e);
   layers_long = λ e. more (has.layers_long e);
-  written_long = λ e. more (has.written_long e);
-  cert_long = λ e. more (has.cert_long e);
+  written_long = λ e. most (has.written_long e);
+  cert_long = λ e. most (has.cert_long e);
   may_end = has.may_end;
 }
 
 -- ---- what refuses a verification
 -- its triangulation
-of_tin : (files : Files) (verification : Verification) (refusal : Refusal)
+pub of_tin : (files : Files) (verification : Verification) (refusal : Refusal)
     → IsTinRefused files verification.how verification.tin refusal → IsVerificationRefused files verification refusal
 of_tin files verification (Words fault) why = absurd why
 of_tin files verification TinUnread why = why
@@ -273,26 +284,27 @@ unloaded_refused files verification rose_here rose passed name most absent long 
     (no_memory is) = no_room (ap status_of is)
 
 pub files_refused : (told : Option Files) (verification : Verification) (tin : Triangulation)
-    (rose_here rose passed : Type 0) (refusal : Refusal) → IfSome told (λ files. HasWay files verification tin)
+    (rose_here rose passed verified : Type 0) (refusal : Refusal) → IfSome told (λ files. HasWay files verification tin)
     → (rose_here → rose)
-    → AreUnloaded told verification rose_here passed refusal
+    → AreUnloaded told verification rose_here passed verified refusal
     → IfSome told (λ files. MayRefuseVerification files verification rose refusal)
-files_refused None verification tin rose_here rose passed refusal way rises why = tt
-files_refused (Some files) verification tin rose_here rose passed refusal way rises (no_source is) =
+files_refused None verification tin rose_here rose passed verified refusal way rises why = tt
+files_refused (Some files) verification tin rose_here rose passed verified refusal way rises (no_source is) =
     unloaded_refused files verification rose_here rose passed verification.source MOST_BYTES (LayerUnread 0) LayersLong
     refusal rises (λ lacks. (refl, (tin, way), lacks)) (λ long. ((tin, way), long)) (refl, (tin, way)) is
-files_refused (Some files) verification tin rose_here rose passed refusal way rises (no_written source has is) =
+files_refused (Some files) verification tin rose_here rose passed verified refusal way rises
+    (no_written source has is) =
     let reached : IsWrittenReached files verification =
     record { reached = (tin, way); source = source; source_is = has } in
-    unloaded_refused files verification rose_here rose passed verification.written MOST_VERIFIED WrittenUnread
+    unloaded_refused files verification rose_here rose verified verification.written MOST_VERIFIED WrittenUnread
     WrittenLong refusal rises (λ lacks. (reached, lacks)) (λ long. (reached, long)) reached is
-files_refused (Some files) verification tin rose_here rose passed refusal way rises
+files_refused (Some files) verification tin rose_here rose passed verified refusal way rises
     (no_cert source has written also is) =
     let before : IsWrittenReached files verification =
     record { reached = (tin, way); source = source; source_is = has } in
     let reached : IsCertReached files verification =
     record { reached = before; written = written; written_is = also } in
-    unloaded_refused files verification rose_here rose passed verification.cert MOST_VERIFIED CertUnread CertLong
+    unloaded_refused files verification rose_here rose verified verification.cert MOST_VERIFIED CertUnread CertLong
     refusal rises (λ lacks. (reached, lacks)) (λ long. (reached, long)) reached is
 
 -- the source, or the certificate
@@ -377,11 +389,6 @@ output_verified told verification tin format source written cert output way suff
     certified is.1 (ap₂ (λ (layers : Files) (said : List ℕ). layers ++ (codes "-", said) ∷ []) is.0 is.2)
 
 -- ---- counts
--- what was handed out before counts too, and more than the greater number is more than the smaller
-pub passed_more : (start given few many after : ℕ) → start ≤ given → few ≤ many → counted given (many + 1) ≤ after
-    → counted start (few + 1) ≤ after
-passed_more start given few many after before less past = omega (arith, before, less, past)
-
 -- the same cause, where a fault here is one and so many bytes here are enough
 pub unloaded_more : (told : Option Files) (name : List ℕ) (most : ℕ) (absent long refusal : Refusal)
     (rose_here rose passed_here passed : Type 0) → (rose_here → rose) → (passed_here → passed)

@@ -50,18 +50,18 @@ pub record HaveTexts (files : Files) (verification : Verification) (source writt
   pub cert_is : IsFileWithin files verification.cert MOST_VERIFIED cert
 
 -- one of the three is not loaded, and those before it are
-pub data AreUnloaded (told : Option Files) (verification : Verification) (shelf_rose given_passed : Type 0)
-    (refusal : Refusal) : Type 0 where
+pub data AreUnloaded (told : Option Files) (verification : Verification)
+    (shelf_rose given_passed verified_passed : Type 0) (refusal : Refusal) : Type 0 where
   no_source : IsUnloaded told verification.source MOST_BYTES (LayerUnread 0) LayersLong shelf_rose given_passed refusal
-      → AreUnloaded told verification shelf_rose given_passed refusal
+      → AreUnloaded told verification shelf_rose given_passed verified_passed refusal
   no_written : (source : List ℕ) → IfSome told (λ files. IsFileWithin files verification.source MOST_BYTES source)
-      → IsUnloaded told verification.written MOST_VERIFIED WrittenUnread WrittenLong shelf_rose given_passed refusal
-      → AreUnloaded told verification shelf_rose given_passed refusal
+      → IsUnloaded told verification.written MOST_VERIFIED WrittenUnread WrittenLong shelf_rose verified_passed refusal
+      → AreUnloaded told verification shelf_rose given_passed verified_passed refusal
   no_cert : (source : List ℕ) → IfSome told (λ files. IsFileWithin files verification.source MOST_BYTES source)
       → (written : List ℕ)
       → IfSome told (λ files. IsFileWithin files verification.written MOST_VERIFIED written)
-      → IsUnloaded told verification.cert MOST_VERIFIED CertUnread CertLong shelf_rose given_passed refusal
-      → AreUnloaded told verification shelf_rose given_passed refusal
+      → IsUnloaded told verification.cert MOST_VERIFIED CertUnread CertLong shelf_rose verified_passed refusal
+      → AreUnloaded told verification shelf_rose given_passed verified_passed refusal
 
 -- a file that the verification wants is missing
 abbrev pub LacksWanted : Verification → Option Files → Type 0

@@ -30,7 +30,7 @@ pub fn load_texts<S: Shelf>(
     ensures ok { IfOk result (λ texts. IfSome (S.files shelf.old) (λ files. HaveTexts files verification.now texts.source.items texts.written.items texts.cert.items)) }
     ensures source { IfOk result (λ texts. vec_len texts.source ≤ MOST_BYTES) }
     ensures cert { IfOk result (λ texts. vec_len texts.cert ≤ MOST_VERIFIED) }
-    ensures refused { IfErr result (λ refusal. AreUnloaded (S.files shelf.old) verification.now (Rose (S.faults shelf.old) (S.faults shelf.new)) (counted (S.given shelf.old) (MOST_BYTES + 1) ≤ S.given shelf.new) refusal) }
+    ensures refused { IfErr result (λ refusal. AreUnloaded (S.files shelf.old) verification.now (Rose (S.faults shelf.old) (S.faults shelf.new)) (counted (S.given shelf.old) (MOST_BYTES + 1) ≤ S.given shelf.new) (counted (S.given shelf.old) (MOST_VERIFIED + 1) ≤ S.given shelf.new) refusal) }
     ensures given { S.given shelf.old ≤ S.given shelf.new }
     ensures faults { LeavesFaults (S.faults shelf.old) (S.faults shelf.new) result }
 {

@@ -2,7 +2,7 @@
 
 ghost use Rattle.std.specs.Prelude.{◌≡◌, ◌+◌, ◌≤◌, IfOk, IfErr, IfSome, false};
 ghost use Rattle.shelf_io.specs.Count.{Rose, counted};
-ghost use Rattle.runs.specs.declared.loads.TheConstants.{MOST_BYTES};
+ghost use Rattle.runs.specs.declared.loads.TheConstants.{MOST_BYTES, MOST_VERIFIED};
 ghost use Rattle.runs.specs.Status.{end_of};
 ghost use Rattle.runs.specs.Counts.{LeavesFaults};
 ghost use Rattle.runs.specs.Output.{files_of, HasForm};
@@ -63,7 +63,7 @@ pub fn prepare_verification<S: Shelf>(
     ensures unchanged { IfOk result (λ written. written.changed ≡ false) }
     ensures form { IfOk result (λ written. HasForm IsVerificationWritten written) }
     ensures refused { IfErr result (λ refusal. IfSome (S.files shelf.old) (λ files. MayRefuseVerification files verification.now (Rose (S.faults shelf.old) (S.faults shelf.new)) refusal)) }
-    ensures causes { IfErr result (λ refusal. HasCauses (LacksWanted verification.now (S.files shelf.old)) IsEndOfVerification (Rose (S.faults shelf.old) (S.faults shelf.new)) (counted (S.given shelf.old) (MOST_BYTES + 1) ≤ S.given shelf.new) refusal) }
+    ensures causes { IfErr result (λ refusal. HasCauses (LacksWanted verification.now (S.files shelf.old)) IsEndOfVerification (Rose (S.faults shelf.old) (S.faults shelf.new)) (counted (S.given shelf.old) (MOST_BYTES + 1) ≤ S.given shelf.new) (counted (S.given shelf.old) (MOST_VERIFIED + 1) ≤ S.given shelf.new) refusal) }
     ensures faults { LeavesFaults (S.faults shelf.old) (S.faults shelf.new) result }
 {
     let tin = load_directed(

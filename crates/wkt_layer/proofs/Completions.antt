@@ -8,9 +8,10 @@ use Rattle.wkt_layer.specs.Tokens.{Number, Token, word, number}
 use Rattle.wkt_layer.specs.Numbers.{Point, IsNumber, IsThird, IsPoint, position_of}
 use Rattle.wkt_layer.specs.Geometries.{dot, point, third_tokens, point_tokens, behind_item, ArePoints}
 use Rattle.wkt_layer.specs.Paths.{Path, path_of}
-use Rattle.wkt_layer.specs.States.{Spot, item, tagged, content, first, second, third, whole, bare_second, bare_third}
-use Rattle.wkt_layer.specs.States.{bare_whole, behind}
-use Rattle.wkt_layer.specs.States.{innermost, point_with, kind_of, content_of, is_raised}
+use Rattle.wkt_layer.specs.InsideStates.{Spot, item, tagged, content, first, second, third, whole, bare_second}
+use Rattle.wkt_layer.specs.InsideStates.{bare_third}
+use Rattle.wkt_layer.specs.InsideStates.{bare_whole, behind}
+use Rattle.wkt_layer.specs.InsideStates.{innermost, point_with, kind_of, content_of, is_raised}
 use Rattle.wkt_layer.proofs.Rests.{room, ItemOf, item_tokens, more_tokens, items_tokens, IsItem, item_paths}
 use Rattle.wkt_layer.proofs.Rests.{items_paths, no_items, GoOn, Closes, ClosesPoints, Enters, Rests}
 use Rattle.wkt_layer.specs.declared.words.Word.TheVariants.{Empty}
@@ -23,6 +24,7 @@ use Rattle.wkt_layer.specs.declared.places.Group.TheVariants as groups
 use Rattle.wkt_layer.specs.Geometries.{last_behind}
 use Rattle.wkt_layer.proofs.Items.{are_none, no_points}
 use Rattle.wkt_layer.proofs.Rings.{ring_closes_by}
+use Rattle.wkt_layer.proofs.SheetSoFar.{last_push}
 
 -- the points and the numbers that were read fit
 abbrev pub AreRead : Bool → Spot → Type 0
@@ -72,10 +74,6 @@ can_close exact (group ∷ outer) =
       (no_items group, rest, later, are_none exact (room (group ∷ outer)) group, refl, closes, refl),
     )
 
-last_at : (p : Point) (points : List Point) (q : Point) → last_behind p (points ++ q ∷ []) ≡ q
-last_at p [] q = refl
-last_at p (next ∷ points) q = last_at next points q
-
 -- points that close a path
 abbrev CanGoOn : Bool → Listing → List Point → Type 0
 CanGoOn exact listing read = (more : List Point) × ArePoints exact (is_raised listing) more × GoOn listing read more
@@ -90,7 +88,7 @@ ring_closes exact raised p read is = (
   (is, (is, (is, (is, tt)))),
   ring_closes_by p (read ++ p ∷ p ∷ p ∷ p ∷ []) (omega (arith, length_four p read))
       (ap position_of (ap (last_behind p) (sym (append_assoc read (p ∷ p ∷ p ∷ []) (p ∷ [])))
-      ∙ last_at p (read ++ p ∷ p ∷ p ∷ []) p)),
+      ∙ last_push p (read ++ p ∷ p ∷ p ∷ []) p)),
 )
 
 can_go_on : (exact : Bool) (listing : Listing) (read : List Point) → ArePoints exact (is_raised listing) read

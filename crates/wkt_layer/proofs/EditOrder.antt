@@ -10,7 +10,7 @@ use Rattle.std.proofs.lemmas.List.{length-take-le}
 use Rattle.std.proofs.lemmas.List.Sums.{prefix_len-le-length}
 use Rattle.sheet_base.specs.Splices.{AreInOrder}
 use Rattle.sheet_base.specs.Sheets.{Contents}
-use Rattle.wkt_layer.specs.Layers.{lines_of, AreLinesOf, IsReadAs}
+use Rattle.wkt_layer.specs.Layers.{geometry_lines, AreLinesOf, IsWktReadAs}
 use Rattle.wkt_layer.specs.declared.limits.TheConstants.{LINE_FEED}
 use Rattle.sheet_base.specs.declared.paths.PathKind.{PathKind}
 use Rattle.sheet_base.specs.declared.paths.PathKind.TheVariants.{Dot, Line, Loop}
@@ -25,7 +25,7 @@ use Rattle.wkt_layer.specs.Geometries.{member_tokens}
 use Rattle.wkt_layer.specs.Geometries.{lists_tokens, geometry_tokens, geometries_tokens, behind_geometry, last_behind}
 use Rattle.wkt_layer.specs.Paths.{Path, path_of, member_path, geometry_paths, geometries_paths, edits_from}
 use Rattle.wkt_layer.specs.Lines.{IsLineOf, tokens_in}
-use Rattle.wkt_layer.specs.Passes.{Ascend, third_numbers, point_numbers, path_numbers}
+use Rattle.wkt_layer.specs.InsidePasses.{Ascend, third_numbers, point_numbers, path_numbers}
 
 -- the numbers among tokens
 abbrev pub numbers_of : List Token → List Number
@@ -334,11 +334,11 @@ lines_ascend exact at (line ∷ next ∷ more) paths (here, others, is, are, sam
     (sym (ap (flat_map path_numbers) same ∙ flat_map-append path_numbers here others)) both)
 
 -- the edits of a text's sheet are in order
-pub read_in_order : (exact : Bool) (bytes : List ℕ) (sheet : Contents) → IsReadAs exact bytes sheet
+pub read_in_order : (exact : Bool) (bytes : List ℕ) (sheet : Contents) → IsWktReadAs exact bytes sheet
     → AreInOrder 0 sheet.edits (length bytes)
 read_in_order exact bytes sheet (paths, are, same) =
-    let e : 0 + width (lines_of bytes) ≡ length bytes = let w =
+    let e : 0 + width (geometry_lines bytes) ≡ length bytes = let w =
     lines_width (λ byte. byte == LINE_FEED) bytes in omega (arith, w) in
     subst (λ (s : Contents). AreInOrder 0 s.edits (length bytes)) (sym same)
     (edits_in_order 0 paths 0 (length bytes) (subst (λ k. Ascend 0 (flat_map path_numbers paths) k) e
-    (lines_ascend exact 0 (lines_of bytes) paths are)))
+    (lines_ascend exact 0 (geometry_lines bytes) paths are)))

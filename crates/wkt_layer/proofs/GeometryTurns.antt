@@ -21,6 +21,7 @@ use Rattle.wkt_layer.proofs.TokenCuts.{lexed, Clear, MayFollow, Kept, kept_cut, 
 use Rattle.wkt_layer.proofs.TokenCuts.{clear_comma, clear_word}
 use Rattle.wkt_layer.proofs.Turns.{drawn, AllSuit, Turned, EachTurns, single, tagged, led, after_empty, content_turned}
 use Rattle.wkt_layer.proofs.PointTurns.{DoesSay, points_turned, member_turned}
+use Rattle.wkt_layer.proofs.Turns.{any_closing}
 
 -- what stands behind a tag goes on no word
 content_clear : {A : Type 0} (tokens : A → List Token) (items : List A) (at : ℕ) (bytes : List ℕ) (kind : Kind)
@@ -91,9 +92,6 @@ any_opening bytes = tt
 
 any_comma : (bytes : List ℕ) → MayFollow comma bytes
 any_comma bytes = tt
-
-any_closing : (bytes : List ℕ) → Clear bytes → MayFollow closing bytes
-any_closing bytes clear = tt
 
 behind_clear : (more : Geometries) (at : ℕ) (bytes : List ℕ) (others : List Token)
     → lexed at bytes ≡ behind_geometry more ++ others → Clear bytes

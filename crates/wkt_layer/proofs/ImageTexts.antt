@@ -260,7 +260,8 @@ third_fits exact true at None is within = cc
 third_fits exact true at (Some height) is within = number_fits exact height within
 third_fits exact false at (Some height) is within = cc
 
-pub new_is_point : (exact raised : Bool) (at : ℕ) (image : Position) → IsRaised raised image → IsPositionWithinReach image
+pub new_is_point : (exact raised : Bool) (at : ℕ) (image : Position) → IsRaised raised image
+    → IsPositionWithinReach image
     → IsPoint exact raised (new_point at image)
 new_is_point exact raised at image is within = (
   number_fits exact image.point.x within.0.0,

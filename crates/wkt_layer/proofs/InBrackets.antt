@@ -8,12 +8,14 @@ use Rattle.wkt_layer.specs.Tokens.{Number, Token, opening, closing, comma, word,
 use Rattle.wkt_layer.specs.Numbers.{Point, does_fit}
 use Rattle.wkt_layer.specs.Geometries.{point_tokens}
 use Rattle.wkt_layer.specs.Paths.{Path, path_of}
-use Rattle.wkt_layer.specs.States.{Spot, item, tagged, content, first, second, third, whole, bare_second, bare_third}
-use Rattle.wkt_layer.specs.States.{bare_whole, behind, State}
-use Rattle.wkt_layer.specs.States.{state, innermost, point_with, kind_of, content_of, is_raised, may_nest, second_leads}
-use Rattle.wkt_layer.specs.States.{bare_leads, bare_second_leads, step_at, enter_step, tag_step, tagged_step}
-use Rattle.wkt_layer.specs.States.{number_step}
-use Rattle.wkt_layer.specs.States.{item_step, whole_step, behind_step, may_end}
+use Rattle.wkt_layer.specs.InsideStates.{Spot, item, tagged, content, first, second, third, whole, bare_second}
+use Rattle.wkt_layer.specs.InsideStates.{bare_third}
+use Rattle.wkt_layer.specs.InsideStates.{bare_whole, behind, State}
+use Rattle.wkt_layer.specs.InsideStates.{state, innermost, point_with, kind_of, content_of, is_raised, may_nest}
+use Rattle.wkt_layer.specs.InsideStates.{second_leads}
+use Rattle.wkt_layer.specs.InsideStates.{bare_leads, bare_second_leads, step_at, enter_step, tag_step, tagged_step}
+use Rattle.wkt_layer.specs.InsideStates.{number_step}
+use Rattle.wkt_layer.specs.InsideStates.{item_step, whole_step, behind_step, may_end}
 use Rattle.wkt_layer.specs.declared.words.Kind.{Kind}
 use Rattle.wkt_layer.specs.declared.words.Word.TheVariants.{Tag, Empty, Z, Height, Other}
 use Rattle.wkt_layer.specs.declared.places.Content.{Content}
@@ -24,9 +26,9 @@ use Rattle.wkt_layer.specs.declared.places.Group.{Group}
 use Rattle.wkt_layer.specs.declared.places.Group.TheVariants as groups
 use Rattle.std.proofs.lemmas.List.{map-append}
 use Rattle.wkt_layer.specs.Tokens.{Placed}
-use Rattle.wkt_layer.specs.Reached.{read_tokens, EndsIn, IsIn}
+use Rattle.wkt_layer.specs.InsideReach.{read_tokens, EndsIn, IsIn}
 use Rattle.wkt_layer.specs.Faults.{joined_points, EndsInPoints}
-use Rattle.wkt_layer.specs.States.{opened_by}
+use Rattle.wkt_layer.specs.InsideStates.{opened_by}
 
 abbrev placed : ℕ → Token → Placed
 placed at token = record { start = at; token = token }

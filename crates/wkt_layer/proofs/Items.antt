@@ -5,7 +5,7 @@ use Rattle.wkt_layer.specs.Numbers.{Point, IsPoint}
 use Rattle.wkt_layer.specs.Geometries.{no_geometry, geometry, ArePoints}
 use Rattle.wkt_layer.proofs.Rests.{ItemOf, ItemsOf, item_tokens, more_tokens, items_tokens, IsItem, AreItems}
 use Rattle.wkt_layer.proofs.Rests.{item_paths, items_paths, no_items, one_more, GoOn, IsContentOfPoints}
-use Rattle.wkt_layer.specs.States.{is_raised}
+use Rattle.wkt_layer.specs.InsideStates.{is_raised}
 use Rattle.wkt_layer.specs.declared.words.Word.TheVariants.{Empty}
 use Rattle.wkt_layer.specs.declared.places.Listing.{Listing}
 use Rattle.wkt_layer.specs.declared.places.Listing.TheVariants as listings

@@ -14,13 +14,13 @@ use Rattle.wkt_layer.specs.Geometries.{Geometry, point, line_string, polygon, mu
 use Rattle.wkt_layer.specs.Geometries.{multi_polygon, collection, IsGeometry, geometry_tokens}
 use Rattle.wkt_layer.specs.Paths.{Path, geometry_paths, lost_on, edits_from}
 use Rattle.wkt_layer.specs.Lines.{IsLineOf, tokens_in}
-use Rattle.wkt_layer.specs.Layers.{lines_of, AreLinesOf}
+use Rattle.wkt_layer.specs.Layers.{geometry_lines, AreLinesOf}
 use Rattle.wkt_layer.specs.declared.limits.TheConstants.{DEEPEST, LINE_FEED}
 use Rattle.sheet_base.specs.Splices.{AreInOrder, spliced}
 use Rattle.sheet_base.proofs.Swaps.{Swapped, spliced_on, on_from, swapped_all, kept_swapped, both_swapped}
 use Rattle.sheet_base.proofs.DrawnPaths.{suit_parts, redrawn_append}
 use Rattle.wkt_layer.proofs.EditOrder.{split_some}
-use Rattle.wkt_layer.proofs.Lexing.{blank_tokens, black_tokens}
+use Rattle.wkt_layer.proofs.TokenReads.{blank_tokens, black_tokens}
 use Rattle.wkt_layer.proofs.TokenCuts.{lexed, clear_end}
 use Rattle.wkt_layer.proofs.Turns.{drawn, redrawn, edits_append, AllSuit, IsRead, Turned}
 use Rattle.wkt_layer.proofs.PointTurns.{DoesSay}
@@ -126,78 +126,79 @@ module _ (exact : Bool) (text : Edit → List ℕ) (images : ℕ → List Positi
       by_tokens (first ∷ more) e (one, good, same, are) = black one good (ap tokens_in e ∙ same) are
 
 -- ---- no line feed is written
-abbrev pub is_plain : ℕ → Bool
-is_plain byte = not (byte == LINE_FEED)
+abbrev pub is_no_feed : ℕ → Bool
+is_no_feed byte = not (byte == LINE_FEED)
 
-abbrev pub IsPlain : List ℕ → Type 0
-IsPlain bytes = list_all is_plain bytes ≡ true
+abbrev pub HasNoFeed : List ℕ → Type 0
+HasNoFeed bytes = list_all is_no_feed bytes ≡ true
 
-pub plain_append : (xs ys : List ℕ) → IsPlain xs → IsPlain ys → IsPlain (xs ++ ys)
-plain_append [] ys a b = b
-plain_append (x ∷ xs) ys a b = let parts =
-    and_parts (is_plain x) (list_all is_plain xs) a in rw parts.0 (plain_append xs ys parts.1 b)
+pub no_feed_append : (xs ys : List ℕ) → HasNoFeed xs → HasNoFeed ys → HasNoFeed (xs ++ ys)
+no_feed_append [] ys a b = b
+no_feed_append (x ∷ xs) ys a b = let parts =
+    and_parts (is_no_feed x) (list_all is_no_feed xs) a in rw parts.0 (no_feed_append xs ys parts.1 b)
 
-plain_parts : (n : ℕ) (xs : List ℕ) → IsPlain xs → IsPlain (take n xs) × IsPlain (drop n xs)
-plain_parts zero xs a = (refl, a)
-plain_parts (suc n) [] a = (refl, refl)
-plain_parts (suc n) (x ∷ xs) a =
-    let parts = and_parts (is_plain x) (list_all is_plain xs) a in
-    let (front, back) = plain_parts n xs parts.1 in
+no_feed_parts : (n : ℕ) (xs : List ℕ) → HasNoFeed xs → HasNoFeed (take n xs) × HasNoFeed (drop n xs)
+no_feed_parts zero xs a = (refl, a)
+no_feed_parts (suc n) [] a = (refl, refl)
+no_feed_parts (suc n) (x ∷ xs) a =
+    let parts = and_parts (is_no_feed x) (list_all is_no_feed xs) a in
+    let (front, back) = no_feed_parts n xs parts.1 in
     (rw parts.0 front, back)
 
-spliced_plain : (text : Edit → List ℕ) → ((edit : Edit) → IsPlain (text edit))
-    → (at : ℕ) (bytes : List ℕ) (edits : List Edit) → IsPlain bytes → IsPlain (spliced_on text at bytes edits)
-spliced_plain text plain at bytes [] a = a
-spliced_plain text plain at bytes (edit ∷ edits) a =
-    let front = plain_parts (edit.start - at) bytes a in
-    let back = plain_parts (edit.end - at) bytes a in
-    plain_append (take (edit.start - at) bytes)
+spliced_no_feed : (text : Edit → List ℕ) → ((edit : Edit) → HasNoFeed (text edit))
+    → (at : ℕ) (bytes : List ℕ) (edits : List Edit) → HasNoFeed bytes → HasNoFeed (spliced_on text at bytes edits)
+spliced_no_feed text free at bytes [] a = a
+spliced_no_feed text free at bytes (edit ∷ edits) a =
+    let front = no_feed_parts (edit.start - at) bytes a in
+    let back = no_feed_parts (edit.end - at) bytes a in
+    no_feed_append (take (edit.start - at) bytes)
     (text edit ++ spliced_on text edit.end (drop (edit.end - at) bytes) edits) front.0
-    (plain_append (text edit) (spliced_on text edit.end (drop (edit.end - at) bytes) edits) (plain edit)
-    (spliced_plain text plain edit.end (drop (edit.end - at) bytes) edits back.1))
+    (no_feed_append (text edit) (spliced_on text edit.end (drop (edit.end - at) bytes) edits) (free edit)
+    (spliced_no_feed text free edit.end (drop (edit.end - at) bytes) edits back.1))
 
-swapped_plain : (text : Edit → List ℕ) → ((edit : Edit) → IsPlain (text edit))
-    → (at : ℕ) (taken : List ℕ) (edits : List Edit) (now : List ℕ) → Swapped text at taken edits now → IsPlain taken
-    → IsPlain now
-swapped_plain text plain at taken edits now swap a =
-    subst IsPlain (swapped_all text at taken edits now swap) (spliced_plain text plain at taken edits a)
+swapped_no_feed : (text : Edit → List ℕ) → ((edit : Edit) → HasNoFeed (text edit))
+    → (at : ℕ) (taken : List ℕ) (edits : List Edit) (now : List ℕ) → Swapped text at taken edits now → HasNoFeed taken
+    → HasNoFeed now
+swapped_no_feed text free at taken edits now swap a =
+    subst HasNoFeed (swapped_all text at taken edits now swap) (spliced_no_feed text free at taken edits a)
 
 -- ---- many lines
-abbrev pub ArePlain : List (List ℕ) → Type 0
-ArePlain lines = AllByRecursion IsPlain lines
+abbrev pub HaveNoFeed : List (List ℕ) → Type 0
+HaveNoFeed lines = AllByRecursion HasNoFeed lines
 
 abbrev pub joined_lines : List (List ℕ) → List ℕ
 joined_lines lines = join_with_byte LINE_FEED lines
 
-plain_all : (xs : List ℕ) → IsPlain xs → All (λ x. (x == LINE_FEED) ≡ false) xs
-plain_all [] a k d h = absurd (omega (arith, h))
-plain_all (x ∷ xs) a zero d h = by_test (x == LINE_FEED) refl (and_parts (is_plain x) (list_all is_plain xs) a).0
+no_feed_all : (xs : List ℕ) → HasNoFeed xs → All (λ x. (x == LINE_FEED) ≡ false) xs
+no_feed_all [] a k d h = absurd (omega (arith, h))
+no_feed_all (x ∷ xs) a zero d h = by_test (x == LINE_FEED) refl (and_parts (is_no_feed x) (list_all is_no_feed xs) a).0
   where
     by_test : (b : Bool) → (x == LINE_FEED) ≡ b → not (x == LINE_FEED) ≡ true → (x == LINE_FEED) ≡ false
     by_test false is other = is
     by_test true is other = let e = sym other ∙ ap not is in cc
-plain_all (x ∷ xs) a (suc k) d h = plain_all xs (and_parts (is_plain x) (list_all is_plain xs) a).1 k d
+no_feed_all (x ∷ xs) a (suc k) d h = no_feed_all xs (and_parts (is_no_feed x) (list_all is_no_feed xs) a).1 k d
     (omega (arith, h))
 
-lines_joined : (line : List ℕ) (lines : List (List ℕ)) → ArePlain (line ∷ lines)
-    → lines_of (joined_lines (line ∷ lines)) ≡ line ∷ lines
-lines_joined line [] plain = slice_split_none (λ byte. byte == LINE_FEED) line (plain_all line plain.0)
-lines_joined line (next ∷ lines) plain =
-    slice_split_at (λ byte. byte == LINE_FEED) line LINE_FEED (joined_lines (next ∷ lines)) (plain_all line plain.0)
-    refl ∙ ap (λ ls. line ∷ ls) (lines_joined next lines plain.1)
+lines_joined : (line : List ℕ) (lines : List (List ℕ)) → HaveNoFeed (line ∷ lines)
+    → geometry_lines (joined_lines (line ∷ lines)) ≡ line ∷ lines
+lines_joined line [] free = slice_split_none (λ byte. byte == LINE_FEED) line (no_feed_all line free.0)
+lines_joined line (next ∷ lines) free =
+    slice_split_at (λ byte. byte == LINE_FEED) line LINE_FEED (joined_lines (next ∷ lines)) (no_feed_all line free.0)
+    refl ∙ ap (λ ls. line ∷ ls) (lines_joined next lines free.1)
 
-onto_plain : (byte : ℕ) (lines : List (List ℕ)) → is_plain byte ≡ true → ArePlain lines
-    → ArePlain (onto_first byte lines)
-onto_plain byte [] is plain = (rw is refl, tt)
-onto_plain byte (line ∷ lines) is plain = (rw is plain.0, plain.1)
+onto_no_feed : (byte : ℕ) (lines : List (List ℕ)) → is_no_feed byte ≡ true → HaveNoFeed lines
+    → HaveNoFeed (onto_first byte lines)
+onto_no_feed byte [] is free = (rw is refl, tt)
+onto_no_feed byte (line ∷ lines) is free = (rw is free.0, free.1)
 
-lines_plain : (bytes : List ℕ) → ArePlain (lines_of bytes)
-lines_plain [] = (refl, tt)
-lines_plain (byte ∷ bytes) = by_test (byte == LINE_FEED) refl (lines_plain bytes)
+lines_no_feed : (bytes : List ℕ) → HaveNoFeed (geometry_lines bytes)
+lines_no_feed [] = (refl, tt)
+lines_no_feed (byte ∷ bytes) = by_test (byte == LINE_FEED) refl (lines_no_feed bytes)
   where
-    by_test : (b : Bool) → (byte == LINE_FEED) ≡ b → ArePlain (lines_of bytes) → ArePlain (lines_of (byte ∷ bytes))
-    by_test true is plain = rw is (refl, plain)
-    by_test false is plain = rw is (onto_plain byte (lines_of bytes) (ap not is) plain)
+    by_test : (b : Bool) → (byte == LINE_FEED) ≡ b → HaveNoFeed (geometry_lines bytes)
+        → HaveNoFeed (geometry_lines (byte ∷ bytes))
+    by_test true is free = rw is (refl, free)
+    by_test false is free = rw is (onto_no_feed byte (geometry_lines bytes) (ap not is) free)
 
 pub record LinesTurned (exact : Bool) (text : Edit → List ℕ) (images : ℕ → List Position) (at : ℕ)
     (lines : List (List ℕ))
@@ -205,21 +206,22 @@ pub record LinesTurned (exact : Bool) (text : Edit → List ℕ) (images : ℕ �
   pub first : List ℕ
   pub more : List (List ℕ)
   pub swap : Swapped text at (joined_lines lines) (edits_from nth paths) (joined_lines (first ∷ more))
-  pub plain : ArePlain (first ∷ more)
+  pub free : HaveNoFeed (first ∷ more)
   pub reads : (from : ℕ) → IsWritten exact images nth paths (AreLinesOf exact from (first ∷ more))
 
 module _ (exact : Bool) (text : Edit → List ℕ) (images : ℕ → List Position) (says : DoesSay text images)
-    (plain : (edit : Edit) → IsPlain (text edit)) where
+    (free : (edit : Edit) → HasNoFeed (text edit)) where
   last_turned : (at : ℕ) (line : List ℕ) (nth : ℕ) (paths : List Path) → AllSuit images nth paths
-      → IsLineOf exact (tokens_of at line) paths → IsPlain line → LinesTurned exact text images at (line ∷ []) nth paths
-  last_turned at line nth paths suit is line_plain = go (line_turned exact text images says at line nth paths suit is)
+      → IsLineOf exact (tokens_of at line) paths → HasNoFeed line
+      → LinesTurned exact text images at (line ∷ []) nth paths
+  last_turned at line nth paths suit is line_no_feed = go (line_turned exact text images says at line nth paths suit is)
     where
       go : LineTurned exact text images at line nth paths → LinesTurned exact text images at (line ∷ []) nth paths
       go l = record {
         first = l.now;
         more = [];
         swap = l.swap;
-        plain = (swapped_plain text plain at line (edits_from nth paths) l.now l.swap line_plain, tt);
+        free = (swapped_no_feed text free at line (edits_from nth paths) l.now l.swap line_no_feed, tt);
         reads = λ from. on from (l.reads from);
       }
         where
@@ -232,11 +234,12 @@ module _ (exact : Bool) (text : Edit → List ℕ) (images : ℕ → List Positi
             exact_all = w.exact_all;
           }
 
-  next_turned : (at : ℕ) (line next : List ℕ) (lines : List (List ℕ)) (nth : ℕ) (here others : List Path) → IsPlain line
+  next_turned : (at : ℕ) (line next : List ℕ) (lines : List (List ℕ)) (nth : ℕ) (here others : List Path)
+      → HasNoFeed line
       → LineTurned exact text images at line nth here
       → LinesTurned exact text images (at + length line + 1) (next ∷ lines) (nth + length here) others
       → LinesTurned exact text images at (line ∷ next ∷ lines) nth (here ++ others)
-  next_turned at line next lines nth here others line_plain l r =
+  next_turned at line next lines nth here others line_no_feed l r =
       let later = joined_lines (r.first ∷ r.more) in
       record {
         first = l.now;
@@ -248,7 +251,7 @@ module _ (exact : Bool) (text : Edit → List ℕ) (images : ℕ → List Positi
             (both_swapped text (at + length line) (LINE_FEED ∷ []) (joined_lines (next ∷ lines)) []
             (edits_from (nth + length here) others) (LINE_FEED ∷ []) later
             (kept_swapped text (at + length line) (LINE_FEED ∷ [])) r.swap));
-        plain = (swapped_plain text plain at line (edits_from nth here) l.now l.swap line_plain, r.plain);
+        free = (swapped_no_feed text free at line (edits_from nth here) l.now l.swap line_no_feed, r.free);
         reads = λ from. on from (l.reads from) (r.reads (from + length l.now + 1));
       }
     where
@@ -265,33 +268,35 @@ module _ (exact : Bool) (text : Edit → List ℕ) (images : ℕ → List Positi
       }
 
   lines_turned : (at : ℕ) (line : List ℕ) (lines : List (List ℕ)) (nth : ℕ) (paths : List Path)
-      → AllSuit images nth paths → AreLinesOf exact at (line ∷ lines) paths → ArePlain (line ∷ lines)
+      → AllSuit images nth paths → AreLinesOf exact at (line ∷ lines) paths → HaveNoFeed (line ∷ lines)
       → LinesTurned exact text images at (line ∷ lines) nth paths
-  lines_turned at line [] nth paths suit (here, others, is, none, same) line_plain =
+  lines_turned at line [] nth paths suit (here, others, is, none, same) line_no_feed =
       let all : paths ≡ here = same ∙ ap (λ ps. here ++ ps) none ∙ append-nil here in
       subst (LinesTurned exact text images at (line ∷ []) nth) (sym all)
-      (last_turned at line nth here (subst (AllSuit images nth) all suit) is line_plain.0)
-  lines_turned at line (next ∷ lines) nth paths suit (here, others, is, are, same) line_plain =
+      (last_turned at line nth here (subst (AllSuit images nth) all suit) is line_no_feed.0)
+  lines_turned at line (next ∷ lines) nth paths suit (here, others, is, are, same) line_no_feed =
       let suits = suit_parts drawn images nth here others (subst (AllSuit images nth) same suit) in
       subst (LinesTurned exact text images at (line ∷ next ∷ lines) nth) (sym same)
-      (next_turned at line next lines nth here others line_plain.0
+      (next_turned at line next lines nth here others line_no_feed.0
       (line_turned exact text images says at line nth here suits.0 is)
-      (lines_turned (at + length line + 1) next lines (nth + length here) others suits.1 are line_plain.1))
+      (lines_turned (at + length line + 1) next lines (nth + length here) others suits.1 are line_no_feed.1))
 
   -- ---- the whole text
   pub text_turned : (bytes : List ℕ) (paths : List Path) → AllSuit images 0 paths
-      → AreLinesOf exact 0 (lines_of bytes) paths → AreInOrder 0 (edits_from 0 paths) (length bytes)
-      → IsWritten exact images 0 paths (AreLinesOf exact 0 (lines_of (spliced bytes text (edits_from 0 paths))))
+      → AreLinesOf exact 0 (geometry_lines bytes) paths → AreInOrder 0 (edits_from 0 paths) (length bytes)
+      → IsWritten exact images 0 paths (AreLinesOf exact 0 (geometry_lines (spliced bytes text (edits_from 0 paths))))
   text_turned bytes paths suit are order = by_lines (split_some (λ byte. byte == LINE_FEED) bytes)
     where
-      by_lines : (line : List ℕ) × (lines : List (List ℕ)) × (lines_of bytes ≡ line ∷ lines)
-          → IsWritten exact images 0 paths (AreLinesOf exact 0 (lines_of (spliced bytes text (edits_from 0 paths))))
+      by_lines : (line : List ℕ) × (lines : List (List ℕ)) × (geometry_lines bytes ≡ line ∷ lines)
+          → IsWritten exact images 0 paths (AreLinesOf exact 0
+          (geometry_lines (spliced bytes text (edits_from 0 paths))))
       by_lines (line, lines, split) =
           go (lines_turned 0 line lines 0 paths suit (subst (λ ls. AreLinesOf exact 0 ls paths) split are)
-          (subst ArePlain split (lines_plain bytes)))
+          (subst HaveNoFeed split (lines_no_feed bytes)))
         where
           go : LinesTurned exact text images 0 (line ∷ lines) 0 paths
-              → IsWritten exact images 0 paths (AreLinesOf exact 0 (lines_of (spliced bytes text (edits_from 0 paths))))
+              → IsWritten exact images 0 paths (AreLinesOf exact 0
+              (geometry_lines (spliced bytes text (edits_from 0 paths))))
           go t =
               let whole : bytes ≡ joined_lines (line ∷ lines) = sym (join_with_byte-slice_split LINE_FEED bytes)
               ∙ ap joined_lines split in
@@ -300,6 +305,7 @@ module _ (exact : Bool) (text : Edit → List ℕ) (images : ℕ → List Positi
               ∙ ap (λ xs. spliced_on text 0 xs (edits_from 0 paths)) whole
               ∙ swapped_all text 0 (joined_lines (line ∷ lines)) (edits_from 0 paths) (joined_lines (t.first ∷ t.more))
               t.swap in
-              let same : lines_of (spliced bytes text (edits_from 0 paths)) ≡ t.first ∷ t.more = ap lines_of now
-              ∙ lines_joined t.first t.more t.plain in
+              let same : geometry_lines (spliced bytes text (edits_from 0 paths)) ≡ t.first ∷ t.more =
+              ap geometry_lines now
+              ∙ lines_joined t.first t.more t.free in
               subst (λ ls. IsWritten exact images 0 paths (AreLinesOf exact 0 ls)) (sym same) (t.reads 0)

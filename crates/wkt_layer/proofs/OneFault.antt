@@ -13,7 +13,7 @@ use Rattle.wkt_layer.specs.Geometries.{third_tokens}
 use Rattle.wkt_layer.specs.Lines.{IsLine, tokens_in}
 use Rattle.wkt_layer.specs.Faults.{joined_points, EndsInPoints, Row, kind, height, deep, unread, inexact, ring, rank}
 use Rattle.wkt_layer.specs.Faults.{Speaks, Decides, IsAnswer, IsTokenFault, IsFaultBehind, IsLineFault}
-use Rattle.wkt_layer.specs.Layers.{lines_of, IsFirstLineFault, IsRefusedBy}
+use Rattle.wkt_layer.specs.Layers.{geometry_lines, IsFirstLineFault, IsWktRefusedBy}
 use Rattle.wkt_layer.proofs.OneSheet.{line_apart}
 use Rattle.plain_laws.proofs.Order.{trichotomy}
 
@@ -169,6 +169,6 @@ lines_one exact at (line ∷ lines) fault other (inr (here, reads, is)) (inl too
 lines_one exact at (line ∷ lines) fault other (inr (here, reads, is)) (inr (there, reads_too, too)) =
     lines_one exact (at + length line + 1) lines fault other is too
 
-pub fault_one : (exact : Bool) (bytes : List ℕ) (fault other : LayerFault) → IsRefusedBy exact bytes fault
-    → IsRefusedBy exact bytes other → fault ≡ other
-fault_one exact bytes fault other is too = lines_one exact 0 (lines_of bytes) fault other is too
+pub fault_one : (exact : Bool) (bytes : List ℕ) (fault other : LayerFault) → IsWktRefusedBy exact bytes fault
+    → IsWktRefusedBy exact bytes other → fault ≡ other
+fault_one exact bytes fault other is too = lines_one exact 0 (geometry_lines bytes) fault other is too

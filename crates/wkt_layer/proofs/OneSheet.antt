@@ -9,10 +9,10 @@ use Rattle.wkt_layer.specs.Geometries.{Geometry, IsGeometry, geometry_tokens}
 use Rattle.wkt_layer.specs.Paths.{Path, geometry_paths, sheet_of}
 use Rattle.wkt_layer.specs.Lines.{IsLineOf}
 use Rattle.wkt_layer.specs.Faults.{IsLineFault}
-use Rattle.wkt_layer.specs.Layers.{lines_of, AreLinesOf, IsFirstLineFault, IsReadAs, IsRefusedBy}
-use Rattle.wkt_layer.specs.States.{State, start, step}
+use Rattle.wkt_layer.specs.Layers.{geometry_lines, AreLinesOf, IsFirstLineFault, IsWktReadAs, IsWktRefusedBy}
+use Rattle.wkt_layer.specs.InsideStates.{State, start, step}
 use Rattle.wkt_layer.specs.declared.limits.TheConstants.{DEEPEST}
-use Rattle.wkt_layer.proofs.Passing.{line_paths}
+use Rattle.wkt_layer.proofs.LinePasses.{line_paths}
 
 -- a line has one list of paths
 geometry_one : (exact : Bool) (one other : Geometry) → IsGeometry exact DEEPEST one → IsGeometry exact DEEPEST other
@@ -50,12 +50,13 @@ lines_apart exact at (line ∷ lines) paths fault (here, later, is, are, same) (
 lines_apart exact at (line ∷ lines) paths fault (here, later, is, are, same) (inr (_, _, refused)) =
     lines_apart exact (at + length line + 1) lines later fault are refused
 
-pub sheet_one : (exact : Bool) (bytes : List ℕ) (sheet other : Contents) → IsReadAs exact bytes sheet
-    → IsReadAs exact bytes other → sheet ≡ other
+pub sheet_one : (exact : Bool) (bytes : List ℕ) (sheet other : Contents) → IsWktReadAs exact bytes sheet
+    → IsWktReadAs exact bytes other → sheet ≡ other
 sheet_one exact bytes sheet other (paths, are, same) (others, were, alike) = same
-    ∙ ap sheet_of (lines_one exact 0 (lines_of bytes) paths others are were) ∙ sym alike
+    ∙ ap sheet_of (lines_one exact 0 (geometry_lines bytes) paths others are were) ∙ sym alike
 
-pub sheet_apart : (exact : Bool) (bytes : List ℕ) (sheet : Contents) (fault : LayerFault) → IsReadAs exact bytes sheet
-    → IsRefusedBy exact bytes fault → ⊥
+pub sheet_apart : (exact : Bool) (bytes : List ℕ) (sheet : Contents) (fault : LayerFault)
+    → IsWktReadAs exact bytes sheet
+    → IsWktRefusedBy exact bytes fault → ⊥
 sheet_apart exact bytes sheet fault (paths, are, same) refused =
-    lines_apart exact 0 (lines_of bytes) paths fault are refused
+    lines_apart exact 0 (geometry_lines bytes) paths fault are refused

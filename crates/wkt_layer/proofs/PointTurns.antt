@@ -1,6 +1,6 @@
 -- How the points of a path turn into its images.
 use Rattle.std.proofs.Common.{◌≡◌, ◌==◌, ℕ, suc, ◌+◌, ◌≤◌, Bool, true, false, List, [], ◌∷◌, ◌++◌, length, refl, sym}
-use Rattle.std.proofs.Common.{ap, ◌∙◌, subst, append_assoc, arith, length-append}
+use Rattle.std.proofs.Common.{ap, ◌∙◌, subst, append_assoc, arith, length-append, codes}
 use Rattle.std.specs.Prelude.{map, sum_by, if◌then◌else◌, Option, Some, None}
 use Rattle.std.specs.Option.{is_some}
 use Rattle.std.specs.List.{list_all, AllByRecursion}
@@ -12,6 +12,7 @@ use Rattle.sheet_base.specs.declared.paths.PathKind.{PathKind}
 use Rattle.sheet_base.specs.declared.paths.PathKind.TheVariants.{Dot, Line, Loop}
 use Rattle.sheet_base.proofs.Swaps.{Swapped, kept_swapped, edit_swapped, both_swapped}
 use Rattle.sheet_base.proofs.DrawnPaths.{Drawn, IsPositionWithinReach, IsRaised, DoSuit}
+use Rattle.sheet_base.proofs.ImageTexts.{ring_again}
 use Rattle.wkt_layer.specs.Tokens.{Number, Token, opening, closing, comma, word, number, stray, is_blank, is_numeric}
 use Rattle.wkt_layer.specs.Tokens.{token_of}
 use Rattle.wkt_layer.specs.Numbers.{Point, last_number, past_of, height_in_third, position_of, IsThird}
@@ -21,7 +22,7 @@ use Rattle.wkt_layer.specs.Geometries.{last_behind}
 use Rattle.wkt_layer.specs.Geometries.{ArePoints, IsDot, IsRing, IsMember}
 use Rattle.wkt_layer.specs.Faults.{joined_points}
 use Rattle.wkt_layer.specs.Paths.{Path, path_of, member_path, points_before_last, kept_of, lost_on, edit_of}
-use Rattle.wkt_layer.specs.Texts.{image_text, texts_behind, list_text, ring_text}
+use Rattle.wkt_layer.specs.Texts.{image_text, list_text, ring_text}
 use Rattle.wkt_layer.specs.declared.words.Word.TheVariants.{Empty}
 use Rattle.wkt_layer.proofs.EditOrder.{number_token}
 use Rattle.wkt_layer.proofs.TokenCuts.{lexed, Clear, MayFollow, Cut, first_cut, Kept, kept_cut, gap_lexed}
@@ -29,7 +30,7 @@ use Rattle.wkt_layer.proofs.TokenCuts.{clear_closing}
 use Rattle.wkt_layer.proofs.Rings.{ring_closes_by, ring_has_four}
 use Rattle.wkt_layer.proofs.ImageTexts.{new_point, new_points, points_lexed, new_position, new_positions, new_is_point}
 use Rattle.wkt_layer.proofs.ImageTexts.{new_are_points, new_loses_none, new_lose_none, new_count}
-use Rattle.wkt_layer.proofs.Turns.{drawn, redrawn, IsRead, Turned, EachTurns, single, led, after_empty}
+use Rattle.wkt_layer.proofs.Turns.{drawn, redrawn, IsRead, Turned, EachTurns, single, led, after_empty, any_closing}
 
 -- ---- where points stand
 not_number : (at byte : ℕ) (text : List ℕ) (n : Number) → is_ascii_alphabetic byte ≡ false → is_numeric byte ≡ false
@@ -205,18 +206,11 @@ closed_behind Dot image images = images
 closed_behind Line image images = images
 closed_behind Loop image images = images ++ image ∷ []
 
-behind_append : (xs ys : List Position) → texts_behind (xs ++ ys) ≡ texts_behind xs ++ texts_behind ys
-behind_append [] ys = refl
-behind_append (x ∷ xs) ys =
-    ap (λ text. 44 ∷ 32 ∷ (image_text x ++ text)) (behind_append xs ys)
-    ∙ ap (λ text. 44 ∷ 32 ∷ text) (sym (append_assoc (image_text x) (texts_behind xs) (texts_behind ys)))
-
 text_is : (kind : PathKind) (image : Position) (images : List Position)
     → kind_text kind (image ∷ images) ≡ list_text (image ∷ closed_behind kind image images)
 text_is Dot image images = refl
 text_is Line image images = refl
-text_is Loop image images = append_assoc (image_text image) (texts_behind images) (texts_behind (image ∷ []))
-    ∙ ap (λ text. image_text image ++ text) (sym (behind_append images (image ∷ [])))
+text_is Loop image images = ring_again (codes ", ") image_text image images
 
 all_append : (P : Position → Type 0) (xs : List Position) (y : Position) → AllByRecursion P xs → P y
     → AllByRecursion P (xs ++ y ∷ [])
@@ -441,9 +435,6 @@ behind_joined first more = ap (λ ts. opening ∷ ts) (go first more)
 
 any_opening : (bytes : List ℕ) → MayFollow opening bytes
 any_opening bytes = tt
-
-any_closing : (bytes : List ℕ) → Clear bytes → MayFollow closing bytes
-any_closing bytes clear = tt
 
 no_points_of : (exact raised : Bool) (kind : PathKind) → ArePointsOf exact raised kind []
 no_points_of exact raised Dot = (tt, omega arith)

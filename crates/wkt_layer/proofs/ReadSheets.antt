@@ -14,8 +14,8 @@ use Rattle.wkt_layer.specs.Tokens.{token_at, bytes_behind, tokens_behind, tokens
 use Rattle.wkt_layer.specs.Numbers.{Point, place_of}
 use Rattle.wkt_layer.specs.Paths.{Path, points_before_last, kept_of, kept_points, sheet_of}
 use Rattle.wkt_layer.specs.Lines.{IsLineOf, tokens_in}
-use Rattle.wkt_layer.specs.Layers.{lines_of, AreLinesOf, IsReadAs}
-use Rattle.wkt_layer.specs.Passes.{point_numbers, path_numbers}
+use Rattle.wkt_layer.specs.Layers.{geometry_lines, AreLinesOf, IsWktReadAs}
+use Rattle.wkt_layer.specs.InsidePasses.{point_numbers, path_numbers}
 use Rattle.wkt_layer.proofs.EditOrder.{numbers_of, line_numbers, width, lines_width, read_in_order}
 use Rattle.wkt_layer.proofs.ReadingBack.{lines_whole}
 use Rattle.wkt_layer.proofs.Sheets.{tiled, heights_each, heights_reach}
@@ -109,20 +109,20 @@ lines_few exact at (line ∷ next ∷ more) paths (here, others, is, are, same) 
     let both = length-append (flat_map path_numbers here) (flat_map path_numbers others) in
     omega (arith, one, later, all, split, both)
 
-points_few : (exact : Bool) (bytes : List ℕ) (paths : List Path) → AreLinesOf exact 0 (lines_of bytes) paths
+points_few : (exact : Bool) (bytes : List ℕ) (paths : List Path) → AreLinesOf exact 0 (geometry_lines bytes) paths
     → length (flat_map kept_points paths) ≤ length bytes
 points_few exact bytes paths are =
     let kept = paths_few paths in
-    let numbers = lines_few exact 0 (lines_of bytes) paths are in
+    let numbers = lines_few exact 0 (geometry_lines bytes) paths are in
     let wide = lines_width (λ byte. byte == LINE_FEED) bytes in
     omega (arith, kept, numbers, wide)
 
 -- ---- a text that is read
-pub read_is_sheet : (exact : Bool) (bytes : List ℕ) (sheet : Contents) → IsReadAs exact bytes sheet
+pub read_is_sheet : (exact : Bool) (bytes : List ℕ) (sheet : Contents) → IsWktReadAs exact bytes sheet
     → IsSheetOf bytes sheet
 read_is_sheet exact bytes sheet (paths, are, same) =
     subst (λ (s : Contents). IsSheetOf bytes s) (sym same) (record {
-      tiled = tiled 0 (length (flat_map kept_points paths)) paths (lines_whole exact 0 (lines_of bytes) paths are)
+      tiled = tiled 0 (length (flat_map kept_points paths)) paths (lines_whole exact 0 (geometry_lines bytes) paths are)
           (omega arith);
       points = points_few exact bytes paths are;
       one_height_each = heights_each paths;

@@ -1,21 +1,21 @@
 -- What is written of a layer is read as its images.
 use Rattle.std.proofs.Common.{ℕ, ◌+◌, Bool, List, [], ◌∷◌, length, refl, sym, subst}
+use Rattle.std.proofs.lemmas.List.Elements.{recursion_from_All}
 use Rattle.sheet_base.specs.Sheets.{Contents}
 use Rattle.sheet_base.specs.PointHeights.{IsHeightWithinReach}
 use Rattle.sheet_base.specs.Fitting.{Runs, path_positions, IsWithinReach, DoFit}
 use Rattle.sheet_base.specs.Splices.{AreInOrder, spliced}
 use Rattle.sheet_base.specs.ReadBack.{AreTheSame, IsReadBack}
 use Rattle.sheet_base.proofs.WrittenLayers.{IsReadAgain, read_back}
-use Rattle.sheet_base.proofs.ListParts.{all_listed}
 use Rattle.wkt_layer.specs.Tokens.{tokens_of}
 use Rattle.wkt_layer.specs.Paths.{Path, rows_from, edits_from, sheet_of}
-use Rattle.wkt_layer.specs.Texts.{edit_text}
-use Rattle.wkt_layer.specs.Layers.{lines_of, AreLinesOf, IsReadAs}
-use Rattle.wkt_layer.specs.Passes.{AreWhole}
+use Rattle.wkt_layer.specs.Texts.{wkt_edit_text}
+use Rattle.wkt_layer.specs.Layers.{geometry_lines, AreLinesOf, IsWktReadAs}
+use Rattle.wkt_layer.specs.InsidePasses.{AreWhole}
 use Rattle.wkt_layer.proofs.EditOrder.{read_in_order}
 use Rattle.wkt_layer.proofs.Sheets.{whole_append, line_paths_whole}
 use Rattle.wkt_layer.proofs.LineTurns.{IsWritten, text_turned}
-use Rattle.wkt_layer.proofs.SheetTurns.{texts_plain, texts_say, sheet_suits, points_again, heights_again, rows_again}
+use Rattle.wkt_layer.proofs.SheetTurns.{texts_no_feed, texts_say, sheet_suits, points_again, heights_again, rows_again}
 
 pub lines_whole : (exact : Bool) (at : ℕ) (lines : List (List ℕ)) (paths : List Path) → AreLinesOf exact at lines paths
     → AreWhole paths
@@ -25,20 +25,21 @@ lines_whole exact at (line ∷ lines) paths (here, others, is, are, same) =
     (lines_whole exact (at + length line + 1) lines others are))
 
 paths_again : (exact : Bool) (bytes : List ℕ) (paths : List Path) (images : Runs)
-    → AreLinesOf exact 0 (lines_of bytes) paths → AreInOrder 0 (edits_from 0 paths) (length bytes)
+    → AreLinesOf exact 0 (geometry_lines bytes) paths → AreInOrder 0 (edits_from 0 paths) (length bytes)
     → DoFit (sheet_of paths) images
-    → IsReadAgain (IsReadAs exact) (spliced bytes (edit_text (sheet_of paths) images) (edits_from 0 paths))
+    → IsReadAgain (IsWktReadAs exact) (spliced bytes (wkt_edit_text (sheet_of paths) images) (edits_from 0 paths))
     (sheet_of paths) images
 paths_again exact bytes paths images are order fit =
-    go (text_turned exact (edit_text (sheet_of paths) images) (path_positions (rows_from 0 paths) images)
+    go (text_turned exact (wkt_edit_text (sheet_of paths) images) (path_positions (rows_from 0 paths) images)
     (texts_say (sheet_of paths) images)
-    (texts_plain (sheet_of paths) images (all_listed IsWithinReach images.points fit.in_reach)
-    (all_listed IsHeightWithinReach images.heights fit.heights_in_reach)) bytes paths
-    (sheet_suits paths images fit (lines_whole exact 0 (lines_of bytes) paths are)) are order)
+    (texts_no_feed (sheet_of paths) images (recursion_from_All IsWithinReach images.points fit.in_reach)
+    (recursion_from_All IsHeightWithinReach images.heights fit.heights_in_reach)) bytes paths
+    (sheet_suits paths images fit (lines_whole exact 0 (geometry_lines bytes) paths are)) are order)
   where
     go : IsWritten exact (path_positions (rows_from 0 paths) images) 0 paths
-        (AreLinesOf exact 0 (lines_of (spliced bytes (edit_text (sheet_of paths) images) (edits_from 0 paths))))
-        → IsReadAgain (IsReadAs exact) (spliced bytes (edit_text (sheet_of paths) images) (edits_from 0 paths))
+        (AreLinesOf exact 0 (geometry_lines (spliced bytes (wkt_edit_text (sheet_of paths) images)
+        (edits_from 0 paths))))
+        → IsReadAgain (IsWktReadAs exact) (spliced bytes (wkt_edit_text (sheet_of paths) images) (edits_from 0 paths))
         (sheet_of paths) images
     go w = record {
       back = sheet_of w.others;
@@ -49,21 +50,21 @@ paths_again exact bytes paths images are order fit =
       exact_all = w.exact_all;
     }
 
-pub read_again : (exact : Bool) (bytes : List ℕ) (sheet : Contents) (images : Runs) → IsReadAs exact bytes sheet
+pub read_again : (exact : Bool) (bytes : List ℕ) (sheet : Contents) (images : Runs) → IsWktReadAs exact bytes sheet
     → DoFit sheet images
-    → IsReadAgain (IsReadAs exact) (spliced bytes (edit_text sheet images) sheet.edits) sheet images
+    → IsReadAgain (IsWktReadAs exact) (spliced bytes (wkt_edit_text sheet images) sheet.edits) sheet images
 read_again exact bytes sheet images (paths, are, same) fit =
-    subst (λ (s : Contents). IsReadAgain (IsReadAs exact) (spliced bytes (edit_text s images) s.edits) s images)
+    subst (λ (s : Contents). IsReadAgain (IsWktReadAs exact) (spliced bytes (wkt_edit_text s images) s.edits) s images)
     (sym same)
     (paths_again exact bytes paths images are
     (subst (λ (s : Contents). AreInOrder 0 s.edits (length bytes)) same
     (read_in_order exact bytes sheet (paths, are, same)))
     (subst (λ (s : Contents). DoFit s images) same fit))
 
-pub reads_back : (exact : Bool) (bytes : List ℕ) (sheet : Contents) (images : Runs) → IsReadAs exact bytes sheet
+pub reads_back : (exact : Bool) (bytes : List ℕ) (sheet : Contents) (images : Runs) → IsWktReadAs exact bytes sheet
     → DoFit sheet images
-    → IsReadBack (IsReadAs exact) AreTheSame sheet images
-    (spliced bytes (edit_text sheet images) sheet.edits)
+    → IsReadBack (IsWktReadAs exact) AreTheSame sheet images
+    (spliced bytes (wkt_edit_text sheet images) sheet.edits)
 reads_back exact bytes sheet images is fit =
-    read_back (IsReadAs exact) (spliced bytes (edit_text sheet images) sheet.edits) sheet images
+    read_back (IsWktReadAs exact) (spliced bytes (wkt_edit_text sheet images) sheet.edits) sheet images
     (read_again exact bytes sheet images is fit)

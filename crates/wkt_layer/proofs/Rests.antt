@@ -11,9 +11,10 @@ use Rattle.wkt_layer.specs.Geometries.{content_tokens, points_tokens, member_tok
 use Rattle.wkt_layer.specs.Geometries.{geometries_tokens, behind_geometry, IsClosed, ArePoints, IsDot, IsRing, IsMember}
 use Rattle.wkt_layer.specs.Geometries.{IsGeometry, AreGeometries}
 use Rattle.wkt_layer.specs.Paths.{Path, path_of, member_path, geometry_paths, geometries_paths}
-use Rattle.wkt_layer.specs.States.{Spot, item, tagged, content, first, second, third, whole, bare_second, bare_third}
-use Rattle.wkt_layer.specs.States.{bare_whole, behind, State}
-use Rattle.wkt_layer.specs.States.{innermost, point_with, kind_of, content_of, is_raised}
+use Rattle.wkt_layer.specs.InsideStates.{Spot, item, tagged, content, first, second, third, whole, bare_second}
+use Rattle.wkt_layer.specs.InsideStates.{bare_third}
+use Rattle.wkt_layer.specs.InsideStates.{bare_whole, behind, State}
+use Rattle.wkt_layer.specs.InsideStates.{innermost, point_with, kind_of, content_of, is_raised}
 use Rattle.wkt_layer.specs.declared.limits.TheConstants.{DEEPEST}
 use Rattle.wkt_layer.specs.declared.places.Content.{Content}
 use Rattle.wkt_layer.specs.declared.places.Content.TheVariants.{Points, Items}

@@ -9,7 +9,7 @@ use Rattle.sheet_base.specs.Segments.{point_at}
 use Rattle.sheet_base.proofs.RingLemmas.{closed_by, closed_many}
 use Rattle.wkt_layer.specs.Numbers.{Point, place_of, height_of, position_of}
 use Rattle.wkt_layer.specs.Geometries.{IsClosed, last_behind}
-use Rattle.wkt_layer.specs.States.{may_close}
+use Rattle.wkt_layer.specs.InsideStates.{may_close}
 
 pub closed_is : (points : List Point) → IsClosed points → may_close points ≡ true
 closed_is [] closed = refl

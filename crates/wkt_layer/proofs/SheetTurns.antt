@@ -22,60 +22,64 @@ use Rattle.sheet_base.proofs.PositionLists.{paired_points, paired_heights}
 use Rattle.wkt_layer.specs.Tokens.{is_numeric}
 use Rattle.wkt_layer.specs.Numbers.{Point, place_of, height_of, position_of}
 use Rattle.wkt_layer.specs.Paths.{Path, kept_of, kept_points, kept_heights, rows_from, text_for, sheet_of}
-use Rattle.wkt_layer.specs.Passes.{IsWholeOf, AreWhole}
+use Rattle.wkt_layer.specs.InsidePasses.{IsWholeOf, AreWhole}
 use Rattle.wkt_layer.specs.Texts.{height_text, image_text, texts_behind, list_text, ring_text, Writing, list, ring}
 use Rattle.wkt_layer.specs.Texts.{writing_of}
-use Rattle.wkt_layer.specs.Texts.{writing_text, what_text, edit_text}
+use Rattle.wkt_layer.specs.Texts.{writing_text, what_text, wkt_edit_text}
 use Rattle.wkt_layer.specs.declared.limits.TheConstants.{LINE_FEED}
 use Rattle.wkt_layer.proofs.ImageTexts.{written_number}
 use Rattle.wkt_layer.proofs.Turns.{drawn, redrawn, AllSuit}
 use Rattle.wkt_layer.proofs.PointTurns.{kind_text, DoesSay}
-use Rattle.wkt_layer.proofs.LineTurns.{is_plain, IsPlain, plain_append}
+use Rattle.wkt_layer.proofs.LineTurns.{is_no_feed, HasNoFeed, no_feed_append}
 
 -- ---- no image's text has a line feed
-numeric_plain : (byte : ℕ) → is_numeric byte ≡ true → is_plain byte ≡ true
-numeric_plain byte is = by_test (byte == LINE_FEED) refl
+numeric_no_feed : (byte : ℕ) → is_numeric byte ≡ true → is_no_feed byte ≡ true
+numeric_no_feed byte is = by_test (byte == LINE_FEED) refl
   where
-    by_test : (b : Bool) → (byte == LINE_FEED) ≡ b → is_plain byte ≡ true
+    by_test : (b : Bool) → (byte == LINE_FEED) ≡ b → is_no_feed byte ≡ true
     by_test false e = rw e refl
     by_test true e = let f : is_numeric 10 ≡ true =
         subst (λ x. is_numeric x ≡ true) (eqb-true byte LINE_FEED e) is in cc
 
-numbers_plain : (bytes : List ℕ) → list_all is_numeric bytes ≡ true → IsPlain bytes
-numbers_plain [] all = refl
-numbers_plain (byte ∷ bytes) all = let parts =
-    and_parts (is_numeric byte) (list_all is_numeric bytes) all in rw (numeric_plain byte parts.0)
-    (numbers_plain bytes parts.1)
+numbers_no_feed : (bytes : List ℕ) → list_all is_numeric bytes ≡ true → HasNoFeed bytes
+numbers_no_feed [] all = refl
+numbers_no_feed (byte ∷ bytes) all = let parts =
+    and_parts (is_numeric byte) (list_all is_numeric bytes) all in rw (numeric_no_feed byte parts.0)
+    (numbers_no_feed bytes parts.1)
 
-height_plain : (height : Height) → IsHeightWithinReach height → IsPlain (height_text height)
-height_plain None within = refl
-height_plain (Some height) within = let z = written_number height within in numbers_plain (written height) z.numeric
+height_no_feed : (height : Height) → IsHeightWithinReach height → HasNoFeed (height_text height)
+height_no_feed None within = refl
+height_no_feed (Some height) within = let z = written_number height within in numbers_no_feed (written height) z.numeric
 
-image_plain : (image : Position) → IsPositionWithinReach image → IsPlain (image_text image)
-image_plain image within =
+image_no_feed : (image : Position) → IsPositionWithinReach image → HasNoFeed (image_text image)
+image_no_feed image within =
     let x = written_number image.point.x within.0.0 in
     let y = written_number image.point.y within.0.1 in
-    plain_append (written image.point.x) (32 ∷ (written image.point.y ++ height_text image.height))
-    (numbers_plain (written image.point.x) x.numeric)
-    (plain_append (written image.point.y) (height_text image.height) (numbers_plain (written image.point.y) y.numeric)
-    (height_plain image.height within.1))
+    no_feed_append (written image.point.x) (32 ∷ (written image.point.y ++ height_text image.height))
+    (numbers_no_feed (written image.point.x) x.numeric)
+    (no_feed_append (written image.point.y) (height_text image.height)
+    (numbers_no_feed (written image.point.y) y.numeric)
+    (height_no_feed image.height within.1))
 
-behind_plain : (images : List Position) → AllByRecursion IsPositionWithinReach images → IsPlain (texts_behind images)
-behind_plain [] within = refl
-behind_plain (image ∷ images) within = plain_append (image_text image) (texts_behind images)
-    (image_plain image within.0) (behind_plain images within.1)
+behind_no_feed : (images : List Position) → AllByRecursion IsPositionWithinReach images
+    → HasNoFeed (texts_behind images)
+behind_no_feed [] within = refl
+behind_no_feed (image ∷ images) within = no_feed_append (image_text image) (texts_behind images)
+    (image_no_feed image within.0) (behind_no_feed images within.1)
 
-list_plain : (images : List Position) → AllByRecursion IsPositionWithinReach images → IsPlain (list_text images)
-list_plain [] within = refl
-list_plain (image ∷ images) within = plain_append (image_text image) (texts_behind images) (image_plain image within.0)
-    (behind_plain images within.1)
+list_no_feed : (images : List Position) → AllByRecursion IsPositionWithinReach images → HasNoFeed (list_text images)
+list_no_feed [] within = refl
+list_no_feed (image ∷ images) within = no_feed_append (image_text image) (texts_behind images)
+    (image_no_feed image within.0)
+    (behind_no_feed images within.1)
 
-ring_plain : (images : List Position) → AllByRecursion IsPositionWithinReach images → IsPlain (ring_text images)
-ring_plain [] within = refl
-ring_plain (image ∷ images) within = plain_append (list_text (image ∷ images)) (texts_behind (image ∷ []))
-    (list_plain (image ∷ images) within) (behind_plain (image ∷ []) (within.0, tt))
+ring_no_feed : (images : List Position) → AllByRecursion IsPositionWithinReach images → HasNoFeed (ring_text images)
+ring_no_feed [] within = refl
+ring_no_feed (image ∷ images) within = no_feed_append (list_text (image ∷ images)) (texts_behind (image ∷ []))
+    (list_no_feed (image ∷ images) within) (behind_no_feed (image ∷ []) (within.0, tt))
 
-path_reached : (rows : List PathRow) (images : Runs) (number : ℕ) → AllByRecursion IsPositionWithinReach (positions_in images)
+path_reached : (rows : List PathRow) (images : Runs) (number : ℕ)
+    → AllByRecursion IsPositionWithinReach (positions_in images)
     → AllByRecursion IsPositionWithinReach (path_positions rows images number)
 path_reached rows images number reach =
     let path : PathRow = slice_index_or rows number no_path in
@@ -83,19 +87,19 @@ path_reached rows images number reach =
     (drop (run_begin images path.first) (positions_in images))
     (all_parts IsPositionWithinReach (run_begin images path.first) (positions_in images) reach).1).0
 
-writing_plain : (rows : List PathRow) (images : Runs) → AllByRecursion IsPositionWithinReach (positions_in images)
-    → (writing : Option Writing) → IsPlain (writing_text rows images writing)
-writing_plain rows images within None = refl
-writing_plain rows images within (Some (list nth)) =
-    list_plain (path_positions rows images nth) (path_reached rows images nth within)
-writing_plain rows images within (Some (ring nth)) =
-    ring_plain (path_positions rows images nth) (path_reached rows images nth within)
+writing_no_feed : (rows : List PathRow) (images : Runs) → AllByRecursion IsPositionWithinReach (positions_in images)
+    → (writing : Option Writing) → HasNoFeed (writing_text rows images writing)
+writing_no_feed rows images within None = refl
+writing_no_feed rows images within (Some (list nth)) =
+    list_no_feed (path_positions rows images nth) (path_reached rows images nth within)
+writing_no_feed rows images within (Some (ring nth)) =
+    ring_no_feed (path_positions rows images nth) (path_reached rows images nth within)
 
-pub texts_plain : (sheet : Contents) (images : Runs) → AllByRecursion IsWithinReach images.points
+pub texts_no_feed : (sheet : Contents) (images : Runs) → AllByRecursion IsWithinReach images.points
     → AllByRecursion IsHeightWithinReach images.heights → (edit : Edit)
-    → IsPlain (edit_text sheet images edit)
-texts_plain sheet images points heights edit =
-    writing_plain sheet.paths images (part_reached images.points images.heights points heights) (writing_of edit.what)
+    → HasNoFeed (wkt_edit_text sheet images edit)
+texts_no_feed sheet images points heights edit =
+    writing_no_feed sheet.paths images (part_reached images.points images.heights points heights) (writing_of edit.what)
 
 -- ---- the texts of edits are those of the paths' images
 says_kind : (rows : List PathRow) (images : Runs) (kind : PathKind) (nth : ℕ)
@@ -105,7 +109,7 @@ says_kind rows images Line nth = refl
 says_kind rows images Loop nth = refl
 
 pub texts_say : (sheet : Contents) (images : Runs)
-    → DoesSay (edit_text sheet images) (path_positions sheet.paths images)
+    → DoesSay (wkt_edit_text sheet images) (path_positions sheet.paths images)
 texts_say sheet images nth path = says_kind sheet.paths images path.kind nth
 
 -- ---- what is drawn, as the rows, points and heights of a sheet

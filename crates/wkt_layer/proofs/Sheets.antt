@@ -4,16 +4,16 @@ use Rattle.std.proofs.Common.{arith, length-append, ◌^◌, ◌-◌, ◌∙◌,
 use Rattle.std.specs.Prelude.{flat_map, map}
 use Rattle.std.specs.List.{AllByRecursion}
 use Rattle.std.specs.Prelude.{Option, Some, None, Result, Ok, Err, unsigned_abs, All}
+use Rattle.std.proofs.lemmas.List.Elements.{All-from_recursion}
 use Rattle.plane_base.specs.declared.shapes.Pt.{Pt}
 use Rattle.sheet_base.specs.PointHeights.{Height, height_in, IsHeightWithinReach}
 use Rattle.sheet_base.specs.Rings.{is_same_height}
 use Rattle.wkt_layer.specs.Geometries.{last_behind}
 use Rattle.mm_decimal.specs.Measured.{measured}
-use Rattle.mm_decimal.specs.Answers.{Answers}
 use Rattle.mm_decimal.specs.declared.limits.TheConstants.{LIMIT}
 use Rattle.mm_decimal.specs.declared.reading.MmRead.{MmRead}
 use Rattle.mm_decimal.specs.declared.reading.NumFault.{NumFault}
-use Rattle.mm_decimal.proofs.MeasuredAnswers.{measured_answers}
+use Rattle.mm_decimal.proofs.MeasuredAnswers.{read_within}
 use Rattle.sheet_base.specs.declared.paths.PathKind.{PathKind}
 use Rattle.sheet_base.specs.declared.paths.PathKind.TheVariants.{Dot, Line, Loop}
 use Rattle.sheet_base.specs.Sheets.{AreTiled, IsSheet}
@@ -27,8 +27,9 @@ use Rattle.wkt_layer.specs.Paths.{Path, path_of, member_path, geometry_paths, ge
 use Rattle.wkt_layer.specs.Paths.{kept_heights}
 use Rattle.wkt_layer.specs.Paths.{rows_from, sheet_of}
 use Rattle.wkt_layer.specs.Lines.{IsLineOf}
-use Rattle.wkt_layer.specs.Passes.{IsWhole, AreWhole}
+use Rattle.wkt_layer.specs.InsidePasses.{IsWhole, AreWhole}
 use Rattle.wkt_layer.proofs.Rings.{ring_has_four}
+use Rattle.plain_laws.proofs.Lists.{all_append}
 
 pub whole_append : (xs ys : List Path) → AreWhole xs → AreWhole ys → AreWhole (xs ++ ys)
 whole_append [] ys are more = more
@@ -150,32 +151,20 @@ third_reach (Some z) = answer_reach (measured z.text) refl
   where
     answer_reach : (answer : Result MmRead NumFault) → measured z.text ≡ answer
         → unsigned_abs (mm_in (measured z.text)) ≤ LIMIT
-    answer_reach (Ok read) is =
-        let (short, (value, has, rounds)) = subst (Answers z.text) is (measured_answers z.text) in
-        rw (is, rounds.mm) rounds.limit
+    answer_reach (Ok read) is = rw is (read_within z.text read is)
     answer_reach (Err fault) is = rw is (omega arith)
 
 points_reach : (points : List Point) → AllByRecursion IsHeightWithinReach (map height_of points)
 points_reach [] = tt
 points_reach (p ∷ points) = (third_reach p.z, points_reach points)
 
-reach_append : (xs ys : List Height) → AllByRecursion IsHeightWithinReach xs → AllByRecursion IsHeightWithinReach ys
-    → AllByRecursion IsHeightWithinReach (xs ++ ys)
-reach_append [] ys all more = more
-reach_append (x ∷ xs) ys all more = (all.0, reach_append xs ys all.1 more)
-
 paths_reach : (paths : List Path) → AllByRecursion IsHeightWithinReach (flat_map kept_heights paths)
 paths_reach [] = tt
-paths_reach (path ∷ paths) = reach_append (kept_heights path) (flat_map kept_heights paths)
+paths_reach (path ∷ paths) = all_append IsHeightWithinReach (kept_heights path) (flat_map kept_heights paths)
     (points_reach (kept_of path.kind path.first path.more)) (paths_reach paths)
 
-all_of_listed : {A : Type 0} (P : A → Type 0) (xs : List A) → AllByRecursion P xs → All P xs
-all_of_listed P [] all k d h = absurd (omega (arith, h))
-all_of_listed P (x ∷ xs) all zero d h = all.0
-all_of_listed P (x ∷ xs) all (suc k) d h = all_of_listed P xs all.1 k d (omega (arith, h))
-
 pub heights_reach : (paths : List Path) → All IsHeightWithinReach (flat_map kept_heights paths)
-heights_reach paths = all_of_listed IsHeightWithinReach (flat_map kept_heights paths) (paths_reach paths)
+heights_reach paths = All-from_recursion IsHeightWithinReach (flat_map kept_heights paths) (paths_reach paths)
 
 pub is_sheet : (paths : List Path) → AreWhole paths → length (flat_map kept_points paths) < 2 ^ 32
     → IsSheet (sheet_of paths)

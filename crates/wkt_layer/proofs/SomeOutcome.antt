@@ -11,14 +11,15 @@ use Rattle.wkt_layer.specs.Tokens.{Placed, tokens_of}
 use Rattle.wkt_layer.specs.Paths.{Path, sheet_of}
 use Rattle.wkt_layer.specs.Lines.{IsLineOf, tokens_in}
 use Rattle.wkt_layer.specs.Faults.{IsLineFault}
-use Rattle.wkt_layer.specs.Layers.{lines_of, AreLinesOf, IsFirstLineFault, IsReadAs, IsRefusedBy}
-use Rattle.wkt_layer.specs.Reached.{IsIn}
-use Rattle.wkt_layer.specs.States.{Spot, item, tagged, content, first, second, third, whole, bare_second, bare_third}
-use Rattle.wkt_layer.specs.States.{bare_whole, behind, State}
-use Rattle.wkt_layer.specs.States.{state, start, step, IsEnd, fault_of, opened_by}
+use Rattle.wkt_layer.specs.Layers.{geometry_lines, AreLinesOf, IsFirstLineFault, IsWktReadAs, IsWktRefusedBy}
+use Rattle.wkt_layer.specs.InsideReach.{IsIn}
+use Rattle.wkt_layer.specs.InsideStates.{Spot, item, tagged, content, first, second, third, whole, bare_second}
+use Rattle.wkt_layer.specs.InsideStates.{bare_third}
+use Rattle.wkt_layer.specs.InsideStates.{bare_whole, behind, State}
+use Rattle.wkt_layer.specs.InsideStates.{state, start, step, IsEnd, fault_of, opened_by}
 use Rattle.wkt_layer.specs.declared.places.Group.{Group}
 use Rattle.wkt_layer.proofs.InBrackets.{step_in}
-use Rattle.wkt_layer.proofs.Lexing.{refused_token, line_of, open_line}
+use Rattle.wkt_layer.proofs.TokenReads.{refused_token, line_of, open_line}
 
 -- ---- a line
 abbrev HasLineOutcome : Bool → List Placed → ℕ → Type 0
@@ -96,8 +97,8 @@ lines_outcome exact at (line ∷ lines) = elim (line_outcome exact (tokens_of at
   | inr (fault, is) ↦ inr (fault, inl is)
 ]
 
-pub outcome_exists : (exact : Bool) (bytes : List ℕ) → HasOutcome (IsReadAs exact bytes) (IsRefusedBy exact bytes)
-outcome_exists exact bytes = elim (lines_outcome exact 0 (lines_of bytes)) [
+pub outcome_exists : (exact : Bool) (bytes : List ℕ) → HasOutcome (IsWktReadAs exact bytes) (IsWktRefusedBy exact bytes)
+outcome_exists exact bytes = elim (lines_outcome exact 0 (geometry_lines bytes)) [
   | inl (paths, are) ↦ inl (sheet_of paths, (paths, are, refl))
   | inr (fault, refused) ↦ inr (fault, refused)
 ]

@@ -12,7 +12,7 @@ use Rattle.wkt_layer.specs.Tokens.{token_length, word_of, token_of, tokens_of, t
 use Rattle.wkt_layer.specs.declared.words.Word.{Word}
 use Rattle.wkt_layer.specs.Lines.{tokens_in}
 use Rattle.wkt_layer.proofs.EditOrder.{token_size}
-use Rattle.wkt_layer.proofs.Lexing.{passed, blank_first, black_first}
+use Rattle.wkt_layer.proofs.TokenReads.{passed, blank_first, black_first}
 use Rattle.plain_laws.proofs.Lists.{take_front}
 
 -- the tokens of bytes that begin at this place

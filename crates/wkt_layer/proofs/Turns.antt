@@ -234,7 +234,7 @@ any_opening bytes = tt
 any_comma : (bytes : List ℕ) → MayFollow comma bytes
 any_comma bytes = tt
 
-any_closing : (bytes : List ℕ) → Clear bytes → MayFollow closing bytes
+pub any_closing : (bytes : List ℕ) → Clear bytes → MayFollow closing bytes
 any_closing bytes clear = tt
 
 pub after_empty : (w : Word) (bytes : List ℕ) → Clear bytes → MayFollow (word w) bytes

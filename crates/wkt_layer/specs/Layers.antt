@@ -10,8 +10,8 @@ use Rattle.wkt_layer.specs.Faults.{IsLineFault}
 use Rattle.wkt_layer.specs.declared.limits.TheConstants.{LINE_FEED}
 
 -- the lines of a text: what stands between its line feeds
-abbrev pub lines_of : List ℕ → List (List ℕ)
-lines_of text = slice_split (λ byte. byte == LINE_FEED) text
+abbrev pub geometry_lines : List ℕ → List (List ℕ)
+geometry_lines text = slice_split (λ byte. byte == LINE_FEED) text
 
 -- the paths of lines the first of which begins at this place
 abbrev pub AreLinesOf : Bool → ℕ → List (List ℕ) → List Path → Type 0
@@ -29,9 +29,10 @@ IsFirstLineFault exact at (line ∷ lines) fault =
     × IsFirstLineFault exact (at + length line + 1) lines fault)
 
 -- the text is read as this sheet
-abbrev pub IsReadAs : Bool → List ℕ → Contents → Type 0
-IsReadAs exact text sheet = (paths : List Path) × AreLinesOf exact 0 (lines_of text) paths × (sheet ≡ sheet_of paths)
+abbrev pub IsWktReadAs : Bool → List ℕ → Contents → Type 0
+IsWktReadAs exact text sheet = (paths : List Path) × AreLinesOf exact 0 (geometry_lines text) paths
+    × (sheet ≡ sheet_of paths)
 
 -- the text is refused by this fault
-abbrev pub IsRefusedBy : Bool → List ℕ → LayerFault → Type 0
-IsRefusedBy exact text fault = IsFirstLineFault exact 0 (lines_of text) fault
+abbrev pub IsWktRefusedBy : Bool → List ℕ → LayerFault → Type 0
+IsWktRefusedBy exact text fault = IsFirstLineFault exact 0 (geometry_lines text) fault

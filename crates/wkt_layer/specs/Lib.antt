@@ -7,6 +7,6 @@ pub mod Lines
 pub mod Faults
 pub mod Layers
 pub mod Texts
-pub mod States
-pub mod Reached
-pub mod Passes
+pub mod InsideStates
+pub mod InsideReach
+pub mod InsidePasses

@@ -51,5 +51,5 @@ abbrev pub what_text : List PathRow → Runs → What → List ℕ
 what_text paths images what = writing_text paths images (writing_of what)
 
 -- the text of an edit, for the images of a sheet
-abbrev pub edit_text : Contents → Runs → Edit → List ℕ
-edit_text sheet images edit = what_text sheet.paths images edit.what
+abbrev pub wkt_edit_text : Contents → Runs → Edit → List ℕ
+wkt_edit_text sheet images edit = what_text sheet.paths images edit.what

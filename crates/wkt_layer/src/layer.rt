@@ -11,14 +11,14 @@ pub struct Wkt;
 
 impl Layer for Wkt {
     ghost use Rattle.sheet_base.specs.ReadBack.{AreTheSame};
-    ghost use Rattle.wkt_layer.specs.Layers.{IsReadAs, IsRefusedBy};
-    ghost use Rattle.wkt_layer.specs.Texts.{edit_text};
+    ghost use Rattle.wkt_layer.specs.Layers.{IsWktReadAs, IsWktRefusedBy};
+    ghost use Rattle.wkt_layer.specs.Texts.{wkt_edit_text};
 
-    ghost reads = { λ how bytes sheet. IsReadAs how.exact bytes sheet };
+    ghost reads = { λ how bytes sheet. IsWktReadAs how.exact bytes sheet };
 
-    ghost refuses = { λ how bytes fault. IsRefusedBy how.exact bytes fault };
+    ghost refuses = { λ how bytes fault. IsWktRefusedBy how.exact bytes fault };
 
-    ghost text = { λ bytes how sheet images. edit_text sheet images };
+    ghost text = { λ bytes how sheet images. wkt_edit_text sheet images };
 
     ghost reads_back = { λ how bytes sheet images. Unit {0} };
 

@@ -8,7 +8,7 @@ ghost use Rattle.sheet_base.specs.declared.paths.PathKind.TheVariants.{Loop};
 ghost use Rattle.mm_decimal.specs.Measured.{measured};
 ghost use Rattle.wkt_layer.specs.Numbers.{Point, past_of, lost_in};
 ghost use Rattle.wkt_layer.specs.Paths.{Path, text_for};
-ghost use Rattle.wkt_layer.specs.Passes.{Held, IsThirdRead, height_read, lost_read};
+ghost use Rattle.wkt_layer.specs.InsidePasses.{Held, IsThirdRead, height_read, lost_read};
 
 use crate::stack::Stack;
 use mm_decimal::MmRead;

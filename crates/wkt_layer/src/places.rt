@@ -61,7 +61,7 @@ pub enum Place {
 
 impl Kind {
     ghost use Rattle.std.specs.Prelude.{◌≡◌};
-    ghost use Rattle.wkt_layer.specs.States.{content_of};
+    ghost use Rattle.wkt_layer.specs.InsideStates.{content_of};
 
     /// What stands behind the kind's tag, with Z or without.
     pub fn content(self, raised: bool) -> Content
@@ -81,7 +81,7 @@ impl Kind {
 
 impl Listing {
     ghost use Rattle.std.specs.Prelude.{◌≡◌};
-    ghost use Rattle.wkt_layer.specs.States.{is_raised};
+    ghost use Rattle.wkt_layer.specs.InsideStates.{is_raised};
 
     /// Whether the points have heights.
     pub fn is_raised(self) -> bool

@@ -7,11 +7,12 @@ ghost use Rattle.sheet_base.specs.Splices.{AreInOrder};
 ghost use Rattle.sheet_base.specs.declared.faults.LayerFault.{LayerFault};
 ghost use Rattle.sheet_base.specs.declared.faults.LayerFault.TheVariants.{NoMemory};
 ghost use Rattle.wkt_layer.specs.Tokens.{is_blank, Placed};
-ghost use Rattle.wkt_layer.specs.States.{State};
+ghost use Rattle.wkt_layer.specs.InsideStates.{State};
 ghost use Rattle.wkt_layer.specs.Paths.{Path};
-ghost use Rattle.wkt_layer.specs.Layers.{lines_of, IsReadAs, IsRefusedBy};
-ghost use Rattle.wkt_layer.specs.Passes.{Held, HasRoom, BeginsBefore, Stands, Reads, ReadsLine, lines_behind, RestsAt};
-ghost use Rattle.wkt_layer.specs.Reached.{Reached};
+ghost use Rattle.wkt_layer.specs.Layers.{geometry_lines, IsWktReadAs, IsWktRefusedBy};
+ghost use Rattle.wkt_layer.specs.InsidePasses.{Held, HasRoom, BeginsBefore, Stands, Reads, ReadsLine, lines_behind};
+ghost use Rattle.wkt_layer.specs.InsidePasses.{RestsAt};
+ghost use Rattle.wkt_layer.specs.InsideReach.{Reached};
 
 use crate::limits::LINE_FEED;
 use crate::pass::Pass;
@@ -24,7 +25,7 @@ use std::alloc::Global;
 
 /// The first line of a text, and what stands behind its line feed, where there is one.
 fn first_line(text: &[u8]) -> (&[u8], Option<&[u8]>)
-    ensures lines { lines_of text.now ≡ result.0.now ∷ lines_behind result.1 }
+    ensures lines { geometry_lines text.now ≡ result.0.now ∷ lines_behind result.1 }
     ensures size { RestsAt result.1 (length result.0.now + 1) (length text.now) }
     ensures within { length result.0.now ≤ length text.now }
 {
@@ -116,9 +117,9 @@ fn read_line(pass: &mut Pass, line: &[u8], base: usize, exact: bool) -> Result<(
 /// faults are bytes from 0. Of two faults the first is reported.
 pub fn read(alloc: Global, bytes: &[u8], exact: bool) -> Result<Sheet, LayerFault>
     requires { length bytes.now ≤ 2 ^ 26 }
-    ensures ok { IfOk result (λ sheet. IsReadAs exact bytes.now sheet) }
+    ensures ok { IfOk result (λ sheet. IsWktReadAs exact bytes.now sheet) }
     ensures edits { IfOk result (λ sheet. AreInOrder 0 sheet.edits (length bytes.now)) }
-    ensures refused { (fault : LayerFault) → IsErrOf result fault → fault ≢ NoMemory → IsRefusedBy exact bytes.now fault }
+    ensures refused { (fault : LayerFault) → IsErrOf result fault → fault ≢ NoMemory → IsWktRefusedBy exact bytes.now fault }
 {
     let mut pass = Pass::new(alloc, bytes.len())?;
     let mut base = 0;

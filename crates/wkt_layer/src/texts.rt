@@ -2,7 +2,7 @@
 
 ghost use Rattle.std.specs.Prelude.{◌≡◌, ◌∷◌, ◌++◌, OnOk};
 ghost use Rattle.mm_decimal.specs.Writing.{written};
-ghost use Rattle.wkt_layer.specs.Texts.{height_text, edit_text};
+ghost use Rattle.wkt_layer.specs.Texts.{height_text, wkt_edit_text};
 
 use plane_base::Pt;
 use sheet_base::{Edit, EditTexts, ImageText, Images, Sheet, What, push_list, push_mm, push_ring};
@@ -63,7 +63,7 @@ impl ImageText for PointText {
 }
 
 impl<'a> EditTexts for Texts<'a> {
-    ghost text = { λ texts. edit_text texts.sheet.now texts.images.now };
+    ghost text = { λ texts. wkt_edit_text texts.sheet.now texts.images.now };
 
     fn room(&self, edit: Edit) -> usize {
         let path = match edit.what {

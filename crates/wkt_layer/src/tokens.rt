@@ -4,7 +4,7 @@ ghost use Rattle.std.specs.Prelude.{◌≡◌, ◌<◌, ◌≤◌, length};
 ghost use Rattle.std.specs.List.{prefix_len};
 ghost use Rattle.std.specs.Char.{is_ascii_alphabetic};
 ghost use Rattle.wkt_layer.specs.Tokens.{is_blank, is_numeric};
-ghost use Rattle.wkt_layer.specs.Passes.{IsFirstToken};
+ghost use Rattle.wkt_layer.specs.InsidePasses.{IsFirstToken};
 
 use crate::words::Word;
 

@@ -5,7 +5,7 @@ use Rattle.plane_base.specs.declared.shapes.Pt.{Pt}
 use Rattle.sheet_base.specs.declared.paths.PathRow.{PathRow}
 use Rattle.affine_image.specs.SheetSegments.{sheet_segments}
 use Rattle.affine_image.specs.SheetSegments.{ends_open}
-use Rattle.affine_image.proofs.Counting.{begun_by_points}
+use Rattle.affine_image.proofs.SegmentCounts.{begun_by_points}
 use Rattle.affine_image.proofs.counts.segment_total.Goals as goal
 
 pub overflow_sub-result : goal.overflow_sub-result

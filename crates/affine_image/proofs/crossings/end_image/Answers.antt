@@ -1,7 +1,7 @@
 -- Answers to the goals of `end_image` in src/crossings.rt.
-use Rattle.affine_image.specs.Sides.{next_corner}
-use Rattle.affine_image.proofs.Leaving.{near_one, next_below, has_last, last_image, side_told, side_differs, on_side}
-use Rattle.affine_image.proofs.Leaving.{side_image}
+use Rattle.affine_image.specs.InsideSides.{next_corner}
+use Rattle.affine_image.proofs.StepEnds.{near_one, next_below, has_last, last_image, side_told, side_differs, on_side}
+use Rattle.affine_image.proofs.StepEnds.{side_image}
 use Rattle.affine_image.proofs.crossings.end_image.Goals as goal
 
 pub image_of-requires-clause-inside : goal.image_of-requires-clause-inside

@@ -1,5 +1,5 @@
 -- Answers to the goals of `image_cut` in src/images.rt.
-use Rattle.affine_image.proofs.Cutting.{edge_is_near, cut_is}
+use Rattle.affine_image.proofs.CornerSegments.{edge_is_near, cut_is}
 use Rattle.affine_image.proofs.images.image_cut.Goals as goal
 
 pub mixed-requires : goal.mixed-requires

@@ -1,5 +1,5 @@
 -- Answers to the goals of `image_of` in src/images.rt.
-use Rattle.affine_image.proofs.Imaging.{image_is}
+use Rattle.affine_image.proofs.WeightedImages.{image_is}
 use Rattle.affine_image.proofs.images.image_of.Goals as goal
 
 pub returns : goal.returns

@@ -3,7 +3,7 @@ use Rattle.std.proofs.Common.{rules, SFits}
 use Rattle.std.proofs.lemmas.Int.{to_z-of_z}
 use mir.Syntax.{w128}
 use Rattle.affine_image.proofs.Near.{near_corners, turned}
-use Rattle.affine_image.proofs.Imaging.{not_negative, within_whole, positive_by}
+use Rattle.affine_image.proofs.WeightedImages.{not_negative, within_whole, positive_by}
 use Rattle.affine_image.proofs.weights.weights_at.Goals as goal
 
 pub turn-requires : goal.turn-requires

@@ -7,9 +7,9 @@ use Rattle.tin_base.specs.Triangulation.{Triangulation}
 use Rattle.tin_base.specs.Limits.{IsWithinLimits}
 use Rattle.tin_base.specs.Soundness.{IsSound}
 use Rattle.affine_image.specs.SheetImages.{joined}
-use Rattle.affine_image.proofs.Fitting.{images_fit}
+use Rattle.affine_image.proofs.SheetImages.{images_fit}
 use Rattle.affine_image.proofs.RunReach.{heights_within}
-use Rattle.carry_map.proofs.Backing.{own_segments}
+use Rattle.carry_map.proofs.ImageSegments.{own_segments}
 use Rattle.carry_map.proofs.carrying.carry.Goals as goal
 
 pub of-requires-in-Ok-2 : goal.of-requires-in-Ok-2

@@ -5,9 +5,9 @@ use Rattle.sheet_base.specs.declared.paths.PathRow.{PathRow}
 use Rattle.sheet_base.specs.PointHeights.{Height, IsHeightWithinReach}
 use Rattle.affine_image.specs.SheetSegments.{path_vertices, vertices_from, segments_begun, sheet_segments}
 use Rattle.carry_map.specs.Causes.{IsCause}
-use Rattle.carry_map.proofs.Pathing.{exits}
+use Rattle.carry_map.proofs.PathSteps.{exits}
 use Rattle.affine_image.proofs.SheetPaths.{no_row, row_read, row_of, few_paths}
-use Rattle.carry_map.proofs.Sheeting.{sheet_next, sheet_cause}
+use Rattle.carry_map.proofs.SheetSteps.{sheet_next, sheet_cause}
 use Rattle.carry_map.proofs.carrying.carry_paths.Goals as goal
 
 pub overflow_cast-track : goal.overflow_cast-track

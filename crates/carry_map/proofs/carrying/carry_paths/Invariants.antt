@@ -1,5 +1,5 @@
 -- The invariant of the loop of `carry_paths` in src/carrying.rt.
-use Rattle.carry_map.proofs.Sheeting.{IsSheetCarried}
+use Rattle.carry_map.proofs.SheetSteps.{IsSheetCarried}
 use Rattle.carry_map.proofs.carrying.carry_paths.Given as goal
 
 -- the paths so far are carried

@@ -6,7 +6,7 @@ use Rattle.plane_base.specs.declared.shapes.Pt.{Pt}
 use Rattle.sheet_base.specs.Segments.{segments_in}
 use Rattle.carry_map.specs.Causes.{IsFirstOutside, IsCause, IsWayCause}
 use Rattle.affine_image.proofs.PathVertices.{in_points}
-use Rattle.carry_map.proofs.Pathing.{path_start, path_next, path_but_last, path_cause, path_outside, exits}
+use Rattle.carry_map.proofs.PathSteps.{path_start, path_next, path_but_last, path_cause, path_outside, exits}
 use Rattle.carry_map.proofs.paths.carry_path.Goals as goal
 
 pub returns-in_default-clause-cause : goal.returns-in_default-clause-cause
@@ -69,7 +69,11 @@ loop-number-preserved c =
     c.begin_run.new.gathered.heights c.carry_segment.new.heights c.args.gathered.now.run.items
     c.loop-number.gathered.run.items c.begin_run.new.gathered.run.items c.args.pieces.now.items
     c.loop-number.pieces.items c.carry_segment.new.pieces.items c.loop-number.number c.loop-number.image
-    c.in_ok-image.image c.way_at-way.result (record { from = c.end_heights-ends.result.from; to = c.end_heights-ends.result.to })
+    c.in_ok-image.image c.way_at-way.result (record {
+      from = c.end_heights-ends.result.from;
+      to =
+          c.end_heights-ends.result.to;
+    })
     c.requires.path here (let each = c.requires.each in omega (arith, each)) c.loop-number.invariant
     (record { a = c.way_at-way.ensures.a; b = c.way_at-way.ensures.b; from = c.way_at-way.ensures.from })
     c.end_heights-ends.ensures.ends

@@ -1,5 +1,5 @@
 -- The invariant of the loop of `carry_path` in src/paths.rt.
-use Rattle.carry_map.proofs.Pathing.{IsPathCarried}
+use Rattle.carry_map.proofs.PathSteps.{IsPathCarried}
 use Rattle.carry_map.proofs.paths.carry_path.Given as goal
 
 -- the vertices so far are carried, and the next one has this image

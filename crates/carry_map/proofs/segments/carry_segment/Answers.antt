@@ -2,7 +2,7 @@
 use Rattle.std.proofs.Common.{◌≡◌, ◌++◌, List, ap, length, ◌∙◌, arith}
 use Rattle.tin_base.specs.declared.pieces.Piece.{Piece}
 use Rattle.carry_map.specs.Carried.{inner_images}
-use Rattle.carry_map.proofs.Gathering.{behind_front}
+use Rattle.carry_map.proofs.VertexLists.{behind_front}
 use Rattle.carry_map.proofs.segments.carry_segment.Goals as goal
 
 pub returns-clause-carried : goal.returns-clause-carried

@@ -5,7 +5,7 @@ use Rattle.plane_base.specs.Plane.{Same, whole}
 use Rattle.plane_base.specs.declared.shapes.Pt.{Pt}
 use Rattle.tin_base.specs.Segments.{spot_at}
 use Rattle.tin_base.specs.Slices.{spot_of}
-use Rattle.affine_image.proofs.Moving.{rounded_moved}
+use Rattle.affine_image.proofs.PlaceImages.{rounded_moved}
 use Rattle.carry_map.proofs.segments.end_of.Goals as goal
 use Rattle.tin_base.proofs.Spots.{spot_of_point}
 

@@ -1,7 +1,7 @@
 -- Answers to the goals of `tell_pieces` in src/segments.rt.
 use Rattle.std.proofs.Common.{arith}
 use Rattle.tin_base.proofs.NearTriangles.{ends_near}
-use Rattle.carry_map.proofs.Telling.{told_none, told_next, told_all, step_told}
+use Rattle.carry_map.proofs.StepPieces.{told_none, told_next, told_all, step_told}
 use Rattle.carry_map.proofs.segments.tell_pieces.Goals as goal
 
 pub loop-number-init : goal.loop-number-init

@@ -1,5 +1,5 @@
 -- The invariant of the loop of `tell_pieces` in src/segments.rt.
-use Rattle.carry_map.proofs.Telling.{AreToldSoFar}
+use Rattle.carry_map.proofs.StepPieces.{AreToldSoFar}
 use Rattle.carry_map.proofs.segments.tell_pieces.Given as goal
 
 -- the pieces of the steps so far stand behind those before

@@ -9,7 +9,7 @@ use Rattle.seg_walk.specs.declared.steps.Step.{Step}
 use Rattle.affine_image.specs.SpotHeights.{param_height, crossing_heights}
 use Rattle.carry_map.specs.Carried.{AreSegmentTold}
 use Rattle.carry_map.proofs.StepHeights.{have_params, heights_are}
-use Rattle.carry_map.proofs.Telling.{some_steps, too_many}
+use Rattle.carry_map.proofs.StepPieces.{some_steps, too_many}
 use Rattle.carry_map.proofs.segments.tell_segment.Goals as goal
 
 pub returns-then-found-most-clause-cause : goal.returns-then-found-most-clause-cause

@@ -1,7 +1,7 @@
 -- Answers to the goals of `add_once` in src/entries.rt.
 use Rattle.std.proofs.Common.{◌≡◌, ℕ, List, false, nat_eq, sym, subst, ap, ◌∙◌}
 use Rattle.std.specs.List.{list_any}
-use Rattle.cell_grid.specs.Entries.{DoesKeep}
+use Rattle.cell_grid.specs.InsideEntries.{DoesKeep}
 use Rattle.cell_grid.proofs.Enters.{miss}
 use Rattle.cell_grid.proofs.Keeps.{keeps_new}
 use Rattle.cell_grid.proofs.entries.add_once.Goals as goal

@@ -1,6 +1,6 @@
 -- Answers to the goals of `cells_of` in src/entries.rt.
 use Rattle.std.proofs.Common.{subst}
-use Rattle.cell_grid.proofs.Entered.{AreGroups, cells_ascend, cells_below, cells_levels}
+use Rattle.cell_grid.proofs.LevelEntries.{AreGroups, cells_ascend, cells_below, cells_levels}
 use Rattle.cell_grid.proofs.entries.cells_of.Goals as goal
 
 pub returns-clause-levels : goal.returns-clause-levels

@@ -1,6 +1,6 @@
 -- The invariant of the loop of `enter` in src/entries.rt.
 use Rattle.std.proofs.Common.{◌≡◌, ◌++◌, map, take}
-use Rattle.cell_grid.specs.Entries.{entered}
+use Rattle.cell_grid.specs.InsideEntries.{entered}
 use Rattle.cell_grid.proofs.entries.enter.Given as goal
 
 abbrev pub invariant-loop-place : goal.invariant-loop-place

@@ -1,8 +1,8 @@
 -- Answers to the goals of `entries_of` in src/entries.rt.
 use Rattle.std.proofs.Common.{◌≡◌, ◌+◌, ◌++◌, map, List, ℕ, sym, subst, ap, ◌∙◌, length, rules}
 use Rattle.number_groups.specs.declared.groups.Entry.{Entry}
-use Rattle.cell_grid.specs.Entries.{AreEntered, entered}
-use Rattle.cell_grid.proofs.Entered.{level_within, level_past, level_small}
+use Rattle.cell_grid.specs.InsideEntries.{AreEntered, entered}
+use Rattle.cell_grid.proofs.LevelEntries.{level_within, level_past, level_small}
 use Rattle.cell_grid.proofs.Enters.{entered_more}
 use Rattle.cell_grid.proofs.entries.entries_of.Goals as goal
 

@@ -1,5 +1,5 @@
 -- The invariant of the loop of `entries_of` in src/entries.rt.
-use Rattle.cell_grid.specs.Entries.{AreEntered}
+use Rattle.cell_grid.specs.InsideEntries.{AreEntered}
 use Rattle.cell_grid.proofs.entries.entries_of.Given as goal
 
 abbrev pub invariant-loop-number : goal.invariant-loop-number

@@ -3,7 +3,7 @@ use Rattle.std.proofs.Common.{◌≡◌, ◌<◌, ◌+◌, List, length, sym, su
 use Rattle.std.proofs.lemmas.List.{length_push}
 use Rattle.cell_grid.specs.LevelLists.{AreLaid}
 use Rattle.cell_grid.specs.declared.levels.Level.{Level}
-use Rattle.cell_grid.proofs.Entered.{laid_more, all_push, before_more}
+use Rattle.cell_grid.proofs.LevelEntries.{laid_more, all_push, before_more}
 use Rattle.cell_grid.proofs.level_lists.even_levels.Goals as goal
 
 pub loop-number-preserved : goal.loop-number-preserved

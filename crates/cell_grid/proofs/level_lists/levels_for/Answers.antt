@@ -6,8 +6,8 @@ use mir.Syntax.{w64}
 use Rattle.cell_grid.specs.declared.levels.Level.{Level}
 use Rattle.cell_grid.specs.Sizes.{AreOfLevels}
 use Rattle.cell_grid.specs.Around.{corner_of}
-use Rattle.cell_grid.proofs.Entered.{same_laid, same_low}
-use Rattle.cell_grid.proofs.Kept.{boxes_past}
+use Rattle.cell_grid.proofs.LevelEntries.{same_laid, same_low}
+use Rattle.cell_grid.proofs.LevelFields.{boxes_past}
 use Rattle.cell_grid.proofs.level_lists.levels_for.Goals as goal
 
 pub narrow_crowded-requires-clause-of_levels : goal.narrow_crowded-requires-clause-of_levels

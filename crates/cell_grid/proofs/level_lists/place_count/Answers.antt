@@ -1,5 +1,5 @@
 -- Answers to the goals of `place_count` in src/level_lists.rt.
-use Rattle.cell_grid.proofs.Entered.{last_all}
+use Rattle.cell_grid.proofs.LevelEntries.{last_all}
 use Rattle.cell_grid.proofs.level_lists.place_count.Goals as goal
 
 pub returns-in-Some-clause-all : goal.returns-in-Some-clause-all

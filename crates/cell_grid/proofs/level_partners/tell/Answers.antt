@@ -4,8 +4,8 @@ use Rattle.plane_base.specs.declared.shapes.Rect.{Rect}
 use Rattle.cell_grid.specs.Boxes.{box_at}
 use Rattle.cell_grid.specs.Sizes.{level_of}
 use Rattle.cell_grid.specs.Cells.{numbers_at, place_of, IsPlaceOf, IsLevelOf}
-use Rattle.cell_grid.specs.Blocks.{place_at}
-use Rattle.cell_grid.specs.LevelPartners.{DoesTell, IsPartnerOn, IsToldFrom}
+use Rattle.cell_grid.specs.InsideBlocks.{place_at}
+use Rattle.cell_grid.specs.InsideLevelPartners.{DoesTell, IsPartnerOn, IsToldFrom}
 use Rattle.cell_grid.specs.declared.levels.Level.{Level}
 use Rattle.cell_grid.proofs.Indices.{few}
 use Rattle.cell_grid.proofs.Sizes.{small_on}

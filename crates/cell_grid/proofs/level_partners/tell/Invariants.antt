@@ -1,5 +1,5 @@
 -- The invariant of the loop of `tell` in src/level_partners.rt.
-use Rattle.cell_grid.specs.LevelPartners.{DoesTell, IsToldBefore}
+use Rattle.cell_grid.specs.InsideLevelPartners.{DoesTell, IsToldBefore}
 use Rattle.cell_grid.proofs.level_partners.tell.Given as goal
 
 abbrev pub invariant-loop-index : goal.invariant-loop-index

@@ -1,5 +1,5 @@
 -- Answers to the goals of `find` in src/searches.rt.
-use Rattle.cell_grid.proofs.Found.{everywhere_found, block_found}
+use Rattle.cell_grid.proofs.LevelFinds.{everywhere_found, block_found}
 use Rattle.cell_grid.proofs.searches.find.Goals as goal
 
 pub returns-then-count-level : goal.returns-then-count-level

@@ -3,7 +3,7 @@ use Rattle.std.proofs.Common.{◌≡◌, ◌+◌, ℕ, get_or, Contains, inl, in
 use Rattle.std.proofs.lemmas.Bool.{cases_lt}
 use Rattle.std.proofs.lemmas.Grind.{get_or_default_zero}
 use Rattle.std.proofs.lemmas.List.Elements.{Contains-get_or}
-use Rattle.cell_grid.specs.Searches.{IsOneOf}
+use Rattle.cell_grid.specs.InsideSearches.{IsOneOf}
 use Rattle.cell_grid.proofs.Finds.{find_as, find_more}
 use Rattle.cell_grid.proofs.searches.find_among.Goals as goal
 

@@ -1,5 +1,5 @@
 -- The invariant of the loop of `find_among` in src/searches.rt.
-use Rattle.cell_grid.specs.Searches.{DoesFind, IsOneOf}
+use Rattle.cell_grid.specs.InsideSearches.{DoesFind, IsOneOf}
 use Rattle.cell_grid.proofs.searches.find_among.Given as goal
 
 abbrev pub invariant-loop-number : goal.invariant-loop-number

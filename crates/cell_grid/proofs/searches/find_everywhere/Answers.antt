@@ -1,6 +1,6 @@
 -- Answers to the goals of `find_everywhere` in src/searches.rt.
 use Rattle.std.proofs.Common.{◌+◌, ℕ, List, Contains, subst, arith}
-use Rattle.cell_grid.proofs.Found.{stands_more, stands_all}
+use Rattle.cell_grid.proofs.LevelFinds.{stands_more, stands_all}
 use Rattle.cell_grid.proofs.searches.find_everywhere.Goals as goal
 
 pub find_among-requires-clause-numbers : goal.find_among-requires-clause-numbers

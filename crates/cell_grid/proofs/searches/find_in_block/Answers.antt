@@ -1,8 +1,8 @@
 -- Answers to the goals of `find_in_block` in src/searches.rt.
 use Rattle.std.proofs.Common.{◌*◌, ℕ, List, Contains, subst, ap, ◌∙◌, arith}
 use Rattle.cell_grid.specs.Cells.{numbers_at}
-use Rattle.cell_grid.specs.Blocks.{place_at}
-use Rattle.cell_grid.proofs.Found.{stands_more, stands_all}
+use Rattle.cell_grid.specs.InsideBlocks.{place_at}
+use Rattle.cell_grid.proofs.LevelFinds.{stands_more, stands_all}
 use Rattle.cell_grid.proofs.searches.find_in_block.Goals as goal
 
 pub find_among-requires-clause-numbers : goal.find_among-requires-clause-numbers

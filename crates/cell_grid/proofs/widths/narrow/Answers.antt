@@ -1,6 +1,6 @@
 -- Answers to the goals of `narrow` in src/widths.rt.
 use Rattle.std.proofs.Common.{arith}
-use Rattle.cell_grid.proofs.Entered.{same_none, same_set}
+use Rattle.cell_grid.proofs.LevelEntries.{same_none, same_set}
 use Rattle.cell_grid.proofs.widths.narrow.Goals as goal
 
 pub loop-number-init : goal.loop-number-init

@@ -1,5 +1,5 @@
 -- Answers to the goals of `narrow_crowded` in src/widths.rt.
-use Rattle.cell_grid.proofs.Entered.{same_none, same_then, same_laid, same_past}
+use Rattle.cell_grid.proofs.LevelEntries.{same_none, same_then, same_laid, same_past}
 use Rattle.cell_grid.proofs.widths.narrow_crowded.Goals as goal
 
 pub loop-round-init : goal.loop-round-init

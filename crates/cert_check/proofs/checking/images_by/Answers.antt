@@ -5,7 +5,7 @@ use Rattle.plane_base.specs.declared.shapes.Pt.{Pt}
 use Rattle.sheet_base.specs.PointHeights.{Height, Position, IsHeightWithinReach}
 use Rattle.affine_image.specs.SheetImages.{joined}
 use Rattle.affine_image.specs.SheetSegments.{sheet_vertices, sheet_segments}
-use Rattle.affine_image.proofs.Fitting.{images_fit}
+use Rattle.affine_image.proofs.SheetImages.{images_fit}
 use Rattle.affine_image.proofs.RunReach.{heights_within}
 use Rattle.cert_check.proofs.CertCauses.{all_inside}
 use Rattle.cert_check.proofs.SheetLaws.{has_lines, no_head, right_all, image_cause, text_short}

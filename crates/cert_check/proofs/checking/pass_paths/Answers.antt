@@ -5,7 +5,7 @@ use Rattle.sheet_base.specs.declared.paths.PathRow.{PathRow}
 use Rattle.sheet_base.specs.PointHeights.{Height, IsHeightWithinReach}
 use Rattle.affine_image.specs.SheetSegments.{vertices_from, segments_begun, sheet_segments}
 use Rattle.affine_image.proofs.SheetPaths.{no_row, row_read, row_of, few_paths}
-use Rattle.cert_check.specs.SheetLists.{IsStopCause}
+use Rattle.cert_check.specs.InsideSheetLists.{IsStopCause}
 use Rattle.cert_check.proofs.PathLists.{exits}
 use Rattle.cert_check.proofs.SheetLaws.{sheet_start, sheet_lines, sheet_next, sheet_cause, sheet_all}
 use Rattle.cert_check.proofs.checking.pass_paths.Goals as goal

@@ -1,5 +1,5 @@
 -- Answers to the goals of `piece_triangles_are_right` in src/laws.rt.
-use Rattle.cert_check.proofs.Following.{pieces_right}
+use Rattle.cert_check.proofs.ListPoints.{pieces_right}
 use Rattle.cert_check.proofs.laws.piece_triangles_are_right.Goals as goal
 
 pub returns : goal.returns

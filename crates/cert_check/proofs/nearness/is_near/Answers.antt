@@ -2,7 +2,7 @@
 use Rattle.std.proofs.Common.{◌≡◌, ℤ, ◌-ℤ◌, to_z, of_z, ◌∙◌, ap₂, arith, rules}
 use Rattle.std.proofs.lemmas.Int.{ints, to_z-of_z}
 use mir.Syntax.{w64, w128}
-use Rattle.cert_check.proofs.Passing.{short_near}
+use Rattle.cert_check.proofs.ListPasses.{short_near}
 use Rattle.cert_check.proofs.nearness.is_near.Goals as goal
 
 pub returns : goal.returns

@@ -1,6 +1,6 @@
 -- Answers to the goals of `is_at_end` in src/parts.rt.
-use Rattle.cert_check.specs.Slices.{spot_behind}
-use Rattle.cert_check.proofs.Passing.{at_last}
+use Rattle.cert_check.specs.InsideSlices.{spot_behind}
+use Rattle.cert_check.proofs.ListPasses.{at_last}
 use Rattle.cert_check.proofs.parts.is_at_end.Goals as goal
 
 pub returns : goal.returns

@@ -1,7 +1,7 @@
 -- Answers to the goals of `part_behind` in src/parts.rt.
 use Rattle.tin_base.specs.Slices.{spot_of}
-use Rattle.cert_check.specs.Slices.{spot_behind}
-use Rattle.cert_check.proofs.Passing.{behind_some, behind_none}
+use Rattle.cert_check.specs.InsideSlices.{spot_behind}
+use Rattle.cert_check.proofs.ListPasses.{behind_some, behind_none}
 use Rattle.cert_check.proofs.parts.part_behind.Goals as goal
 
 pub returns-clause-some : goal.returns-clause-some

@@ -2,7 +2,7 @@
 use Rattle.std.proofs.Common.{arith}
 use Rattle.tin_base.proofs.SlicedParts.{not_begun}
 use Rattle.cert_check.proofs.Stretches.{part_here}
-use Rattle.cert_check.proofs.Passing.{refused}
+use Rattle.cert_check.proofs.ListPasses.{refused}
 use Rattle.cert_check.proofs.parts.part_from.Goals as goal
 
 pub returns-then-goes_on_from-clause-some : goal.returns-then-goes_on_from-clause-some

@@ -2,7 +2,7 @@
 use Rattle.tin_base.proofs.NearTriangles.{ends_near, near_told}
 use Rattle.tin_base.proofs.SlicedParts.{slice_told}
 use Rattle.cert_check.proofs.Stretches.{none_shared, near_some}
-use Rattle.cert_check.proofs.Passing.{refused}
+use Rattle.cert_check.proofs.ListPasses.{refused}
 use Rattle.cert_check.proofs.parts.stretch_in.Goals as goal
 
 pub returns-then-not-are_near-clause-none : goal.returns-then-not-are_near-clause-none

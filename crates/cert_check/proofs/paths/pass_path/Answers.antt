@@ -6,7 +6,7 @@ use Rattle.sheet_base.specs.Segments.{points_in, segments_in, point_at}
 use Rattle.affine_image.specs.Rounded.{IsRoundedImage}
 use Rattle.affine_image.specs.SheetSegments.{path_vertices, segments_begun}
 use Rattle.affine_image.proofs.PathVertices.{few}
-use Rattle.cert_check.specs.SheetLists.{IsStopCause, IsTriangleWith}
+use Rattle.cert_check.specs.InsideSheetLists.{IsStopCause, IsTriangleWith}
 use Rattle.cert_check.proofs.PathLists.{path_start, path_line, path_next, path_all, path_but_last, but_last, path_cause}
 use Rattle.cert_check.proofs.PathLists.{last_place, exits}
 use Rattle.cert_check.proofs.paths.pass_path.Goals as goal

@@ -2,10 +2,10 @@
 use Rattle.std.proofs.Common.{List, ℕ, length, Bor, refl, ap, arith}
 use Rattle.cert_check.specs.Lines.{IsLine}
 use Rattle.cert_check.specs.RightLists.{IsRightList}
-use Rattle.cert_check.specs.SheetLists.{HasNoLineWithin}
+use Rattle.cert_check.specs.InsideSheetLists.{HasNoLineWithin}
 use Rattle.cert_check.proofs.FewNumbers.{wrong_within}
 use Rattle.cert_check.proofs.LineNumbers.{line_long}
-use Rattle.cert_check.proofs.Passing.{refused}
+use Rattle.cert_check.proofs.ListPasses.{refused}
 use Rattle.cert_check.proofs.PathLists.{wrong_line}
 use Rattle.cert_check.proofs.paths.pass_segment.Goals as goal
 use Rattle.plain_laws.proofs.Options.{some_told, none_told}

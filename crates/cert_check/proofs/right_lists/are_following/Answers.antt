@@ -1,7 +1,7 @@
 -- Answers to the goals of `are_following` in src/right_lists.rt.
 use Rattle.std.proofs.Common.{arith}
 use Rattle.std.proofs.Math.ListN.{drop_of_length-le}
-use Rattle.cert_check.proofs.Passing.{followed_start, followed_more, followed_none, followed_all, never}
+use Rattle.cert_check.proofs.ListPasses.{followed_start, followed_more, followed_none, followed_all, never}
 use Rattle.cert_check.proofs.right_lists.are_following.Goals as goal
 
 pub loop-number-init : goal.loop-number-init

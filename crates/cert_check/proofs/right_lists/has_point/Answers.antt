@@ -2,7 +2,7 @@
 use Rattle.std.proofs.Common.{List, sym, subst, arith}
 use Rattle.plane_base.specs.Plane.{Point, whole, IsMix}
 use Rattle.affine_image.proofs.Near.{near_corners}
-use Rattle.cert_check.proofs.Passing.{refused, never}
+use Rattle.cert_check.proofs.ListPasses.{refused, never}
 use Rattle.cert_check.proofs.right_lists.has_point.Goals as goal
 
 pub returns-then-not-is_near_corners : goal.returns-then-not-is_near_corners

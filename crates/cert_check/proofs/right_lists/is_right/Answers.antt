@@ -1,5 +1,5 @@
 -- Answers to the goals of `is_right` in src/right_lists.rt.
-use Rattle.cert_check.proofs.Passing.{right_same, right_differ, refused}
+use Rattle.cert_check.proofs.ListPasses.{right_same, right_differ, refused}
 use Rattle.cert_check.proofs.right_lists.is_right.Goals as goal
 
 pub returns-then-is_same : goal.returns-then-is_same

@@ -1,6 +1,6 @@
 -- Answers to the goals of `push_run` in src/runs.rt.
 use Rattle.std.proofs.Common.{◌≡◌, ◌-◌, ◌<◌, ◌≤◌, length, vec_len, take, get_or, arith}
-use Rattle.cert_check.proofs.Following.{right_inside}
+use Rattle.cert_check.proofs.ListPoints.{right_inside}
 use Rattle.cert_check.proofs.RunLaws.{first_in, each_has, last_has, ends_next, ends_all, ends_count, front_length}
 use Rattle.cert_check.proofs.RunLaws.{right_split}
 use Rattle.cert_check.proofs.runs.push_run.Goals as goal

@@ -1,6 +1,6 @@
 -- The invariants of `push_copy` in src/copies.rt.
 use Rattle.std.proofs.Common.{◌≡◌, ◌++◌, drop}
-use Rattle.dxf_layer.specs.Told.{told}
+use Rattle.dxf_layer.specs.InsideEntities.{told}
 use Rattle.dxf_layer.specs.Entities.{entity_end}
 use Rattle.dxf_layer.specs.Rendering.{copied_from, copy_text}
 use Rattle.dxf_layer.proofs.copies.push_copy.Given as goal

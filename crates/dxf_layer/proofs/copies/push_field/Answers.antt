@@ -2,7 +2,7 @@
 use Rattle.std.proofs.Common.{◌∙◌, ◌++◌, ap, sym, FitsSigned, w32, rules}
 use Rattle.std.proofs.lemmas.Int.{to_z-of_z}
 use Rattle.dxf_layer.specs.Rendering.{value_for}
-use Rattle.dxf_layer.proofs.Copying.{field_pushed}
+use Rattle.dxf_layer.proofs.CopyLists.{field_pushed}
 use Rattle.dxf_layer.proofs.copies.push_field.Goals as goal
 
 pub returns-in_ok-push_value-in-Some : goal.returns-in_ok-push_value-in-Some

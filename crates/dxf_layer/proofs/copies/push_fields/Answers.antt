@@ -3,7 +3,7 @@ use Rattle.std.proofs.Common.{◌∙◌, ◌++◌, ap, FitsSigned, w64, rules}
 use Rattle.std.proofs.lemmas.Int.{to_z-of_z}
 use Rattle.mm_decimal.specs.Writing.{written}
 use Rattle.dxf_pairs.specs.Lines.{between}
-use Rattle.dxf_layer.proofs.Copying.{five_parts}
+use Rattle.dxf_layer.proofs.CopyLists.{five_parts}
 use Rattle.dxf_layer.proofs.copies.push_fields.Goals as goal
 
 pub returns : goal.returns

@@ -1,10 +1,11 @@
 -- Answers to the goals of `first_handle` in src/counting.rt.
 use Rattle.std.proofs.Common.{◌∙◌, sym}
 use Rattle.dxf_layer.specs.declared.entities.Where.TheVariants.{Outside}
+use Rattle.dxf_layer.proofs.SectionSeeds.{seed_found}
 use Rattle.dxf_layer.proofs.SeedForm.{seed_is}
 use Rattle.dxf_layer.proofs.counting.first_handle.Goals as goal
 
 pub handle_number-requires : goal.handle_number-requires
 handle_number-requires c =
     rw c.value_in.ensures (seed_is c.args.page.now.bytes.now Outside c.args.page.now.pairs.now c.in-Some.pair
-    (sym c.seed_of.ensures ∙ c.in-Some.is))
+    (sym (seed_found c.args.page.now.bytes.now c.args.page.now.pairs.now) ∙ (sym c.seed_of.ensures ∙ c.in-Some.is)))

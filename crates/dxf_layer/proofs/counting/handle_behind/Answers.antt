@@ -1,8 +1,8 @@
 -- Answers to the goals of `handle_behind` in src/counting.rt.
 use Rattle.std.proofs.Common.{arith, sym, ◌∙◌}
-use Rattle.dxf_layer.specs.Paged.{read_of}
+use Rattle.dxf_layer.specs.InsidePages.{read_of}
 use Rattle.dxf_layer.specs.Rendering.{entity_at}
-use Rattle.dxf_layer.proofs.Taking.{number_within, few_copies, one_counted, none_more, counts_small, passed_before}
+use Rattle.dxf_layer.proofs.HandleCounts.{number_within, few_copies, one_counted, none_more, counts_small, passed_before}
 use Rattle.dxf_layer.proofs.counting.handle_behind.Goals.{then-copies-gt1, else-copies-gt1}
 use Rattle.dxf_layer.proofs.counting.handle_behind.Goals as goal
 

@@ -1,7 +1,7 @@
 -- Answers to the goals of `images_of_line` in src/counting.rt.
 use Rattle.std.proofs.Common.{◌∙◌, ap, sym, length}
 use Rattle.sheet_base.specs.Fitting.{path_images}
-use Rattle.dxf_layer.proofs.Taking.{positions_count}
+use Rattle.dxf_layer.proofs.HandleCounts.{positions_count}
 use Rattle.dxf_layer.proofs.counting.images_of_line.Goals as goal
 
 pub returns : goal.returns

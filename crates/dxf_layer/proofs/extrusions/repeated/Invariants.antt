@@ -1,6 +1,6 @@
 -- The invariants of `repeated` in src/extrusions.rt.
 use Rattle.std.proofs.Common.{◌≡◌, [], take, drop}
-use Rattle.dxf_layer.specs.Walks.{repeated}
+use Rattle.dxf_layer.specs.Kinds.{repeated}
 use Rattle.dxf_layer.proofs.extrusions.repeated.Given as goal
 
 abbrev pub invariant-loop-number : goal.invariant-loop-number

@@ -1,6 +1,7 @@
 -- The invariants of `seed_of` in src/handles.rt.
 use Rattle.std.proofs.Common.{◌≡◌, drop}
-use Rattle.dxf_layer.specs.Handles.{seed_from, seed_of}
+use Rattle.dxf_layer.specs.InsideSections.{seed_from}
+use Rattle.dxf_layer.specs.Seeds.{seed_of}
 use Rattle.dxf_layer.proofs.handles.seed_of.Given as goal
 
 abbrev pub invariant-loop-number : goal.invariant-loop-number

@@ -1,6 +1,6 @@
 -- The invariants of `number_at` in src/pages.rt.
 use Rattle.std.proofs.Common.{◌≤◌, ◌-◌, length}
-use Rattle.dxf_layer.specs.Paged.{read_of}
+use Rattle.dxf_layer.specs.InsidePages.{read_of}
 use Rattle.dxf_layer.specs.Rendering.{number_at}
 use Rattle.dxf_layer.proofs.pages.number_at.Given as goal
 

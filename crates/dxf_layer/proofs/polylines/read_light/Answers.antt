@@ -2,12 +2,12 @@
 use Rattle.std.proofs.Common.{◌≡◌, sym, subst, arith, ◌+◌, ◌-◌, ◌≤◌, length, pos, ◌^◌, Ok, Err}
 use Rattle.std.specs.Prelude.{int_lt}
 use Rattle.dxf_pairs.specs.declared.pairs.Pair.{Pair}
-use Rattle.dxf_layer.specs.Told.{told}
+use Rattle.dxf_layer.specs.InsideEntities.{told}
 use Rattle.dxf_layer.specs.Polylines.{vertices_in, count_of, light_shapes}
-use Rattle.dxf_layer.specs.Held.{seen, HoldsAtMost, AddsVertices}
-use Rattle.dxf_layer.proofs.Growing.{holds_more, edited_holds, taken_short}
+use Rattle.dxf_layer.specs.InsideContents.{seen, HoldsAtMost, AddsVertices}
+use Rattle.dxf_layer.proofs.ReadSizes.{holds_more, edited_holds, taken_short}
 use Rattle.dxf_layer.proofs.Light.{light_added, finished_by, light_miscounted, no_fewer}
-use Rattle.dxf_layer.proofs.Stepping.{handed_on}
+use Rattle.dxf_layer.proofs.WalkSteps.{handed_on}
 use Rattle.dxf_layer.proofs.polylines.read_light.Goals as goal
 
 pub point-past-requires : goal.point-past-requires

@@ -1,7 +1,7 @@
 -- Answers to the goals of `read_vertices` in src/polylines.rt.
 use Rattle.std.proofs.Common.{arith, ◌+◌, ◌-◌, ◌^◌, length, take, drop}
-use Rattle.dxf_layer.specs.Held.{seen}
-use Rattle.dxf_layer.proofs.Growing.{holds_more}
+use Rattle.dxf_layer.specs.InsideContents.{seen}
+use Rattle.dxf_layer.proofs.ReadSizes.{holds_more}
 use Rattle.dxf_layer.proofs.Vertices.{nothing_read, one_read, none_read, at_some}
 use Rattle.dxf_layer.proofs.polylines.read_vertices.Goals as goal
 

@@ -1,6 +1,6 @@
 -- The invariants of `read_vertices` in src/polylines.rt.
 use Rattle.std.proofs.Common.{length, ◌-◌}
-use Rattle.dxf_layer.specs.Held.{seen}
+use Rattle.dxf_layer.specs.InsideContents.{seen}
 use Rattle.dxf_layer.proofs.Vertices.{AreReadTo}
 use Rattle.dxf_layer.proofs.polylines.read_vertices.Given as goal
 

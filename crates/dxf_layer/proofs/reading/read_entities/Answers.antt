@@ -1,12 +1,13 @@
 -- Answers to the goals of `read_entities` in src/reading.rt.
 use Rattle.std.proofs.Common.{◌≡◌, sym, subst, arith, ◌^◌, ◌*◌, ◌+◌, get_or, drop, Err}
 use Rattle.std.proofs.lemmas.List.{drop_more}
-use Rattle.dxf_layer.specs.Entities.{entities_of}
+use Rattle.dxf_layer.specs.InsideSections.{entities_of}
 use Rattle.dxf_layer.specs.Shapes.{with_shapes}
-use Rattle.dxf_layer.specs.Walks.{free, visited, walked}
-use Rattle.dxf_layer.specs.Held.{seen, room_before, GoesTo, GrowsAlong}
-use Rattle.dxf_layer.proofs.Growing.{holds_more}
-use Rattle.dxf_layer.proofs.Stepping.{handed_on}
+use Rattle.dxf_layer.specs.InsideWalks.{free, visited, walked}
+use Rattle.dxf_layer.specs.InsideContents.{seen}
+use Rattle.dxf_layer.specs.InsideStands.{room_before, GoesTo, GrowsAlong}
+use Rattle.dxf_layer.proofs.ReadSizes.{holds_more}
+use Rattle.dxf_layer.proofs.WalkSteps.{handed_on}
 use Rattle.dxf_layer.proofs.Vertices.{rest_is}
 use Rattle.dxf_layer.proofs.Visits.{IsWalkedTo, nothing_walked, pair_walked, walk_refused, no_pair, room_short}
 use Rattle.dxf_layer.proofs.reading.read_entities.Goals as goal

@@ -1,5 +1,5 @@
 -- The invariants of `read_entities` in src/reading.rt.
-use Rattle.dxf_layer.specs.Held.{seen}
+use Rattle.dxf_layer.specs.InsideContents.{seen}
 use Rattle.dxf_layer.proofs.Visits.{IsWalkedTo}
 use Rattle.dxf_layer.proofs.reading.read_entities.Given as goal
 

@@ -4,7 +4,8 @@ use Rattle.std.specs.Prelude.{take_while}
 use Rattle.std.proofs.lemmas.List.Folds.{length-prefix_len}
 use Rattle.dxf_pairs.specs.declared.pairs.Pair.{Pair}
 use Rattle.dxf_layer.specs.Entities.{is_no_head}
-use Rattle.dxf_layer.specs.Held.{seen, room_before}
+use Rattle.dxf_layer.specs.InsideContents.{seen}
+use Rattle.dxf_layer.specs.InsideStands.{room_before}
 use Rattle.dxf_layer.proofs.Vertices.{rest_is}
 use Rattle.dxf_layer.proofs.Visits.{no_pair, grows_along}
 use Rattle.dxf_layer.proofs.reading.visit.Goals as goal

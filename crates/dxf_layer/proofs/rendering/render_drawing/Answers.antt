@@ -2,11 +2,11 @@
 use Rattle.std.proofs.Common.{◌≡◌, List, sym, subst}
 use Rattle.std.specs.Prelude.{IfOk, Result}
 use Rattle.sheet_base.specs.Splices.{spliced, DoKeep}
-use Rattle.sheet_base.proofs.Splicing.{if_ok_more, splices_keep}
+use Rattle.sheet_base.proofs.SpliceLaws.{if_ok_more, splices_keep}
 use Rattle.dxf_pairs.specs.declared.faults.PairFault.{PairFault}
 use Rattle.dxf_pairs.specs.declared.pairs.Pair.{Pair}
 use Rattle.dxf_layer.specs.Rendering.{text_by, text_of, drawing_text}
-use Rattle.dxf_layer.proofs.Whole.{sheet_in_order}
+use Rattle.dxf_layer.proofs.WalkedSheets.{sheet_in_order}
 use Rattle.dxf_layer.proofs.rendering.render_drawing.Goals as goal
 
 pub render_page-requires-clause-order : goal.render_page-requires-clause-order

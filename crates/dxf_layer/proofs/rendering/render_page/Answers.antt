@@ -2,10 +2,10 @@
 use Rattle.std.proofs.Common.{◌≡◌, ◌∙◌, ◌++◌, arith, ap, sym, length, slice_index_or}
 use Rattle.sheet_base.specs.declared.edits.Edit.{Edit}
 use Rattle.sheet_base.specs.Splices.{AreInOrder}
-use Rattle.sheet_base.proofs.Splicing.{no_edit, one_more}
-use Rattle.dxf_layer.specs.Paged.{read_of}
+use Rattle.sheet_base.proofs.SpliceLaws.{no_edit, one_more}
+use Rattle.dxf_layer.specs.InsidePages.{read_of}
 use Rattle.dxf_layer.specs.Rendering.{text_as, text_of, next_at}
-use Rattle.dxf_layer.proofs.Taking.{number_within, one_counted, counts_small, passed_before, next_is}
+use Rattle.dxf_layer.proofs.HandleCounts.{number_within, one_counted, counts_small, passed_before, next_is}
 use Rattle.dxf_layer.proofs.rendering.render_page.Goals as goal
 
 pub number_at-number-requires : goal.number_at-number-requires

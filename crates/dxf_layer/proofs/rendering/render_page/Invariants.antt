@@ -1,9 +1,9 @@
 -- The invariants of `render_page` in src/rendering.rt.
 use Rattle.std.proofs.Common.{length, drop}
-use Rattle.sheet_base.proofs.Splicing.{IsSpliced}
-use Rattle.dxf_layer.specs.Paged.{read_of}
+use Rattle.sheet_base.proofs.SpliceLaws.{IsSpliced}
+use Rattle.dxf_layer.specs.InsidePages.{read_of}
 use Rattle.dxf_layer.specs.Rendering.{text_of}
-use Rattle.dxf_layer.proofs.Taking.{AreCounted}
+use Rattle.dxf_layer.proofs.HandleCounts.{AreCounted}
 use Rattle.dxf_layer.proofs.rendering.render_page.Given as goal
 
 abbrev pub invariant-loop-edit : goal.invariant-loop-edit

@@ -2,7 +2,7 @@
 use Rattle.std.proofs.Common.{◌≡◌, ◌∙◌, sym, refl, arith, FitsSigned, w32, rules, true, false, get_or, ◌-◌}
 use Rattle.std.proofs.lemmas.Int.{to_z-of_z}
 use Rattle.dxf_layer.specs.Entities.{has_code}
-use Rattle.dxf_layer.proofs.Copying.{last_at}
+use Rattle.dxf_layer.proofs.CopyLists.{last_at}
 use Rattle.dxf_layer.proofs.Visits.{no_pair}
 use Rattle.dxf_layer.proofs.texts.last_coded.Goals as goal
 

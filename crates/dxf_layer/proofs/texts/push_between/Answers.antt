@@ -4,9 +4,9 @@ use Rattle.sheet_base.specs.PointHeights.{height_in}
 use Rattle.sheet_base.specs.Segments.{point_at}
 use Rattle.sheet_base.proofs.PositionLists.{position_at}
 use Rattle.dxf_layer.specs.declared.copies.Copied.{Copied}
-use Rattle.dxf_layer.specs.Told.{told}
+use Rattle.dxf_layer.specs.InsideEntities.{told}
 use Rattle.dxf_layer.specs.Rendering.{copy_text, line_copy}
-use Rattle.dxf_layer.proofs.Copying.{same_copy, line_more, lines_done}
+use Rattle.dxf_layer.proofs.CopyLists.{same_copy, line_more, lines_done}
 use Rattle.dxf_layer.proofs.texts.push_between.Goals as goal
 
 pub loop-number-preserved : goal.loop-number-preserved

@@ -1,8 +1,8 @@
 -- The invariants of `push_between` in src/texts.rt.
 use Rattle.std.proofs.Common.{◌≡◌, ◌++◌, ◌≤◌, ◌+◌, true}
-use Rattle.dxf_layer.specs.Told.{told}
+use Rattle.dxf_layer.specs.InsideEntities.{told}
 use Rattle.dxf_layer.specs.Rendering.{line_copies}
-use Rattle.dxf_layer.proofs.Copying.{IsNext, lines_left, some_of}
+use Rattle.dxf_layer.proofs.CopyLists.{IsNext, lines_left, some_of}
 use Rattle.dxf_layer.proofs.texts.push_between.Given as goal
 
 -- the copies so far and those that are left are all of them, and no more handles were given than images are behind

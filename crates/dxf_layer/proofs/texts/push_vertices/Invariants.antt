@@ -1,8 +1,8 @@
 -- The invariants of `push_vertices` in src/texts.rt.
 use Rattle.std.proofs.Common.{◌≡◌, ◌++◌, drop, true}
-use Rattle.dxf_layer.specs.Told.{told}
+use Rattle.dxf_layer.specs.InsideEntities.{told}
 use Rattle.dxf_layer.specs.Rendering.{vertex_copies}
-use Rattle.dxf_layer.proofs.Copying.{IsFirst, vertices_left}
+use Rattle.dxf_layer.proofs.CopyLists.{IsFirst, vertices_left}
 use Rattle.dxf_layer.proofs.texts.push_vertices.Given as goal
 
 abbrev pub invariant-loop-image : goal.invariant-loop-image

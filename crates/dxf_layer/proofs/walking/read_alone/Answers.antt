@@ -1,7 +1,7 @@
 -- Answers to the goals of `read_alone` in src/walking.rt.
 use Rattle.std.proofs.Common.{arith, ◌+◌, length}
-use Rattle.dxf_layer.specs.Held.{seen}
-use Rattle.dxf_layer.proofs.Growing.{grows_wider}
+use Rattle.dxf_layer.specs.InsideContents.{seen}
+use Rattle.dxf_layer.proofs.ReadSizes.{grows_wider}
 use Rattle.dxf_layer.proofs.walking.read_alone.Goals as goal
 
 pub returns-then-is_kind-2-clause-grown : goal.returns-then-is_kind-2-clause-grown

@@ -1,9 +1,9 @@
 -- Answers to the goals of `step_alone` in src/walking.rt.
 use Rattle.std.proofs.Common.{◌≡◌, sym, Ok}
-use Rattle.dxf_layer.specs.Told.{told}
-use Rattle.dxf_layer.specs.Walks.{upright, shapes_of}
-use Rattle.dxf_layer.specs.Held.{seen}
-use Rattle.dxf_layer.proofs.Stepping.{alone_goes}
+use Rattle.dxf_layer.specs.InsideEntities.{told}
+use Rattle.dxf_layer.specs.Kinds.{upright, shapes_of}
+use Rattle.dxf_layer.specs.InsideContents.{seen}
+use Rattle.dxf_layer.proofs.WalkSteps.{alone_goes}
 use Rattle.dxf_layer.proofs.walking.step_alone.Goals as goal
 
 pub returns-clause-goes : goal.returns-clause-goes

@@ -1,11 +1,11 @@
 -- Answers to the goals of `step_reading` in src/walking.rt.
 use Rattle.std.proofs.Common.{◌≡◌, ◌∙◌, sym, refl, ap, subst, Ok, true}
 use Rattle.std.specs.Prelude.{codes}
-use Rattle.dxf_layer.specs.Told.{told}
+use Rattle.dxf_layer.specs.InsideEntities.{told}
 use Rattle.dxf_layer.specs.Entities.{is_kind}
 use Rattle.dxf_layer.specs.Polylines.{entity_vertex}
-use Rattle.dxf_layer.specs.Held.{with_own_vertex}
-use Rattle.dxf_layer.proofs.Stepping.{own_behind}
+use Rattle.dxf_layer.specs.InsideContents.{with_own_vertex}
+use Rattle.dxf_layer.proofs.WalkSteps.{own_behind}
 use Rattle.dxf_layer.proofs.walking.step_reading.Goals as goal
 
 pub returns-in_ok-add_own_vertex-clause-goes : goal.returns-in_ok-add_own_vertex-clause-goes

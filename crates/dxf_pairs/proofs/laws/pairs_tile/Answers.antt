@@ -1,5 +1,5 @@
 -- The proof of the law `pairs_tile` in src/laws.rt.
-use Rattle.dxf_pairs.proofs.Standing.{tiles, within}
+use Rattle.dxf_pairs.proofs.LinePlaces.{tiles, within}
 use Rattle.dxf_pairs.proofs.laws.pairs_tile.Goals as goal
 
 pub returns-clause-tile : goal.returns-clause-tile

@@ -2,7 +2,7 @@
 use Rattle.std.proofs.Common.{◌≡◌, Ok}
 use Rattle.dxf_pairs.specs.Pairs.{drawing}
 use Rattle.dxf_pairs.proofs.PairSteps.{text_form}
-use Rattle.dxf_pairs.proofs.Standing.{tiles, within, the_groups}
+use Rattle.dxf_pairs.proofs.LinePlaces.{tiles, within, the_groups}
 use Rattle.dxf_pairs.proofs.reading.read_pairs.Goals as goal
 
 pub returns : goal.returns

@@ -5,7 +5,7 @@ use Rattle.std.proofs.lemmas.List.{drop_all, drop_more}
 use Rattle.sheet_base.specs.declared.paths.PathRow.{PathRow}
 use Rattle.sheet_base.specs.Fitting.{no_path}
 use Rattle.gj_layer.specs.Texts.{row_positions}
-use Rattle.gj_layer.specs.Boxes.{widened_by, bounded_text}
+use Rattle.gj_layer.specs.InsideBoxes.{widened_by, bounded_text}
 use Rattle.gj_layer.proofs.BoxLemmas.{bounds_are, widened_append}
 use Rattle.gj_layer.proofs.boxes.bounds_of.Goals as goal
 

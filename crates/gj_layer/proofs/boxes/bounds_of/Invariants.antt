@@ -2,7 +2,7 @@
 use Rattle.std.proofs.Common.{◌≡◌, drop}
 use Rattle.std.specs.Prelude.{None, flat_map}
 use Rattle.gj_layer.specs.Texts.{row_positions}
-use Rattle.gj_layer.specs.Boxes.{widened_by}
+use Rattle.gj_layer.specs.InsideBoxes.{widened_by}
 use Rattle.gj_layer.proofs.boxes.bounds_of.Given as goal
 
 abbrev pub invariant-loop-row : goal.invariant-loop-row

@@ -3,7 +3,7 @@ use Rattle.std.proofs.Common.{◌+◌, ◌-◌, [], ◌∷◌, take, drop, sym, 
 use Rattle.sheet_base.specs.PointHeights.{Position}
 use Rattle.sheet_base.specs.Fitting.{positions_in}
 use Rattle.sheet_base.proofs.PositionLists.{position_is, paired_more}
-use Rattle.gj_layer.specs.Boxes.{widened_by}
+use Rattle.gj_layer.specs.InsideBoxes.{widened_by}
 use Rattle.gj_layer.proofs.BoxLemmas.{widened_append}
 use Rattle.gj_layer.proofs.boxes.widen_by.Goals as goal
 

@@ -1,7 +1,7 @@
 -- The invariant of the loop of `widen_by` in src/boxes.rt.
 use Rattle.std.proofs.Common.{◌≡◌, ◌-◌, take, drop}
 use Rattle.sheet_base.specs.Fitting.{positions_in}
-use Rattle.gj_layer.specs.Boxes.{widened_by}
+use Rattle.gj_layer.specs.InsideBoxes.{widened_by}
 use Rattle.gj_layer.proofs.boxes.widen_by.Given as goal
 
 -- the box so far with the images that are left is that of all

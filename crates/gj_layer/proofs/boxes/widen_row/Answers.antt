@@ -2,7 +2,7 @@
 use Rattle.std.proofs.Common.{ap, ◌∙◌}
 use Rattle.sheet_base.specs.Fitting.{run_begin}
 use Rattle.sheet_base.proofs.PositionLists.{paired_upto}
-use Rattle.gj_layer.specs.Boxes.{widened_by}
+use Rattle.gj_layer.specs.InsideBoxes.{widened_by}
 use Rattle.gj_layer.proofs.boxes.widen_row.Goals as goal
 
 pub returns : goal.returns

@@ -1,5 +1,5 @@
 -- Answers to the goals of `content_at` in src/objects.rt.
-use Rattle.gj_layer.proofs.Finding.{found_within, content_found}
+use Rattle.gj_layer.proofs.MemberFinds.{found_within, content_found}
 use Rattle.gj_layer.proofs.objects.content_at.Goals as goal
 
 pub node_at-node-requires : goal.node_at-node-requires

@@ -12,8 +12,8 @@ use Rattle.gj_layer.specs.Reading.{reading}
 use Rattle.gj_layer.proofs.There.{first_is, object_there, kind_there, kind_not_there}
 use Rattle.jtext.proofs.MemberLoops.{object_of}
 use Rattle.sheet_base.proofs.HandedOn.{passed_on}
-use Rattle.gj_layer.proofs.Opened.{no_object, object_refused, object_opens, opens_fault, opens_same, content_inside}
-use Rattle.gj_layer.proofs.Opened.{held_counts}
+use Rattle.gj_layer.proofs.OpenValues.{no_object, object_refused, object_opens, opens_fault, opens_same, content_inside}
+use Rattle.gj_layer.proofs.OpenValues.{held_counts}
 use Rattle.gj_layer.proofs.objects.open_object.Goals as goal
 
 pub returns-then-not-is_kind-clause-opens : goal.returns-then-not-is_kind-clause-opens

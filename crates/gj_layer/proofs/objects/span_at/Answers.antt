@@ -1,5 +1,5 @@
 -- Answers to the goals of `span_at` in src/objects.rt.
-use Rattle.gj_layer.proofs.Finding.{found_within, span_found}
+use Rattle.gj_layer.proofs.MemberFinds.{found_within, span_found}
 use Rattle.gj_layer.proofs.objects.span_at.Goals as goal
 
 pub node_at-node-requires : goal.node_at-node-requires

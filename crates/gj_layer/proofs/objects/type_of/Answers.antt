@@ -8,7 +8,7 @@ use Rattle.sheet_base.specs.declared.faults.LayerFault.TheVariants.{Shape}
 use Rattle.gj_layer.specs.Objects.{allowed, type_of}
 use Rattle.gj_layer.proofs.There.{first_is, kind_there, kind_not_there}
 use Rattle.jtext.proofs.TextNodes.{quoted_of}
-use Rattle.gj_layer.proofs.Saying.{no_text}
+use Rattle.gj_layer.proofs.TextMeanings.{no_text}
 use Rattle.gj_layer.proofs.objects.type_of.Goals as goal
 
 pub returns-then-is_kind : goal.returns-then-is_kind

@@ -3,19 +3,18 @@ use Rattle.std.proofs.Common.{◌≡◌, ◌<◌, [], length, vec_len, map, refl
 use Rattle.std.specs.Prelude.{Ok, Err}
 use Rattle.std.proofs.lemmas.List.{length-map}
 use Rattle.jtext.specs.Places.{Stands}
-use Rattle.jtext.specs.declared.document.Kind.TheVariants as kinds
 use Rattle.sheet_base.specs.declared.paths.PathKind.TheVariants.{Line}
 use Rattle.gj_layer.specs.declared.forms.Trace.TheVariants as traces
-use Rattle.gj_layer.specs.Faults.{and_then}
+use Rattle.sheet_base.specs.Faults.{and_then}
 use Rattle.sheet_base.specs.PointHeights.{Position, points_of}
 use Rattle.gj_layer.specs.Positions.{position_of}
 use Rattle.gj_layer.specs.Paths.{nothing, joined, traced, part_of}
-use Rattle.gj_layer.specs.Standing.{Holds, path_part}
-use Rattle.gj_layer.proofs.There.{node_there, kind_within, array_here}
+use Rattle.gj_layer.specs.InsideNodes.{Holds, path_part}
+use Rattle.gj_layer.proofs.There.{array_here, array_seen}
 use Rattle.sheet_base.proofs.HandedOn.{passed_on}
-use Rattle.gj_layer.proofs.Giving.{give_fault}
-use Rattle.gj_layer.proofs.Holding.{held_more, held_empty, held_first}
-use Rattle.gj_layer.proofs.Tracing.{run_path, line_refused, line_traced, line_empty, none_of}
+use Rattle.gj_layer.proofs.AnswerLaws.{give_fault}
+use Rattle.gj_layer.proofs.PathsSoFar.{held_more, held_empty, held_first}
+use Rattle.gj_layer.proofs.ReadPaths.{run_path, line_refused, line_traced, line_empty, none_of}
 use Rattle.gj_layer.proofs.paths.read_line.Goals as goal
 
 pub read_positions-requires-clause-room : goal.read_positions-requires-clause-room
@@ -37,28 +36,23 @@ returns-in_err-run-clause-path c start is part h held =
 
 pub end_path-requires-clause-paths : goal.end_path-requires-clause-paths
 end_path-requires-clause-paths c =
-    let (node, got, s) = node_there c.args.doc.now c.args.bytes.now c.args.array c.requires.read
-    (kind_within c.args.doc.now.nodes c.args.array kinds.Array c.requires.kind) in
-    let room = c.requires.room node got in omega (arith, room.paths)
+    let (node, got, s, room) = array_seen c.args.doc.now c.args.bytes.now c.args.array c.requires.read c.requires.kind
+    c.requires.room in omega (arith, room.paths)
 
 pub end_path-requires-clause-points : goal.end_path-requires-clause-points
 end_path-requires-clause-points c =
-    let (node, got, s) = node_there c.args.doc.now c.args.bytes.now c.args.array c.requires.read
-    (kind_within c.args.doc.now.nodes c.args.array kinds.Array c.requires.kind) in
-    let room = c.requires.room node got in
-    omega (arith, room.points, s.onward, c.in_ok-run.ensures.points node got)
+    let (node, got, s, room) = array_seen c.args.doc.now c.args.bytes.now c.args.array c.requires.read c.requires.kind
+    c.requires.room in omega (arith, room.points, s.onward, c.in_ok-run.ensures.points node got)
 
 pub end_path-requires-clause-first : goal.end_path-requires-clause-first
 end_path-requires-clause-first c =
-    let (node, got, s) = node_there c.args.doc.now c.args.bytes.now c.args.array c.requires.read
-    (kind_within c.args.doc.now.nodes c.args.array kinds.Array c.requires.kind) in
-    let room = c.requires.room node got in omega (arith, room.points, c.len-first.ensures)
+    let (node, got, s, room) = array_seen c.args.doc.now c.args.bytes.now c.args.array c.requires.read c.requires.kind
+    c.requires.room in omega (arith, room.points, c.len-first.ensures)
 
 pub end_path-requires-clause-inexact : goal.end_path-requires-clause-inexact
 end_path-requires-clause-inexact c =
-    let (node, got, s) = node_there c.args.doc.now c.args.bytes.now c.args.array c.requires.read
-    (kind_within c.args.doc.now.nodes c.args.array kinds.Array c.requires.kind) in
-    let room = c.requires.room node got in omega (arith, room.inexact, s.onward, c.in_ok-run.ensures.lost node got)
+    let (node, got, s, room) = array_seen c.args.doc.now c.args.bytes.now c.args.array c.requires.read c.requires.kind
+    c.requires.room in omega (arith, room.inexact, s.onward, c.in_ok-run.ensures.lost node got)
 
 pub returns-in_ok-end_path-clause-path : goal.returns-in_ok-end_path-clause-path
 returns-in_ok-end_path-clause-path c start is part h held =

@@ -6,12 +6,12 @@ use Rattle.jtext.specs.declared.document.Kind.TheVariants as kinds
 use Rattle.jtext.specs.declared.document.Node.{Node}
 use Rattle.sheet_base.specs.declared.faults.LayerFault.TheVariants.{Shape}
 use Rattle.gj_layer.specs.declared.forms.Trace.TheVariants as traces
-use Rattle.gj_layer.specs.Faults.{and_then}
+use Rattle.sheet_base.specs.Faults.{and_then}
 use Rattle.gj_layer.specs.Paths.{nothing, traced, part_of}
-use Rattle.gj_layer.specs.Standing.{Joins}
+use Rattle.gj_layer.specs.InsideNodes.{Joins}
 use Rattle.gj_layer.proofs.There.{seen, first_is, kind_there, kind_not_there}
-use Rattle.gj_layer.proofs.Holding.{held_nothing}
-use Rattle.gj_layer.proofs.Tracing.{not_traced, point_some, point_none}
+use Rattle.gj_layer.proofs.PathsSoFar.{held_nothing}
+use Rattle.gj_layer.proofs.ReadPaths.{not_traced, point_some, point_none}
 use Rattle.gj_layer.proofs.paths.read_path.Goals as goal
 
 pub returns-then-not-is_kind-clause-path : goal.returns-then-not-is_kind-clause-path

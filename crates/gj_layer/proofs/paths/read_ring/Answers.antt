@@ -7,19 +7,19 @@ use Rattle.jtext.specs.Places.{Stands}
 use Rattle.jtext.specs.declared.document.Kind.TheVariants as kinds
 use Rattle.sheet_base.specs.declared.paths.PathKind.TheVariants.{Loop}
 use Rattle.gj_layer.specs.declared.forms.Trace.TheVariants as traces
-use Rattle.gj_layer.specs.Faults.{and_then}
+use Rattle.sheet_base.specs.Faults.{and_then}
 use Rattle.sheet_base.specs.PointHeights.{Position, points_of, heights_of}
 use Rattle.gj_layer.specs.Positions.{position_of}
 use Rattle.sheet_base.specs.declared.faults.LayerFault.TheVariants.{Ring as RingFault}
 use Rattle.jtext.specs.declared.document.Node.{Node}
 use Rattle.gj_layer.specs.Paths.{joined, is_ring, traced, part_of}
-use Rattle.gj_layer.specs.Standing.{Holds, path_part}
-use Rattle.gj_layer.proofs.There.{node_there, first_is, kind_within, array_here}
+use Rattle.gj_layer.specs.InsideNodes.{Holds, path_part}
+use Rattle.gj_layer.proofs.There.{first_is, kind_within, array_here, array_seen}
 use Rattle.sheet_base.proofs.HandedOn.{passed_on}
-use Rattle.gj_layer.proofs.Giving.{give_fault}
+use Rattle.gj_layer.proofs.AnswerLaws.{give_fault}
 use Rattle.gj_layer.proofs.Fine.{ring_many}
-use Rattle.gj_layer.proofs.Holding.{held_more, held_first, held_even}
-use Rattle.gj_layer.proofs.Tracing.{run_path, ring_refused, ring_traced, ring_open, ring_is, last_split}
+use Rattle.gj_layer.proofs.PathsSoFar.{held_more, held_first, held_even}
+use Rattle.gj_layer.proofs.ReadPaths.{run_path, ring_refused, ring_traced, ring_open, ring_is, last_split}
 use Rattle.gj_layer.proofs.paths.read_ring.Goals as goal
 
 pub read_positions-requires-clause-room : goal.read_positions-requires-clause-room
@@ -41,28 +41,24 @@ returns-in_err-run-clause-path c start is part h held =
 
 pub end_path-requires-clause-paths : goal.end_path-requires-clause-paths
 end_path-requires-clause-paths c =
-    let (node, got, s) = node_there c.args.doc.now c.args.bytes.now c.args.array c.requires.read
-    (kind_within c.args.doc.now.nodes c.args.array kinds.Array c.requires.kind) in
-    let room = c.requires.room node got in omega (arith, room.paths)
+    let (node, got, s, room) = array_seen c.args.doc.now c.args.bytes.now c.args.array c.requires.read c.requires.kind
+    c.requires.room in omega (arith, room.paths)
 
 pub end_path-requires-clause-points : goal.end_path-requires-clause-points
 end_path-requires-clause-points c =
-    let (node, got, s) = node_there c.args.doc.now c.args.bytes.now c.args.array c.requires.read
-    (kind_within c.args.doc.now.nodes c.args.array kinds.Array c.requires.kind) in
-    let room = c.requires.room node got in
+    let (node, got, s, room) = array_seen c.args.doc.now c.args.bytes.now c.args.array c.requires.read c.requires.kind
+    c.requires.room in
     omega (arith, room.points, s.onward, c.in_ok-run.ensures.points node got, c.drop_last.ensures.few)
 
 pub end_path-requires-clause-first : goal.end_path-requires-clause-first
 end_path-requires-clause-first c =
-    let (node, got, s) = node_there c.args.doc.now c.args.bytes.now c.args.array c.requires.read
-    (kind_within c.args.doc.now.nodes c.args.array kinds.Array c.requires.kind) in
-    let room = c.requires.room node got in omega (arith, room.points, c.len-first.ensures)
+    let (node, got, s, room) = array_seen c.args.doc.now c.args.bytes.now c.args.array c.requires.read c.requires.kind
+    c.requires.room in omega (arith, room.points, c.len-first.ensures)
 
 pub end_path-requires-clause-inexact : goal.end_path-requires-clause-inexact
 end_path-requires-clause-inexact c =
-    let (node, got, s) = node_there c.args.doc.now c.args.bytes.now c.args.array c.requires.read
-    (kind_within c.args.doc.now.nodes c.args.array kinds.Array c.requires.kind) in
-    let room = c.requires.room node got in omega (arith, room.inexact, s.onward, c.in_ok-run.ensures.lost node got)
+    let (node, got, s, room) = array_seen c.args.doc.now c.args.bytes.now c.args.array c.requires.read c.requires.kind
+    c.requires.room in omega (arith, room.inexact, s.onward, c.in_ok-run.ensures.lost node got)
 
 pub node_at-requires : goal.node_at-requires
 node_at-requires c = kind_within c.args.doc.now.nodes c.args.array kinds.Array c.requires.kind

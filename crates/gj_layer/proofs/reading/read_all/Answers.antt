@@ -1,9 +1,9 @@
 -- Answers to the goals of `read_all` in src/reading.rt.
 use Rattle.std.proofs.Common.{◌∷◌, subst, List, arith}
 use Rattle.gj_layer.specs.declared.frames.Frame.{Frame}
-use Rattle.gj_layer.specs.Standing.{HasRoom}
-use Rattle.gj_layer.specs.Opening.{Going, left_in}
-use Rattle.gj_layer.proofs.Walking.{room_less}
+use Rattle.gj_layer.specs.InsideNodes.{HasRoom}
+use Rattle.gj_layer.specs.InsideFrames.{Going, left_in}
+use Rattle.gj_layer.proofs.OpenWalks.{room_less}
 use Rattle.gj_layer.proofs.reading.read_all.Goals as goal
 
 pub step_in-requires-clause-going : goal.step_in-requires-clause-going

@@ -3,8 +3,8 @@ use Rattle.std.proofs.Common.{◌+◌, ◌*◌, length}
 use Rattle.std.specs.Prelude.{Result}
 use Rattle.sheet_base.specs.declared.faults.LayerFault.{LayerFault}
 use Rattle.gj_layer.specs.Paths.{Part}
-use Rattle.gj_layer.specs.Standing.{HasRoom}
-use Rattle.gj_layer.specs.Opening.{Going, left_in}
+use Rattle.gj_layer.specs.InsideNodes.{HasRoom}
+use Rattle.gj_layer.specs.InsideFrames.{Going, left_in}
 use Rattle.gj_layer.proofs.reading.read_all.Given as goal
 
 abbrev pub invariant-loop-frame : goal.invariant-loop-frame

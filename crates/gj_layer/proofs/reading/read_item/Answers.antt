@@ -3,7 +3,7 @@ use Rattle.std.proofs.Common.{length, ap, ◌∙◌, arith}
 use Rattle.gj_layer.specs.Reading.{reading}
 use Rattle.gj_layer.proofs.There.{node_there}
 use Rattle.sheet_base.proofs.HandedOn.{passed_on}
-use Rattle.gj_layer.proofs.Opened.{path_read, takes_fault}
+use Rattle.gj_layer.proofs.OpenValues.{path_read, takes_fault}
 use Rattle.gj_layer.proofs.reading.read_item.Goals as goal
 
 pub open_object-requires-clause-paths : goal.open_object-requires-clause-paths

@@ -6,8 +6,8 @@ use Rattle.gj_layer.specs.Paths.{nothing}
 use Rattle.gj_layer.specs.Reading.{reading}
 use Rattle.gj_layer.proofs.There.{kind_there, kind_not_there}
 use Rattle.sheet_base.proofs.HandedOn.{passed_on}
-use Rattle.gj_layer.proofs.Holding.{held_nothing}
-use Rattle.gj_layer.proofs.Opened.{optional_read, null_read, takes_fault}
+use Rattle.gj_layer.proofs.PathsSoFar.{held_nothing}
+use Rattle.gj_layer.proofs.OpenValues.{optional_read, null_read, takes_fault}
 use Rattle.gj_layer.proofs.reading.read_optional.Goals as goal
 
 pub returns-then-is_kind-clause-takes : goal.returns-then-is_kind-clause-takes

@@ -1,11 +1,11 @@
 -- Answers to the goals of `step_in` in src/reading.rt.
 use Rattle.std.proofs.Common.{◌-◌, ◌∷◌, length, arith}
 use Rattle.gj_layer.specs.Reading.{reading}
-use Rattle.gj_layer.specs.Opening.{left_in}
+use Rattle.gj_layer.specs.InsideFrames.{left_in}
 use Rattle.sheet_base.proofs.HandedOn.{passed_on}
-use Rattle.gj_layer.proofs.Walking.{next_there, room_less, room_grows, goes_fault, within_nodes, node_behind}
-use Rattle.gj_layer.proofs.Walking.{taken_none, taken_some, grows_some, grows_none, within_some}
-use Rattle.jtext.proofs.Standing.{node_count_positive}
+use Rattle.gj_layer.proofs.OpenWalks.{next_there, room_less, room_grows, goes_fault, within_nodes, node_behind}
+use Rattle.gj_layer.proofs.OpenWalks.{taken_none, taken_some, grows_some, grows_none, within_some}
+use Rattle.jtext.proofs.NodePlaces.{node_count_positive}
 use Rattle.gj_layer.proofs.reading.step_in.Goals as goal
 
 pub node_at-node-requires : goal.node_at-node-requires
@@ -67,7 +67,6 @@ returns-in_ok-push-in-Some-clause-room c =
     let behind = node_behind nodes bytes frame.at next.start next.value c.node_at-node.result next.stands
     c.node_at-node.ensures in
     let inside = next.inside in
-    let some = node_count_positive next.value in
     let within = within_some nodes frame.at c.in_ok-inner.field-0 c.in-Some.inner c.node_at-node.result c.in-Some.is
     c.node_at-node.ensures c.in_ok-inner.ensures.within in
     rw (c.in_ok-push-in-Some.ensures.ok, c.in_ok-push.ensures.ok)
@@ -85,7 +84,6 @@ returns-in_ok-push-in-Some-clause-fewer c =
     let behind = node_behind nodes bytes frame.at next.start next.value c.node_at-node.result next.stands
     c.node_at-node.ensures in
     let inside = next.inside in
-    let some = node_count_positive next.value in
     let within = within_some nodes frame.at c.in_ok-inner.field-0 c.in-Some.inner c.node_at-node.result c.in-Some.is
     c.node_at-node.ensures c.in_ok-inner.ensures.within in
     rw (c.in_ok-push-in-Some.ensures.ok, c.in_ok-push.ensures.ok) (omega (arith, within, behind, inside))
@@ -110,7 +108,6 @@ returns-in-None-clause-room c =
     let behind = node_behind nodes bytes frame.at next.start next.value c.node_at-node.result next.stands
     c.node_at-node.ensures in
     let inside = next.inside in
-    let some = node_count_positive next.value in
     rw c.in_ok-push.ensures.ok
     (room_grows c.args.pass.now c.read_item.new.pass (c.node_at-node.result.next - frame.at) _
     (left_in (frame ∷ c.args.frames.now)) c.requires.room

@@ -1,9 +1,9 @@
 -- Answers to the goals of `step_out` in src/reading.rt.
 use Rattle.std.proofs.Common.{length, sym, ap, subst, arith}
 use Rattle.gj_layer.specs.Paths.{Part, joined}
-use Rattle.gj_layer.specs.Standing.{Holds}
-use Rattle.gj_layer.specs.Opening.{IsBare, ended}
-use Rattle.gj_layer.proofs.Walking.{end_there, ending_some, ending_none, edits_within}
+use Rattle.gj_layer.specs.InsideNodes.{Holds}
+use Rattle.gj_layer.specs.InsideFrames.{IsBare, ended}
+use Rattle.gj_layer.proofs.OpenWalks.{end_there, ending_some, ending_none, edits_within}
 use Rattle.gj_layer.proofs.reading.step_out.Goals as goal
 
 pub end_object-requires-clause-edits : goal.end_object-requires-clause-edits

@@ -6,7 +6,7 @@ use Rattle.job_words.specs.declared.faults.WordsFault.TheVariants.{SameName}
 use Rattle.job_words.specs.Names.{last_part}
 use Rattle.job_words.proofs.Again.{Scanned, among-behind, behind, next-text, part-at, parts-length, put-behind}
 use Rattle.job_words.proofs.Again.{text-again}
-use Rattle.job_words.proofs.Deciding.{not-false, not-true}
+use Rattle.job_words.proofs.TestValues.{not-false, not-true}
 use Rattle.job_words.proofs.checks.check_last_parts.Goals as goal
 
 pub returns-then-not-is_new : goal.returns-then-not-is_new

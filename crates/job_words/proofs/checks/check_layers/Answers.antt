@@ -3,7 +3,7 @@ use Rattle.std.proofs.Common.{ℕ, List, Bor, inr, ap, sym, ◌∙◌, option_ma
 use Rattle.job_words.specs.declared.faults.Which.TheVariants.{Layer}
 use Rattle.job_words.specs.declared.faults.WordsFault.TheVariants.{Name}
 use Rattle.job_words.specs.Names.{is_name}
-use Rattle.job_words.proofs.Placed.{position-map}
+use Rattle.job_words.proofs.TestPlaces.{position-map}
 use Rattle.job_words.proofs.checks.check_layers.Goals as goal
 
 pub returns-in-Some : goal.returns-in-Some

@@ -2,7 +2,7 @@
 use Rattle.std.proofs.Common.{ℕ, List, Bor, inr, ap, sym, ◌∙◌, option_map, not, is_some}
 use Rattle.job_words.specs.declared.faults.WordsFault.TheVariants.{Suffix}
 use Rattle.job_words.specs.Formats.{format_of}
-use Rattle.job_words.proofs.Placed.{position-map}
+use Rattle.job_words.proofs.TestPlaces.{position-map}
 use Rattle.job_words.proofs.checks.check_suffixes.Goals as goal
 
 pub returns-in-Some : goal.returns-in-Some

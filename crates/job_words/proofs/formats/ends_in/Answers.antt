@@ -4,7 +4,7 @@ use Rattle.std.specs.Char.{to_ascii_lowercase}
 use Rattle.std.specs.Str.{str_eq_ignore_ascii_case}
 use Rattle.std.proofs.lemmas.List.{take_rest}
 use Rattle.std.proofs.lemmas.Slice.Eq.{bytes_eq-Decides}
-use Rattle.job_words.proofs.Deciding.{same-test}
+use Rattle.job_words.proofs.TestValues.{same-test}
 use Rattle.job_words.proofs.formats.ends_in.Goals as goal
 
 pub returns : goal.returns

@@ -1,7 +1,7 @@
 -- Answers to the goals of `read_words` in src/reading.rt.
 use Rattle.clap.specs.Matches.{found_of}
 use Rattle.clap.specs.Walk.{rows_of}
-use Rattle.job_words.proofs.Keeping.{kept-answer}
+use Rattle.job_words.proofs.JobLaws.{kept-answer}
 use Rattle.job_words.proofs.reading.read_words.Goals as goal
 
 pub returns-clause-kept : goal.returns-clause-kept

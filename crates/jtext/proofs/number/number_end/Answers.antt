@@ -1,6 +1,6 @@
 -- Answers to the goals of `number_end` in src/number.rt.
 use Rattle.std.proofs.Common.{◌+◌, ◌∙◌, sym, arith}
-use Rattle.jtext.specs.Tokens.{number_step}
+use Rattle.jtext.specs.InsideTokens.{number_step}
 use Rattle.jtext.proofs.Pieces.{passes_more, passes_on}
 use Rattle.jtext.proofs.number.number_end.Goals as goal
 

@@ -2,7 +2,7 @@
 use Rattle.std.proofs.Common.{◌≤◌, length, ◌≡◌, ◌-◌}
 use Rattle.std.specs.Prelude.{slice_range, Some}
 use Rattle.text_places.specs.Machine.{run}
-use Rattle.jtext.specs.Tokens.{number_step}
+use Rattle.jtext.specs.InsideTokens.{number_step}
 use Rattle.jtext.proofs.number.number_end.Given as goal
 
 abbrev pub invariant-loop-at : goal.invariant-loop-at

@@ -1,6 +1,6 @@
 -- The invariant and the measure of the loop of `read_json` in src/reading.rt.
 use Rattle.std.proofs.Common.{length, ◌-◌}
-use Rattle.jtext.specs.States.{Reached}
+use Rattle.jtext.specs.InsideStates.{Reached}
 use Rattle.jtext.proofs.reading.read_json.Given as goal
 
 abbrev pub invariant-loop-at : goal.invariant-loop-at

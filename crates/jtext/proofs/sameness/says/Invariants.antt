@@ -1,6 +1,6 @@
 -- The invariant and the measure of the loop of `says` in src/sameness.rt.
 use Rattle.std.proofs.Common.{◌≤◌, length, ◌-◌}
-use Rattle.jtext.specs.Units.{IsLeft}
+use Rattle.jtext.specs.InsideUnits.{IsLeft}
 use Rattle.jtext.proofs.sameness.says.Given as goal
 
 abbrev pub invariant-loop-at : goal.invariant-loop-at

@@ -1,6 +1,6 @@
 -- Answers to the goals of `read_text` in src/steps.rt.
 use Rattle.std.proofs.Common.{arith}
-use Rattle.jtext.specs.States.{Role}
+use Rattle.jtext.specs.InsideStates.{Role}
 use Rattle.jtext.specs.declared.document.Kind.TheVariants.{Text}
 use Rattle.jtext.proofs.Reaches.{text_reached, text_bad}
 use Rattle.jtext.proofs.steps.read_text.Goals as goal

@@ -1,9 +1,9 @@
 -- Answers to the goals of `read_word` in src/steps.rt.
 use Rattle.std.proofs.Common.{◌+◌, arith}
 use Rattle.std.specs.Prelude.{Ok, Err}
-use Rattle.jtext.specs.Signs.{word_kind, word_rest}
-use Rattle.jtext.specs.Tokens.{WordEnds}
-use Rattle.jtext.specs.States.{Role}
+use Rattle.jtext.specs.InsideSigns.{word_kind, word_rest}
+use Rattle.jtext.specs.InsideTokens.{WordEnds}
+use Rattle.jtext.specs.InsideStates.{Role}
 use Rattle.jtext.proofs.Reaches.{word_reached, word_bad}
 use Rattle.jtext.proofs.steps.read_word.Goals as goal
 

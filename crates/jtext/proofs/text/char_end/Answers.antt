@@ -1,6 +1,6 @@
 -- Answers to the goals of `char_end` in src/text.rt.
 use Rattle.std.proofs.Common.{◌+◌, ◌∙◌, ap, sym}
-use Rattle.jtext.specs.Tokens.{Inner, after_text_sign, needing, lead_needs}
+use Rattle.jtext.specs.InsideTokens.{Inner, after_text_sign, needing, lead_needs}
 use Rattle.jtext.proofs.Tokens.{goes_one, ends_on}
 use Rattle.jtext.proofs.text.char_end.Goals as goal
 

@@ -1,6 +1,6 @@
 -- Answers to the goals of `needs_end` in src/text.rt.
 use Rattle.std.proofs.Common.{◌+◌, ◌∙◌, sym, arith, drop, get_or}
-use Rattle.jtext.specs.Tokens.{inner_step, needing}
+use Rattle.jtext.specs.InsideTokens.{inner_step, needing}
 use Rattle.jtext.specs.declared.text.Need.TheVariants.{Tail}
 use Rattle.jtext.proofs.Pieces.{passes_more}
 use Rattle.jtext.proofs.Tokens.{need_goes}

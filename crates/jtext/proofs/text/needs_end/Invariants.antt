@@ -2,7 +2,7 @@
 use Rattle.std.proofs.Common.{◌≤◌, length, ◌≡◌, ◌+◌, drop}
 use Rattle.std.specs.Prelude.{slice_range, Some}
 use Rattle.text_places.specs.Machine.{run}
-use Rattle.jtext.specs.Tokens.{inner_step, needing}
+use Rattle.jtext.specs.InsideTokens.{inner_step, needing}
 use Rattle.jtext.proofs.text.needs_end.Given as goal
 
 abbrev pub invariant-loop-need : goal.invariant-loop-need

@@ -1,7 +1,7 @@
 -- Answers to the goals of `text_end` in src/text.rt.
 use Rattle.std.proofs.Common.{◌∙◌, ap, sym, arith}
 use Rattle.std.specs.Prelude.{Ok, Err}
-use Rattle.jtext.specs.Tokens.{Inner, inner_step, after_text_sign, GoesOn}
+use Rattle.jtext.specs.InsideTokens.{Inner, inner_step, after_text_sign, GoesOn}
 use Rattle.jtext.proofs.Pieces.{passes_more, passes_on}
 use Rattle.jtext.proofs.Tokens.{ends_on}
 use Rattle.jtext.proofs.text.text_end.Goals as goal

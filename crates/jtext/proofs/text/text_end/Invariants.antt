@@ -2,7 +2,7 @@
 use Rattle.std.proofs.Common.{◌≤◌, length, ◌≡◌, ◌-◌}
 use Rattle.std.specs.Prelude.{slice_range, Some}
 use Rattle.text_places.specs.Machine.{run}
-use Rattle.jtext.specs.Tokens.{Inner, inner_step}
+use Rattle.jtext.specs.InsideTokens.{Inner, inner_step}
 use Rattle.jtext.proofs.text.text_end.Given as goal
 
 abbrev pub invariant-loop-at : goal.invariant-loop-at

@@ -2,7 +2,7 @@
 use Rattle.std.proofs.Common.{◌≤◌, length, ◌≡◌, ◌+◌, drop}
 use Rattle.std.specs.Prelude.{slice_range, Some}
 use Rattle.text_places.specs.Machine.{run}
-use Rattle.jtext.specs.Tokens.{word_step}
+use Rattle.jtext.specs.InsideTokens.{word_step}
 use Rattle.jtext.proofs.word.word_end.Given as goal
 
 abbrev pub invariant-loop-letter : goal.invariant-loop-letter

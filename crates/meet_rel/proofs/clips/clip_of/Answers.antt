@@ -1,7 +1,7 @@
 -- Answers to the goals of `clip_of` in src/clips.rt.
 use Rattle.std.proofs.Common.{refl}
 use Rattle.meet_rel.specs.declared.clips.Clip.{Clip}
-use Rattle.meet_rel.proofs.Clipping.{range_of, proper_of}
+use Rattle.meet_rel.proofs.PieceClips.{range_of, proper_of}
 use Rattle.meet_rel.proofs.clips.clip_of.Goals as goal
 
 pub tri-requires : goal.tri-requires

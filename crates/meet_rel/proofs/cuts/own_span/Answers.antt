@@ -1,7 +1,7 @@
 -- Answers to the goals of `own_span` in src/cuts.rt.
-use Rattle.meet_rel.proofs.Ending.{different_of}
-use Rattle.meet_rel.proofs.Cutting.{own_cut}
-use Rattle.meet_rel.proofs.Sliced.{own_some, common_of}
+use Rattle.meet_rel.proofs.ClipEnds.{different_of}
+use Rattle.meet_rel.proofs.ClipPoints.{own_cut}
+use Rattle.meet_rel.proofs.WaySlices.{own_some, common_of}
 use Rattle.meet_rel.proofs.cuts.own_span.Goals as goal
 
 pub unwrap-stretch-requires : goal.unwrap-stretch-requires

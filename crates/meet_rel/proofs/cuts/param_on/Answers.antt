@@ -2,7 +2,7 @@
 use Rattle.std.proofs.Common.{◌<ℤ◌, rules, arith, SFits}
 use Rattle.std.proofs.lemmas.Int.{ints, to_z-of_z}
 use mir.Syntax.{w64}
-use Rattle.meet_rel.proofs.Picking.{first_up, second_up, upright_of, stands_first, stands_second}
+use Rattle.meet_rel.proofs.LinePoints.{first_up, second_up, upright_of, stands_first, stands_second}
 use Rattle.meet_rel.proofs.cuts.param_on.Goals as goal
 
 pub share_of-requires-clause-between : goal.share_of-requires-clause-between

@@ -1,8 +1,8 @@
 -- Answers to the goals of `rel_of_cuts` in src/cuts.rt.
 use Rattle.std.proofs.Common.{inl, inr, refl}
 use Rattle.meet_rel.specs.Clips.{IsBefore}
-use Rattle.meet_rel.proofs.Told.{not_told}
-use Rattle.meet_rel.proofs.Picking.{outer_same, way_for, different_before}
+use Rattle.meet_rel.proofs.TurnTests.{not_told}
+use Rattle.meet_rel.proofs.LinePoints.{outer_same, way_for, different_before}
 use Rattle.meet_rel.proofs.ByCuts.{along_told, point_told}
 use Rattle.meet_rel.proofs.cuts.rel_of_cuts.Goals as goal
 

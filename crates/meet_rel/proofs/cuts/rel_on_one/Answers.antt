@@ -2,7 +2,7 @@
 use Rattle.std.proofs.Common.{sym, subst, ◌∙◌}
 use Rattle.plane_base.specs.declared.shapes.Pt.{Pt}
 use Rattle.meet_rel.specs.Clips.{IsCut}
-use Rattle.meet_rel.proofs.Ending.{different_of}
+use Rattle.meet_rel.proofs.ClipEnds.{different_of}
 use Rattle.meet_rel.proofs.ByCuts.{along_told}
 use Rattle.meet_rel.proofs.cuts.rel_on_one.Goals as goal
 

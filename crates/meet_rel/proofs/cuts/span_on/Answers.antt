@@ -1,7 +1,7 @@
 -- Answers to the goals of `span_on` in src/cuts.rt.
-use Rattle.meet_rel.proofs.Picking.{different_before}
-use Rattle.meet_rel.proofs.Cutting.{cut_on}
-use Rattle.meet_rel.proofs.Sliced.{way_some, common_of}
+use Rattle.meet_rel.proofs.LinePoints.{different_before}
+use Rattle.meet_rel.proofs.ClipPoints.{cut_on}
+use Rattle.meet_rel.proofs.WaySlices.{way_some, common_of}
 use Rattle.meet_rel.proofs.cuts.span_on.Goals as goal
 
 pub unwrap-stretch-requires : goal.unwrap-stretch-requires

@@ -1,5 +1,5 @@
 -- Answers to the goals of `way_of` in src/cuts.rt.
-use Rattle.meet_rel.proofs.Picking.{one_of, not_after_trans}
+use Rattle.meet_rel.proofs.LinePoints.{one_of, not_after_trans}
 use Rattle.meet_rel.proofs.cuts.way_of.Goals as goal
 
 pub returns : goal.returns

@@ -4,7 +4,7 @@ use Rattle.std.proofs.lemmas.Int.{to_z-of_z}
 use mir.Syntax.{w128}
 use Rattle.plane_base.specs.Plane.{turn_of, whole}
 use Rattle.meet_rel.proofs.Crossings.{apart_by_first, apart_by_second}
-use Rattle.meet_rel.proofs.Told.{other_equal, side_moved}
+use Rattle.meet_rel.proofs.TurnTests.{other_equal, side_moved}
 use Rattle.meet_rel.proofs.ByCuts.{one_side, apart_told}
 use Rattle.meet_rel.proofs.meetings.clip_rel.Goals as goal
 

@@ -1,8 +1,8 @@
 -- Answers to the goals of `rel_across` in src/meetings.rt.
 use Rattle.std.proofs.Common.{inl, inr}
-use Rattle.meet_rel.proofs.Told.{not_told}
+use Rattle.meet_rel.proofs.TurnTests.{not_told}
 use Rattle.meet_rel.proofs.Crossings.{also_across}
-use Rattle.meet_rel.proofs.Ending.{different_not}
+use Rattle.meet_rel.proofs.ClipEnds.{different_not}
 use Rattle.meet_rel.proofs.ByCuts.{meeting_of, no_either, IsOutside, IsEnd, first_different, across_told}
 use Rattle.meet_rel.proofs.meetings.rel_across.Goals as goal
 

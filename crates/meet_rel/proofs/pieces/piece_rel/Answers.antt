@@ -1,6 +1,6 @@
 -- Answers to the goals of `piece_rel` in src/pieces.rt.
-use Rattle.meet_rel.proofs.Ending.{piece_ends}
-use Rattle.meet_rel.proofs.Clipping.{close_of}
+use Rattle.meet_rel.proofs.ClipEnds.{piece_ends}
+use Rattle.meet_rel.proofs.PieceClips.{close_of}
 use Rattle.tin_base.specs.Pieces.{first_point, last_point}
 use Rattle.meet_rel.proofs.pieces.piece_rel.Goals as goal
 

@@ -3,7 +3,7 @@ use Rattle.std.proofs.Common.{sym, subst, ◌∙◌}
 use Rattle.plane_base.specs.Plane.{IsNear}
 use Rattle.plane_base.specs.declared.shapes.Pt.{Pt}
 use Rattle.meet_rel.specs.Clips.{IsCut}
-use Rattle.meet_rel.proofs.Ending.{piece_ends}
+use Rattle.meet_rel.proofs.ClipEnds.{piece_ends}
 use Rattle.meet_rel.proofs.pieces.piece_span.Goals as goal
 
 pub own_span-requires-clause-differ : goal.own_span-requires-clause-differ

@@ -1,7 +1,7 @@
 -- Answers to the goals of `are_beside` in src/segments.rt.
 use Rattle.std.proofs.lemmas.Int.{to_z-of_z}
 use Rattle.meet_rel.specs.Signs.{AreBelow}
-use Rattle.meet_rel.proofs.Told.{second_tells}
+use Rattle.meet_rel.proofs.TurnTests.{second_tells}
 use Rattle.meet_rel.proofs.segments.are_beside.Goals as goal
 
 pub returns-else-are_below : goal.returns-else-are_below

@@ -3,7 +3,7 @@ use Rattle.std.proofs.Common.{rules, SFits}
 use Rattle.std.proofs.lemmas.Int.{to_z-of_z}
 use mir.Syntax.{w64}
 use Rattle.meet_rel.specs.Signs.{AreBeside}
-use Rattle.meet_rel.proofs.Told.{first_holds, second_tells}
+use Rattle.meet_rel.proofs.TurnTests.{first_holds, second_tells}
 use Rattle.meet_rel.proofs.segments.are_boxes_apart.Goals as goal
 
 pub returns-then-are_beside : goal.returns-then-are_beside

@@ -5,8 +5,8 @@ use mir.Syntax.{w128}
 use Rattle.meet_rel.specs.Signs.{AreOnOneSide, IsSomeZero}
 use Rattle.meet_rel.proofs.Boxes.{apart_by_boxes}
 use Rattle.meet_rel.proofs.Crossings.{apart_by_first, apart_by_second}
-use Rattle.meet_rel.proofs.Told.{side_moved, not_told, turns_told, signs_told, touching_told, crossing_told}
-use Rattle.meet_rel.proofs.Told.{on_one_line}
+use Rattle.meet_rel.proofs.TurnTests.{side_moved, not_told, turns_told, signs_told, touching_told, crossing_told}
+use Rattle.meet_rel.proofs.TurnTests.{on_one_line}
 use Rattle.meet_rel.proofs.segments.rel.Goals as goal
 
 pub returns-then-are_boxes_apart : goal.returns-then-are_boxes_apart

@@ -3,10 +3,11 @@ use Rattle.std.proofs.Common.{sym, subst}
 use Rattle.tin_base.specs.Limits.{IsWithinLimits}
 use Rattle.tin_base.specs.Triangulation.{Triangulation}
 use Rattle.topo_check.specs.Changes.{AreAllComparable}
+use Rattle.runs.proofs.BytesPassed.{passed_since}
 use Rattle.runs.proofs.PassedRefusals.{handed_on, refused_more, done_more}
 use Rattle.migrate.proofs.MigrationSteps.{tin_refused, layers_refused, changes_refused, rows_named, run_comparable}
 use Rattle.migrate.proofs.MigrationSteps.{migration_done, migration_form}
-use Rattle.migrate.proofs.LayerCauses.{layers_causes, passed_since}
+use Rattle.migrate.proofs.LayerCauses.{layers_causes}
 use Rattle.migrate.proofs.migration_output.prepare_migration.Goals as goal
 
 pub returns-in_err-index-clause-refused : goal.returns-in_err-index-clause-refused
@@ -32,8 +33,8 @@ report_on_run-requires-clause-comparable g c =
     let limits : IsWithinLimits c.in_ok-index.index =
     subst (λ (t : Triangulation). IsWithinLimits t) c.into_tin-tin.ensures c.known.ensures.limits in
     subst (λ (t : Triangulation). AreAllComparable t c.in_ok-run.run'.pieces.items) (sym c.into_tin-tin.ensures)
-    (run_comparable (g.S.Shelf.files c.load_index.new.shelf) c.args.migration.now c.in_ok-index.index c.in_ok-run.run'
-    limits c.in_ok-run.ensures.ok)
+    (run_comparable (g.S.Shelf.files c.load_index.new.shelf) c.args.migration.now c.args.migration.now.cert
+    c.in_ok-index.index c.in_ok-run.run' limits c.in_ok-run.ensures.ok)
 
 pub returns-clause-ok : goal.returns-clause-ok
 returns-clause-ok g c =
@@ -54,15 +55,15 @@ pub returns-clause-refused : goal.returns-clause-refused
 returns-clause-refused g c =
     refused_more _ _ c.report_on_run.result
     (λ refusal why.
-    changes_refused (g.S.Shelf.files c.args.shelf.now) c.args.migration.now c.in_ok-index.index c.in_ok-run.run' _
-    refusal (rw c.text.ensures at c.in_ok-index.ensures.ok)
+    changes_refused (g.S.Shelf.files c.args.shelf.now) c.args.migration.now c.args.migration.now.cert
+    c.in_ok-index.index c.in_ok-run.run' _ refusal (rw c.text.ensures at c.in_ok-index.ensures.ok)
     (rw c.in_ok-index.ensures.files at c.in_ok-run.ensures.ok) why)
     (rw c.into_tin-tin.ensures at c.report_on_run.ensures.refused)
 
 pub returns-in_err-run-clause-causes : goal.returns-in_err-run-clause-causes
 returns-in_err-run-clause-causes g c =
     handed_on _ c.in_err-run.field-0.0 c.from_residual-in_err-run.result c.from_residual-in_err-run.ensures.1
-    (layers_causes c.args.migration.now (g.S.Shelf.files c.args.shelf.now) _ _ c.in_err-run.field-0.0
+    (layers_causes c.args.migration.now (g.S.Shelf.files c.args.shelf.now) _ _ _ c.in_err-run.field-0.0
     c.in_err-run.ensures.of_layers (rw (c.in_ok-index.ensures.files, c.in_ok-index.ensures.faults.same) at
     c.in_err-run.ensures.read)
     (λ e. passed_since _ _ _ _ c.in_ok-index.ensures.given (c.in_err-run.ensures.long e)))

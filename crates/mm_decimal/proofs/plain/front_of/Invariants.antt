@@ -1,6 +1,6 @@
 -- The invariant and the measure of the loop of `front_of` in src/plain.rt.
 use Rattle.std.proofs.Common.{length, ◌-◌, ◌^◌, ◌<◌, ◌≤◌, take}
-use Rattle.mm_decimal.specs.Plain.{Write}
+use Rattle.mm_decimal.specs.InsidePlainNumerals.{Write}
 use Rattle.mm_decimal.proofs.plain.front_of.Given as goal
 
 abbrev pub invariant-loop-count : goal.invariant-loop-count

@@ -1,7 +1,7 @@
 -- Answers to the goals of `put_four` in src/writing.rt.
 use Rattle.std.proofs.Common.{◌≡◌, ◌/◌, ◌++◌, subst, arith}
 use Rattle.mm_decimal.specs.Writing.{digit_text, Puts}
-use Rattle.mm_decimal.proofs.Puttings.{puts_then}
+use Rattle.mm_decimal.proofs.TextJoins.{puts_then}
 use Rattle.mm_decimal.proofs.writing.put_four.Goals as goal
 
 pub returns : goal.returns

@@ -2,7 +2,7 @@
 use Rattle.std.proofs.Common.{◌/◌, [], ◌∷◌, subst}
 use Rattle.mm_decimal.specs.Writing.{digit_text, Puts}
 use Rattle.mm_decimal.proofs.Pairs.{pair_at}
-use Rattle.mm_decimal.proofs.Puttings.{puts_then}
+use Rattle.mm_decimal.proofs.TextJoins.{puts_then}
 use Rattle.mm_decimal.proofs.writing.put_pair.Goals as goal
 
 pub returns : goal.returns

@@ -1,7 +1,7 @@
 -- Answers to the goals of `put_upto_four` in src/writing.rt.
 use Rattle.std.proofs.Common.{◌/◌, ◌++◌, decimal, subst, arith}
 use Rattle.mm_decimal.specs.Writing.{digit_text, Puts}
-use Rattle.mm_decimal.proofs.Puttings.{puts_then, last_two, two_longer}
+use Rattle.mm_decimal.proofs.TextJoins.{puts_then, last_two, two_longer}
 use Rattle.mm_decimal.proofs.writing.put_upto_four.Goals as goal
 
 pub put_upto_two-at-requires-clause-room : goal.put_upto_two-at-requires-clause-room

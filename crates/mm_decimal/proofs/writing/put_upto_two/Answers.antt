@@ -1,7 +1,7 @@
 -- Answers to the goals of `put_upto_two` in src/writing.rt.
 use Rattle.std.proofs.Common.{subst, arith}
 use Rattle.mm_decimal.specs.Writing.{Puts}
-use Rattle.mm_decimal.proofs.Puttings.{one_digit, two_digits, one_long, two_long}
+use Rattle.mm_decimal.proofs.TextJoins.{one_digit, two_digits, one_long, two_long}
 use Rattle.mm_decimal.proofs.writing.put_upto_two.Goals as goal
 
 pub put_digit-requires : goal.put_digit-requires

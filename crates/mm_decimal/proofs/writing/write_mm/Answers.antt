@@ -1,5 +1,5 @@
 -- Answers to the goals of `write_mm` in src/writing.rt.
-use Rattle.mm_decimal.proofs.Puttings.{rest_then}
+use Rattle.mm_decimal.proofs.TextJoins.{rest_then}
 use Rattle.mm_decimal.proofs.writing.write_mm.Goals as goal
 
 pub returns-clause-rest : goal.returns-clause-rest

@@ -1,6 +1,6 @@
 -- Answers to the goals of `tin_line` in src/line_kinds.rt.
 use Rattle.std.proofs.Common.{refl}
-use Rattle.report_text.specs.LineKinds.{tin_of}
+use Rattle.report_text.specs.InsideLineKinds.{tin_of}
 use Rattle.report_text.proofs.line_kinds.tin_line.Goals as goal
 
 pub returns : goal.returns

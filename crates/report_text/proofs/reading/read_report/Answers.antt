@@ -3,8 +3,8 @@ use Rattle.std.proofs.Common.{◌<◌, ◌^◌, length, arith, rules, sym, ◌�
 use Rattle.std.proofs.lemmas.Bool.{eqb-true}
 use Rattle.std.proofs.lemmas.List.{nil_from_length}
 use Rattle.std.proofs.lemmas.Result.{err_from_is_err_and}
-use Rattle.report_text.specs.Steps.{seen}
-use Rattle.report_text.proofs.Reaching.{one_more, stops_at, ends_here, number_fits, not_whole, whole_draft}
+use Rattle.report_text.specs.InsideSteps.{seen}
+use Rattle.report_text.proofs.ReadPrefixes.{one_more, stops_at, ends_here, number_fits, not_whole, whole_draft}
 use Rattle.report_text.proofs.reading.read_report.Goals as goal
 
 pub returns-in_err-draft-clause-err : goal.returns-in_err-draft-clause-err

@@ -1,7 +1,7 @@
 -- The invariant and the measure of the loop of `read_report` in src/reading.rt.
 use Rattle.std.proofs.Common.{length}
-use Rattle.report_text.specs.Steps.{seen}
-use Rattle.report_text.proofs.Reaching.{Reached}
+use Rattle.report_text.specs.InsideSteps.{seen}
+use Rattle.report_text.proofs.ReadPrefixes.{Reached}
 use Rattle.report_text.proofs.reading.read_report.Given as goal
 
 abbrev pub invariant-loop-line : goal.invariant-loop-line

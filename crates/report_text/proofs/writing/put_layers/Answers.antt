@@ -1,6 +1,6 @@
 -- Answers to the goals of `put_layers` in src/writing.rt.
 use Rattle.report_text.specs.Reports.{IsLayerHeld}
-use Rattle.report_text.proofs.Appending.{one_more_layer, one_more_held}
+use Rattle.report_text.proofs.LongerTexts.{one_more_layer, one_more_held}
 use Rattle.report_text.proofs.writing.put_layers.Goals as goal
 
 pub loop-number-preserved : goal.loop-number-preserved

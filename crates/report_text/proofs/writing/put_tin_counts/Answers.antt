@@ -1,7 +1,7 @@
 -- Answers to the goals of `put_tin_counts` in src/writing.rt.
 use Rattle.std.proofs.Common.{◌≡◌, ◌++◌, codes, rules}
 use Rattle.report_text.specs.ReportText.{field}
-use Rattle.report_text.proofs.Appending.{three}
+use Rattle.report_text.proofs.LongerTexts.{three}
 use Rattle.report_text.proofs.writing.put_tin_counts.Goals as goal
 
 pub returns-clause-text : goal.returns-clause-text

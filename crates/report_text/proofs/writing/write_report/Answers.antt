@@ -4,7 +4,7 @@ use Rattle.std.specs.List.{AllByRecursion}
 use Rattle.report_text.specs.Reports.{IsReport, AreCountsHeld, IsLayerHeld, IsChangeHeld}
 use Rattle.report_text.specs.declared.lines.TheConstants.{LINE_FEED}
 use Rattle.report_text.specs.ReportText.{title, tin_line, layer_lines, count_line, change_line, end_line, text_of_lines}
-use Rattle.report_text.proofs.Appending.{parts, title_text, end_text}
+use Rattle.report_text.proofs.LongerTexts.{parts, title_text, end_text}
 use Rattle.report_text.proofs.writing.write_report.Goals as goal
 
 pub returns-clause-text : goal.returns-clause-text

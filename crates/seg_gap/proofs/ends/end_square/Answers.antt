@@ -5,7 +5,7 @@ use mir.Syntax.{w128}
 use Rattle.seg_gap.proofs.Feet.{at_most_by, above_by, square_of_end, square_of_foot, end_square_swapped, foot_low}
 use Rattle.seg_gap.proofs.Feet.{foot_above}
 use Rattle.seg_gap.proofs.Sides.{whole_turn_is}
-use Rattle.seg_gap.specs.Ends.{dot_of}
+use Rattle.seg_gap.specs.InsideEnds.{dot_of}
 use Rattle.seg_gap.proofs.ends.end_square.Goals as goal
 
 pub returns-then-from_c-le0 : goal.returns-then-from_c-le0

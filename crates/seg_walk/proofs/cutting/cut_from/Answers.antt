@@ -5,7 +5,7 @@ use Rattle.plane_base.specs.declared.shapes.Pt.{Pt}
 use Rattle.tin_base.specs.declared.frames.Frame.TheVariants.{Source}
 use Rattle.tin_base.specs.Triangulation.{Triangulation, IsInTriangle}
 use Rattle.tin_base.specs.Segments.{IsInside}
-use Rattle.tin_base.proofs.Telling.{told}
+use Rattle.tin_base.proofs.TestAnswers.{told}
 use Rattle.seg_walk.specs.Steps.{AreSteps}
 use Rattle.tin_base.proofs.Spots.{point_inside, first_inside, last_inside}
 use Rattle.seg_walk.proofs.cutting.cut_from.Goals as goal

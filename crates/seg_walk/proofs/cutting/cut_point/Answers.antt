@@ -2,7 +2,7 @@
 use Rattle.std.proofs.Common.{◌≡◌, List, [], ◌∷◌, ◌++◌, subst, sym}
 use Rattle.seg_walk.specs.declared.steps.Step.{Step}
 use Rattle.seg_walk.specs.Steps.{AreSteps}
-use Rattle.seg_walk.proofs.Taking.{one_step}
+use Rattle.seg_walk.proofs.StepPieces.{one_step}
 use Rattle.seg_walk.proofs.PointSlices.{point_slice}
 use Rattle.seg_walk.proofs.cutting.cut_point.Goals as goal
 

@@ -2,8 +2,8 @@
 use Rattle.std.proofs.Common.{subst}
 use Rattle.tin_base.specs.Soundness.{IsSound}
 use Rattle.tin_base.specs.Triangulation.{Triangulation}
-use Rattle.tin_base.proofs.Telling.{told, denied}
-use Rattle.seg_walk.proofs.Taking.{on_start, on_more, at_end, not_inside, one_more}
+use Rattle.tin_base.proofs.TestAnswers.{told, denied}
+use Rattle.seg_walk.proofs.StepPieces.{on_start, on_more, at_end, not_inside, one_more}
 use Rattle.seg_walk.proofs.cutting.cut_way.Goals as goal
 
 pub loop-next-init : goal.loop-next-init

@@ -1,8 +1,8 @@
 -- The invariant and the measure of the loop of `cut_way` in src/cutting.rt.
 use Rattle.std.proofs.Common.{map, length}
 use Rattle.seg_walk.specs.Steps.{part_of}
-use Rattle.tin_base.proofs.Unused.{unused}
-use Rattle.seg_walk.proofs.Taking.{IsOnWay}
+use Rattle.tin_base.proofs.UnusedTriangles.{unused}
+use Rattle.seg_walk.proofs.StepPieces.{IsOnWay}
 use Rattle.seg_walk.proofs.cutting.cut_way.Given as goal
 
 abbrev pub invariant-loop-next : goal.invariant-loop-next

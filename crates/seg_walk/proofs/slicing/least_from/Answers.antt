@@ -3,8 +3,8 @@ use Rattle.std.proofs.Common.{◌≡◌, ℕ, ◌<◌, get_or, subst}
 use borrow.Author.Count.{below_more}
 use Rattle.seg_walk.specs.declared.steps.Step.{Step}
 use Rattle.tin_base.specs.Slices.{spot_of}
-use Rattle.seg_walk.specs.Beginning.{HasNoPartFrom, IsPartFrom}
-use Rattle.seg_walk.proofs.Going.{known_before, known_all}
+use Rattle.seg_walk.specs.InsideStarts.{HasNoPartFrom, IsPartFrom}
+use Rattle.seg_walk.proofs.NextTriangles.{known_before, known_all}
 use Rattle.plain_laws.proofs.Options.{some_told, none_told}
 use Rattle.seg_walk.proofs.slicing.least_from.Goals as goal
 

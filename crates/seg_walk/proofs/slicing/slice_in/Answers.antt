@@ -1,6 +1,6 @@
 -- Answers to the goals of `slice_in` in src/slicing.rt.
 use Rattle.tin_base.proofs.SlicedParts.{slice_told}
-use Rattle.seg_walk.proofs.Standing.{near_each, near_triangle, near_both}
+use Rattle.seg_walk.proofs.NearCorners.{near_each, near_triangle, near_both}
 use Rattle.seg_walk.proofs.slicing.slice_in.Goals as goal
 
 pub slice-requires-clause-near_a : goal.slice-requires-clause-near_a

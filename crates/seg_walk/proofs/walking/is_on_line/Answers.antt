@@ -1,5 +1,5 @@
 -- Answers to the goals of `is_on_line` in src/walking.rt.
-use Rattle.seg_walk.proofs.Standing.{near_each, near_both, near_place}
+use Rattle.seg_walk.proofs.NearCorners.{near_each, near_both, near_place}
 use Rattle.seg_walk.proofs.walking.is_on_line.Goals as goal
 
 pub turn-requires : goal.turn-requires

@@ -4,13 +4,13 @@ use Rattle.plane_base.specs.Plane.{whole}
 use Rattle.tin_base.specs.declared.frames.Frame.TheVariants.{Source}
 use Rattle.tin_base.specs.Images.{IsInSome}
 use Rattle.tin_base.specs.Triangulation.{Triangulation}
-use Rattle.tin_base.proofs.Telling.{told, denied}
+use Rattle.tin_base.proofs.TestAnswers.{told, denied}
 use Rattle.tin_index.specs.Boxes.{IsNearCorners}
 use Rattle.tin_index.specs.Sides.{corner_of, IsStar, IsAcross}
 use Rattle.tin_base.specs.Slices.{spot_of}
-use Rattle.seg_walk.specs.Beginning.{GoesOn, HasNoneFrom}
-use Rattle.seg_walk.specs.Leaving.{IsLeftAt}
-use Rattle.seg_walk.proofs.Passing.{around_first, around_second, across_none, across_some, star_below}
+use Rattle.seg_walk.specs.InsideStarts.{GoesOn, HasNoneFrom}
+use Rattle.seg_walk.specs.InsideExits.{IsLeftAt}
+use Rattle.seg_walk.proofs.SideSteps.{around_first, around_second, across_none, across_some, star_below}
 use Rattle.seg_walk.proofs.walking.step_over.Goals as goal
 
 pub is_on_line-requires-clause-near_b : goal.is_on_line-requires-clause-near_b

@@ -1,6 +1,6 @@
 -- Answers to the goals of `splice` in src/splices.rt.
 use Rattle.std.proofs.Common.{arith}
-use Rattle.sheet_base.proofs.Splicing.{next_edit, one_more}
+use Rattle.sheet_base.proofs.SpliceLaws.{next_edit, one_more}
 use Rattle.sheet_base.proofs.splices.splice.Goals as goal
 
 pub slice_bounds-extend_from_slice-end : goal.slice_bounds-extend_from_slice-end

@@ -1,6 +1,6 @@
 -- The invariant of the loop of `splice` in src/splices.rt.
 use Rattle.std.proofs.Common.{drop}
-use Rattle.sheet_base.proofs.Splicing.{IsSpliced}
+use Rattle.sheet_base.proofs.SpliceLaws.{IsSpliced}
 use Rattle.sheet_base.proofs.splices.splice.Given as goal
 
 abbrev pub invariant-loop-edit : goal.invariant-loop-edit

@@ -1,7 +1,7 @@
 -- Answers to the goals of `box_in` in src/boxes.rt.
 use Rattle.std.proofs.Common.{sym, subst}
 use Rattle.plane_base.specs.declared.shapes.Rect.{Rect}
-use Rattle.tin_check.specs.Boxes.{IsBoxOf}
+use Rattle.tin_check.specs.InsideBoxes.{IsBoxOf}
 use Rattle.tin_check.proofs.InBoxes.{box_is}
 use Rattle.tin_check.proofs.boxes.box_in.Goals as goal
 

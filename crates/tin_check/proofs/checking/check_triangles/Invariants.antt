@@ -1,5 +1,5 @@
 -- The invariant of the loop of `check_triangles` in src/checking.rt.
-use Rattle.tin_check.specs.Progress.{ArePositive}
+use Rattle.tin_check.specs.InsideProgress.{ArePositive}
 use Rattle.tin_check.proofs.checking.check_triangles.Given as goal
 
 abbrev pub invariant-loop-triangle : goal.invariant-loop-triangle

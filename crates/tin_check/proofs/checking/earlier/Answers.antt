@@ -1,6 +1,6 @@
 -- Answers to the goals of `earlier` in src/checking.rt.
 use Rattle.std.proofs.Common.{sym, subst, refl}
-use Rattle.tin_base.proofs.Telling.{denied}
+use Rattle.tin_base.proofs.TestAnswers.{denied}
 use Rattle.tin_check.specs.Faults.{IsCause}
 use Rattle.tin_check.specs.declared.faults.CheckFault.{CheckFault}
 use Rattle.tin_check.proofs.FirstFault.{source_first, target_first}

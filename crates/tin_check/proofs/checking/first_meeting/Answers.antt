@@ -2,7 +2,7 @@
 use Rattle.std.proofs.Common.{◌+◌, Option, sym, subst}
 use Rattle.tin_base.specs.declared.frames.Frame.TheVariants.{Target}
 use Rattle.tin_check.specs.Faults.{IsCause}
-use Rattle.tin_check.specs.Progress.{IsFirstFoundBelow}
+use Rattle.tin_check.specs.InsideProgress.{IsFirstFoundBelow}
 use Rattle.tin_check.specs.declared.faults.CheckFault.{CheckFault}
 use Rattle.tin_check.specs.declared.pairs.Pair.{Pair}
 use Rattle.tin_check.proofs.FirstFault.{source_before}

@@ -1,6 +1,6 @@
 -- Answers to the goals of `meet` in src/fitting.rt.
 use Rattle.std.proofs.Common.{inl, inr, refl}
-use Rattle.tin_base.proofs.Telling.{yes, denied}
+use Rattle.tin_base.proofs.TestAnswers.{yes, denied}
 use Rattle.tin_check.proofs.Tests.{seen_meets, last_side}
 use Rattle.tin_check.proofs.fitting.meet.Goals as goal
 

@@ -1,6 +1,6 @@
 -- Answers to the goals of `meet_at_corner` in src/fitting.rt.
 use Rattle.std.proofs.Common.{refl}
-use Rattle.tin_base.proofs.Telling.{no, denied}
+use Rattle.tin_base.proofs.TestAnswers.{no, denied}
 use Rattle.tin_check.proofs.Tests.{side_beyond, last_beyond}
 use Rattle.tin_check.proofs.fitting.meet_at_corner.Goals as goal
 

@@ -1,9 +1,37 @@
 -- Answers to the goals of `are_parted` in src/parting.rt.
-use Rattle.std.proofs.Common.{FitsSigned, rules}
+use Rattle.std.proofs.Common.{FitsSigned, rules, inl, inr, refl}
 use Rattle.std.proofs.lemmas.Int.{to_z-of_z}
 use mir.Syntax.{w128}
-use Rattle.tin_check.proofs.Parted.{parted_meet}
+use Rattle.tin_check.proofs.TurnTests.{near_three, parted_meet}
 use Rattle.tin_check.proofs.parting.are_parted.Goals as goal
+
+pub turn-requires : goal.turn-requires
+turn-requires c =
+    record {
+      near = near_three c.args.t.now c.args.u.now c.args.t.now.a c.args.t.now.b c.args.u.now.b c.requires.near
+          (inl refl) (inr (inl refl)) (inr (inr (inr (inr (inl refl)))));
+    }
+
+pub turn-requires-2 : goal.turn-requires-2
+turn-requires-2 c =
+    record {
+      near = near_three c.args.t.now c.args.u.now c.args.t.now.a c.args.t.now.b c.args.u.now.c c.requires.near
+          (inl refl) (inr (inl refl)) (inr (inr (inr (inr (inr (inl refl))))));
+    }
+
+pub turn-requires-3 : goal.turn-requires-3
+turn-requires-3 c =
+    record {
+      near = near_three c.args.t.now c.args.u.now c.args.t.now.a c.args.t.now.c c.args.u.now.b c.requires.near
+          (inl refl) (inr (inr (inl refl))) (inr (inr (inr (inr (inl refl)))));
+    }
+
+pub turn-requires-4 : goal.turn-requires-4
+turn-requires-4 c =
+    record {
+      near = near_three c.args.t.now c.args.u.now c.args.t.now.a c.args.t.now.c c.args.u.now.c c.requires.near
+          (inl refl) (inr (inr (inl refl))) (inr (inr (inr (inr (inr (inl refl))))));
+    }
 
 pub returns : goal.returns
 returns c =

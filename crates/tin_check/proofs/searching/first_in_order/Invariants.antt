@@ -1,5 +1,5 @@
 -- The invariant of the loop of `first_in_order` in src/searching.rt.
-use Rattle.tin_check.specs.Progress.{DoFitBefore}
+use Rattle.tin_check.specs.InsideProgress.{DoFitBefore}
 use Rattle.tin_check.proofs.searching.first_in_order.Given as goal
 
 -- the pairs of the first triangles so far fit

@@ -1,5 +1,5 @@
 -- Answers to the goals of `fits_each` in src/searching.rt.
-use Rattle.tin_base.proofs.Telling.{told}
+use Rattle.tin_base.proofs.TestAnswers.{told}
 use Rattle.tin_check.proofs.Partners.{one_more_other, all_others}
 use Rattle.tin_check.proofs.searching.fits_each.Goals as goal
 

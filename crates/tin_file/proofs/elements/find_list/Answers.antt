@@ -2,7 +2,7 @@
 use Rattle.std.proofs.Common.{sym, ◌∙◌}
 use Rattle.tin_file.specs.Keys.{needed}
 use Rattle.tin_file.proofs.There.{node_within, members_there}
-use Rattle.tin_file.proofs.Found.{value_found, array_found, list_found, list_not_found}
+use Rattle.tin_file.proofs.MemberFinds.{value_found, array_found, list_found, list_not_found}
 use Rattle.tin_file.proofs.elements.find_list.Goals as goal
 
 pub holds_array-requires : goal.holds_array-requires

@@ -1,7 +1,7 @@
 -- The invariant and the measure of the loop of `list_elements` in src/elements.rt.
 use Rattle.std.proofs.Common.{◌+◌, ◌-◌, List, ℕ}
 use Rattle.jtext.specs.Values.{Elements, array}
-use Rattle.tin_file.specs.Standing.{IsThere, element_numbers}
+use Rattle.tin_file.specs.InsideNodes.{IsThere, element_numbers}
 use Rattle.tin_file.proofs.Walks.{IsWalked}
 use Rattle.tin_file.proofs.elements.list_elements.Given as goal
 

@@ -3,7 +3,7 @@ use Rattle.std.proofs.Common.{◌≡◌, List, drop}
 use Rattle.std.specs.List.{list_all}
 use Rattle.jtext.specs.Values.{Json}
 use Rattle.tin_file.specs.Headings.{is_component}
-use Rattle.tin_file.specs.Standing.{AreThere}
+use Rattle.tin_file.specs.InsideNodes.{AreThere}
 use Rattle.tin_file.proofs.headings.are_components.Given as goal
 
 abbrev pub invariant-loop-value : goal.invariant-loop-value

@@ -1,11 +1,11 @@
 -- Answers to the goals of `check_file_type` in src/headings.rt.
 use Rattle.tin_file.specs.Headings.{file_type_of, file_type}
 use Rattle.tin_file.specs.Keys.{needed}
-use Rattle.tin_file.specs.Standing.{IsThere}
+use Rattle.tin_file.specs.InsideNodes.{IsThere}
 use Rattle.tin_file.specs.declared.faults.Top.TheVariants as tops
 use Rattle.std.proofs.Common.{◌≡◌}
 use Rattle.tin_file.proofs.There.{node_within, members_there}
-use Rattle.tin_file.proofs.Found.{value_found}
+use Rattle.tin_file.proofs.MemberFinds.{value_found}
 use Rattle.tin_file.proofs.RowLists.{passed_on}
 use Rattle.tin_file.proofs.Sequels.{equals_is, fault_stays, then_made}
 use Rattle.tin_file.proofs.headings.check_file_type.Goals as goal

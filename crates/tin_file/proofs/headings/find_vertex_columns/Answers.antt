@@ -3,10 +3,10 @@ use Rattle.std.proofs.Common.{◌≡◌, List, subst, sym}
 use Rattle.jtext.specs.Values.{Json}
 use Rattle.tin_file.specs.Headings.{vertex_columns, vertex_columns_in}
 use Rattle.tin_file.specs.Keys.{needed_list}
-use Rattle.tin_file.specs.Standing.{AreThere, AreNodes}
+use Rattle.tin_file.specs.InsideNodes.{AreThere, AreNodes}
 use Rattle.tin_file.specs.declared.faults.Top.TheVariants as tops
 use Rattle.tin_file.proofs.There.{members_there}
-use Rattle.tin_file.proofs.Found.{values_found}
+use Rattle.tin_file.proofs.MemberFinds.{values_found}
 use Rattle.tin_file.proofs.RowLists.{passed_on}
 use Rattle.tin_file.proofs.Sequels.{equals_is, fault_stays, then_made}
 use Rattle.tin_file.proofs.headings.find_vertex_columns.Goals as goal

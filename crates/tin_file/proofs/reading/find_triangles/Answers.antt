@@ -5,7 +5,7 @@ use Rattle.tin_base.specs.declared.limits.TheConstants.{MOST_TRIANGLES}
 use Rattle.tin_file.specs.Keys.{needed_list, and_then}
 use Rattle.tin_file.specs.Vertices.{few}
 use Rattle.tin_file.specs.Triangles.{triangles, triangle_rows}
-use Rattle.tin_file.specs.Standing.{AreThere, AreNodes, Gives}
+use Rattle.tin_file.specs.InsideNodes.{AreThere, AreNodes, Gives}
 use Rattle.tin_file.specs.Gathered.{placed}
 use Rattle.tin_file.specs.declared.faults.Top.TheVariants as tops
 use Rattle.tin_file.specs.declared.faults.Rows.TheVariants as lists

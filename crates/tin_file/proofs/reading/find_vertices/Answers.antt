@@ -4,7 +4,7 @@ use Rattle.jtext.specs.Values.{Json}
 use Rattle.tin_base.specs.declared.limits.TheConstants.{MOST_CORNERS}
 use Rattle.tin_file.specs.Keys.{needed_list, and_then}
 use Rattle.tin_file.specs.Vertices.{few, vertices, vertex_rows}
-use Rattle.tin_file.specs.Standing.{AreThere, AreNodes, Gives}
+use Rattle.tin_file.specs.InsideNodes.{AreThere, AreNodes, Gives}
 use Rattle.tin_file.specs.Gathered.{AreGathered}
 use Rattle.tin_file.specs.declared.faults.Top.TheVariants as tops
 use Rattle.tin_file.specs.declared.faults.Rows.TheVariants as lists

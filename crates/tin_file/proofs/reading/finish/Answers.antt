@@ -8,7 +8,8 @@ use Rattle.tin_base.specs.Triangulation.{triangulation}
 use Rattle.tin_base.specs.Limits.{IsWithinLimits}
 use Rattle.tin_file.specs.Corners.{oriented, spans}
 use Rattle.tin_file.specs.Gathered.{AreInReach, AreFacesOf}
-use Rattle.tin_file.proofs.Finishing.{AreNarrow, narrow, near_all, corners_reach, triangles_faces, limits, spans_pass}
+use Rattle.tin_file.proofs.CompleteRows.{AreNarrow, narrow, near_all, corners_reach, triangles_faces, limits}
+use Rattle.tin_file.proofs.CompleteRows.{spans_pass}
 use Rattle.tin_file.proofs.reading.finish.Goals as goal
 
 pub check_spans-requires : goal.check_spans-requires

@@ -2,7 +2,7 @@
 use Rattle.std.proofs.Common.{◌≡◌, sym, ap, ◌∙◌, subst}
 use Rattle.tin_file.specs.Headings.{heading}
 use Rattle.tin_file.specs.Reading.{rows_of, reading}
-use Rattle.tin_file.specs.Standing.{Equals}
+use Rattle.tin_file.specs.InsideNodes.{Equals}
 use Rattle.tin_file.proofs.There.{there_within}
 use Rattle.tin_file.proofs.Sequels.{fault_stays, then_made}
 use Rattle.tin_file.proofs.RowLists.{passed_on}

@@ -1,6 +1,6 @@
 -- Answers to the goals of `read_triangle` in src/triangles.rt.
 use Rattle.std.proofs.Common.{length, sym, ◌∙◌, refl, subst}
-use Rattle.tin_file.specs.Standing.{AreThere, AreNodes}
+use Rattle.tin_file.specs.InsideNodes.{AreThere, AreNodes}
 use Rattle.tin_file.specs.Triangles.{triangle_of, triangle_in}
 use Rattle.tin_file.specs.Gathered.{placed_or_fault}
 use Rattle.tin_file.proofs.There.{node_within}

@@ -3,7 +3,7 @@ use Rattle.std.proofs.Common.{◌≡◌, ◌+◌, ◌∷◌, ◌++◌, [], ℕ, 
 use Rattle.std.proofs.Common.{Vec, Global}
 use Rattle.std.proofs.lemmas.List.{map-append}
 use Rattle.jtext.specs.Values.{null}
-use Rattle.tin_file.specs.Standing.{Gives}
+use Rattle.tin_file.specs.InsideNodes.{Gives}
 use Rattle.tin_file.specs.Triangles.{triangle_of, triangle_rows}
 use Rattle.tin_file.specs.Gathered.{placed}
 use Rattle.tin_file.proofs.There.{node_at_place, there_at}

@@ -1,6 +1,6 @@
 -- Answers to the goals of `read_vertex` in src/vertices.rt.
 use Rattle.std.proofs.Common.{sym, ◌∙◌, refl, subst}
-use Rattle.tin_file.specs.Standing.{AreThere, AreNodes}
+use Rattle.tin_file.specs.InsideNodes.{AreThere, AreNodes}
 use Rattle.tin_file.specs.Vertices.{vertex_of, vertex_in}
 use Rattle.tin_file.proofs.There.{node_within}
 use Rattle.tin_file.proofs.Sequels.{equals_is}

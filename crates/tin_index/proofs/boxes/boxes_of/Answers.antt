@@ -1,5 +1,5 @@
 -- Answers to the goals of `boxes_of` in src/boxes.rt.
-use Rattle.tin_index.proofs.Boxing.{no_boxes, boxes_more}
+use Rattle.tin_index.proofs.SourceBoxes.{no_boxes, boxes_more}
 use Rattle.tin_index.proofs.boxes.boxes_of.Goals as goal
 
 pub loop-triangle-init : goal.loop-triangle-init

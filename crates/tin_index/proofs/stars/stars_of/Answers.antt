@@ -1,5 +1,5 @@
 -- Answers to the goals of `stars_of` in src/stars.rt.
-use Rattle.tin_index.proofs.Starring.{no_entries, entries_more_read}
+use Rattle.tin_index.proofs.TriangleStars.{no_entries, entries_more_read}
 use Rattle.tin_index.proofs.stars.stars_of.Goals as goal
 
 pub loop-triangle-init : goal.loop-triangle-init

@@ -1,7 +1,7 @@
 -- Answers to the goals of `exact_box` in src/boxes.rt.
 use Rattle.std.proofs.Common.{sym, subst}
 use Rattle.plane_base.specs.declared.shapes.Rect.{Rect}
-use Rattle.topo_check.specs.Boxes.{IsExactBox}
+use Rattle.topo_check.specs.InsideBoxes.{IsExactBox}
 use Rattle.topo_check.proofs.Tight.{tightened}
 use Rattle.topo_check.proofs.boxes.exact_box.Goals as goal
 

@@ -2,7 +2,7 @@
 use Rattle.std.proofs.Common.{◌≡◌, sym, subst, ◌∙◌, ap₂}
 use Rattle.plane_base.specs.Boxes.{box_of_segment, box_of_triangle, common_of}
 use Rattle.plane_base.specs.declared.shapes.Rect.{Rect}
-use Rattle.topo_check.specs.Boxes.{IsExactBox}
+use Rattle.topo_check.specs.InsideBoxes.{IsExactBox}
 use Rattle.topo_check.proofs.InBoxes.{exact_boxed}
 use Rattle.topo_check.proofs.boxes.outer_box.Goals as goal
 

@@ -3,7 +3,7 @@ use Rattle.std.proofs.Common.{◌<◌, List, length, subst, arith}
 use Rattle.plane_base.specs.declared.shapes.Rect.{Rect}
 use Rattle.tin_base.specs.declared.frames.Frame.TheVariants.{Target}
 use Rattle.topo_check.specs.declared.comparing.ChangedPair.{ChangedPair}
-use Rattle.topo_check.specs.Pairs.{DoesCollect, DoShareIn}
+use Rattle.topo_check.specs.InsidePairs.{DoesCollect, DoShareIn}
 use Rattle.topo_check.proofs.Passes.{both_collected, over_collected}
 use Rattle.topo_check.proofs.collecting.changed_pairs.Goals as goal
 

@@ -1,6 +1,6 @@
 -- Answers to the goals of `collect` in src/collecting.rt.
 use Rattle.std.proofs.Common.{ℕ, ◌≤◌, List, length, Contains, subst, arith}
-use Rattle.topo_check.specs.Pairs.{DoesCollect, IsPairWith}
+use Rattle.topo_check.specs.InsidePairs.{DoesCollect, IsPairWith}
 use Rattle.topo_check.proofs.Passes.{not_own, before_more, before_all}
 use Rattle.topo_check.proofs.collecting.collect.Goals as goal
 use Rattle.topo_check.proofs.collecting.collect.Goals.{then-loop-number-test+else-len-most, else-loop-number-test}

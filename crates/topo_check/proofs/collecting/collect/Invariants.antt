@@ -1,6 +1,6 @@
 -- The invariant and the measure of the loop of `collect` in src/collecting.rt.
 use Rattle.std.proofs.Common.{length, ◌-◌}
-use Rattle.topo_check.specs.Pairs.{DoesCollect}
+use Rattle.topo_check.specs.InsidePairs.{DoesCollect}
 use Rattle.topo_check.proofs.Passes.{IsPairBefore}
 use Rattle.topo_check.proofs.collecting.collect.Given as goal
 

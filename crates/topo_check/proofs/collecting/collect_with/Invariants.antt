@@ -1,6 +1,6 @@
 -- The invariant and the measure of the loop of `collect_with` in src/collecting.rt.
 use Rattle.std.proofs.Common.{length, ◌-◌, ◌≤◌}
-use Rattle.topo_check.specs.Pairs.{DoesCollect, IsPairWith}
+use Rattle.topo_check.specs.InsidePairs.{DoesCollect, IsPairWith}
 use Rattle.topo_check.proofs.Passes.{IsOneOf}
 use Rattle.topo_check.proofs.collecting.collect_with.Given as goal
 

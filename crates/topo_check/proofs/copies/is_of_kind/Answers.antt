@@ -1,7 +1,7 @@
 -- Answers to the goals of `is_of_kind` in src/copies.rt.
 use Rattle.std.proofs.Common.{◌<◌, length, arith}
 use Rattle.topo_check.specs.Changes.{no_piece}
-use Rattle.topo_check.specs.Kinds.{at}
+use Rattle.topo_check.specs.InsideKinds.{at}
 use Rattle.topo_check.proofs.copies.is_of_kind.Goals as goal
 
 pub is_steady_copy-requires-clause-inside : goal.is_steady_copy-requires-clause-inside

@@ -1,5 +1,5 @@
 -- Answers to the goals of `exact_boxes` in src/grids.rt.
-use Rattle.topo_check.specs.Boxes.{IsExactBox}
+use Rattle.topo_check.specs.InsideBoxes.{IsExactBox}
 use Rattle.topo_check.proofs.Spans.{more_boxes, all_boxes}
 use Rattle.topo_check.proofs.grids.exact_boxes.Goals as goal
 

@@ -1,6 +1,6 @@
 -- The invariant and the measure of the loop of `exact_boxes` in src/grids.rt.
 use Rattle.std.proofs.Common.{length, ◌-◌}
-use Rattle.topo_check.specs.Boxes.{IsExactBox}
+use Rattle.topo_check.specs.InsideBoxes.{IsExactBox}
 use Rattle.topo_check.proofs.Spans.{AreBoxesSoFar}
 use Rattle.topo_check.proofs.grids.exact_boxes.Given as goal
 

@@ -1,5 +1,5 @@
 -- Answers to the goals of `rounded_boxes` in src/grids.rt.
-use Rattle.topo_check.specs.Boxes.{IsRoundedBox}
+use Rattle.topo_check.specs.InsideBoxes.{IsRoundedBox}
 use Rattle.topo_check.proofs.Spans.{more_boxes, all_boxes}
 use Rattle.topo_check.proofs.grids.rounded_boxes.Goals as goal
 

@@ -1,5 +1,5 @@
 -- The invariant of the loop of `rounded_boxes` in src/grids.rt.
-use Rattle.topo_check.specs.Boxes.{IsRoundedBox}
+use Rattle.topo_check.specs.InsideBoxes.{IsRoundedBox}
 use Rattle.topo_check.proofs.Spans.{AreBoxesSoFar}
 use Rattle.topo_check.proofs.grids.rounded_boxes.Given as goal
 

@@ -1,7 +1,7 @@
 -- Answers to the goals of `kinds_of` in src/kinds.rt.
 use Rattle.std.proofs.Common.{◌≡◌, ◌<◌, ◌≤◌, ℕ, List, length, subst, ◌∙◌, arith}
 use Rattle.topo_check.specs.Changes.{piece_at}
-use Rattle.topo_check.specs.Kinds.{IsSteadyCopy, at}
+use Rattle.topo_check.specs.InsideKinds.{IsSteadyCopy, at}
 use Rattle.topo_check.proofs.OfKinds.{one_more}
 use Rattle.topo_check.proofs.kinds.kinds_of.Goals as goal
 

@@ -1,7 +1,7 @@
 -- The invariants of `kinds_of` in src/kinds.rt.
 use Rattle.std.proofs.Common.{◌≡◌, ◌≤◌, ◌+◌, ◌-◌, length}
 use Rattle.topo_check.specs.declared.kinds.TheConstants.{WINDOW}
-use Rattle.topo_check.specs.Kinds.{AreKindsOf}
+use Rattle.topo_check.specs.InsideKinds.{AreKindsOf}
 use Rattle.topo_check.proofs.kinds.kinds_of.Given as goal
 
 -- the pieces so far are of kinds

@@ -1,6 +1,6 @@
 -- The invariants of `pairs_of_firsts` in src/leads.rt.
 use Rattle.std.proofs.Common.{◌≡◌, map, take}
-use Rattle.topo_check.specs.Kinds.{of_firsts}
+use Rattle.topo_check.specs.InsideKinds.{of_firsts}
 use Rattle.topo_check.proofs.leads.pairs_of_firsts.Given as goal
 
 -- the pairs so far are listed

@@ -3,9 +3,9 @@ use Rattle.std.proofs.Common.{◌≡◌, ◌<◌, ◌≤◌, ℕ, List, [], leng
 use Rattle.std.proofs.lemmas.List.{length-map, get_or_default}
 use Rattle.topo_check.specs.declared.comparing.ChangedPair.{ChangedPair}
 use Rattle.topo_check.specs.Changes.{piece_at}
-use Rattle.topo_check.specs.Kinds.{AreMembersOf, AreSortsOf, ArePairsOfKinds, IsFoundOf, of_firsts}
-use Rattle.topo_check.specs.Pairs.{AreCollected, AreInRange, DoesCollect}
-use Rattle.topo_check.proofs.Numbered.{sorts_by}
+use Rattle.topo_check.specs.InsideKinds.{AreMembersOf, AreSortsOf, ArePairsOfKinds, IsFoundOf, of_firsts}
+use Rattle.topo_check.specs.InsidePairs.{AreCollected, AreInRange, DoesCollect}
+use Rattle.topo_check.proofs.KindNumbers.{sorts_by}
 use Rattle.topo_check.proofs.OfKinds.{found_pairs_of, found_in_range, firsts_collected, of_kinds_collected}
 use Rattle.topo_check.proofs.leads.pairs_of_kinds.Goals as goal
 

@@ -1,8 +1,8 @@
 -- Answers to the goals of `changes` in src/listing.rt.
 use Rattle.std.proofs.Common.{◌≡◌, ◌<◌, ◌≤◌, map, List, length, subst, arith}
 use Rattle.topo_check.specs.declared.comparing.ChangedPair.{ChangedPair}
-use Rattle.topo_check.specs.Pairs.{change_of}
-use Rattle.topo_check.proofs.Ordered.{collected_moved, too_many, in_range, all_listed}
+use Rattle.topo_check.specs.InsidePairs.{change_of}
+use Rattle.topo_check.proofs.PairOrder.{collected_moved, too_many, in_range, all_listed}
 use Rattle.topo_check.proofs.listing.changes.Goals as goal
 
 pub returns-then-len-most-clause-too_many : goal.returns-then-len-most-clause-too_many

@@ -1,6 +1,6 @@
 -- The invariant of the loop of `list` in src/listing.rt.
 use Rattle.std.proofs.Common.{◌≡◌, map, take}
-use Rattle.topo_check.specs.Pairs.{change_of}
+use Rattle.topo_check.specs.InsidePairs.{change_of}
 use Rattle.topo_check.proofs.listing.list.Given as goal
 
 -- the changes of the pairs so far are listed

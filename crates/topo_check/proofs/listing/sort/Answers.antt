@@ -1,7 +1,7 @@
 -- Answers to the goals of `sort` in src/listing.rt.
 use Rattle.std.proofs.Common.{rules}
 use Rattle.std.proofs.lemmas.List.Sorted.{answers_always}
-use Rattle.topo_check.proofs.Ordered.{ascending, different_moved}
+use Rattle.topo_check.proofs.PairOrder.{ascending, different_moved}
 use Rattle.topo_check.proofs.listing.sort.Goals as goal
 
 pub returns : goal.returns

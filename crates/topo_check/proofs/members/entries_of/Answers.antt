@@ -1,6 +1,6 @@
 -- Answers to the goals of `entries_of` in src/members.rt.
 use Rattle.std.proofs.Common.{arith}
-use Rattle.topo_check.proofs.Numbered.{numbered_more}
+use Rattle.topo_check.proofs.KindNumbers.{numbered_more}
 use Rattle.topo_check.proofs.members.entries_of.Goals as goal
 
 pub loop-number-preserved : goal.loop-number-preserved

@@ -1,6 +1,6 @@
 -- The invariants of `entries_of` in src/members.rt.
 use Rattle.std.proofs.Common.{◌≡◌, ◌≤◌, ◌-◌, length, take}
-use Rattle.topo_check.specs.Kinds.{numbered}
+use Rattle.topo_check.specs.InsideKinds.{numbered}
 use Rattle.topo_check.proofs.members.entries_of.Given as goal
 
 -- the numbers so far are entered

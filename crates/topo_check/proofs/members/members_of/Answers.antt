@@ -2,7 +2,7 @@
 use Rattle.std.proofs.Common.{◌≡◌, ◌<◌, All, List, length, sym, ap, subst, ◌∙◌, arith}
 use Rattle.number_groups.specs.declared.groups.Entry.{Entry}
 use Rattle.number_groups.specs.Groups.{numbers_of}
-use Rattle.topo_check.proofs.Numbered.{keys_below, length_numbered, members_by}
+use Rattle.topo_check.proofs.KindNumbers.{keys_below, length_numbered, members_by}
 use Rattle.topo_check.proofs.members.members_of.Goals as goal
 
 pub group-requires-clause-keys : goal.group-requires-clause-keys

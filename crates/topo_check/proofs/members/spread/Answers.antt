@@ -1,8 +1,8 @@
 -- Answers to the goals of `spread` in src/members.rt.
 use Rattle.std.proofs.Common.{ℕ, ◌<◌, ◌≤◌, List, [], length, get_or, nat_eq, Contains, refl, sym, subst, arith}
 use Rattle.std.specs.List.{IsDistinct}
-use Rattle.topo_check.specs.Kinds.{members_at, IsPairAcross}
-use Rattle.topo_check.specs.Pairs.{DoesCollect}
+use Rattle.topo_check.specs.InsideKinds.{members_at, IsPairAcross}
+use Rattle.topo_check.specs.InsidePairs.{DoesCollect}
 use Rattle.topo_check.proofs.Sorts.{no_pair, found_in, found_more, found_all}
 use Rattle.topo_check.proofs.members.spread.Goals as goal
 use Rattle.topo_check.proofs.members.spread.Goals.{then-loop-place-test+else-len-most, else-loop-place-test}

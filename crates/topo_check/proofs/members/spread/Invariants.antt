@@ -1,6 +1,6 @@
 -- The invariants of `spread` in src/members.rt.
 use Rattle.std.proofs.Common.{length, ◌-◌, ◌≤◌, []}
-use Rattle.topo_check.specs.Pairs.{DoesCollect}
+use Rattle.topo_check.specs.InsidePairs.{DoesCollect}
 use Rattle.topo_check.proofs.Sorts.{IsFoundBefore}
 use Rattle.topo_check.proofs.members.spread.Given as goal
 

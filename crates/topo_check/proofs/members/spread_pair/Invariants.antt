@@ -1,7 +1,7 @@
 -- The invariants of `spread_pair` in src/members.rt.
 use Rattle.std.proofs.Common.{length, ◌-◌, ◌≤◌, Contains}
-use Rattle.topo_check.specs.Kinds.{IsPairAcross}
-use Rattle.topo_check.specs.Pairs.{DoesCollect}
+use Rattle.topo_check.specs.InsideKinds.{IsPairAcross}
+use Rattle.topo_check.specs.InsidePairs.{DoesCollect}
 use Rattle.topo_check.proofs.Passes.{IsOneOf}
 use Rattle.topo_check.proofs.members.spread_pair.Given as goal
 

@@ -12,7 +12,7 @@ returns-in_err-tin-clause-refused g c =
 pub returns-in_err-texts-clause-refused : goal.returns-in_err-texts-clause-refused
 returns-in_err-texts-clause-refused g c =
     handed_on _ c.in_err-texts.field-0.0 c.from_residual-in_err-texts.result c.from_residual-in_err-texts.ensures.1
-    (files_refused (g.S.Shelf.files c.args.shelf.now) c.args.verification.now c.in_ok-tin.tin _ _ _
+    (files_refused (g.S.Shelf.files c.args.shelf.now) c.args.verification.now c.in_ok-tin.tin _ _ _ _
     c.in_err-texts.field-0.0 (rw c.text.ensures at c.in_ok-tin.ensures.ok) (λ rose. rose)
     (rw (c.in_ok-tin.ensures.files, c.in_ok-tin.ensures.faults.same) at c.in_err-texts.ensures.refused))
 

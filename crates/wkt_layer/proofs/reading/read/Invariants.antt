@@ -2,8 +2,8 @@
 use Rattle.std.proofs.Common.{◌≡◌, ℕ, ◌+◌, ◌≤◌, List, [], length}
 use Rattle.std.specs.Prelude.{flat_map}
 use Rattle.wkt_layer.specs.Paths.{Path}
-use Rattle.wkt_layer.specs.Layers.{lines_of}
-use Rattle.wkt_layer.specs.Passes.{Held, HasRoom, GoesOn, RestsAt, lines_behind, Ascend, path_numbers}
+use Rattle.wkt_layer.specs.Layers.{geometry_lines}
+use Rattle.wkt_layer.specs.InsidePasses.{Held, HasRoom, GoesOn, RestsAt, lines_behind, Ascend, path_numbers}
 use Rattle.wkt_layer.proofs.reading.read.Given as goal
 
 abbrev pub invariant-loop-rest : goal.invariant-loop-rest
@@ -12,7 +12,7 @@ invariant-loop-rest l = record {
   few : l.base ≤ length l.bytes + 1;
   room : HasRoom l.pass l.base;
   read : (done : List Path) × Held l.pass done [] × (l.pass.stack ≡ [])
-      × GoesOn l.exact (lines_of l.bytes) l.base (lines_behind l.rest) done
+      × GoesOn l.exact (geometry_lines l.bytes) l.base (lines_behind l.rest) done
       × ((past : ℕ) × (past ≤ l.base) × (past ≤ length l.bytes) × Ascend 0 (flat_map path_numbers done) past);
 }
 

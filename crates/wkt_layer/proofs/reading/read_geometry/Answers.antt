@@ -1,9 +1,9 @@
 -- Answers to the goals of `read_geometry` in src/reading.rt.
 use Rattle.std.proofs.Common.{◌≡◌, ◌≤◌, ◌+◌, ◌++◌, [], length, sym, ◌∙◌, subst, append-nil, arith, true, false}
-use Rattle.wkt_layer.specs.States.{start}
-use Rattle.wkt_layer.specs.Passes.{Held, HasRoom}
-use Rattle.wkt_layer.proofs.Lexing.{reached_start, reached_end, reached_open, black_tokens}
-use Rattle.wkt_layer.proofs.Going.{last_points}
+use Rattle.wkt_layer.specs.InsideStates.{start}
+use Rattle.wkt_layer.specs.InsidePasses.{Held, HasRoom}
+use Rattle.wkt_layer.proofs.TokenReads.{reached_start, reached_end, reached_open, black_tokens}
+use Rattle.wkt_layer.proofs.CodeSteps.{last_points}
 use Rattle.wkt_layer.proofs.reading.read_geometry.Goals as goal
 
 pub loop-at-init : goal.loop-at-init

@@ -2,9 +2,9 @@
 use Rattle.std.proofs.Common.{◌≡◌, ◌+◌, ◌-◌, ◌≤◌, List, [], length}
 use Rattle.wkt_layer.specs.Tokens.{Placed}
 use Rattle.wkt_layer.specs.Paths.{Path}
-use Rattle.wkt_layer.specs.States.{State}
-use Rattle.wkt_layer.specs.Reached.{Reached}
-use Rattle.wkt_layer.specs.Passes.{Held, HasRoom, BeginsBefore, Stands}
+use Rattle.wkt_layer.specs.InsideStates.{State}
+use Rattle.wkt_layer.specs.InsideReach.{Reached}
+use Rattle.wkt_layer.specs.InsidePasses.{Held, HasRoom, BeginsBefore, Stands}
 use Rattle.wkt_layer.proofs.reading.read_geometry.Given as goal
 
 abbrev pub invariant-loop-at : goal.invariant-loop-at

@@ -1,7 +1,7 @@
 -- Answers to the goals of `read_line` in src/reading.rt.
 use Rattle.std.proofs.Common.{[], sym, ◌∙◌, subst, append-nil}
-use Rattle.wkt_layer.specs.Passes.{Held}
-use Rattle.wkt_layer.proofs.Lexing.{blank_line}
+use Rattle.wkt_layer.specs.InsidePasses.{Held}
+use Rattle.wkt_layer.proofs.TokenReads.{blank_line}
 use Rattle.wkt_layer.proofs.reading.read_line.Goals as goal
 
 pub returns-then-are_blank-clause-reads : goal.returns-then-are_blank-clause-reads

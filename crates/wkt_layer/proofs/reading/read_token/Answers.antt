@@ -1,8 +1,8 @@
 -- Answers to the goals of `read_token` in src/reading.rt.
 use Rattle.std.proofs.Common.{◌≡◌, ◌+◌, ◌-◌, take, drop, length, sym, ap, subst, arith}
 use Rattle.sheet_base.proofs.HandedOn.{passed_on}
-use Rattle.wkt_layer.specs.Passes.{Reads}
-use Rattle.wkt_layer.proofs.Lexing.{token_reads, token_fails}
+use Rattle.wkt_layer.specs.InsidePasses.{Reads}
+use Rattle.wkt_layer.proofs.TokenReads.{token_reads, token_fails}
 use Rattle.wkt_layer.proofs.reading.read_token.Goals as goal
 use Rattle.plain_laws.proofs.Lists.{take_rest}
 

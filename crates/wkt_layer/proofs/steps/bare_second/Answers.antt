@@ -3,10 +3,10 @@ use Rattle.std.proofs.Common.{refl, ap, ◌∙◌, subst, ◌++◌, ◌∷◌, [
 use Rattle.std.specs.Prelude.{Some, None}
 use Rattle.sheet_base.specs.declared.paths.PathKind.TheVariants.{Dot}
 use Rattle.wkt_layer.specs.Paths.{path_of}
-use Rattle.wkt_layer.specs.Passes.{Held}
+use Rattle.wkt_layer.specs.InsidePasses.{Held}
 use Rattle.wkt_layer.specs.Tokens.{Number}
-use Rattle.wkt_layer.specs.States.{state, bare_third, point_with, bare_leads, bare_second_leads}
-use Rattle.wkt_layer.proofs.Going.{number_goes, opened_number}
+use Rattle.wkt_layer.specs.InsideStates.{state, bare_third, point_with, bare_leads, bare_second_leads}
+use Rattle.wkt_layer.proofs.CodeSteps.{number_goes, opened_number}
 use Rattle.wkt_layer.proofs.steps.bare_second.Goals as goal
 
 pub returns-then-raised-clause-goes : goal.returns-then-raised-clause-goes

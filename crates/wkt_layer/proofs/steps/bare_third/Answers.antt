@@ -3,10 +3,10 @@ use Rattle.std.proofs.Common.{◌∙◌, subst, ◌++◌, ◌∷◌, [], append_
 use Rattle.std.specs.Prelude.{Some}
 use Rattle.sheet_base.specs.declared.paths.PathKind.TheVariants.{Dot}
 use Rattle.wkt_layer.specs.Paths.{path_of}
-use Rattle.wkt_layer.specs.Passes.{Held}
+use Rattle.wkt_layer.specs.InsidePasses.{Held}
 use Rattle.wkt_layer.specs.Tokens.{Number}
-use Rattle.wkt_layer.specs.States.{point_with, bare_leads}
-use Rattle.wkt_layer.proofs.Going.{number_goes, opened_number}
+use Rattle.wkt_layer.specs.InsideStates.{point_with, bare_leads}
+use Rattle.wkt_layer.proofs.CodeSteps.{number_goes, opened_number}
 use Rattle.wkt_layer.proofs.steps.bare_third.Goals as goal
 
 pub returns-in_ok-end_path-in-Some-clause-goes : goal.returns-in_ok-end_path-in-Some-clause-goes

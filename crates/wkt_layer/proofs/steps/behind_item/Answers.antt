@@ -1,7 +1,8 @@
 -- Answers to the goals of `behind_item` in src/steps.rt.
-use Rattle.std.proofs.Common.{refl}
-use Rattle.wkt_layer.specs.States.{state, item, behind}
-use Rattle.wkt_layer.proofs.Going.{item_goes, close_goes, opened_comma, opened_closing}
+use Rattle.std.proofs.Common.{[], ◌++◌, refl}
+use Rattle.wkt_layer.specs.InsideStates.{state, item, behind}
+use Rattle.wkt_layer.proofs.CodeSteps.{item_goes, close_goes, opened_comma, opened_closing}
+use Rattle.wkt_layer.proofs.SheetSoFar.{held_beside}
 use Rattle.wkt_layer.proofs.steps.behind_item.Goals as goal
 
 pub returns-in-Some-clause-goes : goal.returns-in-Some-clause-goes
@@ -11,16 +12,7 @@ returns-in-Some-clause-goes c = λ before paths text held.
       item_goes _ some.0 c.args.pass.now.stack paths c.args.token.start text c.args.token.sign c.in-Comma.is some.1,
       record {
         stack = refl;
-        held = record {
-          paths = held.paths;
-          points = held.points;
-          heights = held.heights;
-          edits = held.edits;
-          inexact =
-              held.inexact;
-          first = held.first;
-          ends = held.ends;
-        };
+        held = held_beside c.args.pass.now _ (before ++ paths) [] refl held;
         shows = tt;
       },
       opened_comma c.args.token.start c.args.pass.now.opened text c.args.token.sign c.in-Comma.is,
@@ -33,16 +25,7 @@ returns-in-Some-pop-clause-goes c = λ before paths text held. (
       c.in-Some-pop.ensures,
   record {
     stack = refl;
-    held = record {
-      paths = held.paths;
-      points = held.points;
-      heights = held.heights;
-      edits = held.edits;
-      inexact =
-          held.inexact;
-      first = held.first;
-      ends = held.ends;
-    };
+    held = held_beside c.args.pass.now _ (before ++ paths) [] refl held;
     shows = tt;
   },
   opened_closing c.args.token.start c.args.pass.now.opened text c.args.token.sign c.in-Closing.is,

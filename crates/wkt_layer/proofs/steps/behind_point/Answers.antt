@@ -1,9 +1,9 @@
 -- Answers to the goals of `behind_point` in src/steps.rt.
 use Rattle.std.proofs.Common.{refl, sym, ◌∙◌, subst, [], ◌∷◌, ◌++◌, append_assoc}
-use Rattle.wkt_layer.specs.States.{state, first, behind, kind_of}
+use Rattle.wkt_layer.specs.InsideStates.{state, first, behind, kind_of}
 use Rattle.wkt_layer.specs.Paths.{path_of}
-use Rattle.wkt_layer.specs.Passes.{Held}
-use Rattle.wkt_layer.proofs.Going.{comma_goes, opened_comma, closing_goes, opened_closing}
+use Rattle.wkt_layer.specs.InsidePasses.{Held}
+use Rattle.wkt_layer.proofs.CodeSteps.{comma_goes, opened_comma, closing_goes, opened_closing}
 use Rattle.wkt_layer.proofs.steps.behind_point.Goals as goal
 
 pub returns-in-List-clause-goes : goal.returns-in-List-clause-goes

@@ -1,8 +1,8 @@
 -- Answers to the goals of `behind_tag` in src/steps.rt.
 use Rattle.std.proofs.Common.{◌≡◌, Some, refl, sym, subst}
-use Rattle.wkt_layer.specs.States.{state, content, enter_step, tagged_step}
-use Rattle.wkt_layer.specs.Passes.{Goes, token_for}
-use Rattle.wkt_layer.proofs.Going.{tagged_mark, tagged_enters, opened_empty, same_word}
+use Rattle.wkt_layer.specs.InsideStates.{state, content, enter_step, tagged_step}
+use Rattle.wkt_layer.specs.InsidePasses.{Goes, token_for}
+use Rattle.wkt_layer.proofs.CodeSteps.{tagged_mark, tagged_enters, opened_empty, same_word}
 use Rattle.wkt_layer.proofs.steps.behind_tag.Goals as goal
 
 pub returns-in-Z-clause-goes : goal.returns-in-Z-clause-goes

@@ -1,7 +1,8 @@
 -- Answers to the goals of `enter` in src/steps.rt.
-use Rattle.std.proofs.Common.{refl, [], ◌∷◌}
-use Rattle.wkt_layer.specs.States.{state, first, item, behind}
-use Rattle.wkt_layer.proofs.Going.{enter_empty, opened_empty, enter_listing, enter_group, opened_here}
+use Rattle.std.proofs.Common.{refl, [], ◌∷◌, ◌++◌}
+use Rattle.wkt_layer.specs.InsideStates.{state, first, item, behind}
+use Rattle.wkt_layer.proofs.CodeSteps.{enter_empty, opened_empty, enter_listing, enter_group, opened_here}
+use Rattle.wkt_layer.proofs.SheetSoFar.{held_beside}
 use Rattle.wkt_layer.proofs.steps.enter.Goals as goal
 
 pub returns-in-Empty-clause-goes : goal.returns-in-Empty-clause-goes
@@ -20,16 +21,7 @@ returns-in-Points-clause-goes c = λ before paths text held. (
       c.in-Opening.is c.in-Points.is,
   record {
     stack = refl;
-    held = record {
-      paths = held.paths;
-      points = held.points;
-      heights = held.heights;
-      edits = held.edits;
-      inexact = held.inexact;
-      first =
-          held.first;
-      ends = held.ends;
-    };
+    held = held_beside c.args.pass.now _ (before ++ paths) [] refl held;
     shows = refl;
   },
   opened_here c.args.token.start c.args.pass.now.opened text c.args.token.sign c.in-Opening.is,
@@ -42,16 +34,7 @@ returns-in_ok-push-in-Items-clause-goes c = λ before paths text held. (
       c.in-Opening.is c.in-Items.is,
   record {
     stack = c.in_ok-push-in-Items.ensures.ok;
-    held = record {
-      paths = held.paths;
-      points = held.points;
-      heights = held.heights;
-      edits = held.edits;
-      inexact = held.inexact;
-      first =
-          held.first;
-      ends = held.ends;
-    };
+    held = held_beside c.args.pass.now _ (before ++ paths) [] refl held;
     shows = tt;
   },
   opened_here c.args.token.start c.args.pass.now.opened text c.args.token.sign c.in-Opening.is,

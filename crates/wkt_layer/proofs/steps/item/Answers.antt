@@ -1,8 +1,8 @@
 -- Answers to the goals of `item` in src/steps.rt.
 use Rattle.std.proofs.Common.{◌≡◌, Some, refl, subst, sym, ◌∙◌}
-use Rattle.wkt_layer.specs.States.{state, tagged, item_step}
-use Rattle.wkt_layer.specs.Passes.{Goes, token_for}
-use Rattle.wkt_layer.proofs.Going.{opened_tag}
+use Rattle.wkt_layer.specs.InsideStates.{state, tagged, item_step}
+use Rattle.wkt_layer.specs.InsidePasses.{Goes, token_for}
+use Rattle.wkt_layer.proofs.CodeSteps.{opened_tag}
 use Rattle.wkt_layer.proofs.steps.item.Goals as goal
 
 pub returns-in-Rings-clause-goes : goal.returns-in-Rings-clause-goes

@@ -7,8 +7,8 @@ use Rattle.std.proofs.lemmas.List.{take_all}
 use Rattle.plane_base.specs.declared.shapes.Rect.{Rect}
 use Rattle.cell_grid.specs.Around.{IsAround, corner_of}
 use Rattle.cell_grid.specs.Boxes.{AreOrdered, no_box}
-use Rattle.cell_grid.proofs.Kept.{boxes_past}
-use Rattle.cell_grid.proofs.Placed.{placed, placed_more}
+use Rattle.cell_grid.proofs.LevelFields.{boxes_past}
+use Rattle.cell_grid.proofs.OffsetBoxes.{placed, placed_more}
 use Rattle.cell_grid.proofs.box_lists.BoxList.of.Goals as goal
 
 pub of-requires : goal.of-requires

@@ -4,8 +4,8 @@ use Rattle.std.specs.Prelude.{FitsSigned}
 use Rattle.std.proofs.lemmas.Int.{ints, to_z-of_z}
 use mir.Syntax.{w64}
 use Rattle.cell_grid.specs.Boxes.{box_at}
-use Rattle.cell_grid.specs.Offsets.{PlacedBoxes}
-use Rattle.cell_grid.proofs.Placed.{placed_at, placed_inside, placed_within}
+use Rattle.cell_grid.specs.InsideOffsets.{PlacedBoxes}
+use Rattle.cell_grid.proofs.OffsetBoxes.{placed_at, placed_inside, placed_within}
 use Rattle.cell_grid.proofs.box_lists.BoxList.rect.Goals as goal
 
 pub number_at-requires : goal.number_at-requires

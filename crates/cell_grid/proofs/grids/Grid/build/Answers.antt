@@ -8,7 +8,7 @@ use Rattle.cell_grid.specs.Cells.{IsLevelOf, HasNumbersBelow}
 use Rattle.cell_grid.specs.declared.levels.Level.{Level}
 use Rattle.cell_grid.specs.declared.grids.TheConstants.{LIMIT}
 use Rattle.cell_grid.proofs.Sizes.{levels_small}
-use Rattle.cell_grid.proofs.Kept.{boxes_past}
+use Rattle.cell_grid.proofs.LevelFields.{boxes_past}
 use Rattle.cell_grid.proofs.UsedLevels.{used_each}
 use Rattle.cell_grid.proofs.grids.Grid.build.Goals as goal
 

@@ -10,7 +10,7 @@ use Rattle.cell_grid.specs.Sizes.{level_of}
 use Rattle.cell_grid.specs.Grids.{Boxes}
 use Rattle.cell_grid.specs.Cells.{numbers_at, cell_of}
 use Rattle.cell_grid.specs.Around.{put_of}
-use Rattle.cell_grid.proofs.Kept.{number_kept, put_past, cell_below, cell_exact}
+use Rattle.cell_grid.proofs.LevelFields.{number_kept, put_past, cell_below, cell_exact}
 use Rattle.cell_grid.proofs.grids.Grid.cell.Goals as goal
 
 pub column-requires : goal.column-requires

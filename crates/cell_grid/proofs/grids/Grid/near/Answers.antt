@@ -5,10 +5,10 @@ use Rattle.cell_grid.specs.Grids.{Boxes}
 use Rattle.cell_grid.specs.Sizes.{level_of}
 use Rattle.cell_grid.specs.Around.{cut_of}
 use Rattle.cell_grid.specs.Cells.{IsOnLevel}
-use Rattle.cell_grid.specs.Searches.{DoesFind, StandsIn}
+use Rattle.cell_grid.specs.InsideSearches.{DoesFind, StandsIn}
 use Rattle.cell_grid.proofs.Spans.{cut_past}
-use Rattle.cell_grid.proofs.Kept.{used_kept}
-use Rattle.cell_grid.proofs.Found.{near_list, level_found, levels_more}
+use Rattle.cell_grid.proofs.LevelFields.{used_kept}
+use Rattle.cell_grid.proofs.LevelFinds.{near_list, level_found, levels_more}
 use Rattle.cell_grid.proofs.grids.Grid.near.Goals as goal
 
 pub find-requires-clause-numbers : goal.find-requires-clause-numbers

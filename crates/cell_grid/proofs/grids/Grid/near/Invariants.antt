@@ -1,6 +1,6 @@
 -- The invariant of the loop of `Grid::near` in src/grids.rt.
 use Rattle.std.proofs.Common.{[]}
-use Rattle.cell_grid.specs.Searches.{DoesFind, IsOnFirst}
+use Rattle.cell_grid.specs.InsideSearches.{DoesFind, IsOnFirst}
 use Rattle.cell_grid.proofs.grids.Grid.near.Given as goal
 
 abbrev pub invariant-loop-used : goal.invariant-loop-used

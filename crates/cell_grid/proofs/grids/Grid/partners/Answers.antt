@@ -4,7 +4,7 @@ use Rattle.std.specs.List.Sorted.{IsStrictlyIncreasing}
 use Rattle.plane_base.specs.declared.shapes.Rect.{Rect}
 use Rattle.cell_grid.specs.Grids.{Boxes}
 use Rattle.cell_grid.specs.Sizes.{level_of}
-use Rattle.cell_grid.specs.LevelPartners.{DoesTell, IsPartnerOnFirst}
+use Rattle.cell_grid.specs.InsideLevelPartners.{DoesTell, IsPartnerOnFirst}
 use Rattle.cell_grid.proofs.Tells.{levels_told, none_on_first, all_told}
 use Rattle.cell_grid.proofs.grids.Grid.partners.Goals as goal
 

@@ -1,6 +1,6 @@
 -- The invariant of the loop of `Grid::partners` in src/grids.rt.
 use Rattle.std.proofs.Common.{[]}
-use Rattle.cell_grid.specs.LevelPartners.{DoesTell, IsPartnerOnFirst}
+use Rattle.cell_grid.specs.InsideLevelPartners.{DoesTell, IsPartnerOnFirst}
 use Rattle.cell_grid.proofs.grids.Grid.partners.Given as goal
 
 abbrev pub invariant-loop-place : goal.invariant-loop-place

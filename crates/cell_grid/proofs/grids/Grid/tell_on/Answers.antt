@@ -5,8 +5,8 @@ use Rattle.plane_base.specs.declared.shapes.Rect.{Rect}
 use Rattle.cell_grid.specs.Boxes.{box_at}
 use Rattle.cell_grid.specs.Grids.{Boxes}
 use Rattle.cell_grid.specs.Sizes.{level_of}
-use Rattle.cell_grid.specs.LevelPartners.{DoesTell, IsPartnerOn}
-use Rattle.cell_grid.proofs.Kept.{number_kept, boxes_past}
+use Rattle.cell_grid.specs.InsideLevelPartners.{DoesTell, IsPartnerOn}
+use Rattle.cell_grid.proofs.LevelFields.{number_kept, boxes_past}
 use Rattle.cell_grid.proofs.Tells.{none_on_lower}
 use Rattle.cell_grid.proofs.grids.Grid.tell_on.Goals as goal
 

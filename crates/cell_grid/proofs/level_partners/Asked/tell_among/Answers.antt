@@ -1,7 +1,7 @@
 -- Answers to the goals of `Asked::tell_among` in src/level_partners.rt.
 use Rattle.std.proofs.Common.{◌≡◌, ◌+◌, ◌-◌, ◌<◌, ℕ, length, get_or, subst, arith}
 use Rattle.std.proofs.lemmas.List.Elements.{Contains-get_or}
-use Rattle.cell_grid.specs.LevelPartners.{DoesTell, IsToldFrom}
+use Rattle.cell_grid.specs.InsideLevelPartners.{DoesTell, IsToldFrom}
 use Rattle.cell_grid.proofs.Tells.{from_more, from_first, from_none}
 use Rattle.cell_grid.proofs.level_partners.Asked.tell_among.Goals as goal
 

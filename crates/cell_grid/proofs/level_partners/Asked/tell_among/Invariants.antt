@@ -1,6 +1,6 @@
 -- The invariants of `Asked::tell_among` in src/level_partners.rt.
 use Rattle.std.proofs.Common.{◌≤◌, length}
-use Rattle.cell_grid.specs.LevelPartners.{DoesTell, IsToldFrom}
+use Rattle.cell_grid.specs.InsideLevelPartners.{DoesTell, IsToldFrom}
 use Rattle.cell_grid.proofs.level_partners.Asked.tell_among.Given as goal
 
 abbrev pub decreases-loop-left : goal.decreases-loop-left

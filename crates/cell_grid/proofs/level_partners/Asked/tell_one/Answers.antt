@@ -1,9 +1,9 @@
 -- Answers to the goals of `Asked::tell_one` in src/level_partners.rt.
 use Rattle.std.proofs.Common.{◌≡◌, ℕ, List, refl, sym, subst}
 use Rattle.std.proofs.lemmas.Bool.{false≢true}
-use Rattle.cell_grid.specs.LevelPartners.{IsTellable, DoesTell}
+use Rattle.cell_grid.specs.InsideLevelPartners.{IsTellable, DoesTell}
 use Rattle.cell_grid.proofs.Tells.{tell_none, tell_one}
-use Rattle.cell_grid.proofs.Placed.{told_same, told_back}
+use Rattle.cell_grid.proofs.OffsetBoxes.{told_same, told_back}
 use Rattle.cell_grid.proofs.level_partners.Asked.tell_one.Goals as goal
 
 pub returns-then-not-is_told : goal.returns-then-not-is_told

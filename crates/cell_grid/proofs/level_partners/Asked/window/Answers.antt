@@ -1,6 +1,6 @@
 -- Answers to the goals of `Asked::window` in src/level_partners.rt.
 use Rattle.std.proofs.Common.{ℕ, subst}
-use Rattle.cell_grid.specs.Windows.{AreBoundsOf}
+use Rattle.cell_grid.specs.InsideWindows.{AreBoundsOf}
 use Rattle.cell_grid.proofs.Windows.{cell_within, short_x, short_y}
 use Rattle.cell_grid.proofs.level_partners.Asked.window.Goals as goal
 

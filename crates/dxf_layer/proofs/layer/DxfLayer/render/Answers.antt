@@ -2,7 +2,7 @@
 use Rattle.std.proofs.Common.{◌≡◌, sym, subst, Ok}
 use Rattle.sheet_base.specs.Splices.{spliced}
 use Rattle.sheet_base.specs.ReadBack.{IsReadBack}
-use Rattle.sheet_base.proofs.Splicing.{if_ok_more}
+use Rattle.sheet_base.proofs.SpliceLaws.{if_ok_more}
 use Rattle.dxf_layer.specs.Drawings.{drawing_sheet}
 use Rattle.dxf_layer.specs.Rendering.{drawing_text}
 use Rattle.dxf_layer.specs.ReadBack.{DoesReadBack, AreReadAgain}

@@ -4,8 +4,8 @@ use Rattle.sheet_base.specs.declared.edits.Edit.{Edit}
 use Rattle.sheet_base.specs.Splices.{AreInOrder}
 use Rattle.sheet_base.specs.ReadBack.{AreTheSame, IsReadBack}
 use Rattle.sheet_base.proofs.WrittenLayers.{holds_written, rest_written}
-use Rattle.gj_layer.specs.Layers.{IsReadAs}
-use Rattle.gj_layer.specs.Texts.{edit_text}
+use Rattle.gj_layer.specs.Layers.{IsGeoJsonReadAs}
+use Rattle.gj_layer.specs.Texts.{geojson_edit_text}
 use Rattle.gj_layer.proofs.Documents.{read_in_order}
 use Rattle.gj_layer.proofs.ReadingBack.{reads_back}
 use Rattle.gj_layer.proofs.layer.GeoJsonLayer.render.Goals as goal
@@ -17,14 +17,16 @@ splice-requires c =
 
 pub returns-clause-rest : goal.returns-clause-rest
 returns-clause-rest c =
-    rest_written c.splice.result (λ out. out.items) c.args.bytes.now (edit_text c.args.sheet.now c.args.images.now)
+    rest_written c.splice.result (λ out. out.items) c.args.bytes.now
+    (geojson_edit_text c.args.sheet.now c.args.images.now)
     c.edits.result.now c.args.sheet.now.edits c.edits.ensures c.splice.ensures
 
 pub returns-clause-back : goal.returns-clause-back
 returns-clause-back c =
-    holds_written c.splice.result (λ out. out.items) c.args.bytes.now (edit_text c.args.sheet.now c.args.images.now)
+    holds_written c.splice.result (λ out. out.items) c.args.bytes.now
+    (geojson_edit_text c.args.sheet.now c.args.images.now)
     c.edits.result.now c.args.sheet.now.edits c.edits.ensures c.splice.ensures
-    (λ (out : List ℕ). Unit {0} → IsReadBack (IsReadAs c.args.how.exact) AreTheSame c.args.sheet.now
+    (λ (out : List ℕ). Unit {0} → IsReadBack (IsGeoJsonReadAs c.args.how.exact) AreTheSame c.args.sheet.now
     c.args.images.now out)
     (λ _. reads_back c.args.how.exact c.args.bytes.now c.args.sheet.now c.args.images.now c.requires.sheet
     c.requires.fits)

@@ -4,7 +4,7 @@ use Rattle.std.proofs.lemmas.Option.{slice_get_read}
 use Rattle.shelf_io.specs.Files.{bytes_of}
 use Rattle.shelf_io.specs.MemoryFile.{named_bytes}
 use Rattle.shelf_io.specs.MemoryPress.{MemoryPress}
-use Rattle.shelf_io.proofs.Named.{number_of-named, bytes_of-number, bytes_of-none}
+use Rattle.shelf_io.proofs.NamedFiles.{number_of-named, bytes_of-number, bytes_of-none}
 use Rattle.shelf_io.proofs.mem_press.MemPress.made_bytes.Goals as goal
 
 pub returns-in-Some : goal.returns-in-Some

@@ -4,7 +4,7 @@ use Rattle.std.proofs.lemmas.List.{map-append}
 use Rattle.shelf_io.specs.Files.{bytes_of}
 use Rattle.shelf_io.specs.MemoryFile.{named_bytes}
 use Rattle.shelf_io.specs.MemoryShelf.{MemoryShelf}
-use Rattle.shelf_io.proofs.Named.{AreDistinct-append, place-append}
+use Rattle.shelf_io.proofs.NamedFiles.{AreDistinct-append, place-append}
 use Rattle.shelf_io.proofs.mem_shelf.MemShelf.add.Goals as goal
 
 pub invariant_of-self-2 : goal.invariant_of-self-2

@@ -4,7 +4,7 @@ use Rattle.shelf_io.specs.Files.{number_of}
 use Rattle.shelf_io.specs.MemoryFile.{named_bytes}
 use Rattle.shelf_io.specs.MemoryShelf.{MemoryShelf, rest_from}
 use Rattle.shelf_io.specs.Shelf.{Begins}
-use Rattle.shelf_io.proofs.Named.{begins_found, number_of-named}
+use Rattle.shelf_io.proofs.NamedFiles.{begins_found, number_of-named}
 use Rattle.shelf_io.proofs.mem_shelf.MemShelfShelf.begin.Goals as goal
 
 pub returns-clause-begins : goal.returns-clause-begins

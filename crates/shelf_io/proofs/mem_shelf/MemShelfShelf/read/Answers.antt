@@ -6,7 +6,7 @@ use Rattle.std.proofs.lemmas.List.{length-take-le}
 use Rattle.shelf_io.specs.MemoryFile.{named_bytes}
 use Rattle.shelf_io.specs.MemoryShelf.{MemoryShelf, rest_at_hand, rest_from}
 use Rattle.shelf_io.specs.Shelf.{TakesFront}
-use Rattle.shelf_io.proofs.Named.{takes_there, none_at_end}
+use Rattle.shelf_io.proofs.NamedFiles.{takes_there, none_at_end}
 use Rattle.shelf_io.proofs.mem_shelf.MemShelfShelf.read.Goals as goal
 use Rattle.plain_laws.proofs.Lists.{take_rest}
 

@@ -2,7 +2,7 @@
 use Rattle.std.proofs.Common.{◌<◌, length, subst, sym, ◌∙◌}
 use Rattle.tin_base.specs.Triangulation.{Triangulation}
 use Rattle.tin_index.specs.Sides.{IsStar}
-use Rattle.tin_index.proofs.Starring.{star_is}
+use Rattle.tin_index.proofs.TriangleStars.{star_is}
 use Rattle.tin_index.proofs.indexes.TinIndex.around.Goals as goal
 
 pub returns : goal.returns

@@ -2,7 +2,7 @@
 use Rattle.std.proofs.Common.{List, subst, sym, length}
 use Rattle.plane_base.specs.declared.shapes.Rect.{Rect}
 use Rattle.cell_grid.specs.Boxes.{AreOrdered, AreWithinSpan}
-use Rattle.tin_index.proofs.Boxing.{all_ordered, all_within}
+use Rattle.tin_index.proofs.SourceBoxes.{all_ordered, all_within}
 use Rattle.tin_index.proofs.indexes.TinIndex.build.Goals as goal
 
 pub build-requires-clause-ordered : goal.build-requires-clause-ordered

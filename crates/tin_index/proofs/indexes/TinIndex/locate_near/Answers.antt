@@ -1,7 +1,7 @@
 -- Answers to the goals of `TinIndex::locate_near` in src/indexes.rt.
 use Rattle.std.proofs.Common.{refl, subst, arith}
 use Rattle.tin_base.specs.Triangulation.{Triangulation}
-use Rattle.tin_index.specs.Locating.{IsOnlyIn}
+use Rattle.tin_index.specs.InsideLocations.{IsOnlyIn}
 use Rattle.tin_index.proofs.indexes.TinIndex.locate_near.Goals as goal
 
 pub returns-then-is_inside-clause-least : goal.returns-then-is_inside-clause-least

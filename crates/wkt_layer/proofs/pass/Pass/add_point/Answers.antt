@@ -2,8 +2,8 @@
 use Rattle.std.proofs.Common.{◌≡◌, refl, ap, ◌∙◌, ◌+◌, ◌++◌, ◌∷◌, [], ◌==◌, arith, length, vec_len}
 use Rattle.std.specs.Prelude.{if◌then◌else◌, Ok}
 use Rattle.wkt_layer.specs.Numbers.{lost_in}
-use Rattle.wkt_layer.specs.Passes.{lost_read}
-use Rattle.wkt_layer.proofs.Holding.{held_add}
+use Rattle.wkt_layer.specs.InsidePasses.{lost_read}
+use Rattle.wkt_layer.proofs.SheetSoFar.{held_add}
 use Rattle.wkt_layer.proofs.pass.Pass.add_point.Goals as goal
 
 pub returns-clause-held : goal.returns-clause-held

@@ -1,0 +1,22 @@
+-- What it is that a sheet is carried and written. Only private functions speak of it.
+use Rattle.std.specs.Prelude.{◌≡◌, ℕ, List, ◌++◌}
+use Rattle.sheet_base.specs.declared.edits.Edit.{Edit}
+use Rattle.sheet_base.specs.Sheets.{Contents}
+use Rattle.sheet_base.specs.Fitting.{Runs, DoFit}
+use Rattle.sheet_base.specs.Splices.{spliced}
+use Rattle.tin_base.specs.declared.pieces.Piece.{Piece}
+use Rattle.tin_base.specs.Triangulation.{Triangulation}
+use Rattle.affine_image.specs.SheetPieces.{ArePiecesOfSheet, IsSheetInside}
+use Rattle.affine_image.specs.SheetImages.{AreImagesOf}
+
+-- the sheet has images and pieces, and the text is the bytes with the texts for the images
+pub record IsSheetWritten (tin : Triangulation) (bytes : List ℕ) (text : Contents → Runs → Edit → List ℕ) (layer : ℕ)
+    (sheet : Contents) (before after : List Piece) (written : List ℕ) : Type 0 where
+  pub inside : IsSheetInside tin sheet
+  pub images : Runs
+  pub are_images : AreImagesOf tin sheet images
+  pub fit : DoFit sheet images
+  pub text_is : written ≡ spliced bytes (text sheet images) sheet.edits
+  pub own : List Piece
+  pub are_pieces : ArePiecesOfSheet tin layer sheet own
+  pub stand : after ≡ before ++ own

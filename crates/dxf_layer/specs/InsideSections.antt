@@ -1,0 +1,56 @@
+-- The sections of a drawing as the code goes through them, pair by pair. Only private functions speak of it.
+use Rattle.std.specs.Prelude.{ℕ, pos, codes, Bool, false, if◌then◌else◌, List, [], ◌∷◌, Option, None}
+use Rattle.std.specs.Str.{bytes_eq}
+use Rattle.dxf_pairs.specs.declared.pairs.Pair.{Pair}
+use Rattle.dxf_pairs.specs.Groups.{value_in}
+use Rattle.dxf_layer.specs.declared.entities.Where.{Where}
+use Rattle.dxf_layer.specs.declared.entities.Where.TheVariants.{Outside, Begun, Header, Entities, Other}
+use Rattle.dxf_layer.specs.Entities.{has_code, is_pair, Entity, entity_of}
+use Rattle.dxf_layer.specs.Sections.{ends_section}
+use Rattle.dxf_layer.specs.Seeds.{as_seed}
+
+-- a section begins at a pair `0 SECTION` outside a section that a pair of code 2, its name, follows directly
+abbrev pub behind_outside : List ℕ → Pair → Where
+behind_outside bytes pair = if is_pair bytes (pos 0) (codes "SECTION") pair then Begun else Outside
+
+-- the section of a name
+abbrev pub section : List ℕ → Where
+section name = if bytes_eq name (codes "ENTITIES") then Entities else
+    (if bytes_eq name (codes "HEADER") then Header else Other)
+
+abbrev pub behind_inside : List ℕ → Where → Pair → Where
+behind_inside bytes place pair = if ends_section bytes pair then Outside else place
+
+-- where the pair behind this one stands
+abbrev pub behind : List ℕ → Where → Pair → Where
+behind bytes Outside pair = behind_outside bytes pair
+behind bytes Begun pair = if has_code (pos 2) pair then section (value_in bytes pair) else behind_outside bytes pair
+behind bytes Header pair = behind_inside bytes Header pair
+behind bytes Entities pair = behind_inside bytes Entities pair
+behind bytes Other pair = behind_inside bytes Other pair
+
+-- a pair begins an entity where it stands in a section ENTITIES
+abbrev pub begins_entity : Where → Pair → Bool
+begins_entity Entities pair = has_code (pos 0) pair
+begins_entity place pair = false
+
+-- the entities of the sections ENTITIES, where the first pair stands here; what ends a section is one of them
+abbrev pub entities_from : List ℕ → Where → List Pair → List Entity
+entities_from bytes place [] = []
+entities_from bytes place (pair ∷ pairs) =
+    let more = entities_from bytes (behind bytes place pair) pairs in
+    if begins_entity place pair then entity_of pair pairs ∷ more else more
+
+abbrev pub entities_of : List ℕ → List Pair → List Entity
+entities_of bytes pairs = entities_from bytes Outside pairs
+
+-- a pair of a section HEADER that names the next handle
+abbrev pub names_seed : List ℕ → Where → Pair → Bool
+names_seed bytes Header pair = is_pair bytes (pos 9) (codes "$HANDSEED") pair
+names_seed bytes place pair = false
+
+-- the pair directly behind the first of these that names it, where the first stands here
+abbrev pub seed_from : List ℕ → Where → List Pair → Option Pair
+seed_from bytes place [] = None
+seed_from bytes place (pair ∷ pairs) = if names_seed bytes place pair then as_seed bytes pairs else seed_from bytes
+    (behind bytes place pair) pairs

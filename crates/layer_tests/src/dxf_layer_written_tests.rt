@@ -1,0 +1,160 @@
+//! Drawings with each kind of entity that are carried through the square and written. What is expected is worked out by
+//! hand, by the AutoCAD DXF reference and docs/guide.md.
+
+use crate::moves::{SQUARE, is_moved_to};
+use crate::sheets::PLAIN;
+use dxf_layer::{Dxf, read_drawing};
+use sheet_base::LayerFault;
+use std::alloc::{AllocError, Global};
+
+/// A point, an insert with a scale, a text with a second place, and one without.
+const DOTS: &[u8] =
+    b"0\nSECTION\n2\nENTITIES\n0\nPOINT\n5\nA1\n8\nWELL\n10\n6\n20\n4\n30\n1.5\n50\n45.0\n0\nINSERT\n2\nTREE\n10\n5\n20\n0\n41\n2.0\n0\nTEXT\n10\n4\n20\n6\n40\n2.5\n1\nNORTH\n72\n1\n11\n6\n21\n4\n0\nTEXT\n10\n5\n20\n0\n1\nWEST\n11\n9\n21\n9\n0\nENDSEC\n0\nEOF\n";
+
+/// The same with all places moved; what stays is its height, angle, scale, size, and the second place of the last text.
+const DOTS_CARRIED: &[u8] =
+    b"0\nSECTION\n2\nENTITIES\n0\nPOINT\n5\nA1\n8\nWELL\n10\n106.001\n20\n104.001\n30\n1.5\n50\n45.0\n0\nINSERT\n2\nTREE\n10\n105.000\n20\n100.000\n41\n2.0\n0\nTEXT\n10\n104.001\n20\n106.001\n40\n2.5\n1\nNORTH\n72\n1\n11\n106.001\n21\n104.001\n0\nTEXT\n10\n105.000\n20\n100.000\n1\nWEST\n11\n9\n21\n9\n0\nENDSEC\n0\nEOF\n";
+
+/// A closed polyline of two vertices that are entities.
+const RING: &[u8] =
+    b"0\nSECTION\n2\nHEADER\n9\n$HANDSEED\n5\n2F\n0\nENDSEC\n0\nSECTION\n2\nENTITIES\n0\nPOLYLINE\n5\n2A\n66\n1\n10\n0.0\n20\n0.0\n30\n2.0\n70\n1\n0\nVERTEX\n5\n2B\n8\nWALL\n10\n10\n20\n0\n30\n7.5\n70\n0\n0\nVERTEX\n5\n2C\n8\nWALL\n10\n0\n20\n10\n0\nSEQEND\n5\n2D\n0\nENDSEC\n0\nEOF\n";
+
+/// The same with a copy of each vertex for the crossing behind it.
+const RING_CARRIED: &[u8] =
+    b"0\nSECTION\n2\nHEADER\n9\n$HANDSEED\n5\n31\n0\nENDSEC\n0\nSECTION\n2\nENTITIES\n0\nPOLYLINE\n5\n2A\n66\n1\n10\n0.0\n20\n0.0\n30\n2.0\n70\n1\n0\nVERTEX\n5\n2B\n8\nWALL\n10\n110.000\n20\n100.000\n30\n7.5\n70\n0\n0\nVERTEX\n5\n2F\n8\nWALL\n10\n105.002\n20\n105.002\n30\n7.5\n70\n0\n0\nVERTEX\n5\n2C\n8\nWALL\n10\n100.000\n20\n110.000\n0\nVERTEX\n5\n30\n8\nWALL\n10\n105.002\n20\n105.002\n0\nSEQEND\n5\n2D\n0\nENDSEC\n0\nEOF\n";
+
+/// A polyline whose first vertex has widths, a bulge and a number of its own.
+const WIDE: &[u8] =
+    b"0\nSECTION\n2\nENTITIES\n0\nLWPOLYLINE\n90\n2\n70\n128\n10\n10\n20\n0\n40\n0\n41\n0.0\n42\n0\n91\n7\n10\n0\n20\n10\n40\n0\n0\nENDSEC\n0\nEOF\n";
+
+/// The same with a vertex behind these fields.
+const WIDE_CARRIED: &[u8] =
+    b"0\nSECTION\n2\nENTITIES\n0\nLWPOLYLINE\n90\n3\n70\n128\n10\n110.000\n20\n100.000\n40\n0\n41\n0.0\n42\n0\n91\n7\n10\n105.002\n20\n105.002\n10\n100.000\n20\n110.000\n40\n0\n0\nENDSEC\n0\nEOF\n";
+
+/// Lines across the diagonal: one that rises, and what is written of it; one that rises from zero by three millimetres;
+/// one whose heights are the same; and one without heights.
+const RISES: &[(&[u8], &[u8])] = &[
+    (
+        b"0\nSECTION\n2\nENTITIES\n0\nLINE\n10\n10\n20\n0\n30\n1\n11\n0\n21\n10\n31\n2\n0\nENDSEC\n0\nEOF",
+        b"0\nSECTION\n2\nENTITIES\n0\nLINE\n10\n110.000\n20\n100.000\n30\n1.000\n11\n105.002\n21\n105.002\n31\n1.500\n0\nLINE\n10\n105.002\n20\n105.002\n30\n1.500\n11\n100.000\n21\n110.000\n31\n2.000\n0\nENDSEC\n0\nEOF",
+    ),
+    (
+        b"0\nSECTION\n2\nENTITIES\n0\nLINE\n31\n-0.003\n30\n0\n10\n10\n20\n0\n11\n0\n21\n10\n0\nENDSEC\n0\nEOF",
+        b"0\nSECTION\n2\nENTITIES\n0\nLINE\n31\n-0.001\n30\n0.000\n10\n110.000\n20\n100.000\n11\n105.002\n21\n105.002\n0\nLINE\n31\n-0.003\n30\n-0.001\n10\n105.002\n20\n105.002\n11\n100.000\n21\n110.000\n0\nENDSEC\n0\nEOF",
+    ),
+    (
+        b"0\nSECTION\n2\nENTITIES\n0\nLINE\n10\n10\n20\n0\n30\n1.50\n11\n0\n21\n10\n31\n1.5000\n0\nENDSEC\n0\nEOF",
+        b"0\nSECTION\n2\nENTITIES\n0\nLINE\n10\n110.000\n20\n100.000\n30\n1.50\n11\n105.002\n21\n105.002\n31\n1.5000\n0\nLINE\n10\n105.002\n20\n105.002\n30\n1.50\n11\n100.000\n21\n110.000\n31\n1.5000\n0\nENDSEC\n0\nEOF",
+    ),
+    (
+        b"0\nSECTION\n2\nENTITIES\n0\nLINE\n10\n10\n20\n0\n31\n0.0\n11\n0\n21\n10\n0\nENDSEC\n0\nEOF",
+        b"0\nSECTION\n2\nENTITIES\n0\nLINE\n10\n110.000\n20\n100.000\n31\n0.0\n11\n105.002\n21\n105.002\n0\nLINE\n10\n105.002\n20\n105.002\n31\n0.0\n11\n100.000\n21\n110.000\n0\nENDSEC\n0\nEOF",
+    ),
+];
+
+/// Whether the drawing, carried through the square, is written as the other.
+fn is_written_as(alloc: Global, text: &[u8], wanted: &[u8]) -> bool {
+    is_moved_to::<Dxf>(alloc, SQUARE, text, PLAIN, wanted)
+}
+
+#[test]
+fn writes_points_inserts_and_texts(rt: HostRuntime) {
+    assert!(rt; is_written_as(rt.alloc(), DOTS, DOTS_CARRIED));
+}
+
+#[test]
+fn writes_the_heights_of_lines(rt: HostRuntime) {
+    for (text, wanted) in RISES {
+        assert!(rt; is_written_as(rt.alloc(), text, wanted), "{text:?}");
+    }
+}
+
+#[test]
+fn writes_copies_of_vertices(rt: HostRuntime) {
+    assert!(rt; is_written_as(rt.alloc(), RING, RING_CARRIED));
+}
+
+#[test]
+fn writes_crossings_behind_the_fields_of_a_vertex(rt: HostRuntime) {
+    assert!(rt; is_written_as(rt.alloc(), WIDE, WIDE_CARRIED));
+}
+
+/// A line with a handle across the diagonal, and a header behind it with this next handle.
+fn line_and_header(alloc: Global, next: &str) -> Result<String, AllocError> {
+    let mut text = String::new(alloc);
+    text.push_str(
+        "0\nSECTION\n2\nENTITIES\n0\nLINE\n5\n2E\n10\n10\n20\n0\n11\n0\n21\n10\n0\nENDSEC\n0\nSECTION\n2\nHEADER\n9\n$HANDSEED\n5\n",
+    )?;
+    text.push_str(next)?;
+    text.push_str("\n0\nENDSEC\n0\nEOF\n")?;
+    Ok(text)
+}
+
+/// The same line in two pieces, of which the second has this handle, and the next one.
+fn two_lines_and_header(alloc: Global, handle: &str, next: &str) -> Result<String, AllocError> {
+    let mut text = String::new(alloc);
+    text.push_str(
+        "0\nSECTION\n2\nENTITIES\n0\nLINE\n5\n2E\n10\n110.000\n20\n100.000\n11\n105.002\n21\n105.002\n0\nLINE\n5\n",
+    )?;
+    text.push_str(handle)?;
+    text.push_str(
+        "\n10\n105.002\n20\n105.002\n11\n100.000\n21\n110.000\n0\nENDSEC\n0\nSECTION\n2\nHEADER\n9\n$HANDSEED\n5\n",
+    )?;
+    text.push_str(next)?;
+    text.push_str("\n0\nENDSEC\n0\nEOF\n")?;
+    Ok(text)
+}
+
+/// A next handle, the handle that is taken, and the next one then.
+type Handles = (&'static str, &'static str, &'static str);
+
+/// The first of the next handles with which the line is written otherwise, or none.
+fn first_other(alloc: Global, rows: &[Handles]) -> Result<Option<&'static str>, AllocError> {
+    for &(seed, handle, next) in rows {
+        let text = line_and_header(alloc, seed)?;
+        let wanted = two_lines_and_header(alloc, handle, next)?;
+        if !is_written_as(alloc, text.as_bytes(), wanted.as_bytes()) {
+            return Ok(Some(seed));
+        }
+    }
+    Ok(None)
+}
+
+const HANDLES: &[Handles] = &[
+    ("2F", "2F", "30"),
+    ("9", "9", "A"),
+    // Fifteen digits: with zeros in front, and the greatest, behind which the next handle has sixteen.
+    ("00000000000002f", "2F", "30"),
+    ("FFFFFFFFFFFFFFF", "FFFFFFFFFFFFFFF", "1000000000000000"),
+];
+
+#[test]
+fn gives_handles_from_a_header_behind_the_entities(rt: HostRuntime) {
+    assert_eq!(rt; first_other(rt.alloc(), HANDLES), Ok(None));
+}
+
+/// The first of the next handles with which the line is not refused at the line of its handle, or none.
+fn first_accepted(
+    alloc: Global,
+    seeds: &[&'static str],
+) -> Result<Option<&'static str>, AllocError> {
+    for &seed in seeds {
+        let text = line_and_header(alloc, seed)?;
+        if text.len() >= 1 << 16 {
+            return Ok(Some(seed));
+        }
+        let read = read_drawing(alloc, text.as_bytes(), PLAIN);
+        if read.err() != Some(LayerFault::Seed { line: 7 }) {
+            return Ok(Some(seed));
+        }
+    }
+    Ok(None)
+}
+
+/// A next handle of sixteen digits is none, so a line with a handle is refused.
+const NO_HANDLES: &[&str] = &["1000000000000000", "000000000000002F", "", "2G"];
+
+#[test]
+fn refuses_a_next_handle_of_sixteen_digits(rt: HostRuntime) {
+    assert_eq!(rt; first_accepted(rt.alloc(), NO_HANDLES), Ok(None));
+}

@@ -1,0 +1,129 @@
+-- The pieces of changes, and one change more.
+use Rattle.std.proofs.Common.{◌≡◌, ℕ, zero, suc, ◌+◌, ◌<◌, ◌≤◌, List, [], ◌∷◌, ◌++◌, All, Contains, length, take, drop}
+use Rattle.std.proofs.Common.{get_or, slice_index_or, Option, refl, sym, ◌∙◌, ap, subst, arith}
+use Rattle.std.proofs.lemmas.List.{take_more, drop_more, drop_all}
+use Rattle.tin_base.specs.declared.pieces.Change.{Change}
+use Rattle.tin_base.specs.declared.pieces.Piece.{Piece}
+use Rattle.tin_base.specs.declared.pieces.Place.{Place}
+use Rattle.tin_base.specs.Triangulation.{Triangulation}
+use Rattle.topo_check.specs.Changes.{AreComparable, AreAllComparable}
+use Rattle.migrate.specs.KeptRelations.{IsOfSomePair}
+use Rattle.migrate.specs.RunChanges.{AreListed}
+use Rattle.migrate.proofs.PairChanges.{all_and_only}
+use Rattle.change_places.specs.declared.spots.ChangeSpot.{ChangeSpot}
+use Rattle.seg_gap.specs.Gaps.{IsGap}
+use Rattle.place_runs.specs.Places.{place_among, IsSideOf, IsSpotOf, AreSpotsOf}
+use Rattle.place_runs.specs.InsidePieces.{IsPieceAt, HasPiece, HasPieces, AreAllNear, side_of}
+
+-- pieces that may be compared are near each other as they are written
+pub all_near : (tin : Triangulation) (pieces : List Piece) → AreAllComparable tin pieces → AreAllNear pieces
+all_near tin pieces all p q (i, within, is) (j, inside, are) =
+    let both : AreComparable tin (slice_index_or pieces i p) (slice_index_or pieces j q) = all i p within j q inside in
+    let one : AreComparable tin p (slice_index_or pieces j q) =
+    subst (λ (r : Piece). AreComparable tin r (slice_index_or pieces j q)) is both in
+    let two : AreComparable tin p q = subst (λ (r : Piece). AreComparable tin p r) are one in
+    two.near
+
+-- ---- elements by their numbers
+step : (xs : List Piece) (n : ℕ) (e other : Piece) → n < length xs → get_or xs n other ≡ get_or xs n e
+step [] n e other below = absurd (omega (arith, below))
+step (x ∷ xs) zero e other below = refl
+step (x ∷ xs) (suc n) e other below = step xs n e other (omega (arith, below))
+
+-- the piece of this number is among the pieces
+here : (xs : List Piece) (k : ℕ) (e : Piece) → k < length xs → Contains xs (get_or xs k e)
+here xs k e within = (k, within, step xs k e (get_or xs k e) within)
+
+-- both sides of a change have a piece
+pair_has : (tin : Triangulation) (pieces : List Piece) (change : Change) → IsOfSomePair tin pieces change
+    → HasPieces pieces change
+pair_has tin pieces change (i, j, d, less, within, of) = (
+  (get_or pieces i d, record { is_some = here pieces i d (omega (arith, less, within)); from = sym of.0 }),
+  (get_or pieces j d, record { is_some = here pieces j d within; from = sym of.1 }),
+)
+
+pub changes_have : (tin : Triangulation) (pieces : List Piece) (changes : List Change) → AreListed tin pieces changes
+    → All (HasPieces pieces) changes
+changes_have tin pieces changes listed k d within =
+    let both = all_and_only tin pieces changes listed.are_changes in
+    pair_has tin pieces (slice_index_or changes k d) (both.only k d within)
+
+-- ---- the first piece of a place
+-- it is the one that is looked at
+pub found_here : (pieces : List Piece) (i : ℕ) (e : Piece) (place : Place) → i < length pieces
+    → (let piece = get_or pieces i e in piece.from ≡ place) → IsPieceAt pieces place (get_or pieces i e)
+found_here pieces i e place within from = record { is_some = here pieces i e within; from = from }
+
+behind : (piece : Piece) (rest : List Piece) (place : Place) → (piece.from ≡ place → ⊥) → HasPiece (piece ∷ rest) place
+    → HasPiece rest place
+behind piece rest place other (found, has) = shift has.is_some has.from
+  where
+    shift : Contains (piece ∷ rest) found → found.from ≡ place → HasPiece rest place
+    shift (zero, within, is) from = absurd (other (ap (λ (p : Piece). p.from) is ∙ from))
+    shift (suc k, within, is) from = (found, record { is_some = (k, omega (arith, within), is); from = from })
+
+-- or it is behind
+pub left_behind : (pieces : List Piece) (i : ℕ) (e : Piece) (place : Place) → i < length pieces
+    → ((let piece = get_or pieces i e in piece.from ≡ place) → ⊥) → HasPiece (drop i pieces) place
+    → HasPiece (drop (i + 1) pieces) place
+left_behind pieces i e place within other has =
+    behind (get_or pieces i e) (drop (i + 1) pieces) place other
+    (subst (λ (ps : List Piece). HasPiece ps place) (drop_more pieces i e within) has)
+
+none_in : (place : Place) → HasPiece [] place → ⊥
+none_in place (found, is) = let (k, within, same) = is.is_some in omega (arith, within)
+
+pub none_left : (pieces : List Piece) (i : ℕ) (place : Place) → length pieces ≤ i → HasPiece (drop i pieces) place → ⊥
+none_left pieces i place past has = none_in place
+    (subst (λ (ps : List Piece). HasPiece ps place) (drop_all i pieces past) has)
+
+-- ---- the two sides of a change
+side_is : (pieces : List Piece) (places : List (List (Option ℕ))) (from : Place) (piece : Piece)
+    → IsPieceAt pieces from piece → IsSideOf pieces places from (side_of places piece)
+side_is pieces places from piece is = record {
+  piece = piece;
+  is_some = is.is_some;
+  place = is.from;
+  from_is = is.from;
+  at_is = ap (λ (p : Place). place_among places p) is.from;
+  a_is = refl;
+  b_is = refl;
+}
+
+pub spot_is : (pieces : List Piece) (places : List (List (Option ℕ))) (change : Change) (p q : Piece) (gap : ℕ)
+    → IsPieceAt pieces change.first p → IsPieceAt pieces change.second q → IsGap p.ia p.ib q.ia q.ib gap
+    → IsSpotOf pieces places change (record {
+      first = side_of places p;
+      second = side_of places q;
+      was =
+          change.was;
+      now = change.now;
+      gap = gap;
+    })
+spot_is pieces places change p q gap first second gap_is = record {
+  first = side_is pieces places change.first p first;
+  second = side_is pieces places change.second q second;
+  was_is = refl;
+  now_is = refl;
+  gap_is = gap_is;
+}
+
+-- ---- one change more
+spots-append : (pieces : List Piece) (places : List (List (Option ℕ))) (changes : List Change) (spots : List ChangeSpot)
+    (change : Change) (spot : ChangeSpot)
+    → AreSpotsOf pieces places changes spots → IsSpotOf pieces places change spot
+    → AreSpotsOf pieces places (changes ++ change ∷ []) (spots ++ spot ∷ [])
+spots-append pieces places [] [] change spot are is = (is, tt)
+spots-append pieces places [] (first ∷ spots) change spot are is = absurd are
+spots-append pieces places (other ∷ changes) [] change spot are is = absurd are
+spots-append pieces places (other ∷ changes) (first ∷ spots) change spot are is =
+    (are.0, spots-append pieces places changes spots change spot are.1 is)
+
+pub one_more_spot : (pieces : List Piece) (places : List (List (Option ℕ))) (changes : List Change) (i : ℕ) (e : Change)
+    (spot : ChangeSpot) (before now : List ChangeSpot) → i < length changes
+    → AreSpotsOf pieces places (take i changes) before → IsSpotOf pieces places (get_or changes i e) spot
+    → now ≡ before ++ spot ∷ [] → AreSpotsOf pieces places (take (i + 1) changes) now
+one_more_spot pieces places changes i e spot before now within are is next =
+    subst (λ (cs : List Change). AreSpotsOf pieces places cs now) (sym (take_more changes i e within))
+    (subst (λ (ss : List ChangeSpot). AreSpotsOf pieces places (take i changes ++ get_or changes i e ∷ []) ss)
+    (sym next) (spots-append pieces places (take i changes) before (get_or changes i e) spot are is))

@@ -1,0 +1,208 @@
+-- Each side of a change has a place that is known.
+use Rattle.std.proofs.Common.{◌≡◌, ℕ, zero, suc, ◌+◌, ◌<◌, List, [], ◌∷◌, ◌++◌, length, get_or, Option, None, Some}
+use Rattle.std.proofs.Common.{refl, sym, ◌∙◌, ap, subst, append_assoc, zero-add, arith}
+use Rattle.std.specs.List.{AllByRecursion}
+use Rattle.std.proofs.lemmas.List.{get_or_at, length_push}
+use Rattle.plain_laws.proofs.Lists.{all_append}
+use Rattle.shelf_io.specs.Files.{Files}
+use Rattle.plane_base.specs.declared.shapes.Pt.{Pt}
+use Rattle.sheet_base.specs.declared.edits.Edit.{Edit}
+use Rattle.sheet_base.specs.declared.flags.How.{How}
+use Rattle.sheet_base.specs.declared.paths.PathRow.{PathRow}
+use Rattle.sheet_base.specs.PointHeights.{Height}
+use Rattle.sheet_base.specs.Segments.{points_in}
+use Rattle.sheet_base.specs.Sheets.{Contents}
+use Rattle.tin_base.specs.declared.pieces.Change.{Change}
+use Rattle.tin_base.specs.declared.pieces.Piece.{Piece}
+use Rattle.tin_base.specs.declared.pieces.Place.{Place}
+use Rattle.tin_base.specs.Triangulation.{Triangulation}
+use Rattle.dxf_pairs.specs.Laws.{PairsTile}
+use Rattle.affine_image.specs.SheetSegments.{Segment, path_vertices, vertices_from, segments_begun, sheet_segments}
+use Rattle.affine_image.specs.SheetPieces.{first_place, ArePiecesOfAll}
+use Rattle.job_words.specs.declared.formats.Format.{Format}
+use Rattle.job_words.specs.declared.formats.Format.TheVariants.{Wkt, GeoJson, Drawing}
+use Rattle.layer_formats.specs.LayerOutcomes.{IsLayerText, LayerTextsAreOne}
+use Rattle.layer_formats.specs.LayerTexts.{is_drawing}
+use Rattle.migrate.specs.LayerRuns.{setting_of, Done, AreCarried}
+use Rattle.change_places.specs.declared.spots.ChangeSpot.{ChangeSpot}
+use Rattle.change_places.specs.declared.spots.SideSpot.{SideSpot}
+use Rattle.change_places.specs.PathPlaces.{places_from, printed_edits, path_places, AreBegun, IsKnown, AreKnown}
+use Rattle.change_places.proofs.KnownPlaces.{places_known}
+use Rattle.place_runs.specs.Places.{HasPathPlaces, HaveAllPlaces, place_among, IsSideOf, AreSpotsOf}
+use Rattle.place_runs.specs.Laws.{AreSpotsKnown, AllPlacesAreKnown}
+use Rattle.place_runs.proofs.DrawingPaths.{drawing_begun}
+use Rattle.place_runs.proofs.GeoJsonPaths.{geojson_begun}
+use Rattle.place_runs.proofs.OneOutcome.{path_places_one}
+use Rattle.place_runs.proofs.PieceOrder.{InPath, begun_in, FromPlace, told_from}
+use Rattle.place_runs.proofs.WktPaths.{wkt_begun}
+use Rattle.affine_image.proofs.PathSegments.{begun_append}
+
+-- ---- the places of a layer
+begun-layer : PairsTile → (how : How) (format : Format) (text : List ℕ) (sheet : Contents)
+    → IsLayerText how format text sheet → AreBegun sheet.edits 0 sheet.paths
+begun-layer tile how Wkt text sheet is = wkt_begun how.exact text sheet is
+begun-layer tile how GeoJson text sheet is = geojson_begun how.exact text sheet is
+begun-layer tile how Drawing text sheet is = drawing_begun tile how text sheet is
+
+layer-known : PairsTile → (how : How) (format : Format) (text : List ℕ) (sheet : Contents)
+    → IsLayerText how format text sheet → AreKnown (path_places (is_drawing format) text sheet)
+layer-known tile how format text sheet is =
+    places_known (is_drawing format) text sheet (begun-layer tile how format text sheet is)
+
+length-places : (edits : List Edit) (number : ℕ) (rows : List PathRow)
+    → length (places_from edits number rows) ≡ length rows
+length-places edits number [] = refl
+length-places edits number (row ∷ rows) = ap suc (length-places edits (number + 1) rows)
+
+known-at : (places : List (Option ℕ)) (k : ℕ) → AreKnown places → k < length places → IsKnown (get_or places k None)
+known-at [] k are within = absurd (omega (arith, within))
+known-at (place ∷ places) zero (is, are) within = is
+known-at (place ∷ places) (suc k) (is, are) within = known-at places k are (omega (arith, within))
+
+-- ---- a segment is of a path of its sheet
+abbrev IsBelow : ℕ → Segment → Type 0
+IsBelow past s = s.path < past
+
+below-in : (path past n : ℕ) (ss : List Segment) → path < past → InPath path n ss → AllByRecursion (IsBelow past) ss
+below-in path past n [] less has = tt
+below-in path past n (s ∷ ss) less ((is, from), has) = (omega (arith, less, is), below-in path past n ss less has)
+
+vertices-below : (points : List Pt) (heights : List Height) (path : ℕ) (rows : List PathRow)
+    → AllByRecursion (IsBelow (path + length rows)) (segments_begun (vertices_from points heights path rows))
+vertices-below points heights path [] = tt
+vertices-below points heights path (row ∷ rows) =
+    let past = path + suc (length rows) in
+    let own = path_vertices points heights path row in
+    let others = vertices_from points heights (path + 1) rows in
+    let later : path + 1 + length rows ≡ past = omega arith in
+    subst (λ (ss : List Segment). AllByRecursion (IsBelow past) ss) (sym (begun_append own others))
+    (all_append (IsBelow past) (segments_begun own) (segments_begun others)
+    (below-in path past 0 (segments_begun own) (omega arith) (begun_in points heights path row 0 (points_in row)))
+    (subst (λ (end : ℕ). AllByRecursion (IsBelow end) (segments_begun others)) later
+    (vertices-below points heights (path + 1) rows)))
+
+sheet-below : (sheet : Contents) → AllByRecursion (IsBelow (length sheet.paths)) (sheet_segments sheet)
+sheet-below sheet =
+    subst (λ (past : ℕ). AllByRecursion (IsBelow past) (sheet_segments sheet)) (zero-add (length sheet.paths))
+    (vertices-below sheet.points sheet.heights 0 sheet.paths)
+
+-- ---- so is a piece
+abbrev IsOfPath : ℕ → ℕ → Piece → Type 0
+IsOfPath layer past q = (q.from.layer ≡ layer) × (q.from.path < past)
+
+paths-from : (from : Place) (past : ℕ) (ps : List Piece) → from.path < past → FromPlace from ps
+    → AllByRecursion (IsOfPath from.layer past) ps
+paths-from from past [] less has = tt
+paths-from from past (p ∷ ps) less ((layer, path, segment, later), has) =
+    ((layer, omega (arith, less, path)), paths-from from past ps less has)
+
+paths-of-all : (tin : Triangulation) (layer past : ℕ) (segments : List Segment) (ps : List Piece)
+    → AllByRecursion (IsBelow past) segments → ArePiecesOfAll tin layer segments ps
+    → AllByRecursion (IsOfPath layer past) ps
+paths-of-all tin layer past [] ps below is =
+    subst (λ (qs : List Piece). AllByRecursion (IsOfPath layer past) qs) (sym is) tt
+paths-of-all tin layer past (s ∷ segments) ps (first, below) (own, rest, is, here, others) =
+    subst (λ (qs : List Piece). AllByRecursion (IsOfPath layer past) qs) (sym is)
+    (all_append (IsOfPath layer past) own rest
+    (paths-from (first_place layer s) past own first
+    (told_from tin s.a s.b (first_place layer s) here.parts own here.told))
+    (paths-of-all tin layer past segments rest below others))
+
+-- ---- the pieces of all layers
+abbrev IsKnownOf : List (List (Option ℕ)) → Piece → Type 0
+IsKnownOf places q = IsKnown (place_among places q.from)
+
+abbrev KnownAll : List (List (Option ℕ)) → List Piece → Type 0
+KnownAll places pieces = AllByRecursion (IsKnownOf places) pieces
+
+own-known : (places : List (List (Option ℕ))) (own : List (Option ℕ)) (layer past : ℕ) (ps : List Piece)
+    → get_or places layer [] ≡ own → AreKnown own → length own ≡ past → AllByRecursion (IsOfPath layer past) ps
+    → KnownAll places ps
+own-known places own layer past [] is are count of = tt
+own-known places own layer past (q ∷ qs) is are count ((same, less), of) = (
+  subst (λ (n : ℕ). IsKnown (get_or (get_or places n []) q.from.path None)) (sym same)
+      (subst (λ (xs : List (Option ℕ)). IsKnown (get_or xs q.from.path None)) (sym is)
+      (known-at own q.from.path are (omega (arith, less, count)))),
+  own-known places own layer past qs is are count of,
+)
+
+module _ (tile : PairsTile) (texts : LayerTextsAreOne) (files : Files) (how : How) (tin : Triangulation) where
+  carried-known : (number used : ℕ) (before : List Piece) (names : List (List ℕ)) (after : List Piece)
+      (done : List Done) (total : ℕ) (front rest : List (List (Option ℕ))) → length front ≡ number
+      → HaveAllPlaces (Some files) how names rest → KnownAll (front ++ rest) before
+      → AreCarried (setting_of (Some files) how tin) number used before names after done total
+      → KnownAll (front ++ rest) after
+  carried-known number used before [] after done total front rest count have known (is, none, sum) =
+      subst (λ (ps : List Piece). KnownAll (front ++ rest) ps) (sym is) known
+  carried-known number used before (name ∷ names) after done total front [] count have known next = absurd have
+  carried-known number used before (name ∷ names) after done total front (own ∷ more) count have known
+      (bytes, pieces, first, others, next, are, behind) =
+      let layer = next.carried.layer in
+      let found : HasPathPlaces (Some files) how name (path_places (is_drawing first.format) bytes layer.sheet) =
+      record {
+        format = first.format;
+        bytes = bytes;
+        sheet = layer.sheet;
+        suffix = next.file.suffix;
+        found = next.file.found;
+        read = layer.read;
+        places_are = refl;
+      } in
+      let same : path_places (is_drawing first.format) bytes layer.sheet ≡ own =
+      path_places_one texts files how name (path_places (is_drawing first.format) bytes layer.sheet) own found have.0 in
+      let known_own : AreKnown own = subst (λ (ps : List (Option ℕ)). AreKnown ps) same
+      (layer-known tile how first.format bytes layer.sheet layer.read) in
+      let few : length own ≡ length layer.sheet.paths =
+      ap (λ (ps : List (Option ℕ)). length ps) (sym same)
+      ∙ length-places (printed_edits (is_drawing first.format) bytes layer.sheet.edits) 0 layer.sheet.paths in
+      let now : KnownAll (front ++ own ∷ more) pieces =
+      subst (λ (ps : List Piece). KnownAll (front ++ own ∷ more) ps) (sym layer.stand)
+      (all_append (IsKnownOf (front ++ own ∷ more)) before layer.own known
+      (own-known (front ++ own ∷ more) own number (length layer.sheet.paths) layer.own
+      (get_or_at front own more [] number count) known_own few
+      (paths-of-all tin number (length layer.sheet.paths) (sheet_segments layer.sheet) layer.own
+      (sheet-below layer.sheet) layer.are_pieces))) in
+      let later : (front ++ own ∷ []) ++ more ≡ front ++ own ∷ more = append_assoc front (own ∷ []) more in
+      subst (λ (ps : List (List (Option ℕ))). KnownAll ps after) later
+      (carried-known (number + 1) (used + length bytes) pieces names after others total (front ++ own ∷ []) more
+      (length_push front own ∙ ap (λ (n : ℕ). n + 1) count) have.1
+      (subst (λ (ps : List (List (Option ℕ))). KnownAll ps pieces) (sym later) now) behind)
+
+-- ---- sides and changes
+known-of : (places : List (List (Option ℕ))) (pieces : List Piece) (piece : Piece) (k : ℕ) → KnownAll places pieces
+    → k < length pieces → get_or pieces k piece ≡ piece → IsKnown (place_among places piece.from)
+known-of places [] piece k known within is = absurd (omega (arith, within))
+known-of places (q ∷ qs) piece zero (own, known) within is =
+    subst (λ (p : Piece). IsKnown (place_among places p.from)) is own
+known-of places (q ∷ qs) piece (suc k) (own, known) within is =
+    known-of places qs piece k known (omega (arith, within)) is
+
+side-known : (places : List (List (Option ℕ))) (pieces : List Piece) (from : Place) (side : SideSpot)
+    → KnownAll places pieces → IsSideOf pieces places from side → IsKnown side.at
+side-known places pieces from side known is =
+    let (k, within, same) = is.is_some in
+    subst (λ (place : Option ℕ). IsKnown place) (sym is.at_is)
+    (subst (λ (f : Place). IsKnown (place_among places f)) is.place
+    (known-of places pieces is.piece k known within same))
+
+spots-known : (places : List (List (Option ℕ))) (pieces : List Piece) (changes : List Change) (spots : List ChangeSpot)
+    → KnownAll places pieces → AreSpotsOf pieces places changes spots → AreSpotsKnown spots
+spots-known places pieces [] [] known are = tt
+spots-known places pieces [] (spot ∷ spots) known are = absurd are
+spots-known places pieces (change ∷ changes) [] known are = absurd are
+spots-known places pieces (change ∷ changes) (spot ∷ spots) known (is, are) = (
+  (
+    side-known places pieces change.first spot.first known is.first,
+    side-known places pieces change.second spot.second known is.second,
+  ),
+  spots-known places pieces changes spots known are,
+)
+
+pub all_known : PairsTile → LayerTextsAreOne → AllPlacesAreKnown
+all_known tile texts files migration status made is =
+    let are = is.are in
+    spots-known are.places are.pieces are.changes are.spots
+    (carried-known tile texts files migration.how is.tin 0 0 [] migration.layers are.pieces are.done are.used []
+    are.places
+    refl are.have tt are.carried)
+    are.are_spots

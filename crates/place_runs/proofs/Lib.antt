@@ -1,0 +1,15 @@
+-- The files of lemmas of place_runs.
+mod LayerPlaces
+mod WordsOfMigration
+mod ChangePieces
+mod PieceOrder
+mod OneOutcome
+mod RunEnds
+mod TextLimits
+mod SomeOutcome
+mod PathEdits
+mod WktPaths
+mod GeoJsonPaths
+mod DrawingShapes
+mod DrawingPaths
+mod KnownSides

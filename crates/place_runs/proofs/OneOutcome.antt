@@ -1,0 +1,326 @@
+-- A run has one outcome.
+use Rattle.std.proofs.Common.{◌≡◌, ℕ, Bool, List, [], ◌∷◌, ◌++◌, map, Option, Some}
+use Rattle.std.proofs.Common.{Ok, Err, codes, refl, sym, ◌∙◌, ap, ap₂, subst}
+use Rattle.std.proofs.lemmas.Option.{same_Some}
+use Rattle.shelf_io.specs.Files.{Files}
+use Rattle.sheet_base.specs.declared.flags.How.{How}
+use Rattle.sheet_base.specs.Sheets.{Contents}
+use Rattle.tin_base.specs.declared.pieces.Change.{Change}
+use Rattle.tin_base.specs.declared.pieces.Piece.{Piece}
+use Rattle.tin_base.specs.declared.pieces.Place.{Place}
+use Rattle.tin_base.specs.Triangulation.{Triangulation}
+use Rattle.tin_base.specs.Soundness.{IsSound}
+use Rattle.topo_check.proofs.OneList.{changes_are_one}
+use Rattle.plane_base.specs.declared.shapes.Pt.{Pt}
+use Rattle.tin_base.specs.declared.relations.Rel.{Rel}
+use Rattle.seg_gap.specs.Gaps.{IsGap}
+use Rattle.seg_gap.proofs.GapLaws.{gap_is_one}
+use Rattle.report_text.specs.ReportText.{report_text}
+use Rattle.job_words.specs.declared.faults.WordsFault.{WordsFault}
+use Rattle.job_words.specs.declared.formats.Format.{Format}
+use Rattle.runs.specs.declared.status.Status.{Status}
+use Rattle.runs.specs.declared.refusal.Refusal.{Refusal}
+use Rattle.runs.specs.declared.refusal.Refusal.TheVariants.{Words}
+use Rattle.runs.specs.Refusals.{status_of, line_of}
+use Rattle.runs.specs.Triangulations.{directed}
+use Rattle.runs.proofs.OneTin.{tin_end_is_one, sound_of, sound_way}
+use Rattle.migrate.specs.declared.migrations.Migration.{Migration}
+use Rattle.migrate.specs.LayerRuns.{setting_of, Done, AreCarried}
+use Rattle.layer_formats.specs.LayerOutcomes.{IsLayerText, LayerTextsAreOne}
+use Rattle.layer_formats.specs.LayerTexts.{is_drawing}
+use Rattle.migrate.specs.Migrations.{HasWay, row_of, report_of, all_files_in, IsMigrationRefused, IsMigrationDone}
+use Rattle.migrate.specs.RunChanges.{AreListed, end_with}
+use Rattle.migrate.specs.Laws.{MigrationIsOne}
+use Rattle.migrate.proofs.OneLayers.{run_one}
+use Rattle.migrate.proofs.ComparablePieces.{run_inside}
+use Rattle.change_places.specs.declared.spots.SideSpot.{SideSpot}
+use Rattle.change_places.specs.declared.spots.ChangeSpot.{ChangeSpot}
+use Rattle.change_places.specs.PathPlaces.{path_places}
+use Rattle.change_places.specs.PlacesText.{places_text}
+use Rattle.place_runs.specs.Words.{AsksPlaces, LacksPlaces}
+use Rattle.place_runs.specs.Places.{HasPathPlaces, HaveAllPlaces, IsSideOf, IsSpotOf, AreSpotsOf}
+use Rattle.place_runs.specs.Places.{ArePlacesOf, IsPlacesDone}
+use Rattle.place_runs.specs.Outcome.{no_job, refused, done}
+use Rattle.place_runs.specs.Laws.{OutcomeIsOne}
+use Rattle.place_runs.proofs.PieceOrder.{one_piece}
+
+-- ---- the words
+asks_one : (words : List (List ℕ)) (migration other : Migration) → AsksPlaces words migration → AsksPlaces words other
+    → migration ≡ other
+asks_one words migration other x y =
+    let e = sym x ∙ y in
+    let tin : migration.tin ≡ other.tin = cc in
+    let out : migration.out ≡ other.out = cc in
+    let how : migration.how ≡ other.how = cc in
+    let inverse : migration.inverse ≡ other.inverse = cc in
+    let cert : migration.cert ≡ other.cert = cc in
+    let layers : migration.layers ≡ other.layers = cc in
+    ap (λ (t : List ℕ). made_of t migration.out migration.how migration.inverse migration.cert migration.layers)
+    tin
+    ∙ (ap (λ (t : List ℕ). made_of other.tin t migration.how migration.inverse migration.cert migration.layers)
+    out
+    ∙ (ap (λ (h : How). made_of other.tin other.out h migration.inverse migration.cert migration.layers) how
+    ∙ (ap (λ (b : Bool). made_of other.tin other.out other.how b migration.cert migration.layers) inverse
+    ∙ (ap (λ (b : Bool). made_of other.tin other.out other.how other.inverse b migration.layers) cert
+    ∙ ap (λ (ns : List (List ℕ)). made_of other.tin other.out other.how other.inverse other.cert ns) layers))))
+  where
+    made_of : List ℕ → List ℕ → How → Bool → Bool → List (List ℕ) → Migration
+    made_of tin out how inverse cert layers =
+        record { tin = tin; out = out; how = how; inverse = inverse; cert = cert; layers = layers }
+
+lacks_one : (words : List (List ℕ)) (fault other : WordsFault) → LacksPlaces words fault → LacksPlaces words other
+    → fault ≡ other
+lacks_one words fault other x y = let e = sym x ∙ y in cc
+
+asks_lacks : (words : List (List ℕ)) (migration : Migration) (fault : WordsFault) → AsksPlaces words migration
+    → LacksPlaces words fault → ⊥
+asks_lacks words migration fault x y = let e = sym x ∙ y in cc
+
+-- ---- the places of the paths
+pub path_places_one : (texts : LayerTextsAreOne) (files : Files) (how : How) (name : List ℕ) (a b : List (Option ℕ))
+    → HasPathPlaces (Some files) how name a → HasPathPlaces (Some files) how name b → a ≡ b
+path_places_one texts files how name a b x y =
+    let format : x.format ≡ y.format = same_Some x.format y.format (sym x.suffix ∙ y.suffix) in
+    let bytes : x.bytes ≡ y.bytes = same_Some x.bytes y.bytes (sym x.found ∙ y.found) in
+    let read : IsLayerText how y.format y.bytes x.sheet =
+    subst (λ (f : Format). IsLayerText how f y.bytes x.sheet) format
+    (subst (λ (t : List ℕ). IsLayerText how x.format t x.sheet) bytes x.read) in
+    let sheet : x.sheet ≡ y.sheet = (texts how y.format y.bytes).one_sheet x.sheet y.sheet read
+    y.read in
+    x.places_are
+    ∙ (ap (λ (f : Format). path_places (is_drawing f) x.bytes x.sheet) format
+    ∙ (ap (λ (t : List ℕ). path_places (is_drawing y.format) t x.sheet) bytes
+    ∙ (ap (λ (s : Contents). path_places (is_drawing y.format) y.bytes s) sheet ∙ sym y.places_are)))
+
+all_places_one : (texts : LayerTextsAreOne) (files : Files) (how : How) (names : List (List ℕ))
+    (a b : List (List (Option ℕ)))
+    → HaveAllPlaces (Some files) how names a → HaveAllPlaces (Some files) how names b → a ≡ b
+all_places_one texts files how [] [] [] x y = refl
+all_places_one texts files how [] [] (own ∷ b) x y = absurd y
+all_places_one texts files how [] (own ∷ a) b x y = absurd x
+all_places_one texts files how (name ∷ names) [] b x y = absurd x
+all_places_one texts files how (name ∷ names) (own ∷ a) [] x y = absurd y
+all_places_one texts files how (name ∷ names) (own ∷ a) (other ∷ b) x y =
+    ap₂ (λ (p : List (Option ℕ)) (ps : List (List (Option ℕ))). p ∷ ps)
+    (path_places_one texts files how name own other x.0 y.0) (all_places_one texts files how names a b x.1 y.1)
+
+-- ---- the sides of a change
+abbrev side_from : Place → Option ℕ → Pt → Pt → SideSpot
+side_from from at a b = record { from = from; at = at; a = a; b = b }
+
+same_side : (x y : SideSpot) → x.from ≡ y.from → x.at ≡ y.at → x.a ≡ y.a → x.b ≡ y.b → x ≡ y
+same_side x y froms ats firsts lasts =
+    ap (λ (p : Place). side_from p x.at x.a x.b) froms
+    ∙ (ap (λ (o : Option ℕ). side_from y.from o x.a x.b) ats
+    ∙ (ap (λ (p : Pt). side_from y.from y.at p x.b) firsts ∙ ap (λ (p : Pt). side_from y.from y.at y.a p) lasts))
+
+abbrev spot_from : SideSpot → SideSpot → Rel → Rel → ℕ → ChangeSpot
+spot_from first second was now gap = record { first = first; second = second; was = was; now = now; gap = gap }
+
+same_spot : (x y : ChangeSpot) → x.first ≡ y.first → x.second ≡ y.second → x.was ≡ y.was → x.now ≡ y.now → x.gap ≡ y.gap
+    → x ≡ y
+same_spot x y firsts seconds before after gaps =
+    ap (λ (s : SideSpot). spot_from s x.second x.was x.now x.gap) firsts
+    ∙ (ap (λ (s : SideSpot). spot_from y.first s x.was x.now x.gap) seconds
+    ∙ (ap (λ (r : Rel). spot_from y.first y.second r x.now x.gap) before
+    ∙ (ap (λ (r : Rel). spot_from y.first y.second y.was r x.gap) after
+    ∙ ap (λ (g : ℕ). spot_from y.first y.second y.was y.now g) gaps)))
+
+gap_moved : (x y : ChangeSpot) → x.first ≡ y.first → x.second ≡ y.second
+    → IsGap x.first.a x.first.b x.second.a x.second.b x.gap → IsGap y.first.a y.first.b y.second.a y.second.b x.gap
+gap_moved x y first second is =
+    subst (λ (s : SideSpot). IsGap y.first.a y.first.b s.a s.b x.gap) second
+    (subst (λ (s : SideSpot). IsGap s.a s.b x.second.a x.second.b x.gap) first is)
+
+module _ (files : Files) (migration : Migration) (tin : Triangulation) (pieces : List Piece) (ds : List Done) (used : ℕ)
+    (carried : AreCarried (setting_of (Some files) migration.how tin) 0 0 [] migration.layers pieces ds used) where
+  side_one : (places : List (List (Option ℕ))) (from : Place) (a b : SideSpot) → IsSideOf pieces places from a
+      → IsSideOf pieces places from b → a ≡ b
+  side_one places from a b x y =
+      let same : x.piece ≡ y.piece =
+      one_piece (setting_of (Some files) migration.how tin) migration.layers pieces ds used from x.piece y.piece
+      carried (record { is_some = x.is_some; from = x.place })
+      (record { is_some = y.is_some; from = y.place }) in
+      let froms : a.from ≡ b.from = x.from_is ∙ sym y.from_is in
+      let ats : a.at ≡ b.at = x.at_is ∙ sym y.at_is in
+      let firsts : a.a ≡ b.a = x.a_is ∙ (ap (λ (p : Piece). p.ia) same ∙ sym y.a_is) in
+      let lasts : a.b ≡ b.b = x.b_is ∙ (ap (λ (p : Piece). p.ib) same ∙ sym y.b_is) in
+      same_side a b froms ats firsts lasts
+
+  spot_one : (places : List (List (Option ℕ))) (change : Change) (a b : ChangeSpot) → IsSpotOf pieces places change a
+      → IsSpotOf pieces places change b → a ≡ b
+  spot_one places change a b x y =
+      let first : a.first ≡ b.first = side_one places change.first a.first b.first x.first y.first in
+      let second : a.second ≡ b.second = side_one places change.second a.second b.second x.second y.second in
+      let gap : a.gap ≡ b.gap = gap_is_one b.first.a b.first.b b.second.a b.second.b a.gap b.gap
+      (gap_moved a b first second x.gap_is) y.gap_is in
+      same_spot a b first second (x.was_is ∙ sym y.was_is) (x.now_is ∙ sym y.now_is) gap
+
+  spots_one : (places : List (List (Option ℕ))) (changes : List Change) (a b : List ChangeSpot)
+      → AreSpotsOf pieces places changes a → AreSpotsOf pieces places changes b → a ≡ b
+  spots_one places [] [] [] x y = refl
+  spots_one places [] [] (t ∷ b) x y = absurd y
+  spots_one places [] (s ∷ a) b x y = absurd x
+  spots_one places (change ∷ changes) [] b x y = absurd x
+  spots_one places (change ∷ changes) (s ∷ a) [] x y = absurd y
+  spots_one places (change ∷ changes) (s ∷ a) (t ∷ b) x y =
+      ap₂ (λ (s : ChangeSpot) (ss : List ChangeSpot). s ∷ ss) (spot_one places change s t x.0 y.0)
+      (spots_one places changes a b x.1 y.1)
+
+-- ---- the text
+spots_of_one : (files : Files) (migration : Migration) (tin : Triangulation) (ps qs : List Piece) (ds : List Done)
+    (used : ℕ) (changes others : List Change) (places also : List (List (Option ℕ))) (a b : List ChangeSpot)
+    → AreCarried (setting_of (Some files) migration.how tin) 0 0 [] migration.layers qs ds used → ps ≡ qs
+    → changes ≡ others → places ≡ also → AreSpotsOf ps places changes a → AreSpotsOf qs also others b → a ≡ b
+spots_of_one files migration tin ps qs ds used changes others places also a b carried pieces_are changes_are places_are
+    x y =
+    spots_one files migration tin qs ds used carried also others a b
+    (subst (λ (cs : List Change). AreSpotsOf qs also cs a) changes_are
+    (subst (λ (ls : List (List (Option ℕ))). AreSpotsOf qs ls changes a) places_are
+    (subst (λ (rs : List Piece). AreSpotsOf rs places changes a) pieces_are x))) y
+
+places_one : (texts : LayerTextsAreOne) (files : Files) (migration : Migration) (tin : Triangulation)
+    (status other : Status) (said also : List ℕ)
+    → IsSound tin → ArePlacesOf (Some files) migration tin status said
+    → ArePlacesOf (Some files) migration tin other also
+    → (status ≡ other) × (said ≡ also)
+places_one texts files migration tin status other said also sound x y =
+    let one = run_one texts files migration.how tin sound 0 0 [] migration.layers x.pieces y.pieces x.done y.done x.used
+    y.used x.carried y.carried in
+    let pieces : x.pieces ≡ y.pieces = one.pieces in
+    let inside = run_inside (setting_of (Some files) migration.how tin) migration.layers y.pieces y.done y.used
+    y.carried in
+    let of_x : AreListed tin y.pieces x.changes =
+    subst (λ (rs : List Piece). AreListed tin rs x.changes) pieces x.listed in
+    let listed = y.listed in
+    let changes : x.changes ≡ y.changes = changes_are_one tin y.pieces inside x.changes y.changes of_x.are_changes
+    listed.are_changes in
+    let places : x.places ≡ y.places = all_places_one texts files migration.how migration.layers x.places y.places
+    x.have
+    y.have in
+    let spots : x.spots ≡ y.spots =
+    spots_of_one files migration tin x.pieces y.pieces y.done y.used x.changes y.changes x.places y.places x.spots
+    y.spots y.carried pieces changes places x.are_spots y.are_spots in (
+      x.status_is ∙ (ap (λ (cs : List Change). end_with cs) changes ∙ sym y.status_is),
+      x.said_is
+          ∙ (ap (λ (ss : List ChangeSpot). places_text migration.layers ss) spots ∙ sym y.said_is),
+    )
+
+-- ---- the triangulation
+way_sound : (files : Files) (migration : Migration) (tin : Triangulation) → HasWay files migration tin → IsSound tin
+way_sound files migration tin (stood, ready, is) =
+    subst (λ (t : Triangulation). IsSound t) (sym is)
+    (sound_way migration.inverse stood (sound_of files migration.how migration.tin stood ready))
+
+way_one : (files : Files) (migration : Migration) (tin other : Triangulation) → HasWay files migration tin
+    → HasWay files migration other → tin ≡ other
+way_one files migration tin other (stood, ready, is) (also, ready_too, is_too) =
+    let e = tin_end_is_one files migration.how migration.tin (Ok stood) (Ok also) ready ready_too in
+    let same : stood ≡ also = cc in
+    is ∙ (ap (λ (t : Triangulation). directed migration.inverse t) same ∙ sym is_too)
+
+done_one : (texts : LayerTextsAreOne) (files : Files) (migration : Migration) (status other : Status)
+    (made others : Files)
+    → IsPlacesDone files migration status made → IsPlacesDone files migration other others
+    → (status ≡ other) × (made ≡ others)
+done_one texts files migration status other made others x y =
+    let same : x.tin ≡ y.tin = way_one files migration x.tin y.tin x.way y.way in
+    let of_x : ArePlacesOf (Some files) migration y.tin status x.said =
+    subst (λ (t : Triangulation). ArePlacesOf (Some files) migration t status x.said) same x.are in
+    let one = places_one texts files migration y.tin status other x.said y.said (way_sound files migration y.tin y.way)
+    of_x
+    y.are in
+    (one.0, x.made_is ∙ (ap (λ (text : List ℕ). (codes "-", text) ∷ []) one.1 ∙ sym y.made_is))
+
+-- ---- a migration that is refused is not done
+-- what the migration would write
+migration_of : (files : Files) (migration : Migration) (status : Status) (made : Files)
+    → IsPlacesDone files migration status made
+    → (end : Status) × (layers : Files) × IsMigrationDone files migration end layers
+migration_of files migration status made x =
+    let all = x.are in (
+      end_with all.changes,
+      all_files_in migration.cert migration.out all.done ++ (
+        codes "-",
+        report_text
+            (report_of migration.tin x.tin (map row_of all.done) all.changes),
+      ) ∷ [],
+      record {
+        changes = all.changes;
+        layers = all_files_in migration.cert migration.out all.done;
+        said = report_text (report_of migration.tin x.tin (map row_of all.done) all.changes);
+        migrated = record {
+          tin = x.tin;
+          way = x.way;
+          pieces = all.pieces;
+          done = all.done;
+          used = all.used;
+          carried =
+              all.carried;
+          listed = all.listed;
+          layers_are = refl;
+          said_is = refl;
+        };
+        status_is = refl;
+        made_is = refl;
+      },
+    )
+
+refused_done : (migrations : MigrationIsOne) (files : Files) (migration : Migration) (refusal : Refusal)
+    (status : Status) (made : Files)
+    → IsMigrationRefused files migration refusal → IsPlacesDone files migration status made → ⊥
+refused_done migrations files migration refusal status made x y =
+    let (end, layers, is) = migration_of files migration status made y in
+    let e = migrations files migration (Err refusal) (Ok (end, layers)) x is in cc
+
+refusal_one : (migrations : MigrationIsOne) (files : Files) (migration : Migration) (refusal other : Refusal)
+    → IsMigrationRefused files migration refusal → IsMigrationRefused files migration other → refusal ≡ other
+refusal_one migrations files migration refusal other x y = let e =
+    migrations files migration (Err refusal) (Err other) x y in cc
+
+-- ---- the run
+refused_as : (refusal other : Refusal) (status also : Status) (made others : Files) → refusal ≡ other
+    → status ≡ status_of refusal → made ≡ (codes "-", line_of refusal) ∷ [] → also ≡ status_of other
+    → others ≡ (codes "-", line_of other) ∷ []
+    → (status ≡ also) × (made ≡ others)
+refused_as refusal other status also made others same s m t n =
+    (s ∙ (ap status_of same ∙ sym t), m ∙ (ap (λ (r : Refusal). (codes "-", line_of r) ∷ []) same ∙ sym n))
+
+pub outcome_is_one : LayerTextsAreOne → MigrationIsOne → OutcomeIsOne
+outcome_is_one texts migrations words files status other made others (no_job fault lacks s) (no_job also lacks_too t) =
+    refused_as (Words fault) (Words also) status other made others
+    (ap (λ (f : WordsFault). Words f) (lacks_one words fault also lacks lacks_too)) s.status_is s.made_is
+    t.status_is t.made_is
+outcome_is_one texts migrations words files status other made others (no_job fault lacks s)
+    (refused migration asks refusal why t) =
+    absurd (asks_lacks words migration fault asks lacks)
+outcome_is_one texts migrations words files status other made others (no_job fault lacks s) (done migration asks is) =
+    absurd (asks_lacks words migration fault asks lacks)
+outcome_is_one texts migrations words files status other made others (refused migration asks refusal why s)
+    (no_job fault lacks t) =
+    absurd (asks_lacks words migration fault asks lacks)
+outcome_is_one texts migrations words files status other made others (refused migration asks refusal why s)
+    (refused again asks_too also why_too t) =
+    let same = asks_one words migration again asks asks_too in
+    refused_as refusal also status other made others
+    (refusal_one migrations files again refusal also
+    (subst (λ (m : Migration). IsMigrationRefused files m refusal) same why)
+    why_too) s.status_is s.made_is t.status_is t.made_is
+outcome_is_one texts migrations words files status other made others (refused migration asks refusal why s)
+    (done again asks_too is) =
+    let same = asks_one words migration again asks asks_too in
+    absurd (refused_done migrations files again refusal other others
+    (subst (λ (m : Migration). IsMigrationRefused files m refusal) same why) is)
+outcome_is_one texts migrations words files status other made others (done migration asks is) (no_job fault lacks t) =
+    absurd (asks_lacks words migration fault asks lacks)
+outcome_is_one texts migrations words files status other made others (done migration asks is)
+    (refused again asks_too refusal why t) =
+    let same = asks_one words migration again asks asks_too in
+    absurd (refused_done migrations files again refusal status made why
+    (subst (λ (m : Migration). IsPlacesDone files m status made) same is))
+outcome_is_one texts migrations words files status other made others (done migration asks is)
+    (done again asks_too is_too) =
+    let same = asks_one words migration again asks asks_too in
+    done_one texts files again status other made others
+    (subst (λ (m : Migration). IsPlacesDone files m status made) same is)
+    is_too

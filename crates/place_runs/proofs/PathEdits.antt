@@ -1,0 +1,82 @@
+-- Each path of a layer has an edit with which it begins: edits behind and before others, and those that name paths.
+use Rattle.std.proofs.Common.{◌≡◌, ◌⊎◌, ℕ, suc, ◌+◌, List, [], ◌∷◌, ◌++◌, length, Some, subst, inl, inr, arith}
+use Rattle.sheet_base.specs.declared.edits.Edit.{Edit}
+use Rattle.sheet_base.specs.declared.paths.PathRow.{PathRow}
+use Rattle.change_places.specs.PathPlaces.{path_of, IsBegunBy, AreBegun}
+
+-- ---- edits that name their paths
+-- some edit writes the whole list of this path
+abbrev pub HasPath : ℕ → List Edit → Type 0
+HasPath number [] = ⊥
+HasPath number (edit ∷ edits) = (path_of edit.what ≡ Some number) ⊎ HasPath number edits
+
+-- some edit does so for each of some paths, the first of which has this number
+abbrev pub HasEach : {A : Type 0} → List Edit → ℕ → List A → Type 0
+HasEach edits number [] = Unit {0}
+HasEach edits number (path ∷ paths) = HasPath number edits × HasEach edits (number + 1) paths
+
+pub path_before : (number : ℕ) (edits more : List Edit) → HasPath number edits → HasPath number (edits ++ more)
+path_before number [] more has = absurd has
+path_before number (edit ∷ edits) more (inl is) = inl is
+path_before number (edit ∷ edits) more (inr has) = inr (path_before number edits more has)
+
+pub path_behind : (number : ℕ) (before edits : List Edit) → HasPath number edits → HasPath number (before ++ edits)
+path_behind number [] edits has = has
+path_behind number (edit ∷ before) edits has = inr (path_behind number before edits has)
+
+pub begun_by_path : (number first : ℕ) (edits : List Edit) → HasPath number edits → IsBegunBy number first edits
+begun_by_path number first [] has = absurd has
+begun_by_path number first (edit ∷ edits) (inl is) = inl is
+begun_by_path number first (edit ∷ edits) (inr has) = inr (inr (begun_by_path number first edits has))
+
+-- where edits keep those of all paths
+pub each_kept : {A : Type 0} (edits more : List Edit) (number : ℕ) (paths : List A)
+    → ((n : ℕ) → HasPath n edits → HasPath n more) → HasEach edits number paths → HasEach more number paths
+each_kept edits more number [] keeps has = tt
+each_kept edits more number (path ∷ paths) keeps (is, has) =
+    (keeps number is, each_kept edits more (number + 1) paths keeps has)
+
+-- with paths behind them
+pub each_together : {A : Type 0} (edits : List Edit) (number : ℕ) (paths more : List A) → HasEach edits number paths
+    → HasEach edits (number + length paths) more → HasEach edits number (paths ++ more)
+each_together edits number [] more has next =
+    let same : number + 0 ≡ number = omega arith in
+    subst (λ (n : ℕ). HasEach edits n more) same next
+each_together edits number (path ∷ paths) more (is, has) next =
+    let same : number + suc (length paths) ≡ number + 1 + length paths = omega arith in
+    (is, each_together edits (number + 1) paths more has (subst (λ (n : ℕ). HasEach edits n more) same next))
+
+-- ---- edits of any kind
+pub begun_before : (number first : ℕ) (edits more : List Edit) → IsBegunBy number first edits
+    → IsBegunBy number first (edits ++ more)
+begun_before number first [] more is = absurd is
+begun_before number first (edit ∷ edits) more (inl is) = inl is
+begun_before number first (edit ∷ edits) more (inr (inl is)) = inr (inl is)
+begun_before number first (edit ∷ edits) more (inr (inr is)) = inr (inr (begun_before number first edits more is))
+
+pub begun_behind : (number first : ℕ) (before edits : List Edit) → IsBegunBy number first edits
+    → IsBegunBy number first (before ++ edits)
+begun_behind number first [] edits is = is
+begun_behind number first (edit ∷ before) edits is = inr (inr (begun_behind number first before edits is))
+
+pub all_before : (edits more : List Edit) (number : ℕ) (rows : List PathRow) → AreBegun edits number rows
+    → AreBegun (edits ++ more) number rows
+all_before edits more number [] are = tt
+all_before edits more number (row ∷ rows) (is, are) =
+    (begun_before number row.first edits more is, all_before edits more (number + 1) rows are)
+
+pub all_behind : (before edits : List Edit) (number : ℕ) (rows : List PathRow) → AreBegun edits number rows
+    → AreBegun (before ++ edits) number rows
+all_behind before edits number [] are = tt
+all_behind before edits number (row ∷ rows) (is, are) =
+    (begun_behind number row.first before edits is, all_behind before edits (number + 1) rows are)
+
+-- with rows behind them
+pub begun_together : (edits : List Edit) (number : ℕ) (rows more : List PathRow) → AreBegun edits number rows
+    → AreBegun edits (number + length rows) more → AreBegun edits number (rows ++ more)
+begun_together edits number [] more are next =
+    let same : number + 0 ≡ number = omega arith in
+    subst (λ (n : ℕ). AreBegun edits n more) same next
+begun_together edits number (row ∷ rows) more (is, are) next =
+    let same : number + suc (length rows) ≡ number + 1 + length rows = omega arith in
+    (is, begun_together edits (number + 1) rows more are (subst (λ (n : ℕ). AreBegun edits n more) same next))

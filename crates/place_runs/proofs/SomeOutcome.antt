@@ -1,0 +1,154 @@
+-- A run has an outcome.
+use Rattle.std.proofs.Common.{◌≢◌, ◌⊎◌, inl, inr, ℕ, ◌+◌, List, [], ◌∷◌, length, Option, Some, Ok, Err, codes, refl}
+use Rattle.std.specs.List.{AllByRecursion}
+use Rattle.std.proofs.lemmas.List.Elements.{recursion_from_All}
+use Rattle.shelf_io.specs.Files.{Files}
+use Rattle.sheet_base.specs.declared.flags.How.{How}
+use Rattle.tin_base.specs.declared.pieces.Change.{Change}
+use Rattle.tin_base.specs.declared.pieces.Piece.{Piece}
+use Rattle.tin_base.specs.Triangulation.{Triangulation}
+use Rattle.seg_gap.specs.Laws.{GapExists}
+use Rattle.job_words.specs.declared.jobs.Job.{Job}
+use Rattle.job_words.specs.declared.jobs.Job.TheVariants.{Migrate, Check as CheckJob, Make, Verify}
+use Rattle.job_words.specs.declared.faults.WordsFault.{WordsFault}
+use Rattle.job_words.specs.declared.faults.WordsFault.TheVariants.{NoMemory}
+use Rattle.job_words.specs.Jobs.{IsJobOf, IsWordsFault}
+use Rattle.job_words.specs.Kept.{IsKept}
+use Rattle.job_words.specs.Laws.{JobsAreKept, WordsHaveOneAnswer}
+use Rattle.layer_formats.specs.LayerTexts.{is_drawing}
+use Rattle.runs.specs.declared.status.Status.{Status}
+use Rattle.runs.specs.declared.refusal.Refusal.TheVariants.{Words}
+use Rattle.runs.specs.Refusals.{status_of, line_file}
+use Rattle.migrate.specs.declared.migrations.Migration.{Migration}
+use Rattle.migrate.specs.LayerRuns.{setting_of, Done, AreCarried}
+use Rattle.migrate.specs.Laws.{End, IsMigrationEnd, MigrationExists}
+use Rattle.migrate.specs.Migrations.{IsMigrationDone}
+use Rattle.change_places.specs.declared.spots.ChangeSpot.{ChangeSpot}
+use Rattle.change_places.specs.PathPlaces.{path_places}
+use Rattle.change_places.specs.PlacesText.{places_text}
+use Rattle.place_runs.specs.Words.{migration_words}
+use Rattle.place_runs.specs.InsidePieces.{HasPieces, side_of}
+use Rattle.place_runs.specs.Places.{HaveAllPlaces, AreSpotsOf, IsPlacesDone}
+use Rattle.place_runs.specs.Outcome.{HasOutcome, no_job, refused, done}
+use Rattle.place_runs.specs.Laws.{OutcomeExists}
+use Rattle.place_runs.proofs.ChangePieces.{changes_have, spot_is}
+use Rattle.place_runs.proofs.WordsOfMigration.{no_check, no_making, no_verification}
+
+-- ---- where the paths of carried layers begin
+all_places : (files : Files) (how : How) (tin : Triangulation) (number used : ℕ) (before : List Piece)
+    (names : List (List ℕ)) (pieces : List Piece) (ds : List Done) (total : ℕ)
+    → AreCarried (setting_of (Some files) how tin) number used before names pieces ds total
+    → (places : List (List (Option ℕ))) × HaveAllPlaces (Some files) how names places
+all_places files how tin number used before [] pieces ds total carried = ([], tt)
+all_places files how tin number used before (name ∷ names) pieces ds total
+    (bytes, own, first, rest, next, are, others) =
+    let (more, have) = all_places files how tin (number + 1) (used + length bytes) own names pieces rest total others in
+    let file = next.file in
+    let carried = next.carried in
+    let layer = carried.layer in (
+      path_places (is_drawing first.format) bytes layer.sheet ∷ more,
+      (
+        record {
+          format = first.format;
+          bytes = bytes;
+          sheet = layer.sheet;
+          suffix = file.suffix;
+          found = file.found;
+          read = layer.read;
+          places_are = refl;
+        },
+        have,
+      ),
+    )
+
+-- ---- the sides of changes and their gaps
+all_spots : GapExists → (pieces : List Piece) (places : List (List (Option ℕ))) (changes : List Change)
+    → AllByRecursion (HasPieces pieces) changes → (spots : List ChangeSpot) × AreSpotsOf pieces places changes spots
+all_spots gaps pieces places [] have = ([], tt)
+all_spots gaps pieces places (change ∷ changes) (((p, first), (q, second)), have) =
+    let (spots, are) = all_spots gaps pieces places changes have in
+    let (gap, is) = gaps p.ia p.ib q.ia q.ib in (
+      (record {
+        first = side_of places p;
+        second = side_of places q;
+        was = change.was;
+        now = change.now;
+        gap = gap;
+      }) ∷ spots,
+      (spot_is pieces places change p q gap first second is, are),
+    )
+
+-- ---- a migration that is done has places
+places_of : GapExists → (files : Files) (migration : Migration) (status : Status) (layers : Files)
+    → IsMigrationDone files migration status layers → (made : Files) × IsPlacesDone files migration status made
+places_of gaps files migration status layers is =
+    let all = is.migrated in
+    let (places, have) = all_places files migration.how all.tin 0 0 [] migration.layers all.pieces all.done all.used
+    all.carried in
+    let (spots, are) = all_spots gaps all.pieces places is.changes
+    (recursion_from_All (HasPieces all.pieces) is.changes (changes_have all.tin all.pieces is.changes all.listed)) in
+    let said = places_text migration.layers spots in (
+      (codes "-", said) ∷ [],
+      record {
+        tin = all.tin;
+        way = all.way;
+        said = said;
+        are = record {
+          pieces = all.pieces;
+          done = all.done;
+          used = all.used;
+          carried = all.carried;
+          changes = is.changes;
+          listed = all.listed;
+          places = places;
+          have = have;
+          spots = spots;
+          are_spots = are;
+          said_is = refl;
+          status_is = is.status_is;
+        };
+        made_is = refl;
+      },
+    )
+
+-- ---- a run
+abbrev HasSomeOutcome : List (List ℕ) → Files → Type 0
+HasSomeOutcome words files = (status : Status) × (made : Files) × HasOutcome words files status made
+
+module _ (gaps : GapExists) (migrations : MigrationExists) (words : List (List ℕ)) (files : Files) where
+  by_job : (job : Job) → IsJobOf (migration_words words) job → IsKept job → HasSomeOutcome words files
+  by_job (Migrate tin out how inverse cert layers) asks kept =
+      let formats = kept.formats in
+      let (end, is) = migrations files migration formats in by end is
+    where
+      migration : Migration
+      migration = record { tin = tin; out = out; how = how; inverse = inverse; cert = cert; layers = layers }
+
+      by : (end : End) → IsMigrationEnd files migration end → HasSomeOutcome words files
+      by (Ok (status, written)) is =
+          let (made, are) = places_of gaps files migration status written is in
+          (status, made, done migration asks are)
+      by (Err refusal) is = (
+        status_of refusal,
+        line_file refusal,
+        refused migration asks refusal is (record { status_is = refl; made_is = refl }),
+      )
+  by_job (CheckJob tin how) asks kept = absurd (no_check words tin how asks)
+  by_job (Make n) asks kept = absurd (no_making words n asks)
+  by_job (Verify tin source written cert how inverse) asks kept =
+      absurd (no_verification words tin source written cert how inverse asks)
+
+  by_answer : JobsAreKept
+      → ((job : Job) × IsJobOf (migration_words words) job)
+      ⊎ ((fault : WordsFault) × IsWordsFault (migration_words words) fault × (fault ≢ NoMemory))
+      → HasSomeOutcome words files
+  by_answer kept (inl (job, asks)) = by_job job asks (kept (migration_words words) job asks)
+  by_answer kept (inr (fault, lacks, other)) = (
+    status_of (Words fault),
+    line_file (Words fault),
+    no_job fault lacks (record { status_is = refl; made_is = refl }),
+  )
+
+pub outcome_exists : WordsHaveOneAnswer → JobsAreKept → MigrationExists → GapExists → OutcomeExists
+outcome_exists answers kept migrations gaps words files =
+    let answer = answers (migration_words words) in by_answer gaps migrations words files kept answer.some

@@ -1,0 +1,8 @@
+-- Answers to the goals of `outcome_exists` in src/laws.rt.
+use Rattle.place_runs.proofs.SomeOutcome.{outcome_exists}
+use Rattle.place_runs.proofs.laws.outcome_exists.Goals as goal
+
+pub returns : goal.returns
+returns c =
+    outcome_exists c.words_have_one_answer.ensures c.jobs_are_kept.ensures c.migration_exists.ensures
+    c.gap_exists.ensures

@@ -1,0 +1,6 @@
+-- The proof of the law `places_are_known` in src/laws.rt.
+use Rattle.place_runs.proofs.KnownSides.{all_known}
+use Rattle.place_runs.proofs.laws.places_are_known.Goals as goal
+
+pub returns : goal.returns
+returns c = all_known c.pairs_tile.ensures.tile c.layer_texts_are_one.ensures

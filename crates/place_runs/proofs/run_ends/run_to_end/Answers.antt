@@ -1,0 +1,94 @@
+-- Answers to the goals of `run_to_end` in src/run_ends.rt.
+use Rattle.std.proofs.Common.{map, string_bytes, codes, ◌∷◌, []}
+use Rattle.runs.specs.declared.refusal.Refusal.TheVariants.{Words}
+use Rattle.runs.specs.Status.{end_of}
+use Rattle.runs.specs.Refusals.{status_of, line_of}
+use Rattle.runs.proofs.RefusalLines.{never-write}
+use Rattle.runs.proofs.RunEnds.{never-write-end, told, told_always, done_end}
+use Rattle.place_runs.proofs.RunEnds.{ends_so, makes_refusal, makes_places, makes_no_job}
+use Rattle.place_runs.proofs.TextLimits.{limit_told, limit_done, text_none}
+use Rattle.place_runs.proofs.run_ends.run_to_end.Goals as goal
+
+pub returns-in-Err-clause-ends : goal.returns-in-Err-clause-ends
+returns-in-Err-clause-ends g c =
+    let e = c.refuse.ensures in
+    told_always (g.S.Shelf.files c.args.shelf.now) (λ files.
+    ends_so (map string_bytes c.args.words.now) files _ _ (line_of (Words c.in-Err.fault))
+    (status_of (Words c.in-Err.fault)) c.refuse.result (g.P.Press.made c.refuse.new.press)
+    (never-write (Words c.in-Err.fault))
+    (makes_no_job (map string_bytes c.args.words.now) files _ c.in-Err.fault c.in-Err.ensures.refused)
+    (record { status = e.status; whole = e.whole; front = e.front; rose = e.rose }))
+
+pub returns-in-Err-clause-limit : goal.returns-in-Err-clause-limit
+returns-in-Err-clause-limit g c =
+    let e = c.refuse.ensures in
+    limit_told (Words c.in-Err.fault) c.refuse.result (g.P.Press.made c.refuse.new.press) _ _
+    (record { status = e.status; whole = e.whole; front = e.front; rose = e.rose }) (λ no. cc) (λ no. cc) (λ no. cc)
+    (λ no. cc)
+
+pub say-requires-clause-other : goal.say-requires-clause-other
+say-requires-clause-other g c = rw c.end.ensures (never-write-end c.in-Ok-prepare_places.said.changed)
+
+pub returns-in-Ok-prepare_places-clause-ends : goal.returns-in-Ok-prepare_places-clause-ends
+returns-in-Ok-prepare_places-clause-ends g c =
+    let e = c.say.ensures in
+    told (g.S.Shelf.files c.args.shelf.now) (λ files is.
+    ends_so (map string_bytes c.args.words.now) files _ _ c.in-Ok-prepare_places.said.text
+    (end_of c.in-Ok-prepare_places.said.changed) c.say.result (g.P.Press.made c.say.new.press)
+    (never-write-end c.in-Ok-prepare_places.said.changed)
+    (makes_places (map string_bytes c.args.words.now) files _ c.in-Ok.migration
+    (end_of c.in-Ok-prepare_places.said.changed) ((codes "-", c.in-Ok-prepare_places.said.text) ∷ [])
+    c.in-Ok.ensures.asks is)
+    (record {
+      status = rw c.end.ensures at e.status;
+      whole = rw c.items.ensures at e.whole;
+      front =
+          rw c.items.ensures at e.front;
+      rose = e.rose;
+    })) c.in-Ok-prepare_places.ensures.ok
+
+pub returns-in-Ok-prepare_places-clause-limit : goal.returns-in-Ok-prepare_places-clause-limit
+returns-in-Ok-prepare_places-clause-limit g c =
+    let e = c.say.ensures in
+    limit_done c.in-Ok-prepare_places.said.text c.in-Ok-prepare_places.said.changed c.say.result
+    (g.P.Press.made c.say.new.press) _ _ (text_none c.in-Ok.migration.layers c.in-Ok-prepare_places.said.text
+    c.in-Ok-prepare_places.ensures.form)
+    (record {
+      status = rw c.end.ensures at e.status;
+      whole = rw c.items.ensures at e.whole;
+      front =
+          rw c.items.ensures at e.front;
+      rose = e.rose;
+    })
+
+pub returns-in-Ok-prepare_places-clause-rows : goal.returns-in-Ok-prepare_places-clause-rows
+returns-in-Ok-prepare_places-clause-rows g c =
+    told (g.S.Shelf.files c.args.shelf.now) (λ files is. (c.in-Ok.migration, c.in-Ok.ensures.asks, is))
+    c.in-Ok-prepare_places.ensures.rows
+
+pub returns-in-Ok-prepare_places-clause-none : goal.returns-in-Ok-prepare_places-clause-none
+returns-in-Ok-prepare_places-clause-none g c =
+    done_end c.in-Ok-prepare_places.said.changed c.say.result (rw c.end.ensures at c.say.ensures.status)
+
+pub returns-clause-ends : goal.returns-clause-ends
+returns-clause-ends g c =
+    let e = c.refuse-in-Err-prepare_places.ensures in
+    told (g.S.Shelf.files c.args.shelf.now) (λ files is.
+    ends_so (map string_bytes c.args.words.now) files _ _ (line_of c.in-Err-prepare_places.refusal)
+    (status_of c.in-Err-prepare_places.refusal) c.refuse-in-Err-prepare_places.result
+    (g.P.Press.made c.refuse-in-Err-prepare_places.new.press)
+    (never-write c.in-Err-prepare_places.refusal)
+    (makes_refusal (map string_bytes c.args.words.now) files _ c.in-Ok.migration c.in-Err-prepare_places.refusal
+    c.in-Ok.ensures.asks is)
+    (record { status = e.status; whole = e.whole; front = e.front; rose = e.rose }))
+    c.in-Err-prepare_places.ensures.refused
+
+pub returns-clause-limit : goal.returns-clause-limit
+returns-clause-limit g c =
+    let e = c.refuse-in-Err-prepare_places.ensures in
+    limit_told c.in-Err-prepare_places.refusal c.refuse-in-Err-prepare_places.result
+    (g.P.Press.made c.refuse-in-Err-prepare_places.new.press) _ _
+    (record { status = e.status; whole = e.whole; front = e.front; rose = e.rose })
+    c.in-Err-prepare_places.ensures.causes.tin_long c.in-Err-prepare_places.ensures.causes.layers_long
+    (λ e. absurd (c.in-Err-prepare_places.ensures.causes.written_long e))
+    (λ e. absurd (c.in-Err-prepare_places.ensures.causes.cert_long e))

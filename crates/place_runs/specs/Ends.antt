@@ -1,0 +1,51 @@
+-- How a run ends: by its outcome, after a read fault, because memory ran out, or after a write fault.
+use Rattle.std.specs.Prelude.{◌≡◌, ℕ, List, [], ◌∷◌, ◌++◌, codes, take, Option, None, Some}
+use Rattle.shelf_io.specs.Files.{Files}
+use Rattle.runs.specs.declared.status.Status.{Status}
+use Rattle.runs.specs.declared.status.Status.TheVariants.{Write}
+use Rattle.runs.specs.declared.refusal.Refusal.{Refusal}
+use Rattle.runs.specs.declared.refusal.Refusal.TheVariants.{NoMemory}
+use Rattle.runs.specs.Refusals.{Refuses, limit_front}
+use Rattle.migrate.specs.declared.migrations.Migration.{Migration}
+use Rattle.migrate.specs.Migrations.{IsReachedBy, LacksWanted}
+use Rattle.place_runs.specs.Words.{AsksPlaces}
+use Rattle.place_runs.specs.Outcome.{HasOutcome}
+
+-- what a run makes unless a write fails
+pub data Makes (words : List (List ℕ)) (files : Files) (shelf_rose : Type 0) (status : Status) (made : Files) : Type 0
+  where
+    by_outcome : HasOutcome words files status made → Makes words files shelf_rose status made
+    after_read_fault :
+        shelf_rose → (migration : Migration) → AsksPlaces words migration → (refusal : Refusal)
+        → IsReachedBy files migration refusal → Refuses refusal status made
+        → Makes words files shelf_rose status made
+    out_of_memory : Refuses NoMemory status made → Makes words files shelf_rose status made
+
+-- no file is made, or standard output alone, with a first part of the text
+abbrev pub IsFrontOf : Files → List ℕ → Type 0
+IsFrontOf [] said = Unit {0}
+IsFrontOf (file ∷ []) said = (count : ℕ) × (file ≡ (codes "-", take count said))
+IsFrontOf (file ∷ more ∷ files) said = ⊥
+
+-- the four ways in which a run ends
+pub data Ends (words : List (List ℕ)) (files : Files) (shelf_rose press_rose : Type 0) (status : Status)
+    (made : Files) : Type 0 where
+  made_whole : Makes words files shelf_rose status made → Ends words files shelf_rose press_rose status made
+  after_write_fault :
+      status ≡ Write → press_rose → (wanted : Status) → (said : List ℕ)
+      → Makes words files shelf_rose wanted ((codes "-", said) ∷ []) → IsFrontOf made said
+      → Ends words files shelf_rose press_rose status made
+
+-- the same where the press may not say what it made: then for some files
+abbrev pub EndsTold : List (List ℕ) → Files → Type 0 → Type 0 → Status → Option Files → Type 0
+EndsTold words files shelf_rose press_rose status (Some made) = Ends words files shelf_rose press_rose status made
+EndsTold words files shelf_rose press_rose status None =
+    (made : Files) × Ends words files shelf_rose press_rose status made
+
+-- the words ask for a migration, and a file that it wants is missing
+abbrev pub LacksWantedOf : List (List ℕ) → Option Files → Type 0
+LacksWantedOf words files = (migration : Migration) × AsksPlaces words migration × LacksWanted migration files
+
+-- what is said alone is a line that says that a limit on bytes is passed, or a first part of it that says as much
+abbrev pub TellsBytes : Files → Type 0
+TellsBytes made = (rest : List ℕ) × (made ≡ (codes "-", limit_front ++ rest) ∷ [])

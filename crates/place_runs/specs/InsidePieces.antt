@@ -1,0 +1,53 @@
+-- The pieces of a change among all pieces. Only private functions speak of it.
+use Rattle.std.specs.Prelude.{◌≡◌, ℕ, Bool, List, [], ◌∷◌, codes, Contains, Option}
+use Rattle.shelf_io.specs.Files.{Files}
+use Rattle.meet_rel.specs.Near.{AreNear}
+use Rattle.tin_base.specs.declared.pieces.Change.{Change}
+use Rattle.tin_base.specs.declared.pieces.Piece.{Piece}
+use Rattle.tin_base.specs.declared.pieces.Place.{Place}
+use Rattle.tin_base.specs.Triangulation.{Triangulation}
+use Rattle.migrate.specs.RunChanges.{AreListed, is_some_change}
+use Rattle.change_places.specs.declared.spots.SideSpot.{SideSpot}
+use Rattle.change_places.specs.declared.spots.ChangeSpot.{ChangeSpot}
+use Rattle.change_places.specs.PlacesText.{places_text}
+use Rattle.place_runs.specs.Places.{place_among, AreSpotsOf}
+
+-- the piece is among these and has this place
+pub record IsPieceAt (pieces : List Piece) (place : Place) (piece : Piece) : Type 0 where
+  pub is_some : Contains pieces piece
+  pub from : piece.from ≡ place
+
+-- some piece is
+abbrev pub HasPiece : List Piece → Place → Type 0
+HasPiece pieces place = (piece : Piece) × IsPieceAt pieces place piece
+
+-- both sides of the change have a piece
+abbrev pub HasPieces : List Piece → Change → Type 0
+HasPieces pieces change = HasPiece pieces change.first × HasPiece pieces change.second
+
+-- the side of a piece
+abbrev pub side_of : List (List (Option ℕ)) → Piece → SideSpot
+side_of places piece = record { from = piece.from; at = place_among places piece.from; a = piece.ia; b = piece.ib }
+
+-- the written ends of each two pieces are near each other
+abbrev pub AreAllNear : List Piece → Type 0
+AreAllNear pieces = (p q : Piece) → Contains pieces p → Contains pieces q → AreNear p.ia p.ib q.ia q.ib
+
+-- the text has the changes of the pieces, of layers with these names whose paths begin at these places; and whether
+-- there is one
+pub record IsSaidOf (names : List (List ℕ)) (tin : Triangulation) (pieces : List Piece)
+    (places : List (List (Option ℕ))) (said : List ℕ) (changed : Bool) : Type 0 where
+  pub changes : List Change
+  pub listed : AreListed tin pieces changes
+  pub spots : List ChangeSpot
+  pub are_spots : AreSpotsOf pieces places changes spots
+  pub said_is : said ≡ places_text names spots
+  pub changed_is : changed ≡ is_some_change changes
+
+-- the text is one of changes of layers with these names
+abbrev pub IsPlacesText : List (List ℕ) → List ℕ → Type 0
+IsPlacesText names said = (spots : List ChangeSpot) × (said ≡ places_text names spots)
+
+-- the text, on standard output
+abbrev pub said_file : List ℕ → Files
+said_file said = (codes "-", said) ∷ []

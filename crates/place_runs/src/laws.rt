@@ -1,0 +1,29 @@
+//! What is true of the definitions that the contracts cite.
+
+ghost use Rattle.place_runs.specs.Laws.{AllPlacesAreKnown, OutcomeExists, OutcomeIsOne};
+
+/// A law: a run has one outcome.
+pub fn outcome_is_one()
+    ensures { OutcomeIsOne }
+{
+    layer_formats::layer_texts_are_one();
+    migrate::migration_is_one();
+}
+
+/// A law: a run has an outcome, whatever the words and the files are. So with the law above it is one function of them.
+pub fn outcome_exists()
+    ensures { OutcomeExists }
+{
+    job_words::words_have_one_answer();
+    job_words::jobs_are_kept();
+    migrate::migration_exists();
+    seg_gap::gap_exists();
+}
+
+/// A law: both sides of each change that is printed say where their paths begin, and none is `null`.
+pub fn places_are_known()
+    ensures { AllPlacesAreKnown }
+{
+    dxf_pairs::pairs_tile();
+    layer_formats::layer_texts_are_one();
+}

@@ -1,0 +1,142 @@
+//! The layers of a migration, carried one after the other, and where their paths begin.
+
+ghost use Rattle.std.specs.Prelude.{◌≡◌, ◌⊎◌, ◌+◌, ◌≤◌, ◌++◌, ◌∷◌, [], ℕ, IfOk, IfErr, OnOk, length, vec_len, false};
+ghost use Rattle.shelf_io.specs.Count.{Rose, counted};
+ghost use Rattle.tin_base.specs.Triangulation.{Triangulation};
+ghost use Rattle.carry_map.specs.declared.limits.TheConstants.{MOST_PIECES};
+ghost use Rattle.runs.specs.declared.loads.TheConstants.{MOST_BYTES};
+ghost use Rattle.runs.specs.declared.status.Status.TheVariants.{Read as ReadStatus};
+ghost use Rattle.runs.specs.declared.refusal.Refusal.TheVariants.{LayersLong};
+ghost use Rattle.runs.specs.Counts.{LeavesFaults};
+ghost use Rattle.runs.specs.Refusals.{status_of};
+ghost use Rattle.migrate.specs.LayerRuns.{setting_of};
+ghost use Rattle.layer_formats.specs.LayerTexts.{is_drawing};
+ghost use Rattle.migrate.specs.Migrations.{MayBeTaken, LacksSome};
+ghost use Rattle.migrate.specs.RunContents.{IsUncarriedAs, HasCarried, AreUncarried, IsOfLayers};
+ghost use Rattle.place_runs.specs.Places.{HaveAllPlaces};
+ghost use Rattle.place_runs.specs.InsideLayers.{HasPlacesAs, HasPlaces, LacksPlacesOf};
+
+use change_places::path_places;
+use dxf_layer::Dxf;
+use gj_layer::GeoJson;
+use job_words::Format;
+use layer_formats::known_format;
+use migrate::{Migration, Run, carry_next};
+use runs::{MOST_BYTES, Refusal, load_file};
+use sheet_base::{How, Layer, LayerFault, Listed};
+use shelf_io::Shelf;
+use std::alloc::{AllocError, Global};
+use tin_index::TinIndex;
+use wkt_layer::Wkt;
+
+/// The layers that were carried, and for each where its paths begin.
+#[derive(Drop)]
+pub struct PlacedRun {
+    pub run: Run,
+    pub places: Vec<Listed<Option<u32>>>,
+}
+
+// Where the paths of a layer of the format `L` begin.
+fn places_as<L: Layer>(
+    alloc: Global,
+    drawing: bool,
+    bytes: &[u8],
+    how: How,
+    number: u32,
+) -> Result<Listed<Option<u32>>, Refusal>
+    requires within { length bytes.now ≤ MOST_BYTES }
+    ensures ok { IfOk result (λ places. HasPlacesAs (L.reads how bytes.now) drawing bytes.now places) }
+    ensures refused { IfErr result (λ refusal. (tin : Triangulation) (before : ℕ) → IsUncarriedAs (L.reads how) (L.refuses how) tin bytes.now number before refusal) }
+{
+    match L::read(alloc, bytes, how) {
+        Ok(sheet) => Ok(Listed::of(path_places(alloc, drawing, bytes, &sheet)?)),
+        Err(LayerFault::NoMemory) => Err(Refusal::NoMemory),
+        Err(fault) => Err(Refusal::Layer {
+            layer: number,
+            fault,
+        }),
+    }
+}
+
+// The same of a layer of this format.
+fn places_by_format(
+    alloc: Global,
+    format: Format,
+    bytes: &[u8],
+    how: How,
+    number: u32,
+) -> Result<Listed<Option<u32>>, Refusal>
+    requires within { length bytes.now ≤ MOST_BYTES }
+    ensures ok { IfOk result (λ places. HasPlaces how format bytes.now places) }
+    ensures refused { IfErr result (LacksPlacesOf how format bytes.now number) }
+{
+    match format {
+        Format::Wkt => places_as::<Wkt>(alloc, false, bytes, how, number),
+        Format::GeoJson => places_as::<GeoJson>(alloc, false, bytes, how, number),
+        Format::Drawing => places_as::<Dxf>(alloc, true, bytes, how, number),
+    }
+}
+
+// Puts the places of a layer's paths behind those of the layers before it.
+fn add_places(
+    places: &mut Vec<Listed<Option<u32>>>,
+    own: Listed<Option<u32>>,
+) -> Result<(), AllocError>
+    ensures { OnOk result (places.new.items ≡ places.old.items ++ own ∷ []) }
+{
+    places.push(own)?;
+    Ok(())
+}
+
+/// All layers of a migration, carried in order, and where their paths begin. A layer is read twice: for the places of
+/// its paths, and to be carried.
+pub fn carry_layers<S: Shelf>(
+    alloc: Global,
+    shelf: &mut S,
+    migration: &Migration,
+    index: &TinIndex,
+) -> Result<PlacedRun, Refusal>
+    requires { MayBeTaken migration.now }
+    ensures ok { IfOk result (λ placed. HasCarried (setting_of (S.files shelf.old) migration.now.how index.now) false migration.now.out migration.now.layers placed.run) }
+    ensures places { IfOk result (λ placed. HaveAllPlaces (S.files shelf.old) migration.now.how migration.now.layers placed.places.items) }
+    ensures room { IfOk result (λ placed. vec_len placed.run.pieces ≤ MOST_PIECES) }
+    ensures refused { IfErr result (λ refusal. AreUncarried (setting_of (S.files shelf.old) migration.now.how index.now) migration.now.layers (Rose (S.faults shelf.old) (S.faults shelf.new)) refusal) }
+    ensures of_layers { IfErr result IsOfLayers }
+    ensures read { IfErr result (λ refusal. status_of refusal ≡ ReadStatus → Rose (S.faults shelf.old) (S.faults shelf.new) ⊎ LacksSome migration.now.layers (S.files shelf.old)) }
+    ensures long { IfErr result (λ refusal. refusal ≡ LayersLong → counted (S.given shelf.old) (MOST_BYTES + 1) ≤ S.given shelf.new) }
+    ensures faults { LeavesFaults (S.faults shelf.old) (S.faults shelf.new) result }
+{
+    let mut run = Run::new(alloc);
+    let mut places = Vec::new(alloc);
+    for (number, name) in migration.layers.items().iter().enumerate() {
+        let layer = number as u32;
+        let bytes = load_file(
+            alloc,
+            shelf,
+            name.text(),
+            MOST_BYTES - run.used,
+            Refusal::LayerUnread { layer },
+            Refusal::LayersLong,
+        )?;
+        let own = places_by_format(
+            alloc,
+            known_format(name.text()),
+            &bytes,
+            migration.how,
+            layer,
+        )?;
+        carry_next(
+            alloc,
+            &migration.out,
+            false,
+            migration.how,
+            index,
+            layer,
+            name,
+            &bytes,
+            &mut run,
+        )?;
+        add_places(&mut places, own)?;
+    }
+    Ok(PlacedRun { run, places })
+}

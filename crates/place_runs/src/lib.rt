@@ -1,0 +1,15 @@
+//! The whole program `tinplaces` over the words, the shelf and the press that it is handed, and what is true of its
+//! outcome.
+#![tactic(auto)]
+
+mod laws;
+mod layers;
+mod output;
+mod pieces;
+mod places;
+mod run_ends;
+mod words;
+
+pub use laws::{outcome_exists, outcome_is_one, places_are_known};
+pub use run_ends::{RunEnd, run, run_to_end};
+pub use words::read_migration;

@@ -1,0 +1,138 @@
+//! The two sides of a change: its pieces as they are written, their paths' places and their gap.
+
+ghost use Rattle.std.specs.Prelude.{◌≡◌, ◌↔◌, ◌≤◌, length, IfOk, IsTrue};
+ghost use Rattle.migrate.specs.RunChanges.{AreListed};
+ghost use Rattle.place_runs.specs.Places.{place_among, IsSpotOf, AreSpotsOf};
+ghost use Rattle.place_runs.specs.InsidePieces.{HasPiece, HasPieces, IsPieceAt, AreAllNear, side_of};
+
+use change_places::{ChangeSpot, SideSpot};
+use seg_gap::gap;
+use sheet_base::Listed;
+use std::alloc::{AllocError, Global};
+use tin_base::{Change, Piece, Place, SoundTin};
+
+// Whether a place is before another: by the layer, the path, the segment and the piece.
+fn is_before(one: Place, other: Place) -> bool {
+    if one.layer != other.layer {
+        return one.layer < other.layer;
+    }
+    if one.path != other.path {
+        return one.path < other.path;
+    }
+    if one.segment != other.segment {
+        return one.segment < other.segment;
+    }
+    one.piece < other.piece
+}
+
+// Where the piece of this place is, if the pieces are in order of their places.
+fn likely_number(pieces: &[Piece], place: Place) -> usize
+    ensures { result ≤ length pieces.now }
+{
+    let mut from = 0;
+    let mut past = pieces.len();
+    while from < past {
+        let middle = from + (past - from) / 2;
+        if is_before(pieces[middle].from, place) {
+            from = middle + 1;
+        } else {
+            past = middle;
+        }
+    }
+    from
+}
+
+// Whether the piece has this place.
+fn is_at(piece: Piece, place: Place) -> bool
+    ensures { IsTrue result ↔ (piece.from ≡ place) }
+{
+    piece.from == place
+}
+
+// The first piece of this place, which there is.
+fn first_at(pieces: &[Piece], place: Place) -> Piece
+    requires { HasPiece pieces.now place }
+    ensures { IsPieceAt pieces.now place result }
+{
+    for piece in pieces {
+        if is_at(*piece, place) {
+            return *piece;
+        }
+    }
+    unreachable!()
+}
+
+// The piece of this place, which there is. Where it is not where it is likely to be, all pieces are looked through.
+fn piece_at(pieces: &[Piece], place: Place) -> Piece
+    requires { HasPiece pieces.now place }
+    ensures { IsPieceAt pieces.now place result }
+{
+    if let Some(piece) = pieces.get(likely_number(pieces, place)) {
+        if is_at(*piece, place) {
+            return *piece;
+        }
+    }
+    first_at(pieces, place)
+}
+
+// The place of the path of a piece, among those of all layers.
+fn path_place(places: &[Listed<Option<u32>>], from: Place) -> Option<u32>
+    ensures { result ≡ place_among places.now from }
+{
+    match places.get(from.layer as usize) {
+        Some(own) => match own.items().get(from.path as usize) {
+            Some(place) => *place,
+            None => None,
+        },
+        None => None,
+    }
+}
+
+// A side of a change, of this piece.
+fn side(piece: Piece, places: &[Listed<Option<u32>>]) -> SideSpot
+    ensures { result ≡ side_of places.now piece }
+{
+    SideSpot {
+        from: piece.from,
+        at: path_place(places, piece.from),
+        a: piece.ia,
+        b: piece.ib,
+    }
+}
+
+// The sides of a change, its relations and the gap of its written segments.
+fn spot(pieces: &[Piece], places: &[Listed<Option<u32>>], change: Change) -> ChangeSpot
+    requires pieces { HasPieces pieces.now change }
+    requires near { AreAllNear pieces.now }
+    ensures { IsSpotOf pieces.now places.now change result }
+{
+    let p = piece_at(pieces, change.first);
+    let q = piece_at(pieces, change.second);
+    ChangeSpot {
+        first: side(p, places),
+        second: side(q, places),
+        was: change.was,
+        now: change.now,
+        gap: gap(p.ia, p.ib, q.ia, q.ib),
+    }
+}
+
+/// For each change of the pieces its two sides, its relations and its gap.
+pub fn change_spots(
+    alloc: Global,
+    tin: &SoundTin,
+    pieces: &[Piece],
+    places: &[Listed<Option<u32>>],
+    changes: &[Change],
+) -> Result<Vec<ChangeSpot>, AllocError>
+    requires near { AreAllNear pieces.now }
+    requires listed { AreListed tin.now pieces.now changes.now }
+    ensures { IfOk result (λ spots. AreSpotsOf pieces.now places.now changes.now spots.items) }
+{
+    let _ = tin;
+    let mut spots = Vec::with_capacity(alloc, changes.len())?;
+    for change in changes {
+        spots.push(spot(pieces, places, *change))?;
+    }
+    Ok(spots)
+}

@@ -1,0 +1,121 @@
+//! The whole program over what it is handed.
+
+ghost use Rattle.std.specs.Prelude.{◌≡◌, ◌≢◌, ◌⊎◌, ◌+◌, ◌≤◌, [], ◌∷◌, codes, IfSome, IfNone, false, map, string_bytes};
+ghost use Rattle.shelf_io.specs.Count.{Rose, counted};
+ghost use Rattle.job_words.specs.declared.faults.WordsFault.{WordsFault};
+ghost use Rattle.runs.specs.declared.loads.TheConstants.{MOST_BYTES};
+ghost use Rattle.runs.specs.Refusals.{line_of, status_of};
+ghost use Rattle.place_runs.specs.Words.{LacksPlaces};
+ghost use Rattle.place_runs.specs.Outcome.{HaveRows};
+ghost use Rattle.place_runs.specs.Ends.{EndsTold, LacksWantedOf, TellsBytes};
+
+use crate::output::{end, refuse, say};
+use crate::places::prepare_places;
+use crate::words::read_migration;
+use report_text::LayerRow;
+use runs::{Refusal, Status};
+use shelf_io::{Press, Shelf};
+use std::alloc::Global;
+
+/// How a run ended, why nothing was carried where that is so, and what was carried.
+#[derive(Drop)]
+pub struct RunEnd {
+    /// How it ended.
+    pub status: Status,
+    /// The refusal whose line was printed, or could not be printed: then the status is `Write`.
+    pub refusal: Option<Refusal>,
+    /// What a report would say of each layer, in order; nothing behind a refusal.
+    pub rows: Vec<LayerRow>,
+}
+
+/// Prints the changes of the migration that the words ask for, and hands out the refusal where there is one.
+pub fn run_to_end<S: Shelf, P: Press>(
+    alloc: Global,
+    words: &[String],
+    shelf: &mut S,
+    press: &mut P,
+) -> RunEnd
+    requires free { P.at_hand press.old ≡ false }
+    requires empty { IfSome (P.made press.old) (λ made. made ≡ []) }
+
+    // Where the shelf tells its files, a run ends in one of four ways: by its outcome, after a read fault,
+    // because memory ran out, or after a write fault.
+    ensures ends { IfSome (S.files shelf.old) (λ files. EndsTold (map string_bytes words.now) files (Rose (S.faults shelf.old) (S.faults shelf.new)) (Rose (P.faults press.old) (P.faults press.new)) result.status (P.made press.new)) }
+
+    // Told or not, the causes of the answers.
+    ensures words { result.status ≡ Status.Words → (fault : WordsFault) × LacksPlaces (map string_bytes words.now) fault }
+    ensures no_job { (fault : WordsFault) → LacksPlaces (map string_bytes words.now) fault → (result.status ≡ Status.Words) ⊎ ((result.status ≡ Status.Memory) ⊎ (result.status ≡ Status.Write)) }
+    ensures read { result.status ≡ Status.Read → Rose (S.faults shelf.old) (S.faults shelf.new) ⊎ LacksWantedOf (map string_bytes words.now) (S.files shelf.old) }
+    ensures write { result.status ≡ Status.Write → Rose (P.faults press.old) (P.faults press.new) }
+    ensures limit { IfSome (P.made press.new) (λ made. TellsBytes made → counted (S.given shelf.old) (MOST_BYTES + 1) ≤ S.given shelf.new) }
+
+    // Every other status leaves the counts of faults as they were.
+    ensures press_stays { result.status ≢ Status.Write → P.faults press.new ≡ P.faults press.old }
+    ensures shelf_stays { result.status ≢ Status.Write → result.status ≢ Status.Read → S.faults shelf.new ≡ S.faults shelf.old }
+
+    // Every other status leaves no file at hand: standard output is ended, where it was begun.
+    ensures at_hand { result.status ≢ Status.Write → P.at_hand press.new ≡ false }
+
+    // The refusal is the one whose line was printed, or whose line could not be printed. Where there is none, nothing
+    // was refused.
+    ensures refusal { IfSome result.refusal (λ refusal. (result.status ≡ status_of refusal) ⊎ (result.status ≡ Status.Write)) }
+    ensures printed { IfSome result.refusal (λ refusal. result.status ≢ Status.Write → IfSome (P.made press.new) (λ made. made ≡ (codes "-", line_of refusal) ∷ [])) }
+    ensures none { IfNone result.refusal ((result.status ≡ Status.Same) ⊎ ((result.status ≡ Status.Changed) ⊎ (result.status ≡ Status.Write))) }
+
+    // Where the shelf tells its files and nothing is refused, the rows are those of the migration's report.
+    ensures rows { IfNone result.refusal (IfSome (S.files shelf.old) (λ files. HaveRows (map string_bytes words.now) files result.rows.items)) }
+{
+    let migration = match read_migration(alloc, words) {
+        Ok(migration) => migration,
+        Err(fault) => {
+            return RunEnd {
+                status: refuse(press, Refusal::Words(fault)),
+                refusal: Some(Refusal::Words(fault)),
+                rows: Vec::new(alloc),
+            };
+        }
+    };
+    match prepare_places(alloc, shelf, &migration) {
+        Ok(said) => RunEnd {
+            status: say(press, said.text.items(), end(said.changed)),
+            refusal: None,
+            rows: said.rows,
+        },
+        Err(refusal) => RunEnd {
+            status: refuse(press, refusal),
+            refusal: Some(refusal),
+            rows: Vec::new(alloc),
+        },
+    }
+}
+
+/// Prints the changes of the migration that the words ask for.
+pub fn run<S: Shelf, P: Press>(
+    alloc: Global,
+    words: &[String],
+    shelf: &mut S,
+    press: &mut P,
+) -> Status
+    requires free { P.at_hand press.old ≡ false }
+    requires empty { IfSome (P.made press.old) (λ made. made ≡ []) }
+
+    // Where the shelf tells its files, a run ends in one of four ways: by its outcome, after a read fault,
+    // because memory ran out, or after a write fault.
+    ensures ends { IfSome (S.files shelf.old) (λ files. EndsTold (map string_bytes words.now) files (Rose (S.faults shelf.old) (S.faults shelf.new)) (Rose (P.faults press.old) (P.faults press.new)) result (P.made press.new)) }
+
+    // Told or not, the causes of the answers.
+    ensures words { result ≡ Status.Words → (fault : WordsFault) × LacksPlaces (map string_bytes words.now) fault }
+    ensures no_job { (fault : WordsFault) → LacksPlaces (map string_bytes words.now) fault → (result ≡ Status.Words) ⊎ ((result ≡ Status.Memory) ⊎ (result ≡ Status.Write)) }
+    ensures read { result ≡ Status.Read → Rose (S.faults shelf.old) (S.faults shelf.new) ⊎ LacksWantedOf (map string_bytes words.now) (S.files shelf.old) }
+    ensures write { result ≡ Status.Write → Rose (P.faults press.old) (P.faults press.new) }
+    ensures limit { IfSome (P.made press.new) (λ made. TellsBytes made → counted (S.given shelf.old) (MOST_BYTES + 1) ≤ S.given shelf.new) }
+
+    // Every other status leaves the counts of faults as they were.
+    ensures press_stays { result ≢ Status.Write → P.faults press.new ≡ P.faults press.old }
+    ensures shelf_stays { result ≢ Status.Write → result ≢ Status.Read → S.faults shelf.new ≡ S.faults shelf.old }
+
+    // Every other status leaves no file at hand: standard output is ended, where it was begun.
+    ensures at_hand { result ≢ Status.Write → P.at_hand press.new ≡ false }
+{
+    run_to_end(alloc, words, shelf, press).status
+}

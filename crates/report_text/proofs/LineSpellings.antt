@@ -1,0 +1,255 @@
+-- Reading line by line: the lines of a report lead from the start to its end, no others lead to an end, and from
+-- everywhere some lines do.
+use Rattle.std.proofs.Common.{◌≡◌, ℕ, zero, suc, ◌+◌, ◌<◌, ◌≤◌, ◌^◌, Bool, true, false, cond, List, [], ◌∷◌, ◌++◌}
+use Rattle.std.proofs.Common.{length, map, Option, Some, None, refl, sym, ◌∙◌, ap, arith, append_assoc, append-nil}
+use Rattle.std.proofs.Common.{subst, length-append}
+use Rattle.std.proofs.lemmas.List.{map-append}
+use Rattle.std.proofs.lemmas.Option.{option_and_then_some}
+use Rattle.std.specs.Cmp.Lexicographic.{same_text}
+use Rattle.std.specs.List.{AllByRecursion}
+use Rattle.std.specs.Str.{bytes_eq}
+use Rattle.tin_base.specs.declared.pieces.Change.{Change}
+use Rattle.text_places.specs.Machine.{run}
+use Rattle.report_text.specs.declared.drafts.TinRow.{TinRow}
+use Rattle.report_text.specs.declared.rows.LayerRow.{LayerRow}
+use Rattle.report_text.specs.InsideLineKinds.{tin_of, layer_of, is_extents, count_of, change_of}
+use Rattle.report_text.specs.ReportText.{title, tin_line, layer_line, extents_line, extents_lines, layer_lines}
+use Rattle.report_text.specs.ReportText.{change_line, count_line, end_line}
+use Rattle.report_text.specs.InsideSteps.{State, at_title, at_tin, at_layers, at_row, at_changes, at_end, step}
+use Rattle.report_text.specs.InsideSteps.{behind_tin}
+use Rattle.report_text.specs.InsideSteps.{behind_layers, behind_change, drawn, step_of_layers}
+use Rattle.report_text.proofs.LongerTexts.{layer_lines-append}
+use Rattle.report_text.proofs.StepChains.{some_is, let_through}
+use Rattle.report_text.proofs.LineLaws.{contents_of, IsTinHeld, tin_takes}
+use Rattle.report_text.proofs.LayerLaws.{IsRowHeld, layer_takes, extents_takes, count_takes}
+use Rattle.report_text.proofs.ChangeLaws.{IsChangeGood, change_takes}
+
+-- ---- what was read is spelled by the lines so far
+
+abbrev front_of : TinRow → List LayerRow → List (List ℕ)
+front_of tin rows = title ∷ tin_line (contents_of tin [] []) ∷ layer_lines 0 rows
+
+abbrev pub spelled : State → List (List ℕ)
+spelled at_title = []
+spelled at_tin = title ∷ []
+spelled (at_layers tin rows) = front_of tin rows
+spelled (at_row tin rows row) = front_of tin rows ++ (layer_line (length rows) row ∷ [])
+spelled (at_changes tin rows changes left) =
+    front_of tin rows ++ (count_line (length changes + left) ∷ map change_line changes)
+spelled (at_end tin rows changes) = front_of tin rows
+    ++ (count_line (length changes) ∷ (map change_line changes ++ end_line ∷ []))
+
+-- the triangulation's line and some layers, which are numbered in 64 bits
+pub record AreLayersHeld (tin : TinRow) (rows : List LayerRow) : Type 0 where
+  pub tin_held : IsTinHeld tin
+  pub rows_held : AllByRecursion IsRowHeld rows
+  pub numbered : length rows ≤ 2 ^ 64
+
+pub record AreChangesHeld (tin : TinRow) (rows : List LayerRow) (changes : List Change) (left : ℕ) : Type 0 where
+  pub layers : AreLayersHeld tin rows
+  pub good : AllByRecursion IsChangeGood changes
+  pub counted : length changes + left < 2 ^ 64
+
+pub record IsRowReady (tin : TinRow) (rows : List LayerRow) (row : LayerRow) : Type 0 where
+  pub layers : AreLayersHeld tin rows
+  pub held : IsRowHeld row
+  pub plain : row.drawing ≡ false
+  pub small : length rows < 2 ^ 64
+
+abbrev pub IsStateHeld : State → Type 0
+IsStateHeld at_title = Unit {0}
+IsStateHeld at_tin = Unit {0}
+IsStateHeld (at_layers tin rows) = AreLayersHeld tin rows
+IsStateHeld (at_row tin rows row) = IsRowReady tin rows row
+IsStateHeld (at_changes tin rows changes left) = AreChangesHeld tin rows changes left
+IsStateHeld (at_end tin rows changes) = AreChangesHeld tin rows changes 0
+
+-- a line that leads on is the next one of what is spelled
+pub record Spells (state : State) (line : List ℕ) (next : State) : Type 0 where
+  pub lines : spelled next ≡ spelled state ++ line ∷ []
+  pub held : IsStateHeld next
+
+all_and_one : {A : Type 0} (P : A → Type 0) (xs : List A) (x : A) → AllByRecursion P xs → P x
+    → AllByRecursion P (xs ++ x ∷ [])
+all_and_one P [] x all one = (one, tt)
+all_and_one P (y ∷ xs) x all one = (all.0, all_and_one P xs x all.1 one)
+
+title_spells : (line : List ℕ) (next : State) → step at_title line ≡ Some next → Spells at_title line next
+title_spells line next is =
+    let found = let_through (bytes_eq line title) at_tin next is in
+    subst (Spells at_title line) found.same (record {
+      lines =
+          ap (λ l. l ∷ []) (sym (same_text line title (sym found.passes)));
+      held = tt;
+    })
+
+tin_spells : (line : List ℕ) (next : State) (read : Option TinRow) → tin_of line ≡ read → behind_tin read ≡ Some next
+    → Spells at_tin line next
+tin_spells line next None read is = absurd cc
+tin_spells line next (Some tin) read is =
+    let taken = tin_takes line tin read in
+    subst (Spells at_tin line) (some_is (at_layers tin []) next is) (record {
+      lines = ap (λ l. title ∷ l ∷ []) (sym (taken.parts [] []));
+      held = record { tin_held = taken.held; rows_held = tt; numbered = omega arith };
+    })
+
+layers_spell : (tin : TinRow) (rows : List LayerRow) (line : List ℕ) (next : State) (row : Option LayerRow)
+    (count : Option ℕ) → AreLayersHeld tin rows
+    → layer_of (length rows) line ≡ row → count_of line ≡ count → behind_layers tin rows row count ≡ Some next
+    → Spells (at_layers tin rows) line next
+layers_spell tin rows line next (Some row) count held of_row of_count is =
+    let taken = layer_takes (length rows) line row of_row in
+    subst (Spells (at_layers tin rows) line) (some_is (at_row tin rows row) next is) (record {
+      lines = ap (λ l. front_of tin rows ++ l ∷ []) (sym taken.parts);
+      held = record { layers = held; held = taken.held; plain = taken.plain; small = taken.small };
+    })
+layers_spell tin rows line next None (Some count) held of_row of_count is =
+    let taken = count_takes line count of_count in
+    subst (Spells (at_layers tin rows) line) (some_is (at_changes tin rows [] count) next is) (record {
+      lines = ap (λ l. front_of tin rows ++ l ∷ []) (ap count_line zero_and ∙ sym taken.0);
+      held = record { layers = held; good = tt; counted = omega (arith, taken.1) };
+    })
+  where
+    zero_and : 0 + count ≡ count
+    zero_and = omega arith
+layers_spell tin rows line next None None held of_row of_count is = absurd cc
+
+one_layer : (rows : List LayerRow) (row : LayerRow)
+    → layer_lines 0 (rows ++ row ∷ []) ≡ layer_lines 0 rows
+    ++ (layer_line (length rows) row ∷ extents_lines (length rows) row.drawing)
+one_layer rows row =
+    let count : 0 + length rows ≡ length rows = omega arith in
+    subst (λ n. layer_lines 0 (rows ++ row ∷ []) ≡ layer_lines 0 rows
+    ++ (layer_line n row ∷ extents_lines n row.drawing)) count (layer_lines-append 0 rows row)
+
+-- a row that is no drawing is a layer
+row_joins : (tin : TinRow) (rows : List LayerRow) (row : LayerRow) → row.drawing ≡ false
+    → front_of tin (rows ++ row ∷ []) ≡ front_of tin rows ++ (layer_line (length rows) row ∷ [])
+row_joins tin rows row plain = ap (λ ls. title ∷ tin_line (contents_of tin [] []) ∷ ls)
+    (one_layer rows row ∙ ap (λ d. layer_lines 0 rows ++ (layer_line (length rows) row ∷ extents_lines (length rows) d))
+    plain)
+
+-- one that is a drawing has its extents behind it
+same_line : (number : ℕ) (row : LayerRow) → layer_line number (drawn row) ≡ layer_line number row
+unfolding layer_line
+same_line number row = refl
+
+drawing_joins : (tin : TinRow) (rows : List LayerRow) (row : LayerRow)
+    → front_of tin (rows ++ drawn row ∷ []) ≡ (front_of tin rows ++ (layer_line (length rows) row ∷ []))
+    ++ (extents_line (length rows) ∷ [])
+drawing_joins tin rows row =
+    let layers : layer_lines 0 (rows ++ drawn row ∷ []) ≡ (layer_lines 0 rows ++ (layer_line (length rows) row ∷ []))
+    ++ (extents_line (length rows) ∷ [])
+    = one_layer rows (drawn row) ∙ (ap (λ l. layer_lines 0 rows ++ (l ∷ extents_line (length rows) ∷ []))
+    (same_line (length rows) row)
+    ∙ sym (append_assoc (layer_lines 0 rows) (layer_line (length rows) row ∷ []) (extents_line (length rows) ∷ []))) in
+    ap (λ ls. title ∷ tin_line (contents_of tin [] []) ∷ ls) layers
+
+drawn_held : (row : LayerRow) → IsRowHeld row → IsRowHeld (drawn row)
+drawn_held row is = record {
+  held = record {
+    paths = is.held.paths;
+    segments = is.held.segments;
+    pieces = is.held.pieces;
+    inexact =
+        is.held.inexact;
+    dropped = is.held.dropped;
+    name = is.held.name;
+  };
+  printable = is.printable;
+}
+
+row_held : (tin : TinRow) (rows : List LayerRow) (row : LayerRow) → IsRowReady tin rows row
+    → AreLayersHeld tin (rows ++ row ∷ [])
+row_held tin rows row ready = record {
+  tin_held = ready.layers.tin_held;
+  rows_held = all_and_one IsRowHeld rows row ready.layers.rows_held ready.held;
+  numbered = rw length-append (omega (arith, ready.small));
+}
+
+row_spells : (tin : TinRow) (rows : List LayerRow) (row : LayerRow) (line : List ℕ) (next : State) (extents : Bool)
+    → IsRowReady tin rows row
+    → is_extents (length rows) line ≡ extents
+    → cond extents (Some (at_layers tin (rows ++ drawn row ∷ []))) (step_of_layers tin (rows ++ row ∷ []) line)
+    ≡ Some next → Spells (at_row tin rows row) line next
+row_spells tin rows row line next true ready of_extents is =
+    let same : line ≡ extents_line (length rows) = extents_takes (length rows) line of_extents in
+    subst (Spells (at_row tin rows row) line) (some_is (at_layers tin (rows ++ drawn row ∷ [])) next is) (record {
+      lines = drawing_joins tin rows row ∙ ap (λ l. (front_of tin rows ++ (layer_line (length rows) row ∷ [])) ++ l
+          ∷ []) (sym same);
+      held = record {
+        tin_held = ready.layers.tin_held;
+        rows_held = all_and_one IsRowHeld rows (drawn row) ready.layers.rows_held (drawn_held row ready.held);
+        numbered = rw length-append (omega (arith, ready.small));
+      };
+    })
+row_spells tin rows row line next false ready of_extents is =
+    let later = layers_spell tin (rows ++ row ∷ []) line next _ _ (row_held tin rows row ready) refl refl is in
+    record { lines = later.lines ∙ ap (λ f. f ++ line ∷ []) (row_joins tin rows row ready.plain); held = later.held }
+
+changes_spell : (tin : TinRow) (rows : List LayerRow) (changes : List Change) (left : ℕ) (line : List ℕ) (next : State)
+    (read : Option Change) → AreChangesHeld tin rows changes (suc left)
+    → change_of line ≡ read → behind_change tin rows changes left read ≡ Some next
+    → Spells (at_changes tin rows changes (suc left)) line next
+changes_spell tin rows changes left line next None held read is = absurd cc
+changes_spell tin rows changes left line next (Some change) held read is =
+    let taken = change_takes line change read in
+    let count : length (changes ++ change ∷ []) + left ≡ length changes + suc left = rw length-append (omega arith) in
+    let more : map change_line (changes ++ change ∷ []) ≡ map change_line changes ++ line ∷ [] =
+    map-append change_line changes (change ∷ []) ∙ ap (λ l. map change_line changes ++ l ∷ []) (sym taken.parts) in
+    subst (Spells (at_changes tin rows changes (suc left)) line)
+    (some_is (at_changes tin rows (changes ++ change ∷ []) left) next is) (record {
+      lines = ap (λ n. front_of tin rows ++ (count_line n ∷ map change_line (changes ++ change ∷ []))) count
+          ∙ (ap (λ ls. front_of tin rows ++ (count_line (length changes + suc left) ∷ ls)) more
+          ∙ sym (append_assoc (front_of tin rows) (count_line (length changes + suc left) ∷ map change_line changes)
+          (line ∷ [])));
+      held = record {
+        layers = held.layers;
+        good =
+            all_and_one IsChangeGood changes change held.good taken.good;
+        counted =
+            subst (λ n. n < 2 ^ 64) (sym count) held.counted;
+      };
+    })
+
+pub step_spells : (state : State) (line : List ℕ) (next : State) → IsStateHeld state → step state line ≡ Some next
+    → Spells state line next
+step_spells at_title line next held is = title_spells line next is
+step_spells at_tin line next held is = tin_spells line next (tin_of line) refl is
+step_spells (at_layers tin rows) line next held is =
+    layers_spell tin rows line next (layer_of (length rows) line) (count_of line) held refl refl is
+step_spells (at_row tin rows row) line next held is =
+    row_spells tin rows row line next (is_extents (length rows) line) held refl is
+step_spells (at_changes tin rows changes zero) line next held is =
+    let found = let_through (bytes_eq line end_line) (at_end tin rows changes) next is in
+    let same : line ≡ end_line = same_text line end_line (sym found.passes) in
+    let count : length changes + 0 ≡ length changes = omega arith in
+    subst (Spells (at_changes tin rows changes 0) line) found.same (record {
+      lines = ap (λ l. front_of tin rows ++ (count_line (length changes) ∷ (map change_line changes ++ l ∷ [])))
+          (sym same)
+          ∙ (ap (λ n. front_of tin rows ++ (count_line n ∷ (map change_line changes ++ line ∷ []))) (sym count)
+          ∙ sym (append_assoc (front_of tin rows) (count_line (length changes + 0) ∷ map change_line changes)
+          (line ∷ [])));
+      held = held;
+    })
+step_spells (at_changes tin rows changes (suc left)) line next held is =
+    changes_spell tin rows changes left line next (change_of line) held refl is
+step_spells (at_end tin rows changes) line next held is = absurd cc
+
+-- the lines that lead from a state to another are what is spelled between them
+pub record Spelled (state : State) (lines : List (List ℕ)) (last : State) : Type 0 where
+  pub all : spelled last ≡ spelled state ++ lines
+  pub held : IsStateHeld last
+
+pub run_spells : (state last : State) (lines : List (List ℕ)) → IsStateHeld state → run step state lines ≡ Some last
+    → Spelled state lines last
+run_spells state last [] held is =
+    subst (Spelled state []) (some_is state last is) (record { all = sym (append-nil (spelled state)); held = held })
+run_spells state last (line ∷ lines) held is =
+    option_and_then_some (λ next. run step next lines) (step state line) last is (λ next here on.
+    let one = step_spells state line next held here in
+    let later = run_spells next last lines one.held on in
+    record {
+      all = later.all ∙ (ap (λ ls. ls ++ lines) one.lines ∙ append_assoc (spelled state) (line ∷ []) lines);
+      held = later.held;
+    })

@@ -1,0 +1,85 @@
+-- Reading a report line by line: what was read, and what a line makes of it. Only private functions speak of it.
+use Rattle.std.specs.Prelude.{◌≡◌, ℕ, zero, suc, true, if◌then◌else◌, List, [], ◌∷◌, ◌++◌, length, Option, None, Some}
+use Rattle.std.specs.Prelude.{Result, Ok, Err}
+use Rattle.std.specs.Str.{bytes_eq}
+use Rattle.tin_base.specs.declared.pieces.Change.{Change}
+use Rattle.report_text.specs.declared.drafts.Draft.{Draft}
+use Rattle.report_text.specs.declared.drafts.Draft.TheVariants as drafts
+use Rattle.report_text.specs.declared.drafts.TinRow.{TinRow}
+use Rattle.report_text.specs.declared.faults.ReportFault.{ReportFault}
+use Rattle.report_text.specs.declared.faults.ReportFault.TheVariants.{Bad, NoMemory}
+use Rattle.report_text.specs.declared.rows.LayerRow.{LayerRow}
+use Rattle.report_text.specs.InsideLineKinds.{tin_of, layer_of, is_extents, count_of, change_of}
+use Rattle.report_text.specs.ReportText.{title, end_line}
+
+-- what was read, by what may come next
+pub data State : Type 0 where
+  at_title : State
+  at_tin : State
+  at_layers : TinRow → List LayerRow → State
+  at_row : TinRow → List LayerRow → LayerRow → State
+  at_changes : TinRow → List LayerRow → List Change → ℕ → State
+  at_end : TinRow → List LayerRow → List Change → State
+
+-- a draft without where it lies in memory
+abbrev pub seen : Draft → State
+seen drafts.Title = at_title
+seen drafts.Tin = at_tin
+seen (drafts.Layers tin rows) = at_layers tin rows.items
+seen (drafts.Row tin rows row) = at_row tin rows.items row
+seen (drafts.Changes tin rows changes left) = at_changes tin rows.items changes.items left
+seen (drafts.Whole tin rows changes) = at_end tin rows.items changes.items
+
+-- behind the line of the triangulation
+abbrev pub behind_tin : Option TinRow → Option State
+behind_tin None = None
+behind_tin (Some tin) = Some (at_layers tin [])
+
+abbrev pub behind_count : TinRow → List LayerRow → Option ℕ → Option State
+behind_count tin rows None = None
+behind_count tin rows (Some count) = Some (at_changes tin rows [] count)
+
+-- behind some layers: one more layer, or else the number of changes
+abbrev pub behind_layers : TinRow → List LayerRow → Option LayerRow → Option ℕ → Option State
+behind_layers tin rows (Some row) count = Some (at_row tin rows row)
+behind_layers tin rows None count = behind_count tin rows count
+
+abbrev pub step_of_layers : TinRow → List LayerRow → List ℕ → Option State
+step_of_layers tin rows line = behind_layers tin rows (layer_of (length rows) line) (count_of line)
+
+abbrev pub drawn : LayerRow → LayerRow
+drawn row = record row { drawing = true }
+
+-- behind a layer that is a drawing if its extents come
+abbrev pub step_of_row : TinRow → List LayerRow → LayerRow → List ℕ → Option State
+step_of_row tin rows row line =
+    if is_extents (length rows) line then Some (at_layers tin (rows ++ drawn row ∷ [])) else step_of_layers tin
+    (rows ++ row ∷ []) line
+
+abbrev pub behind_change : TinRow → List LayerRow → List Change → ℕ → Option Change → Option State
+behind_change tin rows changes left None = None
+behind_change tin rows changes left (Some change) = Some (at_changes tin rows (changes ++ change ∷ []) left)
+
+-- behind some changes, of which so many more come
+abbrev pub step_of_changes : TinRow → List LayerRow → List Change → ℕ → List ℕ → Option State
+step_of_changes tin rows changes zero line = if bytes_eq line end_line then Some (at_end tin rows changes) else None
+step_of_changes tin rows changes (suc left) line = behind_change tin rows changes left (change_of line)
+
+-- what a line makes of what was read, unless no report goes on so
+abbrev pub step : State → List ℕ → Option State
+step at_title line = if bytes_eq line title then Some at_tin else None
+step at_tin line = behind_tin (tin_of line)
+step (at_layers tin rows) line = step_of_layers tin rows line
+step (at_row tin rows row) line = step_of_row tin rows row line
+step (at_changes tin rows changes left) line = step_of_changes tin rows changes left line
+step (at_end tin rows changes) line = None
+
+-- the fault is that the line of this number leads nowhere, or memory ran out
+abbrev pub Refuses : ReportFault → ℕ → Option State → Type 0
+Refuses (Bad line) number answer = (line ≡ number) × (answer ≡ None)
+Refuses NoMemory number answer = Unit {0}
+
+-- a call says where the line of this number leads, or why it leads nowhere
+abbrev pub Leads : Result Draft ReportFault → ℕ → Option State → Type 0
+Leads (Ok next) number answer = answer ≡ Some (seen next)
+Leads (Err fault) number answer = Refuses fault number answer

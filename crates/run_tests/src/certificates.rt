@@ -1,0 +1,343 @@
+//! Runs in memory that write certificates, and that verify written layers by them. What is expected is worked out by
+//! hand.
+
+use crate::memory_runs::{Files, Job, SQUARE, first_other_job};
+use runs::Status;
+
+/// A line across the diagonal of the square, and the line as it is carried.
+const LINE: &str = "LINESTRING (10 0, 0 10)";
+
+const CARRIED: &str = "LINESTRING (110.000 100.000, 105.002 105.002, 100.000 110.000)";
+
+const CERTIFICATE: &str = "tinmove certificate 1\n0 1\n";
+
+const VERIFY: [&str; 9] = [
+    "verify",
+    "--tin",
+    "s.json",
+    "--source",
+    "l.wkt",
+    "--written",
+    "w",
+    "--cert",
+    "c",
+];
+
+const LAYERS: Files = &[
+    ("s.json", SQUARE),
+    ("l.wkt", LINE),
+    ("p.wkt", "POINT (1 1)"),
+];
+
+const WRITTEN: &[Job] = &[
+    (
+        &[
+            "migrate", "--tin", "s.json", "--out", "o", "--cert", "l.wkt", "p.wkt",
+        ],
+        LAYERS,
+        Status::Same,
+        &[
+            ("o/l.wkt", Some(CARRIED)),
+            ("o/l.wkt.cert", Some(CERTIFICATE)),
+            ("o/p.wkt.cert", Some("tinmove certificate 1\n0\n")),
+        ],
+    ),
+    (
+        &["migrate", "--tin", "s.json", "--out", "o", "l.wkt"],
+        LAYERS,
+        Status::Same,
+        &[("o/l.wkt", Some(CARRIED)), ("o/l.wkt.cert", None)],
+    ),
+];
+
+#[test]
+fn a_migration_writes_certificates(rt: HostRuntime) {
+    assert_eq!(rt; first_other_job(rt.alloc(), WRITTEN), None);
+}
+
+const VERIFIED: &[Job] = &[
+    (
+        &VERIFY,
+        &[
+            ("s.json", SQUARE),
+            ("l.wkt", LINE),
+            ("w", CARRIED),
+            ("c", CERTIFICATE),
+        ],
+        Status::Same,
+        &[("-", Some("certified\n"))],
+    ),
+    (
+        &VERIFY,
+        &[
+            ("s.json", SQUARE),
+            ("l.wkt", LINE),
+            ("w", CARRIED),
+            ("c", "tinmove certificate 1\n1 0\n"),
+        ],
+        Status::Uncertified,
+        &[("-", Some("certificate: segment 0/0\n"))],
+    ),
+    (
+        &VERIFY,
+        &[
+            ("s.json", SQUARE),
+            ("l.wkt", LINE),
+            ("w", CARRIED),
+            ("c", "tinmove certificate 1\n0\n"),
+        ],
+        Status::Uncertified,
+        &[("-", Some("certificate: segment 0/0\n"))],
+    ),
+    (
+        &VERIFY,
+        &[
+            ("s.json", SQUARE),
+            ("l.wkt", LINE),
+            ("w", CARRIED),
+            ("c", "tinmove certificate 1\n"),
+        ],
+        Status::Uncertified,
+        &[("-", Some("certificate: count\n"))],
+    ),
+    (
+        &VERIFY,
+        &[
+            ("s.json", SQUARE),
+            ("l.wkt", LINE),
+            ("w", CARRIED),
+            ("c", "tinmove certificate 1\n0 01\n"),
+        ],
+        Status::Uncertified,
+        &[("-", Some("certificate: form at line 2\n"))],
+    ),
+    (
+        &VERIFY,
+        &[
+            ("s.json", SQUARE),
+            ("l.wkt", LINE),
+            ("w", CARRIED),
+            ("c", ""),
+        ],
+        Status::Uncertified,
+        &[("-", Some("certificate: form at line 1\n"))],
+    ),
+    (
+        &VERIFY,
+        &[
+            ("s.json", SQUARE),
+            ("l.wkt", LINE),
+            (
+                "w",
+                "LINESTRING (110.000 100.000, 105.001 105.002, 100.000 110.000)",
+            ),
+            ("c", CERTIFICATE),
+        ],
+        Status::Uncertified,
+        &[("-", Some("certificate: differs at 35\n"))],
+    ),
+    (
+        &VERIFY,
+        &[
+            ("s.json", SQUARE),
+            ("l.wkt", LINE),
+            ("w", "LINESTRING (110.000 100.000"),
+            ("c", CERTIFICATE),
+        ],
+        Status::Uncertified,
+        &[("-", Some("certificate: differs at 27\n"))],
+    ),
+    // a point of two triangles has two certificates
+    (
+        &VERIFY,
+        &[
+            ("s.json", SQUARE),
+            ("l.wkt", "POINT (5 5)"),
+            ("w", "POINT (105.002 105.002)"),
+            ("c", "tinmove certificate 1\n0\n"),
+        ],
+        Status::Same,
+        &[("-", Some("certified\n"))],
+    ),
+    (
+        &VERIFY,
+        &[
+            ("s.json", SQUARE),
+            ("l.wkt", "POINT (5 5)"),
+            ("w", "POINT (105.002 105.002)"),
+            ("c", "tinmove certificate 1\n1\n"),
+        ],
+        Status::Same,
+        &[("-", Some("certified\n"))],
+    ),
+];
+
+#[test]
+fn a_written_layer_is_verified(rt: HostRuntime) {
+    assert_eq!(rt; first_other_job(rt.alloc(), VERIFIED), None);
+}
+
+/// The first file that is refused is named.
+const UNVERIFIED: &[Job] = &[
+    (
+        &VERIFY,
+        &[("s.json", SQUARE)],
+        Status::Read,
+        &[("-", Some("read fault: layer 0\n"))],
+    ),
+    (
+        &VERIFY,
+        &[("s.json", SQUARE), ("l.wkt", LINE)],
+        Status::Read,
+        &[("-", Some("read fault: written\n"))],
+    ),
+    (
+        &VERIFY,
+        &[("s.json", SQUARE), ("l.wkt", LINE), ("w", CARRIED)],
+        Status::Read,
+        &[("-", Some("read fault: certificate\n"))],
+    ),
+    (
+        &VERIFY,
+        &[
+            ("s.json", SQUARE),
+            ("l.wkt", "POINT (5"),
+            ("w", CARRIED),
+            ("c", ""),
+        ],
+        Status::Layer,
+        &[("-", Some("layer 0: bad at 8\n"))],
+    ),
+];
+
+#[test]
+fn the_first_file_that_is_refused_is_named(rt: HostRuntime) {
+    assert_eq!(rt; first_other_job(rt.alloc(), UNVERIFIED), None);
+}
+
+const REFUSED_WORDS: &[Job] = &[
+    (
+        &[
+            "verify",
+            "--tin",
+            "",
+            "--source",
+            "",
+            "--written",
+            "",
+            "--cert",
+            "",
+        ],
+        &[],
+        Status::Words,
+        &[("-", Some("words: name of triangulation\n"))],
+    ),
+    (
+        &[
+            "verify",
+            "--tin",
+            "t",
+            "--source",
+            "",
+            "--written",
+            "",
+            "--cert",
+            "",
+        ],
+        &[],
+        Status::Words,
+        &[("-", Some("words: name of source\n"))],
+    ),
+    (
+        &[
+            "verify",
+            "--tin",
+            "t",
+            "--source",
+            "l.wkt",
+            "--written",
+            "",
+            "--cert",
+            "",
+        ],
+        &[],
+        Status::Words,
+        &[("-", Some("words: name of written\n"))],
+    ),
+    (
+        &[
+            "verify",
+            "--tin",
+            "t",
+            "--source",
+            "l.wkt",
+            "--written",
+            "w",
+            "--cert",
+            "",
+        ],
+        &[],
+        Status::Words,
+        &[("-", Some("words: name of certificate\n"))],
+    ),
+    (
+        &[
+            "verify",
+            "--tin",
+            "t",
+            "--source",
+            "l",
+            "--written",
+            "w",
+            "--cert",
+            "c",
+        ],
+        &[],
+        Status::Words,
+        &[("-", Some("words: suffix of layer 0\n"))],
+    ),
+];
+
+#[test]
+fn the_words_of_a_verification_are_read_in_order(rt: HostRuntime) {
+    assert_eq!(rt; first_other_job(rt.alloc(), REFUSED_WORDS), None);
+}
+
+/// A layer that was carried in the other direction.
+const CARRIED_BACK: Files = &[
+    ("s.json", SQUARE),
+    ("l.wkt", "POINT (100 110)"),
+    ("w", "POINT (0.000 10.000)"),
+    ("c", "tinmove certificate 1\n1\n"),
+];
+
+const INVERSE: &[Job] = &[
+    (
+        &[
+            "verify",
+            "--tin",
+            "s.json",
+            "--source",
+            "l.wkt",
+            "--written",
+            "w",
+            "--cert",
+            "c",
+            "--inverse",
+        ],
+        CARRIED_BACK,
+        Status::Same,
+        &[("-", Some("certified\n"))],
+    ),
+    (
+        &VERIFY,
+        CARRIED_BACK,
+        Status::Uncertified,
+        &[("-", Some("certificate: segment 0/0\n"))],
+    ),
+];
+
+#[test]
+fn a_layer_of_the_other_direction_is_verified(rt: HostRuntime) {
+    assert_eq!(rt; first_other_job(rt.alloc(), INVERSE), None);
+}

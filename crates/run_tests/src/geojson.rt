@@ -1,0 +1,241 @@
+//! Runs over whole layers of GeoJSON, in memory. The expected texts and lines are worked out by hand.
+
+use crate::memory_runs::{Carried, SQUARE, TRIANGLE, first_other};
+use runs::Status;
+
+/// A line across the diagonal and a feature without a place, laid out as ogr2ogr lays them out.
+const PARCELS: &str = r#"{
+"type": "FeatureCollection",
+"name": "parcels",
+"crs": { "type": "name", "properties": { "name": "urn:ogc:def:crs:EPSG::21781" } },
+"bbox": [ 0.0, 0.0, 10.0, 10.0 ],
+"features": [
+{ "type": "Feature", "properties": { "n": "B\u00e4r" }, "geometry": { "type": "LineString", "coordinates": [ [ 10.0, 0.0 ], [ 0.0, 10.0 ] ] } },
+{ "type": "Feature", "properties": { "n": null }, "geometry": null }
+]
+}"#;
+
+/// The same, carried through the square.
+const CARRIED_PARCELS: &str = r#"{
+"type": "FeatureCollection",
+"name": "parcels",
+"crs": null,
+"bbox": [100.000,100.000,110.000,110.000],
+"features": [
+{ "type": "Feature", "properties": { "n": "B\u00e4r" }, "geometry": { "type": "LineString", "coordinates": [ [110.000,100.000],[105.002,105.002],[100.000,110.000] ] } },
+{ "type": "Feature", "properties": { "n": null }, "geometry": null }
+]
+}"#;
+
+/// The names of the triangulation and of the layer.
+const NAMES: (&str, &str) = ("s.json", "p.geojson");
+
+const IN_FOLDER: (&str, &str) = ("s.json", "in/p.json");
+
+const COLLECTION: &[Carried] = &[(
+    SQUARE,
+    PARCELS,
+    Status::Same,
+    &[
+        ("o/p.geojson", Some(CARRIED_PARCELS)),
+        (
+            "-",
+            Some(
+                "tinmove report 1
+triangulation corners 4 triangles 2 inexact 0 name s.json
+layer 0 paths 1 segments 1 pieces 2 inexact 0 dropped 0 name p.geojson
+changes 0
+end
+",
+            ),
+        ),
+    ],
+)];
+
+#[test]
+fn a_collection_of_features_is_carried(rt: HostRuntime) {
+    assert_eq!(rt; first_other(rt.alloc(), NAMES, COLLECTION), None);
+}
+
+const POINT: &str = r#"{"type":"Point","coordinates":[5,0]}"#;
+
+const POINT_CARRIED: &str = r#"{"type":"Point","coordinates":[105.001,100.000]}"#;
+
+const NO_POINT: &str = r#"{"coordinates":[],"bbox":[1],"type":"Point"}"#;
+
+const NO_POINT_CARRIED: &str = r#"{"coordinates":[],"bbox":null,"type":"Point"}"#;
+
+const POLYGON: &str = r#"{"type":"Polygon","coordinates":[[[0,0],[10,0],[0,10],[0,0]]]}"#;
+
+const POLYGON_CARRIED: &str =
+    r#"{"type":"Polygon","coordinates":[[[100.000,100.000],[110.002,100.000],[100.000,110.000],[100.000,100.000]]]}"#;
+
+const OBJECTS: &[Carried] = &[
+    (
+        TRIANGLE,
+        POINT,
+        Status::Same,
+        &[("o/p.geojson", Some(POINT_CARRIED))],
+    ),
+    (
+        TRIANGLE,
+        NO_POINT,
+        Status::Same,
+        &[("o/p.geojson", Some(NO_POINT_CARRIED))],
+    ),
+    (
+        TRIANGLE,
+        POLYGON,
+        Status::Same,
+        &[("o/p.geojson", Some(POLYGON_CARRIED))],
+    ),
+];
+
+#[test]
+fn objects_keep_all_but_their_positions(rt: HostRuntime) {
+    assert_eq!(rt; first_other(rt.alloc(), NAMES, OBJECTS), None);
+}
+
+/// The same objects, and two of which one is off the other after rounding.
+const OBJECTS_IN_FOLDER: &[Carried] = &[
+    (
+        TRIANGLE,
+        POINT,
+        Status::Same,
+        &[("o/p.json", Some(POINT_CARRIED))],
+    ),
+    (
+        TRIANGLE,
+        NO_POINT,
+        Status::Same,
+        &[("o/p.json", Some(NO_POINT_CARRIED))],
+    ),
+    (
+        TRIANGLE,
+        POLYGON,
+        Status::Same,
+        &[("o/p.json", Some(POLYGON_CARRIED))],
+    ),
+    (
+        SQUARE,
+        r#"{"type":"GeometryCollection","geometries":[{"type":"LineString","coordinates":[[10,0],[0,10]]},{"type":"Point","coordinates":[6,4]}]}"#,
+        Status::Changed,
+        &[
+            (
+                "o/p.json",
+                Some(
+                    r#"{"type":"GeometryCollection","geometries":[{"type":"LineString","coordinates":[[110.000,100.000],[105.002,105.002],[100.000,110.000]]},{"type":"Point","coordinates":[106.001,104.001]}]}"#,
+                ),
+            ),
+            (
+                "-",
+                Some(
+                    "tinmove report 1
+triangulation corners 4 triangles 2 inexact 0 name s.json
+layer 0 paths 2 segments 2 pieces 3 inexact 0 dropped 0 name in/p.json
+changes 1
+change 0/0/0/0 0/1/0/0 touching apart
+end
+",
+                ),
+            ),
+        ],
+    ),
+    // an object outside is named
+    (
+        TRIANGLE,
+        r#"{"type":"MultiPoint","coordinates":[[1,1],[-1,0]]}"#,
+        Status::Outside,
+        &[("-", Some("outside: layer 0 path 1 segment 0\n"))],
+    ),
+];
+
+#[test]
+fn objects_of_files_in_folders_are_carried_or_named(rt: HostRuntime) {
+    assert_eq!(rt; first_other(rt.alloc(), IN_FOLDER, OBJECTS_IN_FOLDER), None);
+}
+
+const REFUSED: &[Carried] = &[
+    (
+        TRIANGLE,
+        r#"{"type":"Point","coordinates":[5,0,1,1]}"#,
+        Status::Layer,
+        &[
+            ("-", Some("layer 0: height at 37\n")),
+            ("o/p.geojson", None),
+        ],
+    ),
+    (
+        TRIANGLE,
+        r#"{"type":"Point","type":"Point"}"#,
+        Status::Layer,
+        &[
+            ("-", Some("layer 0: repeat at 16\n")),
+            ("o/p.geojson", None),
+        ],
+    ),
+    (
+        TRIANGLE,
+        r#"{"type":"Arc"}"#,
+        Status::Layer,
+        &[("-", Some("layer 0: kind at 8\n")), ("o/p.geojson", None)],
+    ),
+    (
+        TRIANGLE,
+        r#"{"type":"Point""#,
+        Status::Layer,
+        &[("-", Some("layer 0: bad at 15\n")), ("o/p.geojson", None)],
+    ),
+    (
+        TRIANGLE,
+        "[]",
+        Status::Layer,
+        &[("-", Some("layer 0: shape at 0\n")), ("o/p.geojson", None)],
+    ),
+    (
+        TRIANGLE,
+        "[[[[[[[[[[[[[[[[[[[[[[[[[[[[[[[[[[[[[[[[[[[[[[[[[[[[[[[[[[[[[[[[[",
+        Status::Layer,
+        &[("-", Some("layer 0: deep at 64\n")), ("o/p.geojson", None)],
+    ),
+    (
+        TRIANGLE,
+        r#"{"type":"Point","coordinates":[5,1e100]}"#,
+        Status::Layer,
+        &[
+            ("-", Some("layer 0: number range at 33\n")),
+            ("o/p.geojson", None),
+        ],
+    ),
+    (
+        TRIANGLE,
+        r#"{"type":"Polygon","coordinates":[[[0,0],[1,0],[0,0]]]}"#,
+        Status::Layer,
+        &[("-", Some("layer 0: ring at 33\n")), ("o/p.geojson", None)],
+    ),
+    // well-known text under this name is no JSON text
+    (
+        TRIANGLE,
+        "POINT (5 0)",
+        Status::Layer,
+        &[("-", Some("layer 0: bad at 0\n")), ("o/p.geojson", None)],
+    ),
+];
+
+#[test]
+fn refused_objects_have_one_line(rt: HostRuntime) {
+    assert_eq!(rt; first_other(rt.alloc(), NAMES, REFUSED), None);
+}
+
+const UNDER_ANOTHER_NAME: &[Carried] = &[(
+    TRIANGLE,
+    POINT,
+    Status::Layer,
+    &[("-", Some("layer 0: bad at 0\n"))],
+)];
+
+#[test]
+fn an_object_under_the_name_of_well_known_text_is_refused(rt: HostRuntime) {
+    let other = first_other(rt.alloc(), ("s.json", "p.wkt"), UNDER_ANOTHER_NAME);
+    assert_eq!(rt; other, None);
+}

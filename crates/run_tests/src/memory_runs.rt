@@ -1,0 +1,196 @@
+//! Runs in memory that the tests share: two triangulations, a run over files, and what it is to leave behind.
+
+ghost use Rattle.std.specs.Prelude.{◌<◌};
+
+use runs::Status;
+use shelf_io::{MemPress, MemShelf, Shelf};
+use std::alloc::{AllocError, Global};
+use whole_runs::run;
+
+/// A triangle with corners at (0, 0), (10, 0) and (0, 10), whose side along x is two millimetres longer in the target.
+pub const TRIANGLE: &str =
+    r#"{"file_type":"triangulation_file","format_version":"1.1","transformed_components":["horizontal"],"vertices_columns":["source_x","source_y","target_x","target_y"],"triangles_columns":["idx_vertex1","idx_vertex2","idx_vertex3"],"vertices":[[0,0,100,100],[10,0,110.002,100],[0,10,100,110]],"triangles":[[0,1,2]]}"#;
+
+/// Two triangles that make a square, whose diagonal is longer in the target.
+pub const SQUARE: &str =
+    r#"{"file_type":"triangulation_file","format_version":"1.1","transformed_components":["horizontal"],"vertices_columns":["source_x","source_y","target_x","target_y"],"triangles_columns":["idx_vertex1","idx_vertex2","idx_vertex3"],"vertices":[[0,0,100,100],[10,0,110,100],[10,10,110.003,110.003],[0,10,100,110]],"triangles":[[0,1,2],[0,2,3]]}"#;
+
+/// Adds a word.
+fn add_word(alloc: Global, words: &mut Vec<String>, text: &str) -> Result<(), AllocError> {
+    let word = String::from_str(alloc, text)?;
+    words.push(word)?;
+    Ok(())
+}
+
+/// The words as a run takes them.
+pub fn words_of(alloc: Global, texts: &[&str]) -> Result<Vec<String>, AllocError> {
+    let mut words = Vec::new(alloc);
+    for text in texts {
+        add_word(alloc, &mut words, text)?;
+    }
+    Ok(words)
+}
+
+/// Adds a file, unless there is one of its name.
+pub fn add_file(shelf: &mut MemShelf, name: &str, bytes: &[u8]) -> Result<(), AllocError> {
+    match shelf.begin(name) {
+        Ok(false) => shelf.add(name, bytes),
+        Ok(true) | Err(_) => Ok(()),
+    }
+}
+
+/// A shelf of these files, of which the first of a name counts.
+pub fn shelf_of(alloc: Global, files: &[(&str, &str)]) -> Result<MemShelf, AllocError> {
+    let mut shelf = MemShelf::new(alloc, 4096);
+    for (name, text) in files {
+        add_file(&mut shelf, name, text.as_bytes())?;
+    }
+    Ok(shelf)
+}
+
+/// A call that no run makes.
+pub const NEVER: u64 = 1000;
+
+/// How a run of these words over this shelf ends, and what it makes, by writes of at most `most` bytes of which the
+/// call of this number fails.
+pub fn ran_over(
+    alloc: Global,
+    texts: &[&str],
+    mut shelf: MemShelf,
+    most: usize,
+    fail: u64,
+) -> Result<(Status, MemPress), AllocError>
+    requires { 0 < most }
+{
+    let words = words_of(alloc, texts)?;
+    let mut press = MemPress::new(alloc, most);
+    press.fail_at(fail)?;
+    let status = run(alloc, &words, &mut shelf, &mut press);
+    Ok((status, press))
+}
+
+/// Whether the press has made these files with these texts. `None`: the file of this name was not begun.
+pub fn holds(press: &MemPress, made: &[(&str, Option<&str>)]) -> bool {
+    for &(name, text) in made {
+        if press.made_bytes(name) != text.map(|text| text.as_bytes()) {
+            return false;
+        }
+    }
+    true
+}
+
+/// Whether a run of these words over this shelf ends so, and makes these files. `None`: a file that is not begun.
+pub fn ends_over(
+    alloc: Global,
+    texts: &[&str],
+    shelf: MemShelf,
+    wanted: Status,
+    made: &[(&str, Option<&str>)],
+) -> Result<bool, AllocError> {
+    let (status, press) = ran_over(alloc, texts, shelf, 4096, NEVER)?;
+    Ok(status == wanted && holds(&press, made))
+}
+
+/// Whether a run of these words over these files ends so, and makes these files. `None`: a file that is not begun.
+pub fn makes(
+    alloc: Global,
+    texts: &[&str],
+    files: &[(&str, &str)],
+    wanted: Status,
+    made: &[(&str, Option<&str>)],
+) -> bool {
+    match shelf_of(alloc, files) {
+        Ok(shelf) => ends_over(alloc, texts, shelf, wanted, made) == Ok(true),
+        Err(_) => false,
+    }
+}
+
+/// The words that carry one layer through one triangulation.
+pub const MIGRATE: [&str; 6] = ["migrate", "--tin", "t.json", "--out", "o", "p.wkt"];
+
+/// Files by their names and texts.
+pub type Files = &'static [(&'static str, &'static str)];
+
+/// Files that are made, by their names and texts. `None`: a file that is not begun.
+pub type Made = &'static [(&'static str, Option<&'static str>)];
+
+/// Words, the files that they find, how a run of them ends, and files that it makes.
+pub type Job = (&'static [&'static str], Files, Status, Made);
+
+/// The number of the first job that ends otherwise or makes other files, or none.
+pub fn first_other_job(alloc: Global, jobs: &[Job]) -> Option<usize> {
+    for (number, &(texts, files, wanted, made)) in jobs.iter().enumerate() {
+        if !makes(alloc, texts, files, wanted, made) {
+            return Some(number);
+        }
+    }
+    None
+}
+
+/// A triangulation, a layer, how a run that carries it ends, and files that it makes.
+pub type Carried = (&'static str, &'static str, Status, Made);
+
+/// Whether a run that carries the layer through the triangulation, each in a file of its name, ends so, and makes these
+/// files.
+pub fn migrates(
+    alloc: Global,
+    names: (&str, &str),
+    (tin, layer): (&str, &str),
+    wanted: Status,
+    made: Made,
+) -> bool {
+    let words = ["migrate", "--tin", names.0, "--out", "o", names.1];
+    let files = [(names.0, tin), (names.1, layer)];
+    makes(alloc, &words, &files, wanted, made)
+}
+
+/// The number of the first row that ends otherwise or makes other files, or none, where the files of the triangulation
+/// and of the layer have these names.
+pub fn first_other(alloc: Global, names: (&str, &str), rows: &[Carried]) -> Option<usize> {
+    for (number, row) in rows.iter().enumerate() {
+        if !migrates(alloc, names, (row.0, row.1), row.2, row.3) {
+            return Some(number);
+        }
+    }
+    None
+}
+
+/// The calls of a run to the shelf and to the press that fail, how it ends, and files that it leaves.
+pub type Failing = ((u64, u64), Status, Made);
+
+/// Whether a run of these words over these files, whose writes take at most `most` bytes, ends so and leaves these
+/// files.
+fn fails(alloc: Global, texts: &[&str], files: Files, most: usize, row: &Failing) -> bool
+    requires { 0 < most }
+{
+    let Ok(mut shelf) = shelf_of(alloc, files) else {
+        return false;
+    };
+    // Each file took one call of the shelf.
+    let call = row.0.0.saturating_add(files.len() as u64);
+    if shelf.fail_at(call).is_err() {
+        return false;
+    }
+    match ran_over(alloc, texts, shelf, most, row.0.1) {
+        Ok((status, press)) => status == row.1 && holds(&press, row.2),
+        Err(_) => false,
+    }
+}
+
+/// The number of the first row that ends otherwise or leaves other files, or none.
+pub fn first_other_fault(
+    alloc: Global,
+    texts: &[&str],
+    files: Files,
+    most: usize,
+    rows: &[Failing],
+) -> Option<usize>
+    requires { 0 < most }
+{
+    for (number, row) in rows.iter().enumerate() {
+        if !fails(alloc, texts, files, most, row) {
+            return Some(number);
+        }
+    }
+    None
+}

@@ -1,0 +1,352 @@
+//! Runs of the program that puts changes on the map, over files in memory. The expected texts are worked out by hand.
+
+use crate::memory_runs::{NEVER, SQUARE, add_file, words_of};
+use job_words::{Which, WordsFault};
+use place_runs::{read_migration, run, run_to_end};
+use remarks::WordFlaw;
+use report_text::LayerRow;
+use run_notes::flaw_of;
+use run_steps::{Steps, ToldPress, ToldShelf};
+use runs::Status;
+use shelf_io::{MemPress, MemShelf};
+use std::alloc::{AllocError, Global};
+use std::test::Fail;
+
+/// A line across the diagonal, and a point of it.
+const LINES: &str = "LINESTRING (10 0, 0 10)\nPOINT (6 4)\n";
+
+/// The same as GeoJSON.
+const COLLECTION: &str =
+    r#"{"type":"GeometryCollection","geometries":[{"type":"LineString","coordinates":[[10,0],[0,10]]},{"type":"Point","coordinates":[6,4]}]}"#;
+
+/// The same as a drawing.
+const DRAWING: &str =
+    "  0\nSECTION\n  2\nHEADER\n  9\n$HANDSEED\n  5\n2F\n  0\nENDSEC\n  0\nSECTION\n  2\nENTITIES\n  0\nLINE\n  5\n2E\n  8\nWALL\n 10\n10.0\n 20\n0.0\n 11\n0.0\n 21\n10.0\n  0\nPOINT\n  5\n2D\n  8\nWELL\n 10\n6.0\n 20\n4.0\n  0\nENDSEC\n  0\nEOF\n";
+
+/// How the text of the one change begins, up to the name of its first layer.
+const FRONT: &str = r#"{"type":"FeatureCollection","crs":null,"features":[
+{"type":"Feature","geometry":{"type":"GeometryCollection","geometries":[{"type":"LineString","coordinates":[[110.000,100.000],[105.002,105.002]]},{"type":"Point","coordinates":[106.001,104.001]}]},"properties":{"change":0,"was":"touching","now":"apart","gap_mm":1,"first_layer":""#;
+
+/// How it ends.
+const BACK: &str = "}}]}\n";
+
+/// The text of no change.
+const NO_CHANGE: &str = "{\"type\":\"FeatureCollection\",\"crs\":null,\"features\":[]}\n";
+
+/// A shelf of the square and these files, of which the first of a name counts.
+fn shelf_of(alloc: Global, files: &[(&str, &str)]) -> Result<MemShelf, AllocError> {
+    let mut shelf = MemShelf::new(alloc, 64);
+    shelf.add("s.json", SQUARE.as_bytes())?;
+    for (name, text) in files {
+        add_file(&mut shelf, name, text.as_bytes())?;
+    }
+    Ok(shelf)
+}
+
+/// How a run of these words over this square and these files ends, and what it makes, by writes of at most 64 bytes of
+/// which the call of this number fails.
+fn ran(
+    alloc: Global,
+    texts: &[&str],
+    files: &[(&str, &str)],
+    fail: u64,
+) -> Result<(Status, MemPress), AllocError> {
+    let words = words_of(alloc, texts)?;
+    let mut shelf = shelf_of(alloc, files)?;
+    let mut press = MemPress::new(alloc, 64);
+    press.fail_at(fail)?;
+    let status = run(alloc, &words, &mut shelf, &mut press);
+    Ok((status, press))
+}
+
+/// Whether a run of these words over the square and these files ends so, and prints this text.
+fn prints(
+    alloc: Global,
+    texts: &[&str],
+    files: &[(&str, &str)],
+    wanted: Status,
+    said: &str,
+) -> bool {
+    match ran(alloc, texts, files, NEVER) {
+        Ok((status, press)) => {
+            let made = press.made_bytes("-");
+            status == wanted && made == Some(said.as_bytes())
+        }
+        Err(_) => false,
+    }
+}
+
+/// The text of the one change: what it says of the first layer's name and both sides is handed in.
+fn text_of(alloc: Global, sides: &str) -> Result<String, AllocError> {
+    let mut text = String::from_str(alloc, FRONT)?;
+    text.push_str(sides)?;
+    text.push_str(BACK)?;
+    Ok(text)
+}
+
+/// A layer's name and text, and what the text of its one change says of both sides.
+type Layer = (&'static str, &'static str, &'static str);
+
+/// Whether a run with this layer prints its one change.
+fn prints_change(alloc: Global, row: &Layer) -> bool {
+    let words = ["--tin", "s.json", row.0];
+    let files = [(row.0, row.1)];
+    match text_of(alloc, row.2) {
+        Ok(text) => prints(alloc, &words, &files, Status::Changed, &text),
+        Err(_) => false,
+    }
+}
+
+/// The name of the first layer of which another text is printed, or none.
+fn first_other_layer(alloc: Global, rows: &[Layer]) -> Option<&'static str> {
+    for row in rows {
+        if !prints_change(alloc, row) {
+            return Some(row.0);
+        }
+    }
+    None
+}
+
+const LAYERS: &[Layer] = &[
+    (
+        "lines.wkt",
+        LINES,
+        r#"lines.wkt","first":"0/0/0/0","first_at":12,"second_layer":"lines.wkt","second":"0/1/0/0","second_at":31"#,
+    ),
+    (
+        "in/both.json",
+        COLLECTION,
+        r#"in/both.json","first":"0/0/0/0","first_at":79,"second_layer":"in/both.json","second":"0/1/0/0","second_at":125"#,
+    ),
+    (
+        "walls.dxf",
+        DRAWING,
+        r#"walls.dxf","first":"0/0/0/0","first_at":15,"second_layer":"walls.dxf","second":"0/1/0/0","second_at":36"#,
+    ),
+];
+
+#[test]
+fn a_change_has_a_feature_in_each_format(rt: HostRuntime) {
+    assert_eq!(rt; first_other_layer(rt.alloc(), LAYERS), None);
+}
+
+const TWO_NAMES: &str =
+    r#"one.wkt","first":"0/0/0/0","first_at":12,"second_layer":"the \"second\".geojson","second":"1/0/0/0","second_at":32"#;
+
+const TWO_WORDS: &[&str] = &["--tin", "s.json", "one.wkt", r#"the "second".geojson"#];
+
+const TWO_LAYERS: &[(&str, &str)] = &[
+    ("one.wkt", "LINESTRING (10 0, 0 10)"),
+    (
+        r#"the "second".geojson"#,
+        r#"{"type":"Point", "coordinates": [6,4]}"#,
+    ),
+];
+
+#[test]
+fn a_change_of_two_layers_names_both(rt: HostRuntime) -> Result<(), Fail> {
+    let text = text_of(rt.alloc(), TWO_NAMES)?;
+    assert!(rt; prints(rt.alloc(), TWO_WORDS, TWO_LAYERS, Status::Changed, &text));
+    Ok(())
+}
+
+/// Words, how a run of them over two points ends, and what it prints.
+type Run = (&'static [&'static str], Status, &'static str);
+
+/// Two points, of which one is outside.
+const POINTS: &[(&str, &str)] = &[("p.wkt", "POINT (6 4)"), ("q.wkt", "POINT (6 11)")];
+
+/// The number of the first run that ends or prints otherwise, or none.
+fn first_other_run(alloc: Global, rows: &[Run]) -> Option<usize> {
+    for (number, &(words, status, said)) in rows.iter().enumerate() {
+        if !prints(alloc, words, POINTS, status, said) {
+            return Some(number);
+        }
+    }
+    None
+}
+
+const SAME: &[Run] = &[
+    (&["--tin", "s.json", "p.wkt"], Status::Same, NO_CHANGE),
+    (
+        &["--tin", "s.json", "--cert", "p.wkt"],
+        Status::Same,
+        NO_CHANGE,
+    ),
+];
+
+#[test]
+fn where_nothing_changes_there_is_no_feature(rt: HostRuntime) {
+    assert_eq!(rt; first_other_run(rt.alloc(), SAME), None);
+}
+
+const REFUSED_RUNS: &[Run] = &[
+    (
+        &["--tin", "s.json", "none.wkt"],
+        Status::Read,
+        "read fault: layer 0\n",
+    ),
+    (
+        &["--tin", "s.json", "q.wkt"],
+        Status::Outside,
+        "outside: layer 0 path 0 segment 0\n",
+    ),
+    (
+        &["--tin", "s.json", "p.txt"],
+        Status::Words,
+        "words: suffix of layer 0\n",
+    ),
+    (
+        &["--out", "o", "p.wkt"],
+        Status::Words,
+        "words: not understood\n",
+    ),
+];
+
+#[test]
+fn what_is_refused_has_the_line_of_a_migration(rt: HostRuntime) {
+    assert_eq!(rt; first_other_run(rt.alloc(), REFUSED_RUNS), None);
+}
+
+/// How a run of which the call behind a first write of 64 bytes fails ends, and whether it leaves these bytes alone.
+fn left_by_fault(alloc: Global) -> Result<(Status, bool), AllocError> {
+    let words = ["--tin", "s.json", "lines.wkt"];
+    let (status, press) = ran(alloc, &words, &[("lines.wkt", LINES)], 2)?;
+    let is_left = press.made_bytes("-") == FRONT.as_bytes().get(..64);
+    Ok((status, is_left && press.faults() == 1))
+}
+
+#[test]
+fn a_write_that_fails_leaves_a_first_part(rt: HostRuntime) {
+    assert_eq!(rt; left_by_fault(rt.alloc()), Ok((Status::Write, true)));
+}
+
+/// Words that are refused, why, what is wrong, and with which word.
+const REFUSED: &[(&[&str], WordsFault, WordFlaw, &str)] = &[
+    (&[], WordsFault::Parse, WordFlaw::Missing, "--tin FILE"),
+    (
+        &["--tin", "t"],
+        WordsFault::Parse,
+        WordFlaw::Missing,
+        "LAYER",
+    ),
+    (
+        &["--tin", "t", "--out", "o", "a.wkt"],
+        WordsFault::Parse,
+        WordFlaw::Unknown,
+        "--out",
+    ),
+    (
+        &["--tin", "t", "a.wkt", "--cert", "--cert"],
+        WordsFault::Parse,
+        WordFlaw::Twice,
+        "--cert",
+    ),
+    (
+        &["a.wkt", "--tin"],
+        WordsFault::Parse,
+        WordFlaw::NoValue,
+        "--tin",
+    ),
+    (
+        &["--tin=", "a.wkt"],
+        WordsFault::Name { which: Which::Tin },
+        WordFlaw::Refused(WordsFault::Name { which: Which::Tin }),
+        "",
+    ),
+    (
+        &["--tin", "t", "migrate", "a.wkt"],
+        WordsFault::Suffix { layer: 0 },
+        WordFlaw::Refused(WordsFault::Suffix { layer: 0 }),
+        "migrate",
+    ),
+    (
+        &["--tin", "t", "x/a.wkt", "--", "y/a.wkt"],
+        WordsFault::SameName { layer: 1 },
+        WordFlaw::Refused(WordsFault::SameName { layer: 1 }),
+        "y/a.wkt",
+    ),
+];
+
+#[test]
+fn the_word_that_is_wrong_or_missing_is_named(rt: HostRuntime) -> Result<(), Fail> {
+    let alloc = rt.alloc();
+    for (texts, fault, flaw, word) in REFUSED {
+        let words = words_of(alloc, texts)?;
+        assert_eq!(rt;
+            read_migration(alloc, &words).err(),
+            Some(*fault),
+            "at {texts:?}"
+        );
+        let found = flaw_of(alloc, &words, false, *fault)?;
+        assert_eq!(rt; found, Some((*flaw, *word)), "at {texts:?}");
+    }
+    Ok(())
+}
+
+/// What was said.
+fn said(to: &Option<Vec<u8>>) -> &[u8] {
+    match to {
+        Some(bytes) => bytes,
+        None => b"",
+    }
+}
+
+/// Whether a run over one point says what it is doing, and leaves nothing of it.
+fn says_steps(alloc: Global, lines: &[u8]) -> Result<bool, AllocError> {
+    let words = words_of(alloc, &["--tin", "s.json", "p.wkt"])?;
+    let steps = Steps {
+        layers: 1,
+        are_written: false,
+    };
+    let shelf = shelf_of(alloc, &[("p.wkt", "POINT (6 4)")])?;
+    let mut shelf = ToldShelf::new(shelf, Some(Vec::new(alloc)), steps);
+    let mut press = ToldPress::new(MemPress::new(alloc, 64), Some(Vec::new(alloc)), steps);
+    let end = run_to_end(alloc, &words, &mut shelf, &mut press);
+    Ok(end.status == Status::Same && said(&shelf.to) == lines && said(&press.to) == CLEARED)
+}
+
+/// What clears the line.
+const CLEARED: &[u8] = b"\r\x1b[K";
+
+const STEPS: &[u8] =
+    b"\r\x1b[Ktinmove: step 1 of 4: reading s.json\r\x1b[Ktinmove: step 2 of 4: checking the triangulation\r\x1b[Ktinmove: step 3 of 4: reading p.wkt\r\x1b[Ktinmove: step 4 of 4: carrying layer 0 (1 of 1), then comparing";
+
+#[test]
+fn a_run_says_what_it_is_doing(rt: HostRuntime) {
+    assert_eq!(rt; says_steps(rt.alloc(), STEPS), Ok(true));
+}
+
+/// Of each layer how many paths it has, how many numbers lost digits, and how many entities are left out.
+fn counts_of(alloc: Global, rows: &[LayerRow]) -> Result<Vec<(u32, u64, u64)>, AllocError> {
+    let mut counts = Vec::new(alloc);
+    for row in rows {
+        counts.push((row.paths, row.inexact, row.dropped))?;
+    }
+    Ok(counts)
+}
+
+/// These counts of a run over a layer of GeoJSON and a drawing.
+fn counts_of_run(
+    alloc: Global,
+    layer: &str,
+    drawing: &str,
+) -> Result<Vec<(u32, u64, u64)>, AllocError> {
+    let words = words_of(
+        alloc,
+        &["--tin", "s.json", "--drop-other", "a.json", "d.dxf"],
+    )?;
+    let mut shelf = shelf_of(alloc, &[("a.json", layer), ("d.dxf", drawing)])?;
+    let mut press = MemPress::new(alloc, 64);
+    let end = run_to_end(alloc, &words, &mut shelf, &mut press);
+    counts_of(alloc, &end.rows)
+}
+
+#[test]
+fn a_run_has_a_row_for_each_layer(rt: HostRuntime) -> Result<(), Fail> {
+    let drawing = "  0\nSECTION\n  2\nENTITIES\n  0\nHATCH\n  8\n0\n  0\nENDSEC\n  0\nEOF\n";
+    let layer = r#"{"type":"Point","coordinates":[6.0004,4]}"#;
+    let counts = counts_of_run(rt.alloc(), layer, drawing)?;
+    assert_eq!(rt; counts.as_slice(), [(1, 1, 0), (0, 0, 1)].as_slice());
+    Ok(())
+}

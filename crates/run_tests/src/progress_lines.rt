@@ -1,0 +1,314 @@
+//! What a run says of what it is doing, and that it is the same run whether or not it is heard.
+
+use crate::memory_runs::{MIGRATE, NEVER, TRIANGLE, words_of};
+use run_steps::{PressNotes, Steps, ToldPress, ToldShelf, say_making};
+use runs::Status;
+use shelf_io::{MemPress, MemShelf, load, print};
+use std::alloc::{AllocError, Global};
+use std::io;
+use std::io::{ErrorKind, Write};
+use std::test::Fail;
+use whole_runs::run;
+
+/// The steps of a migration of so many layers.
+fn migration_of(layers: usize) -> Steps {
+    Steps {
+        layers,
+        are_written: true,
+    }
+}
+
+/// A shelf with the files of these words, of which a call fails.
+fn shelf_of_two(alloc: Global, fail: u64) -> Result<MemShelf, AllocError> {
+    let mut shelf = MemShelf::new(alloc, 4096);
+    shelf.add("t.json", TRIANGLE.as_bytes())?;
+    shelf.add("p.wkt", b"POINT (5 0)")?;
+    shelf.fail_at(fail)?;
+    Ok(shelf)
+}
+
+/// A run of which nothing is said, with a call of the shelf and one of the press that fail.
+fn bare_run(alloc: Global, fails: (u64, u64)) -> Result<(Status, MemPress), AllocError> {
+    let mut shelf = shelf_of_two(alloc, fails.0)?;
+    let mut press = MemPress::new(alloc, 4096);
+    press.fail_at(fails.1)?;
+    let status = run(alloc, &words_of(alloc, &MIGRATE)?, &mut shelf, &mut press);
+    Ok((status, press))
+}
+
+/// How a run ended, and the shelf and the press after it.
+type Told<W> = (Status, ToldShelf<MemShelf, W>, ToldPress<MemPress, W>);
+
+/// The same run, told to these two.
+fn told_run<W: Write + Drop>(
+    alloc: Global,
+    fails: (u64, u64),
+    to: (Option<W>, Option<W>),
+) -> Result<Told<W>, AllocError> {
+    let mut shelf = ToldShelf::new(shelf_of_two(alloc, fails.0)?, to.0, migration_of(1));
+    let mut press = MemPress::new(alloc, 4096);
+    press.fail_at(fails.1)?;
+    let mut press = ToldPress::new(press, to.1, migration_of(1));
+    let status = run(alloc, &words_of(alloc, &MIGRATE)?, &mut shelf, &mut press);
+    Ok((status, shelf, press))
+}
+
+/// What was said.
+fn said(to: &Option<Vec<u8>>) -> &[u8] {
+    match to {
+        Some(bytes) => bytes,
+        None => b"",
+    }
+}
+
+/// The calls of a run to the shelf and to the press that fail, how it ends, and what is said of what is read and of what
+/// is made.
+type Said = ((u64, u64), Status, &'static [u8], &'static [u8]);
+
+/// Whether a run of which these calls fail ends so, and says this.
+fn says(alloc: Global, row: &Said) -> Result<bool, AllocError> {
+    let to = (Some(Vec::new(alloc)), Some(Vec::new(alloc)));
+    let (ended, shelf, press) = told_run(alloc, row.0, to)?;
+    Ok(ended == row.1 && said(&shelf.to) == row.2 && said(&press.to) == row.3)
+}
+
+/// The number of the first run that ends otherwise or says something else, or none.
+fn first_other(alloc: Global, rows: &[Said]) -> Result<Option<usize>, AllocError> {
+    for (number, row) in rows.iter().enumerate() {
+        if !says(alloc, row)? {
+            return Ok(Some(number));
+        }
+    }
+    Ok(None)
+}
+
+const WHOLE: &[u8] =
+    b"\r\x1b[Ktinmove: step 1 of 5: reading t.json\r\x1b[Ktinmove: step 2 of 5: checking the triangulation\r\x1b[Ktinmove: step 3 of 5: reading p.wkt\r\x1b[Ktinmove: step 4 of 5: carrying layer 0 (1 of 1), then comparing";
+
+const UNREAD: &[u8] =
+    b"\r\x1b[Ktinmove: step 1 of 5: reading t.json\r\x1b[Ktinmove: step 2 of 5: checking the triangulation\r\x1b[Ktinmove: step 3 of 5: reading p.wkt";
+
+const UNTOLD: &[u8] = b"\r\x1b[Ktinmove: step 1 of 5: reading t.json";
+
+const WRITTEN: &[u8] = b"\r\x1b[Ktinmove: step 5 of 5: writing o/p.wkt";
+
+/// Before the line of a refusal, and before the report, the line is cleared.
+const REFUSED: &[u8] = b"\r\x1b[K";
+
+const WHOLE_WRITTEN: &[u8] = b"\r\x1b[Ktinmove: step 5 of 5: writing o/p.wkt\r\x1b[K";
+
+/// The triangulation is begun, read and ended by the calls 0 to 2 of the shelf, and the layer by 3 to 5.
+const SAID: &[Said] = &[
+    ((NEVER, NEVER), Status::Same, WHOLE, WHOLE_WRITTEN),
+    ((NEVER, 0), Status::Write, WHOLE, WRITTEN),
+    ((0, NEVER), Status::Read, UNTOLD, REFUSED),
+    ((2, NEVER), Status::Read, UNTOLD, REFUSED),
+    ((3, NEVER), Status::Read, UNREAD, REFUSED),
+    ((5, NEVER), Status::Read, UNREAD, REFUSED),
+];
+
+#[test]
+fn a_run_says_what_it_is_doing(rt: HostRuntime) {
+    assert_eq!(rt; first_other(rt.alloc(), SAID), Ok(None));
+}
+
+/// A place to write to that takes nothing.
+#[derive(Drop)]
+struct Closed;
+
+impl Write for Closed {
+    fn write(&mut self, _bytes: &[u8]) -> io::Result<usize> {
+        Err(io::Error::from(ErrorKind::BrokenPipe))
+    }
+
+    fn flush(&mut self) -> io::Result<()> {
+        Ok(())
+    }
+}
+
+/// Whether two runs end in the same way, after as many faults, and leave the same files.
+fn is_same_run(one: (Status, &MemPress), other: (Status, &MemPress)) -> bool {
+    let is_same_file = |name| one.1.made_bytes(name) == other.1.made_bytes(name);
+    one.0 == other.0
+        && one.1.faults() == other.1.faults()
+        && is_same_file("o/p.wkt")
+        && is_same_file("-")
+}
+
+/// Whether the run that is told to these two is the same as one of which nothing is said.
+fn is_unchanged<W: Write + Drop>(
+    alloc: Global,
+    fails: (u64, u64),
+    to: (Option<W>, Option<W>),
+) -> Result<bool, AllocError> {
+    let (status, press) = bare_run(alloc, fails)?;
+    let (told_status, _, told) = told_run(alloc, fails, to)?;
+    Ok(is_same_run((status, &press), (told_status, &told.press)))
+}
+
+/// Who hears what is said of a run.
+#[derive(Clone, Copy)]
+enum Hearer {
+    All,
+    Closed,
+    None,
+}
+
+/// Whether the run of which these calls fail is the same where it is heard so.
+fn is_the_same(alloc: Global, hearer: Hearer, fails: (u64, u64)) -> Result<bool, AllocError> {
+    match hearer {
+        Hearer::All => {
+            let heard = (Some(Vec::new(alloc)), Some(Vec::new(alloc)));
+            is_unchanged::<Vec<u8>>(alloc, fails, heard)
+        }
+        Hearer::Closed => is_unchanged(alloc, fails, (Some(Closed), Some(Closed))),
+        Hearer::None => is_unchanged::<Closed>(alloc, fails, (None, None)),
+    }
+}
+
+/// The first of the calls, of the shelf or of the press, whose fault makes another run where it is heard so, or none.
+fn first_other_run(alloc: Global, hearer: Hearer, calls: u64) -> Result<Option<u64>, AllocError> {
+    for call in 0..calls {
+        if !is_the_same(alloc, hearer, (call, NEVER))?
+            || !is_the_same(alloc, hearer, (NEVER, call))?
+        {
+            return Ok(Some(call));
+        }
+    }
+    Ok(None)
+}
+
+/// Two files are begun, read and ended by six calls, and two are begun, written and ended by six: one more call of each
+/// is asked for that no run makes.
+const CALLS: u64 = 7;
+
+#[test]
+fn a_run_is_the_same_where_it_is_heard(rt: HostRuntime) {
+    assert_eq!(rt; first_other_run(rt.alloc(), Hearer::All, CALLS), Ok(None));
+}
+
+#[test]
+fn a_run_is_the_same_where_nothing_takes_what_is_said(rt: HostRuntime) {
+    assert_eq!(rt;
+        first_other_run(rt.alloc(), Hearer::Closed, CALLS),
+        Ok(None)
+    );
+}
+
+#[test]
+fn a_run_is_the_same_where_it_is_silent(rt: HostRuntime) {
+    assert_eq!(rt; first_other_run(rt.alloc(), Hearer::None, CALLS), Ok(None));
+}
+
+/// A shelf of three files, of which two are layers.
+fn shelf_of_three(alloc: Global) -> Result<ToldShelf<MemShelf, Vec<u8>>, AllocError> {
+    let mut shelf = MemShelf::new(alloc, 2);
+    shelf.add("t", b"12345")?;
+    shelf.add("a", b"67")?;
+    shelf.add("b", b"")?;
+    Ok(ToldShelf::new(shelf, Some(Vec::new(alloc)), migration_of(2)))
+}
+
+/// Whether the file of this name is loaded, and has these bytes.
+fn is_loaded(
+    alloc: Global,
+    shelf: &mut ToldShelf<MemShelf, Vec<u8>>,
+    name: &str,
+    text: &[u8],
+) -> bool {
+    match load(alloc, shelf, name, 9) {
+        Ok(bytes) => bytes.as_slice() == text,
+        Err(_) => false,
+    }
+}
+
+/// Whether these files are loaded, and this is said of it.
+fn loads(alloc: Global, files: &[(&str, &[u8])], lines: &[u8]) -> Result<bool, AllocError> {
+    let mut shelf = shelf_of_three(alloc)?;
+    for &(name, text) in files {
+        if !is_loaded(alloc, &mut shelf, name, text) {
+            return Ok(false);
+        }
+    }
+    Ok(said(&shelf.to) == lines)
+}
+
+const LOADED: &[(&str, &[u8])] = &[("t", b"12345"), ("a", b"67"), ("b", b"")];
+
+const LOADED_LINES: &[u8] =
+    b"\r\x1b[Ktinmove: step 1 of 8: reading t\r\x1b[Ktinmove: step 2 of 8: checking the triangulation\r\x1b[Ktinmove: step 3 of 8: reading a\r\x1b[Ktinmove: step 4 of 8: carrying layer 0 (1 of 2)\r\x1b[Ktinmove: step 5 of 8: reading b\r\x1b[Ktinmove: step 6 of 8: carrying layer 1 (2 of 2), then comparing";
+
+#[test]
+fn layers_are_counted_behind_the_triangulation(rt: HostRuntime) {
+    assert_eq!(rt; loads(rt.alloc(), LOADED, LOADED_LINES), Ok(true));
+}
+
+#[test]
+fn of_standard_output_nothing_is_said(rt: HostRuntime) -> Result<(), Fail> {
+    let alloc = rt.alloc();
+    let mut press = ToldPress::new(
+        MemPress::new(alloc, 2),
+        Some(Vec::new(alloc)),
+        migration_of(2),
+    );
+    print(&mut press, "-", b"123")?;
+    assert_eq!(rt; said(&press.to), b"\r\x1b[K".as_slice());
+    print(&mut press, "o/three.wkt", b"456")?;
+    assert_eq!(rt;
+        said(&press.to),
+        b"\r\x1b[K\r\x1b[Ktinmove: step 7 of 8: writing o/three.wkt".as_slice()
+    );
+    for (name, bytes) in [("-", b"123".as_slice()), ("o/three.wkt", b"456")] {
+        assert_eq!(rt; press.press.made_bytes(name), Some(bytes), "at {name}");
+    }
+    Ok(())
+}
+
+#[test]
+fn each_mebibyte_is_a_point(rt: HostRuntime) -> Result<(), Fail> {
+    let alloc = rt.alloc();
+    let mut bytes = Vec::new(alloc);
+    bytes.resize(2 * 1_048_576 + 5, b' ')?;
+    let mut shelf = MemShelf::new(alloc, 65_536);
+    shelf.add("t", &bytes)?;
+    let mut shelf = ToldShelf::new(shelf, Some(Vec::new(alloc)), migration_of(0));
+    let read = load(alloc, &mut shelf, "t", 1 << 26)?;
+    assert_eq!(rt; read.len(), bytes.len());
+    assert_eq!(rt;
+        said(&shelf.to),
+        b"\r\x1b[Ktinmove: step 1 of 2: reading t..\r\x1b[Ktinmove: step 2 of 2: checking the triangulation".as_slice()
+    );
+    let mut press = ToldPress::new(
+        MemPress::new(alloc, 65_536),
+        Some(Vec::new(alloc)),
+        migration_of(1),
+    );
+    print(&mut press, "a", &bytes)?;
+    assert_eq!(rt;
+        said(&press.to),
+        b"\r\x1b[Ktinmove: step 5 of 5: writing a..".as_slice()
+    );
+    Ok(())
+}
+
+#[test]
+fn what_is_made_is_noted(rt: HostRuntime) -> Result<(), Fail> {
+    let alloc = rt.alloc();
+    let mut press = PressNotes::new(alloc, MemPress::new(alloc, 2));
+    print(&mut press, "o/a.wkt", b"456")?;
+    assert_eq!(rt; press.name.as_str(), "o/a.wkt");
+    print(&mut press, "-", b"12345")?;
+    assert_eq!(rt; press.name.as_str(), "-");
+    assert_eq!(rt; press.report.as_slice(), b"12345".as_slice());
+    Ok(())
+}
+
+#[test]
+fn a_made_map_is_named(rt: HostRuntime) {
+    let mut to = Some(Vec::new(rt.alloc()));
+    say_making(&mut to, 7);
+    assert_eq!(rt;
+        said(&to),
+        b"\r\x1b[Ktinmove: making and carrying a map of 7 by 7 cells".as_slice()
+    );
+}

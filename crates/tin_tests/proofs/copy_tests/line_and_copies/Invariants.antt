@@ -1,7 +1,0 @@
--- The invariants of `line_and_copies` in src/copy_tests.rt.
-use Rattle.std.proofs.Common.{All}
-use Rattle.tin_tests.specs.Small.{IsTried}
-use Rattle.tin_tests.proofs.copy_tests.line_and_copies.Given as goal
-
-abbrev pub invariant-loop-number : goal.invariant-loop-number
-invariant-loop-number l = All (λ p. IsTried l.tin p) l.pieces.items

@@ -1,9 +1,0 @@
--- Answers to the goals of `image` in src/image_tests.rt.
-use Rattle.std.proofs.Common.{subst, List}
-use Rattle.plane_base.specs.Plane.{Point, IsMix, whole}
-use Rattle.tin_base.proofs.Telling.{told}
-use Rattle.tin_tests.proofs.image_tests.image.Goals as goal
-
-pub image_of-requires-clause-inside : goal.image_of-requires-clause-inside
-image_of-requires-clause-inside c = subst (λ (cs : List Point). IsMix (whole c.args.p) cs) c.tri-source.ensures.corners
-    (told c.if-not-holds.ensures)

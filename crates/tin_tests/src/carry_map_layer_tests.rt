@@ -1,0 +1,162 @@
+//! Tests of a layer that is read, carried and written, in a format of one line.
+
+ghost use Rattle.std.specs.Prelude.{◌≡◌, ◌<◌, ◌≤◌, [], length};
+ghost use Rattle.sheet_base.specs.ReadBack.{AreTheSame};
+ghost use Rattle.sheet_base.specs.declared.faults.LayerFault.TheVariants.{Bad};
+ghost use Rattle.tin_tests.specs.Diagonals.{diagonal};
+
+use crate::carry_map_tests::{Want, are_pieces};
+use crate::made_tins::square;
+use carry_map::{Carried, CarryFault, carry_layer};
+use plane_base::Pt;
+use sheet_base::{Heights, How, Images, Layer, LayerFault, Listed, PathKind, PathRow, Sheet};
+use std::alloc::{AllocError, Global};
+use tin_base::Piece;
+use tin_index::TinIndex;
+
+/// A format whose layers have one line each, from (10, 0) to (0, 10) metres, and keep their bytes, of which there are
+/// two or more.
+struct Diagonal;
+
+impl Layer for Diagonal {
+    ghost reads = { λ how bytes sheet. (2 ≤ length bytes) × (sheet ≡ diagonal) };
+
+    ghost refuses = { λ how bytes fault. (length bytes < 2) × (fault ≡ Bad 0) };
+
+    ghost text = { λ bytes how sheet images edit. [] };
+
+    ghost reads_back = { λ how bytes sheet images. ⊥ };
+
+    ghost reads_heights = { AreTheSame };
+
+    fn read(alloc: Global, bytes: &[u8], how: How) -> Result<Sheet, LayerFault> {
+        let _ = how;
+        if bytes.len() < 2 {
+            return Err(LayerFault::Bad { at: 0 });
+        }
+        let line = PathRow {
+            kind: PathKind::Line,
+            first: 0,
+            past: 2,
+        };
+        let ends = [Pt { x: 10_000, y: 0 }, Pt { x: 0, y: 10_000 }];
+        match (
+            [line].as_slice().to_vec(alloc),
+            ends.as_slice().to_vec(alloc),
+        ) {
+            (Ok(paths), Ok(points)) => Ok(Sheet::of(
+                Listed::of(paths),
+                Listed::of(points),
+                Heights::none(alloc, 2),
+                Listed::of(Vec::new(alloc)),
+                5,
+                7,
+            )),
+            _ => Err(LayerFault::NoMemory),
+        }
+    }
+
+    fn outcome_is_one() {}
+
+    fn outcome_exists() {}
+
+    fn memory_is_no_fault() {}
+
+    fn sheets_are_of_bytes() {}
+
+    fn render(
+        alloc: Global,
+        bytes: &[u8],
+        how: How,
+        sheet: &Sheet,
+        images: &Images,
+    ) -> Result<Vec<u8>, AllocError> {
+        let _ = how;
+        let _ = sheet;
+        let _ = images;
+        bytes.to_vec(alloc)
+    }
+}
+
+fn how() -> How {
+    How {
+        exact: false,
+        drop_other: false,
+        inside_only: false,
+    }
+}
+
+/// Whether the bytes are kept, and the numbers are the sheet's and the pieces'.
+fn is_whole(layer: &Carried) -> bool {
+    layer.text.items() == b"kept".as_slice()
+        && (layer.paths, layer.segments, layer.pieces) == (1, 1, 2)
+        && (layer.inexact, layer.dropped) == (5, 7)
+}
+
+/// The number of a layer, how many pieces there may be, and why it is refused.
+type Step = (u32, u8, Option<CarryFault>);
+
+/// Whether the layer is carried whole behind these pieces, or refused so.
+fn ends_so(alloc: Global, index: &TinIndex, step: &Step, pieces: &mut Vec<Piece>) -> bool {
+    let most = u32::from(step.1);
+    if pieces.len() > most as usize {
+        return false;
+    }
+    match carry_layer::<Diagonal>(alloc, index, b"kept", how(), step.0, most, pieces) {
+        Ok(layer) => step.2.is_none() && is_whole(&layer),
+        Err(fault) => step.2 == Some(fault),
+    }
+}
+
+/// The pieces of the layer, which meet at the image of (5, 5).
+const PIECES: &[Want] = &[
+    ((0, 0, 0), 0, (110_000, 100_000), (105_002, 105_002)),
+    ((0, 0, 1), 1, (105_002, 105_002), (100_000, 110_000)),
+];
+
+/// Whether the layers end so one after the other, and the pieces are then those of layer 3 alone.
+fn are_carried(alloc: Global, steps: &[Step]) -> bool {
+    let Some(index) = square(alloc) else {
+        return false;
+    };
+    let mut pieces = Vec::new(alloc);
+    for step in steps {
+        if !ends_so(alloc, &index, step, &mut pieces) {
+            return false;
+        }
+    }
+    are_pieces(&pieces, 3, PIECES)
+}
+
+const ONE: &[Step] = &[(3, 2, None)];
+
+#[test]
+fn carries_a_layer(rt: HostRuntime) {
+    assert!(rt; are_carried(rt.alloc(), ONE));
+}
+
+/// Another layer finds no room behind the first, and leaves its pieces as they are.
+const TWO: &[Step] = &[(3, 2, None), (4, 3, Some(CarryFault::TooMany))];
+
+#[test]
+fn refuses_a_layer_without_room(rt: HostRuntime) {
+    assert!(rt; are_carried(rt.alloc(), TWO));
+}
+
+/// What refuses a layer of one byte, and how many pieces there are then.
+fn refused(alloc: Global) -> Option<(CarryFault, usize)> {
+    let index = square(alloc)?;
+    let mut pieces = Vec::new(alloc);
+    let fault = carry_layer::<Diagonal>(alloc, &index, b"k", how(), 0, 2, &mut pieces).err()?;
+    Some((fault, pieces.len()))
+}
+
+/// Fewer bytes than two are refused by the format, and no piece is appended.
+#[test]
+fn refuses_a_layer(rt: HostRuntime) {
+    let refused = refused(rt.alloc());
+    assert_eq!(rt;
+        refused,
+        Some((CarryFault::Layer(LayerFault::Bad { at: 0 }), 0))
+    );
+}

@@ -1,6 +1,0 @@
--- Answers to the goals of `end_keeps_relations` in src/laws.rt.
-use Rattle.tinmove.proofs.KeptRuns.{end_keeps_relations}
-use Rattle.tinmove.proofs.laws.end_keeps_relations.Goals as goal
-
-pub returns : goal.returns
-returns c = end_keeps_relations

@@ -1,8 +1,0 @@
--- Answers to the goals of `outcome_exists` in src/laws.rt.
-use Rattle.tinmove.proofs.SomeOutcome.{outcome_exists}
-use Rattle.tinmove.proofs.laws.outcome_exists.Goals as goal
-
-pub returns : goal.returns
-returns c =
-    outcome_exists c.words_have_one_answer.ensures c.jobs_are_kept.ensures c.migration_exists.ensures
-    c.making_exists.ensures c.check_end_exists.ensures c.verification_exists.ensures

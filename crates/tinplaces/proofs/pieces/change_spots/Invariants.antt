@@ -1,7 +1,0 @@
--- The invariant of the loop of `change_spots` in src/pieces.rt.
-use Rattle.std.proofs.Common.{take}
-use Rattle.tinplaces.specs.Places.{AreSpotsOf}
-use Rattle.tinplaces.proofs.pieces.change_spots.Given as goal
-
-abbrev pub invariant-loop-change : goal.invariant-loop-change
-invariant-loop-change l = AreSpotsOf l.pieces l.places (take l.change-index l.changes) l.spots.items

@@ -1,9 +1,0 @@
--- The invariant and the measure of the loop of `likely_number` in src/pieces.rt.
-use Rattle.std.proofs.Common.{◌≤◌, ◌-◌, length}
-use Rattle.tinplaces.proofs.pieces.likely_number.Given as goal
-
-abbrev pub invariant-loop-from : goal.invariant-loop-from
-invariant-loop-from l = record { order : l.from ≤ l.past; within : l.past ≤ length l.pieces }
-
-abbrev pub decreases-loop-from : goal.decreases-loop-from
-decreases-loop-from l = l.past - l.from

@@ -1,0 +1,148 @@
+-- A line that tells of bytes is that of a file with too many: no other line has such a beginning, and no report.
+use Rattle.std.proofs.Common.{◌≡◌, ◌≢◌, inl, inr, ℕ, List, [], ◌∷◌, ◌++◌, map, length, codes, Bool, Option, None, Some}
+use Rattle.std.proofs.Common.{IfSome, refl, sym, ◌∙◌, ap, subst, arith}
+use Rattle.std.proofs.Math.Seq.{take-length}
+use Rattle.shelf_io.specs.Files.{Files}
+use Rattle.job_words.specs.declared.jobs.Job.{Job}
+use Rattle.job_words.specs.declared.jobs.Job.TheVariants.{Migrate, Check as CheckJob, Make, Verify}
+use Rattle.report_text.specs.Reports.{Contents as Report}
+use Rattle.report_text.specs.ReportText.{report_text, title}
+use Rattle.runs.specs.declared.output.Output.{Output}
+use Rattle.runs.specs.declared.status.Status.{Status}
+use Rattle.runs.specs.declared.status.Status.TheVariants.{Write}
+use Rattle.runs.specs.declared.refusal.Refusal.{Refusal}
+use Rattle.runs.specs.declared.refusal.Refusal.TheVariants.{TinLong, LayersLong, WrittenLong, CertLong}
+use Rattle.runs.specs.Status.{end_of}
+use Rattle.runs.specs.Refusals.{status_of, line_of, line_file}
+use Rattle.runs.specs.Output.{file_of, files_of, HasSlash, AreWritable, HasForm}
+use Rattle.runs.proofs.RefusalLines.{never-write}
+use Rattle.runs.proofs.LimitLines.{TellsNone, at-first, t-line, none-begins, of_tin, of_layers, of_written, of_cert}
+use Rattle.runs.proofs.LimitLines.{of_none, limit_line, written-begins, cert-begins}
+use Rattle.runs.proofs.RunEnds.{never-write-end}
+use Rattle.publication.specs.Fronts.{IsFrontOf}
+use Rattle.publication.proofs.Fronts.{whole-front, slash-dash}
+use Rattle.whole_runs.specs.Ends.{IsWrittenOf, TellsBytes, TellsVerifiedBytes}
+use Rattle.whole_runs.proofs.RunEnds.{HasPrinted}
+
+-- a front of a line that does not tell of bytes does not
+front-none : (line : List ℕ) (made : Files) → TellsNone line → IsFrontOf made ((codes "-", line) ∷ []) → TellsBytes made
+    → ⊥
+front-none line made none front (rest, is) =
+    let (count, same) = rw is at front in none-begins line rest count none (ap (λ (f : List ℕ × List ℕ). f.1) same)
+
+-- a line that tells of bytes is that of a file with too many
+tells_long : (refusal : Refusal) (passed : Type 0) (made : Files) → IsFrontOf made (line_file refusal) → TellsBytes made
+    → (refusal ≡ TinLong → passed) → (refusal ≡ LayersLong → passed) → (refusal ≡ WrittenLong → passed)
+    → (refusal ≡ CertLong → passed) → passed
+tells_long refusal passed made front tells tin layer written cert =
+    elim (limit_line refusal) [
+      | of_tin is ↦ tin is
+      | of_layers is ↦ layer is
+      | of_written is ↦ written is
+      | of_cert is ↦ cert is
+      | of_none none ↦ absurd (front-none (line_of refusal) made none front tells)
+    ]
+
+-- what is printed of a line is a front of it
+front-of : (line : List ℕ) (wanted result : Status) (made : Files) (press_rose : Type 0) → wanted ≢ Write
+    → HasPrinted ((codes "-", line) ∷ []) wanted result (Some made) press_rose → IsFrontOf made ((codes "-", line) ∷ [])
+front-of line wanted result made press_rose other printed =
+    elim printed.status [
+      | inl is ↦
+          let same : made ≡ (codes "-", line) ∷ [] = printed.all (λ write. other (sym is ∙ write)) in
+          rw same (length line, ap (λ text. (codes "-", text)) (sym (take-length line)))
+      | inr is ↦ printed.front is
+    ]
+
+pub limit_told : (refusal : Refusal) (result : Status) (made : Option Files) (press_rose passed : Type 0)
+    → HasPrinted (line_file refusal) (status_of refusal) result made press_rose
+    → (refusal ≡ TinLong → passed) → (refusal ≡ LayersLong → passed) → (refusal ≡ WrittenLong → passed)
+    → (refusal ≡ CertLong → passed) → IfSome made (λ files. TellsBytes files → passed)
+limit_told refusal result None press_rose passed printed tin layer written cert = tt
+limit_told refusal result (Some made) press_rose passed printed tin layer written cert = λ tells.
+    tells_long refusal passed made (front-of (line_of refusal) (status_of refusal) result made press_rose
+    (never-write refusal) printed) tells tin layer written cert
+
+-- a line that is a written layer's, or a certificate's, with too many bytes is that of such a refusal
+tells_verified : (refusal : Refusal) (passed : Type 0) (made : Files) → IsFrontOf made (line_file refusal)
+    → TellsVerifiedBytes made → (refusal ≡ WrittenLong → passed) → (refusal ≡ CertLong → passed) → passed
+tells_verified refusal passed made front (rest, inl is) written cert =
+    let (count, same) = rw is at front in
+    written (written-begins refusal rest count (ap (λ (f : List ℕ × List ℕ). f.1) same))
+tells_verified refusal passed made front (rest, inr is) written cert =
+    let (count, same) = rw is at front in
+    cert (cert-begins refusal rest count (ap (λ (f : List ℕ × List ℕ). f.1) same))
+
+pub verified_told : (refusal : Refusal) (result : Status) (made : Option Files) (press_rose passed : Type 0)
+    → HasPrinted (line_file refusal) (status_of refusal) result made press_rose
+    → (refusal ≡ WrittenLong → passed) → (refusal ≡ CertLong → passed)
+    → IfSome made (λ files. TellsVerifiedBytes files → passed)
+verified_told refusal result None press_rose passed printed written cert = tt
+verified_told refusal result (Some made) press_rose passed printed written cert = λ tells.
+    tells_verified refusal passed made (front-of (line_of refusal) (status_of refusal) result made press_rose
+    (never-write refusal) printed) tells written cert
+
+named-file : (name bytes : List ℕ) (rest made : Files) → HasSlash name → IsFrontOf made ((name, bytes) ∷ rest)
+    → TellsBytes made → ⊥
+named-file name bytes rest made slash front (behind, is) =
+    let (count, same) = rw is at front in slash-dash
+    (subst HasSlash (sym (ap (λ (f : List ℕ × List ℕ). f.0) same)) slash)
+
+-- a report begins with a t
+report-none : (report : Report) → TellsNone (report_text report)
+unfolding title
+report-none report = t-line _ refl
+
+none-told : (layers : Files) (said : List ℕ) (made : Files) → AreWritable layers → TellsNone said
+    → IsFrontOf made (layers ++ (codes "-", said) ∷ []) → TellsBytes made → ⊥
+none-told [] said made writable none front tells = front-none said made none front tells
+none-told (file ∷ layers) said made writable none front tells =
+    named-file file.0 file.1 (layers ++ (codes "-", said) ∷ []) made writable.0 front tells
+
+said-none : (job : Job) (layers : Files) (said : List ℕ) (status : Status) → IsWrittenOf job layers said status
+    → TellsNone said
+said-none (Migrate tin out how inverse cert names) layers said status (named, on) =
+    rw on.said_is (report-none on.report)
+said-none (CheckJob tin how) layers said status (none, same, line) =
+    rw line.said_is (at-first _ 115 refl (λ e. omega (arith, e)))
+said-none (Make n) layers said status (none, on) = rw on.said_is (report-none on.report)
+said-none (Verify tin source written cert how inverse) layers said status (none, same, line) =
+    rw line (at-first _ 99 refl (λ e. omega (arith, e)))
+
+front-done : (whole : Files) (changed : Bool) (result : Status) (made : Files) (press_rose : Type 0)
+    → HasPrinted whole (end_of changed) result (Some made) press_rose → IsFrontOf made whole
+front-done whole changed result made press_rose printed =
+    elim printed.status [
+      | inl is ↦
+          let same : made ≡ whole = printed.all (λ write. never-write-end changed (sym is ∙ write)) in
+          subst (λ (m : Files). IsFrontOf m whole) (sym same) (whole-front whole)
+      | inr is ↦ printed.front is
+    ]
+
+-- what is printed of a success tells of no bytes
+pub limit_done : (job : Job) (written : Output) (result : Status) (made : Option Files) (press_rose passed : Type 0)
+    → HasForm (IsWrittenOf job) written → HasPrinted (files_of written) (end_of written.changed) result made press_rose
+    → IfSome made (λ files. TellsBytes files → passed)
+limit_done job written result None press_rose passed form printed = tt
+limit_done job written result (Some made) press_rose passed form printed = λ tells.
+    absurd
+    (none-told (map file_of written.layers.items) written.said made form.writable
+    (said-none job (map file_of written.layers.items) written.said (end_of written.changed) form.is_of)
+    (front-done (files_of written) written.changed result made press_rose printed) tells)
+
+-- such a line tells of bytes
+verified-bytes : (made : Files) → TellsVerifiedBytes made → TellsBytes made
+verified-bytes made (rest, inl is) = (codes " w" ++ rest, is)
+verified-bytes made (rest, inr is) = (codes " c" ++ rest, is)
+
+of-bytes : (made : Option Files) (passed : Type 0) → IfSome made (λ files. TellsBytes files → passed)
+    → IfSome made (λ files. TellsVerifiedBytes files → passed)
+of-bytes None passed none = tt
+of-bytes (Some files) passed none = λ tells. none (verified-bytes files tells)
+
+-- what is printed of a success is no such line
+pub verified_done : (job : Job) (written : Output) (result : Status) (made : Option Files) (press_rose passed : Type 0)
+    → HasForm (IsWrittenOf job) written → HasPrinted (files_of written) (end_of written.changed) result made press_rose
+    → IfSome made (λ files. TellsVerifiedBytes files → passed)
+verified_done job written result made press_rose passed form printed =
+    of-bytes made passed (limit_done job written result made press_rose passed form printed)

@@ -1,0 +1,6 @@
+-- Answers to the goals of `end_keeps_relations` in src/laws.rt.
+use Rattle.whole_runs.proofs.KeptRuns.{end_keeps_relations}
+use Rattle.whole_runs.proofs.laws.end_keeps_relations.Goals as goal
+
+pub returns : goal.returns
+returns c = end_keeps_relations

@@ -1,0 +1,114 @@
+-- How a run ends: by its outcome, after a read fault, because memory ran out, or after a write fault.
+use Rattle.std.specs.Prelude.{◌≡◌, ◌⊎◌, ℕ, List, [], ◌∷◌, ◌++◌, codes, Option, None, Some}
+use Rattle.shelf_io.specs.Files.{Files}
+use Rattle.shelf_io.specs.Load.{LacksName}
+use Rattle.job_words.specs.declared.jobs.Job.{Job}
+use Rattle.job_words.specs.declared.jobs.Job.TheVariants.{Migrate, Check, Make, Verify}
+use Rattle.job_words.specs.Jobs.{IsJobOf}
+use Rattle.runs.specs.declared.status.Status.{Status}
+use Rattle.runs.specs.declared.status.Status.TheVariants.{Write}
+use Rattle.runs.specs.declared.refusal.Refusal.{Refusal}
+use Rattle.runs.specs.declared.refusal.Refusal.TheVariants.{TinUnread, NoMemory}
+use Rattle.runs.specs.Refusals.{Refuses, limit_front, written_front, cert_front}
+use Rattle.runs.specs.Causes.{MayRefuse}
+use Rattle.check_mode.specs.Checks.{IsCheckWritten, IsEndOfCheck}
+use Rattle.migrate.specs.Migrations.{IsReachedBy, LacksWanted, IsMigrationWritten}
+use Rattle.migrate.specs.Maker.{IsMakingWritten}
+use Rattle.verify_mode.specs.Files.{LacksWanted as LacksCompared}
+use Rattle.verify_mode.specs.Verifications.{IsReachedBy as IsComparedBy, IsVerificationWritten, IsEndOfVerification}
+use Rattle.publication.specs.Fronts.{IsFrontOf}
+use Rattle.whole_runs.specs.Jobs.{migration_with, verification_with}
+use Rattle.whole_runs.specs.Outcome.{HasOutcome, IsJobRefused}
+
+-- the refusal is that of a file that could not be read, and nothing refuses the job before that file
+abbrev pub IsReached : Files → Job → Refusal → Type 0
+IsReached files (Migrate tin out how inverse cert layers) =
+    IsReachedBy files (migration_with tin out how inverse cert layers)
+IsReached files (Check tin how) = λ refusal. refusal ≡ TinUnread
+IsReached files (Make n) = λ refusal. ⊥
+IsReached files (Verify tin source written cert how inverse) =
+    IsComparedBy files (verification_with tin source written cert how inverse)
+
+-- why a job may be refused before anything is written
+abbrev pub MayRefuseJob : Files → Job → Type 0 → Refusal → Type 0
+MayRefuseJob files job shelf_rose refusal = MayRefuse (IsJobRefused files job) (IsReached files job) shelf_rose refusal
+
+-- what a run makes unless a write fails
+pub data Makes (words : List (List ℕ)) (files : Files) (shelf_rose : Type 0) (status : Status) (made : Files) : Type 0
+  where
+    by_outcome : HasOutcome words files status made → Makes words files shelf_rose status made
+    after_read_fault : shelf_rose → (job : Job) → IsJobOf words job → (refusal : Refusal) → IsReached files job refusal
+        → Refuses refusal status made → Makes words files shelf_rose status made
+    out_of_memory : Refuses NoMemory status made → Makes words files shelf_rose status made
+
+-- the four ways in which a run ends
+pub data Ends (words : List (List ℕ)) (files : Files) (shelf_rose press_rose : Type 0) (status : Status)
+    (made : Files) : Type 0 where
+  made_whole : Makes words files shelf_rose status made → Ends words files shelf_rose press_rose status made
+  after_write_fault :
+      status ≡ Write → press_rose → (wanted : Status) → (whole : Files) → Makes words files shelf_rose wanted whole
+      → IsFrontOf made whole
+      → Ends words files shelf_rose press_rose status made
+
+-- the same where the press may not tell what it made: then for some files
+abbrev pub EndsTold : List (List ℕ) → Files → Type 0 → Type 0 → Status → Option Files → Type 0
+EndsTold words files shelf_rose press_rose status (Some made) = Ends words files shelf_rose press_rose status made
+EndsTold words files shelf_rose press_rose status None =
+    (made : Files) × Ends words files shelf_rose press_rose status made
+
+-- What is written of a job that is done, whatever files hold, and the status: the layers' files and the text on
+-- standard output.
+abbrev pub IsWrittenOf : Job → Files → List ℕ → Status → Type 0
+IsWrittenOf (Migrate tin out how inverse cert layers) =
+    IsMigrationWritten (migration_with tin out how inverse cert layers)
+IsWrittenOf (Check tin how) = IsCheckWritten
+IsWrittenOf (Make n) = IsMakingWritten
+IsWrittenOf (Verify tin source written cert how inverse) = IsVerificationWritten
+
+-- the files that a run with these words may be to make, whatever files hold, and its status: what is written of the
+-- job, or `-` alone with the line of a refusal
+pub data IsToBeMade (words : List (List ℕ)) (status : Status) (made : Files) : Type 0 where
+  by_job : (job : Job) → IsJobOf words job → (layers : Files) → (said : List ℕ) → IsWrittenOf job layers said status
+      → made ≡ layers ++ (codes "-", said) ∷ [] → IsToBeMade words status made
+  by_refusal : (refusal : Refusal) → Refuses refusal status made → IsToBeMade words status made
+
+-- after each status but `Write` all of it; after `Write` a front of it
+pub data Stands (words : List (List ℕ)) (status : Status) (made : Files) : Type 0 where
+  all_made : IsToBeMade words status made → Stands words status made
+  front_made : status ≡ Write → (wanted : Status) → (whole : Files) → IsToBeMade words wanted whole
+      → IsFrontOf made whole → Stands words status made
+
+-- a file that the job wants is missing
+abbrev pub LacksWantedFile : Job → Option Files → Type 0
+LacksWantedFile (Migrate tin out how inverse cert layers) files =
+    LacksWanted (migration_with tin out how inverse cert layers) files
+LacksWantedFile (Check tin how) files = LacksName files tin
+LacksWantedFile (Make n) files = ⊥
+LacksWantedFile (Verify tin source written cert how inverse) files =
+    LacksCompared (verification_with tin source written cert how inverse) files
+
+-- a job that wants no file
+abbrev pub IsWithoutFile : Job → Type 0
+IsWithoutFile (Make n) = Unit {0}
+IsWithoutFile job = ⊥
+
+-- the words give a job, and a file that it wants is missing
+abbrev pub LacksWantedOf : List (List ℕ) → Option Files → Type 0
+LacksWantedOf words files = (job : Job) × IsJobOf words job × LacksWantedFile job files
+
+-- the statuses of a job
+abbrev pub MayEnd : Job → Status → Type 0
+MayEnd (Migrate tin out how inverse cert layers) = λ status. Unit {0}
+MayEnd (Check tin how) = IsEndOfCheck
+MayEnd (Make n) = λ status. Unit {0}
+MayEnd (Verify tin source written cert how inverse) = IsEndOfVerification
+
+-- what is said alone is a line that says that a limit on bytes is passed, or a front of it that says as much
+abbrev pub TellsBytes : Files → Type 0
+TellsBytes made = (rest : List ℕ) × (made ≡ (codes "-", limit_front ++ rest) ∷ [])
+
+-- what is said alone is the line of a written layer, or of a certificate, with too many bytes, or a front of it that
+-- says which of the two
+abbrev pub TellsVerifiedBytes : Files → Type 0
+TellsVerifiedBytes made = (rest : List ℕ)
+    × ((made ≡ (codes "-", written_front ++ rest) ∷ []) ⊎ (made ≡ (codes "-", cert_front ++ rest) ∷ []))

@@ -1,0 +1,81 @@
+//! What a job writes.
+
+ghost use Rattle.std.specs.Prelude.{◌≢◌, ◌+◌, ◌≤◌, IfOk, IfErr, IfSome};
+ghost use Rattle.shelf_io.specs.Count.{Rose, counted};
+ghost use Rattle.shelf_io.specs.Files.{Files};
+ghost use Rattle.job_words.specs.Kept.{IsKept};
+ghost use Rattle.runs.specs.declared.loads.TheConstants.{MOST_BYTES, MOST_VERIFIED};
+ghost use Rattle.runs.specs.declared.status.Status.TheVariants.{Read as ReadStatus};
+ghost use Rattle.runs.specs.Status.{end_of};
+ghost use Rattle.runs.specs.Refusals.{status_of};
+ghost use Rattle.runs.specs.Counts.{LeavesFaults};
+ghost use Rattle.runs.specs.Output.{files_of, HasForm};
+ghost use Rattle.runs.specs.Causes.{HasCauses};
+ghost use Rattle.whole_runs.specs.Outcome.{IsJobDone};
+ghost use Rattle.whole_runs.specs.Ends.{MayEnd, MayRefuseJob, LacksWantedFile, IsWrittenOf, IsWithoutFile};
+
+use check_mode::prepare_check;
+use job_words::Job;
+use migrate::{Migration, prepare_making, prepare_migration};
+use runs::{Output, Refusal};
+use shelf_io::Shelf;
+use std::alloc::Global;
+use verify_mode::{Verification, prepare_verification};
+
+/// What the job asks to be written.
+pub fn prepare<S: Shelf>(alloc: Global, shelf: &mut S, job: Job) -> Result<Output, Refusal>
+    requires { IsKept job }
+    ensures ok { IfOk result (λ written. IfSome (S.files shelf.old) (λ files. IsJobDone files job (end_of written.changed) (files_of written))) }
+    ensures may_end { IfOk result (λ written. MayEnd job (end_of written.changed)) }
+    ensures form { IfOk result (λ written. HasForm (IsWrittenOf job) written) }
+    ensures refused { IfErr result (λ refusal. IfSome (S.files shelf.old) (λ files. MayRefuseJob files job (Rose (S.faults shelf.old) (S.faults shelf.new)) refusal)) }
+
+    // What wants no file goes as it does over any files, and no read fails.
+    ensures untold { IfOk result (λ written. IsWithoutFile job → (files : Files) → IsJobDone files job (end_of written.changed) (files_of written)) }
+    ensures untold_refused { IfErr result (λ refusal. IsWithoutFile job → (files : Files) → MayRefuseJob files job ⊥ refusal) }
+    ensures unread { IfErr result (λ refusal. IsWithoutFile job → status_of refusal ≢ ReadStatus) }
+
+    ensures causes { IfErr result (λ refusal. HasCauses (LacksWantedFile job (S.files shelf.old)) (MayEnd job) (Rose (S.faults shelf.old) (S.faults shelf.new)) (counted (S.given shelf.old) (MOST_BYTES + 1) ≤ S.given shelf.new) (counted (S.given shelf.old) (MOST_VERIFIED + 1) ≤ S.given shelf.new) refusal) }
+    ensures faults { LeavesFaults (S.faults shelf.old) (S.faults shelf.new) result }
+{
+    match job {
+        Job::Migrate {
+            tin,
+            out,
+            how,
+            inverse,
+            cert,
+            layers,
+        } => {
+            let migration = Migration {
+                tin,
+                out,
+                how,
+                inverse,
+                cert,
+                layers,
+            };
+            prepare_migration(alloc, shelf, &migration)
+        }
+        Job::Check { tin, how } => prepare_check(alloc, shelf, &tin, how),
+        Job::Make { n } => prepare_making(alloc, n),
+        Job::Verify {
+            tin,
+            source,
+            written,
+            cert,
+            how,
+            inverse,
+        } => {
+            let verification = Verification {
+                tin,
+                source,
+                written,
+                cert,
+                how,
+                inverse,
+            };
+            prepare_verification(alloc, shelf, &verification)
+        }
+    }
+}

@@ -1,0 +1,26 @@
+//! A run over files in memory of which no call fails.
+
+ghost use Rattle.std.specs.Prelude.{◌≡◌, ◌≢◌, [], Some, IfSome, false, map, string_bytes};
+ghost use Rattle.shelf_io.specs.ReservedPress.{made_of};
+ghost use Rattle.whole_runs.specs.Ends.{LacksWantedOf};
+
+use crate::run_ends::run;
+use runs::Status;
+use shelf_io::{SurePress, SureShelf};
+use std::alloc::Global;
+
+/// Does what the words ask for. No run ends with a write fault, and one ends with a read fault only
+/// where a file that the words name is missing.
+pub fn run_surely(
+    alloc: Global,
+    words: &[String],
+    shelf: &mut SureShelf,
+    press: &mut SurePress,
+) -> Status
+    requires free { press.old.at_hand ≡ false }
+    requires empty { IfSome (made_of press.old) (λ made. made ≡ []) }
+    ensures written { result ≢ Status.Write }
+    ensures missing { result ≡ Status.Read → LacksWantedOf (map string_bytes words.now) (Some shelf.old.files) }
+{
+    run(alloc, words, shelf, press)
+}
